@@ -17,12 +17,12 @@ use Rattle.instructions.specs.declared.stop.Stop.{Stop}
 use Rattle.instructions.specs.declared.stop.Stop.TheVariants.{BadPc}
 use Rattle.inorder.specs.declared.history.Act.TheVariants.{Retire}
 use Rattle.inorder.specs.declared.history.Step.TheVariants.{On}
-use Rattle.inorder.specs.Callers.{is_retired, stands_retired}
+use Rattle.inorder.specs.Callers.{is_retired}
 use Rattle.inorder.specs.Committed.{ahead, ahead_by, commits, commits_by, committed, completes, with_stored, with_tenant}
 use Rattle.inorder.specs.Machine.{State, write}
 use Rattle.inorder.specs.Memory.{stored, stored_by}
 use Rattle.inorder.specs.Steps.{CanRetire, IsNoRetiredStop, MayRetire, made_at_end, retired}
-use Rattle.inorder.specs.Tenants.{Addr, Busy, Done, Fate, IsThere, Miss, Open, Retired as RetiredStanding, Stopped, Tenant, computed, computed_next, destination_of, instr, is_first, kind_of, on_path}
+use Rattle.inorder.specs.Tenants.{Addr, Busy, Done, Fate, IsThere, Miss, Open, Retired as RetiredStanding, Stopped, Tenant, computed, computed_next, destination_of, instr, is_first, kind_of}
 use Rattle.inorder.specs.Tenants.{operand_value, stands_on_path}
 use Rattle.inorder.specs.Unit.{Sizes, UpdateUnit, at, how_many}
 use Rattle.inorder.proofs.Commits.{live_not, not_complete, over}
@@ -32,12 +32,11 @@ use Rattle.inorder.proofs.SettledMemory.{length_memory}
 use Rattle.inorder.proofs.Pairs.{first_half_computes}
 use Rattle.inorder.proofs.SettledRegisters.{committed_if, next_leaves}
 use Rattle.inorder.proofs.Sound.{DoneBy, FateIs, IsSound, IsSoundAt}
-use Rattle.inorder.proofs.Stations.{Stands, last_at}
 use Rattle.inorder.specs.Moves.{IsReached, Leads, with_tenants}
 use Rattle.inorder.specs.Still.{AreStill, IsNotBusy}
 use Rattle.inorder.proofs.OneCaller.Alike.{still_put, stops_put}
 use Rattle.inorder.proofs.OneCaller.Left.{ahead_middle, committed_middle}
-use Rattle.inorder.proofs.OneCaller.Middle.{all_from, at_middle, sound_from, still_from, younger_middle}
+use Rattle.inorder.proofs.OneCaller.Middle.{all_from, at_middle, sound_from, still_from}
 use Rattle.inorder.proofs.OneCaller.Retirement.{retire_run}
 use Rattle.inorder.proofs.OneCaller.Sequences.{reach_on, sound_of, stands_of}
 use Rattle.unit.specs.declared.bench.Turn.{Turn}
@@ -67,7 +66,7 @@ use Rattle.unit.proofs.Tests.{HasSources, has_sources, no_miss}
 use Rattle.unit.proofs.Turns.{none_in}
 use Rattle.unit.proofs.Untold.{oldest_apart, oldest_place, oldest_retired}
 use Rattle.unit.proofs.Waiting.{ahead_low, low_if, low_over, none_low, retired_over}
-use Rattle.unit.proofs.Windows.{half_worth, path_length, window_length}
+use Rattle.unit.proofs.Windows.{half_worth, window_length}
 
 -- What the tests of the earlier turns leave
 pub record Refused (b : Pipeline) : Type 0 where

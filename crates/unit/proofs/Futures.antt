@@ -127,11 +127,10 @@ foresees_left f registers pc w W s p h =
 -- A station that writes a register, or none
 
 pub behind_writes : (f : Future) (destination value next : ℕ) → length f.values ≡ 34 → destination ≢ 0 → destination < 34 →
-    GoesOnBehind f destination (Some value) next (record { values = slice_set f.values destination value; pc = next; station = f.station })
+    GoesOnBehind f destination (Some value) next (record { values = slice_set f.values destination value; pc = next })
 behind_writes f destination value next s d l =
     record {
       made = λ n. refl;
-      station = refl;
       on = λ w e m n registers pc W h.
           let apart : w.destination ≢ 0 = λ z. d (sym e ∙ z) in
           let inside : w.destination < length f.values = omega (arith, l, s, e) in
@@ -144,11 +143,10 @@ behind_writes f destination value next s d l =
     }
 
 pub behind_none : (f : Future) (destination : ℕ) (value : Option ℕ) (next : ℕ) → length f.values ≡ 34 → destination ≡ 0 →
-    GoesOnBehind f destination value next (record { values = f.values; pc = next; station = f.station })
+    GoesOnBehind f destination value next (record { values = f.values; pc = next })
 behind_none f destination value next s d =
     record {
       made = λ n. absurd (n d);
-      station = refl;
       on = λ w e m n registers pc W h.
           record {
             all = s;

@@ -1,24 +1,26 @@
 -- A stage that finds nothing to do changes at most what is remembered.
 use Rattle.std.proofs.Common.{◌≡◌, ◌<◌, ℕ, Bool, true, false, List, length, Option, Some, None, refl, sym, ap, ◌∙◌, subst}
-use Rattle.std.specs.Prelude.{slice_get}
+use Rattle.std.specs.Prelude.{slice_get, slice_set}
 use Rattle.instructions.specs.Instruction.{is_first_half}
+use Rattle.instructions.specs.Operations.{outcome_of}
 use Rattle.unit.specs.declared.bench.Turn.{Turn}
 use Rattle.unit.specs.declared.bench.Turn.TheVariants.{Loaded, Ran}
+use Rattle.unit.specs.declared.execute.Operands.{Operands}
 use Rattle.unit.specs.declared.pipeline.Pipeline.{Pipeline}
 use Rattle.unit.specs.declared.station.Station.{Station}
 use Rattle.unit.specs.Changes.{registers_of}
-use Rattle.unit.specs.Givers.{NoneGives}
+use Rattle.unit.specs.Givers.{NoneGives, gives}
 use Rattle.unit.specs.Leaves.{OldestHasEnded, PassesTo, RetiresTo}
 use Rattle.unit.specs.Loads.{load_in}
 use Rattle.unit.specs.Notes.{AreNoted, miss_in}
 use Rattle.unit.specs.Stages.{CannotLet, LoadsTo, RunsTo}
-use Rattle.unit.specs.StandsFor.{StandsForSome}
+use Rattle.unit.specs.StandsFor.{StandsFor, StandsForSome}
 use Rattle.unit.specs.Turns.{Falls, StaysOpen, IsPlain, Moves, SizesStay, rank}
-use Rattle.unit.specs.Window.{operands_in}
+use Rattle.unit.specs.Window.{operands_in, station_after}
 use Rattle.unit.proofs.EndTurns.{Refused, can_leave, retires_falls, retires_turn, window_room}
 use Rattle.unit.proofs.Ranks.{load_falls, run_falls}
-use Rattle.unit.proofs.RunTurns.{loaded_turn, ran_turn}
-use Rattle.unit.proofs.Start.{retires_keeps, unit_next}
+use Rattle.unit.proofs.RunTurns.{answered_as, loaded_on, loaded_turn, ran_on, ran_turn}
+use Rattle.unit.proofs.Start.{retires_keeps, unit_next, unit_on}
 use Rattle.unit.proofs.Turns.{moves_from}
 
 pub same_rest : (b later : Pipeline) (W : List Station) (m : Bool) (n : ℕ) → later ≡ record b { window = W; missed = m; settled = n } → SizesStay b later
@@ -96,6 +98,15 @@ ran_shows b later h none miss lets to rest noted =
       same = same;
     }
 
+-- the same of any tenant that can be claimed, whatever comes first
+pub ran_unit : (b later : Pipeline) (i : ℕ) (w : Station) (o : Operands) → StandsForSome b → b.over ≡ None → gives (operands_in (registers_of b)) b.window i ≡ Some o →
+    slice_get b.window i ≡ Some w → later.window ≡ slice_set b.window i (station_after w (outcome_of w.instr w.half w.pc o.a o.b (length b.program.now.bytes))) →
+    later ≡ record b { window = later.window; missed = later.missed; settled = later.settled } → AreNoted later.missed later.settled later.window → StandsForSome later
+ran_unit b later i w o h none here is new rest noted =
+    let x = ran_on b later i w o none here is new h.unit h.reached h.stands in
+    unit_on b later x.unit h x.reached (subst (λ p. StandsFor p x.unit) (sym rest) x.stands)
+    (same_rest b later later.window later.missed later.settled rest) (ap (λ p. length p.leavers) rest ∙ h.leavers) noted
+
 -- Loaded
 
 full_rest : (b later : Pipeline) → later ≡ record b { window = later.window } → later ≡ record b { window = later.window; missed = later.missed; settled = later.settled }
@@ -119,6 +130,16 @@ loaded_shows b b' later i to e noted =
       unit = unit_next b' later Loaded i.unit turn same (ap (λ x. length x.leavers) rest ∙ i.unit.leavers) noted;
       same = same_both b b' later (idle_same b b' i) same;
     }
+
+-- the same of any load that is not blocked, whatever comes first
+pub loaded_unit : (b later : Pipeline) (i : ℕ) (w : Station) (value : ℕ) → StandsForSome b → b.over ≡ None → gives (load_in (registers_of b) b.committed.memory) b.window i ≡ Some value →
+    slice_get b.window i ≡ Some w → later.window ≡ slice_set b.window i (answered_as w value) →
+    later ≡ record b { window = later.window } → AreNoted later.missed later.settled later.window → StandsForSome later
+loaded_unit b later i w value h none here is new e noted =
+    let rest = full_rest b later e in
+    let x = (loaded_on b later i w value none here is new h.unit h.reached h.stands).on in
+    unit_on b later x.unit h x.reached (subst (λ p. StandsFor p x.unit) (sym rest) x.stands)
+    (same_rest b later later.window later.missed later.settled rest) (ap (λ p. length p.leavers) rest ∙ h.leavers) noted
 
 -- Retired and Over
 

@@ -12,6 +12,7 @@ pub mod Accesses
 pub mod Entries
 pub mod LookBack
 pub mod Walk
+pub mod Reopened
 pub mod Ring
 pub mod Noted
 pub mod Windows
@@ -30,6 +31,7 @@ pub mod Stalls
 pub mod BenchTurns
 pub mod Ends
 pub mod Awaiting
+pub mod StreamsFill
 pub mod StreamsIn
 pub mod StreamsLoads
 pub mod StreamsOut

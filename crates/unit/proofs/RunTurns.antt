@@ -1,6 +1,6 @@
 -- The turns Ran and Loaded are steps of the unit.
 use Rattle.std.proofs.Common.{◌≡◌, ◌≢◌, ℕ, Bool, true, false, cond, eqb, List, [], ◌∷◌, ◌++◌, length, take, Option, Some, None, refl, sym, ap, ◌∙◌, subst, append_assoc}
-use Rattle.std.specs.Prelude.{slice_set, slice_index, unwrap_or}
+use Rattle.std.specs.Prelude.{slice_get, slice_set, slice_index, unwrap_or}
 use Rattle.std.specs.List.{AllByRecursion}
 use Rattle.instructions.specs.Instruction.{first_of, second_of, width}
 use Rattle.instructions.specs.Operations.{loaded, outcome_of}
@@ -39,7 +39,7 @@ use Rattle.unit.specs.declared.station.Stage.TheVariants.{Done as IsDone, Miss a
 use Rattle.unit.specs.declared.station.Station.{Station}
 use Rattle.unit.specs.Blocked.{IsUnblocked}
 use Rattle.unit.specs.Changes.{ahead_of, registers_of}
-use Rattle.unit.specs.Givers.{NoneGives}
+use Rattle.unit.specs.Givers.{NoneGives, gives}
 use Rattle.unit.specs.Leavers.{leaver}
 use Rattle.unit.specs.Loads.{entries, load_in, loaded_over, value_by, waits, waits_by}
 use Rattle.unit.specs.Notes.{miss_in}
@@ -133,7 +133,7 @@ nobody_loads b U none r s h =
     (none_in (load_in (registers_of b) b.committed.memory) b.program.now b.window U.tenants s.window h)
 
 -- the split of a unit at a live tenant that was found
-record IsSplit (b : Pipeline) (ys : List Tenant) (t : Tenant) (ts : List Tenant) : Type 0 where
+pub record IsSplit (b : Pipeline) (ys : List Tenant) (t : Tenant) (ts : List Tenant) : Type 0 where
   pub sound : IsSound b.program.now (ys ++ t ∷ ts)
   pub stops : AllByRecursion IsNoRetiredStop (ys ++ t ∷ ts)
   pub still : AreStill (ys ++ t ∷ ts)
@@ -176,13 +176,24 @@ set_shown P W U i w v f =
     ∙ ap (λ n. slice_set (window P f.found.ts ++ station_of P f.found.t ∷ window P f.found.ys) n v) f.found.place
     ∙ set_middle (window P f.found.ts) (window P f.found.ys) (station_of P f.found.t) v
 
+-- A live tenant has come further by these steps of its own, and all that is due was delivered
+pub record GoesOn (b : Pipeline) (U : UpdateUnit) (i : ℕ) (w : Station) (steps : List Tenant → List Step) (now : Pipeline) : Type 0 where
+  pub there : FoundIn b.program.now b.window U.tenants i w
+  pub split : IsSplit b there.found.ys there.found.t there.found.ts
+  pub unit : UpdateUnit
+  pub reached : IsReached b.program.now (sizes b) unit
+  pub stands : StandsFor now unit
+  pub delivers : List Step
+  pub are : AllByRecursion IsDeliver delivers
+  pub leads : Leads b.program.now (sizes b) 0 U (delivers ++ steps there.found.ts) unit
+  pub still : AreStill unit.tenants
+
 -- Ran
 
-pub ran_turn : (b later : Pipeline) → b.over ≡ None → NoneGives miss_in b.window →
-    CannotLet b.program.now b.ring b.queue b.committed.pc b.window →
-    RunsTo (registers_of b) (length b.program.now.bytes) b.window later.window →
-    later ≡ record b { window = later.window; missed = later.missed; settled = later.settled } → Moves b Ran later
-ran_turn b later none nm nl to rest U r s = subst (Moved b U Ran) (sym rest) (go (found_in P b.window U.tenants to.i to.w s.window to.is))
+pub ran_on : (b later : Pipeline) (i : ℕ) (w : Station) (o : Operands) → b.over ≡ None → gives (operands_in (registers_of b)) b.window i ≡ Some o → slice_get b.window i ≡ Some w →
+    later.window ≡ slice_set b.window i (station_after w (outcome_of w.instr w.half w.pc o.a o.b (length b.program.now.bytes))) → (U : UpdateUnit) →
+    IsReached b.program.now (sizes b) U → StandsFor b U → GoesOn b U i w ran_steps (record b { window = later.window; missed = later.missed; settled = later.settled })
+ran_on b later i w o none here is new U r s = go (found_in P b.window U.tenants i w s.window is)
   where
     P : Program
     P = b.program.now
@@ -196,7 +207,7 @@ ran_turn b later none nm nl to rest U r s = subst (Moved b U Ran) (sym rest) (go
     now : Pipeline
     now = record b { window = later.window; missed = later.missed; settled = later.settled }
 
-    go : FoundIn P b.window U.tenants to.i to.w → Moved b U Ran now
+    go : FoundIn P b.window U.tenants i w → GoesOn b U i w ran_steps now
     go f = with (ran_run P C 0 U ys t ts sp.sound sp.still sp.stops claim)
       where
         t : Tenant
@@ -217,15 +228,14 @@ ran_turn b later none nm nl to rest U r s = subst (Moved b U Ran) (sym rest) (go
         src : HasSources P regs t ts
         src = has_sources P regs t ts (sound_from P ys (t ∷ ts) sp.sound) (still_from ys (t ∷ ts) sp.still) (all_from IsNoRetiredStop ys (t ∷ ts) sp.stops).1 sp.before f.found.live
 
-        given : operands_in regs W (station_of P t) ≡ Some to.o
-        given = ap (λ l. operands_in regs l (station_of P t)) (sym f.taken) ∙ ap (operands_in regs (take to.i b.window)) f.found.station ∙
-            given_station (operands_in regs) b.window to.i to.w to.o to.is to.first.here
+        given : operands_in regs W (station_of P t) ≡ Some o
+        given = ap (λ l. operands_in regs l (station_of P t)) (sym f.taken) ∙ ap (operands_in regs (take i b.window)) f.found.station ∙ given_station (operands_in regs) b.window i w o is here
 
-        is_open : IsOpen t.fate (operands_by (kind_of P t) (source_in regs W (first_of (instr P t))) (source_in regs W (second_of (instr P t)))) to.o
-        is_open = open_fate t.fate _ to.o (still_from ys (t ∷ ts) sp.still).0.2 given
+        is_open : IsOpen t.fate (operands_by (kind_of P t) (source_in regs W (first_of (instr P t))) (source_in regs W (second_of (instr P t)))) o
+        is_open = open_fate t.fate _ o (still_from ys (t ∷ ts) sp.still).0.2 given
 
-        needs : AreNeeded (kind_of P t) t.first.value t.second.value to.o
-        needs = needed_are (kind_of P t) t.first.value t.second.value to.o (ap (λ x. operands_by (kind_of P t) x t.second.value) src.first ∙
+        needs : AreNeeded (kind_of P t) t.first.value t.second.value o
+        needs = needed_are (kind_of P t) t.first.value t.second.value o (ap (λ x. operands_by (kind_of P t) x t.second.value) src.first ∙
             ap (operands_by (kind_of P t) (source_in regs W (first_of (instr P t)))) src.second ∙ is_open.operands)
 
         claim : MayClaim P t
@@ -237,51 +247,81 @@ ran_turn b later none nm nl to rest U r s = subst (Moved b U Ran) (sym rest) (go
         u : Tenant
         u = finished t1 (computed P t1)
 
-        comes : computed P t1 ≡ outcome_of (instr P t) t.half t.pc to.o.a to.o.b (length P.bytes)
+        comes : computed P t1 ≡ outcome_of (instr P t) t.half t.pc o.a o.b (length P.bytes)
         comes = ap (λ x. outcome_of (instr P t) t.half t.pc x (operand_value t.second) (length P.bytes)) needs.first ∙
-            ap (λ x. outcome_of (instr P t) t.half t.pc to.o.a x (length P.bytes)) needs.second
+            ap (λ x. outcome_of (instr P t) t.half t.pc o.a x (length P.bytes)) needs.second
 
-        opened : station_of P t1 ≡ to.w
+        opened : station_of P t1 ≡ w
         opened = ap (λ g. record (station_of P t) { stage = stage_of g }) (sym is_open.open') ∙ f.found.station
 
-        shown : station_of P u ≡ station_after to.w (outcome_of to.w.instr to.w.half to.w.pc to.o.a to.o.b (length P.bytes))
+        shown : station_of P u ≡ station_after w (outcome_of w.instr w.half w.pc o.a o.b (length P.bytes))
         shown =
             station_ran P t1 (computed P t1)
             ∙ ap (station_after (station_of P t1)) comes
-            ∙ ap (λ w. station_after w (outcome_of w.instr w.half w.pc to.o.a to.o.b (length P.bytes))) opened
+            ∙ ap (λ w. station_after w (outcome_of w.instr w.half w.pc o.a o.b (length P.bytes))) opened
 
         keeps : (u.standing ≡ t1.standing) × (u.station ≡ t1.station)
         keeps = finished_stays t1 (computed P t1)
 
-        with : ActRun P C 0 U ys t u ts (ran_steps ts) → Moved b U Ran now
+        with : ActRun P C 0 U ys t u ts (ran_steps ts) → GoesOn b U i w ran_steps now
         with k =
             let leads : Leads P C 0 U (k.delivers ++ ran_steps ts) (with_tenants U k.later) = subst (λ X. Leads P C 0 (with_tenants U X) (k.delivers ++ ran_steps ts) (with_tenants U k.later))
             (sym f.found.split) k.leads in
             record {
+              there = f;
+              split = sp;
               unit = with_tenants U k.later;
               reached = reach_on P C 0 U (k.delivers ++ ran_steps ts) (with_tenants U k.later) r leads;
               stands = changed_stands b later U ys t u ts (ran_steps ts)
-                  (station_after to.w (outcome_of to.w.instr to.w.half to.w.pc to.o.a to.o.b (length P.bytes))) none r s f.found.split f.found.live
-                  (keeps.0 ∙ f.found.live) keeps.1 (tt, (tt, tt)) k leads shown (to.new ∙ set_shown P b.window U.tenants to.i to.w
-                  (station_after to.w (outcome_of to.w.instr to.w.half to.w.pc to.o.a to.o.b (length P.bytes))) f);
-              does = record {
-                goes_on = (knows b U none r s).stops;
-                no_miss = no_miss P U.tenants (none_in miss_in P b.window U.tenants s.window nm);
-                no_let = cannot_let b U none r s nl;
-                ys = ys;
-                tenant = t;
-                ts = ts;
-                stands = f.found.split;
-                oldest = no_claim P regs (ys ++ t ∷ []) ts (subst (IsSound P) (sym (append_assoc ys (t ∷ []) ts)) sp.sound)
-                    (still_from ys (t ∷ ts) sp.still).1 (all_from IsNoRetiredStop ys (t ∷ ts) sp.stops).1
-                    (sp.registers ∙ ap (λ X. (ahead P X).registers) (sym (append_assoc ys (t ∷ []) ts)))
-                    (oldest_is (operands_in regs) P b.window U.tenants to.i to.w f to.first.first);
-                delivers = k.delivers;
-                are = k.are;
-                leads = leads;
-                every = k.still;
-              };
+                  (station_after w (outcome_of w.instr w.half w.pc o.a o.b (length P.bytes))) none r s f.found.split f.found.live
+                  (keeps.0 ∙ f.found.live) keeps.1 (tt, (tt, tt)) k leads shown (new ∙ set_shown P b.window U.tenants i w
+                  (station_after w (outcome_of w.instr w.half w.pc o.a o.b (length P.bytes))) f);
+              delivers = k.delivers;
+              are = k.are;
+              leads = leads;
+              still = k.still;
             }
+
+pub ran_turn : (b later : Pipeline) → b.over ≡ None → NoneGives miss_in b.window →
+    CannotLet b.program.now b.ring b.queue b.committed.pc b.window →
+    RunsTo (registers_of b) (length b.program.now.bytes) b.window later.window →
+    later ≡ record b { window = later.window; missed = later.missed; settled = later.settled } → Moves b Ran later
+ran_turn b later none nm nl to rest U r s = subst (Moved b U Ran) (sym rest) (go (ran_on b later to.i to.w to.o none to.first.here to.is to.new U r s))
+  where
+    P : Program
+    P = b.program.now
+
+    regs : List ℕ
+    regs = registers_of b
+
+    now : Pipeline
+    now = record b { window = later.window; missed = later.missed; settled = later.settled }
+
+    go : GoesOn b U to.i to.w ran_steps now → Moved b U Ran now
+    go x =
+        let f = x.there.found in
+        record {
+          unit = x.unit;
+          reached = x.reached;
+          stands = x.stands;
+          does = record {
+            goes_on = (knows b U none r s).stops;
+            no_miss = no_miss P U.tenants (none_in miss_in P b.window U.tenants s.window nm);
+            no_let = cannot_let b U none r s nl;
+            ys = f.ys;
+            tenant = f.t;
+            ts = f.ts;
+            stands = f.split;
+            oldest = no_claim P regs (f.ys ++ f.t ∷ []) f.ts (subst (IsSound P) (sym (append_assoc f.ys (f.t ∷ []) f.ts)) x.split.sound)
+                (still_from f.ys (f.t ∷ f.ts) x.split.still).1 (all_from IsNoRetiredStop f.ys (f.t ∷ f.ts) x.split.stops).1
+                (x.split.registers ∙ ap (λ X. (ahead P X).registers) (sym (append_assoc f.ys (f.t ∷ []) f.ts)))
+                (oldest_is (operands_in regs) P b.window U.tenants to.i to.w x.there to.first.first);
+            delivers = x.delivers;
+            are = x.are;
+            leads = x.leads;
+            every = x.still;
+          };
+        }
 
 -- Loaded
 
@@ -350,15 +390,20 @@ can_load P ys t ts a v mem s live ek ef em e = go (answer_over (queue_of P ts) a
         (free Memory q (λ k h. let no : Memory ≡ Blocked k = h in absurd (cc)))
     go (Blocked k) q = let no : None ≡ Some v = sym (ap (λ x. value_by x mem (instr P t).op a) q) ∙ e in absurd (cc)
 
-abbrev answered_as : Station → ℕ → Station
+abbrev pub answered_as : Station → ℕ → Station
 answered_as w v = record w { stage = IsDone; made = Some v }
 
-pub loaded_turn : (b later : Pipeline) → b.over ≡ None → NoneGives miss_in b.window →
-    CannotLet b.program.now b.ring b.queue b.committed.pc b.window →
-    NoneGives (operands_in (registers_of b)) b.window →
-    LoadsTo (registers_of b) b.committed.memory b.window later.window →
-    later ≡ record b { window = later.window; missed = later.missed; settled = later.settled } → Moves b Loaded later
-loaded_turn b later none nm nl nc to rest U r s = subst (Moved b U Loaded) (sym rest) (go (found_in P b.window U.tenants to.i to.w s.window to.is))
+abbrev pub load_steps : List Tenant → List Step
+load_steps ts = On (length ts) Load ∷ []
+
+pub record LoadsOn (b : Pipeline) (U : UpdateUnit) (i : ℕ) (w : Station) (now : Pipeline) : Type 0 where
+  pub on : GoesOn b U i w load_steps now
+  pub unblocked : IsUnblocked b.program.now on.there.found.ts on.there.found.t
+
+pub loaded_on : (b later : Pipeline) (i : ℕ) (w : Station) (value : ℕ) → b.over ≡ None → gives (load_in (registers_of b) b.committed.memory) b.window i ≡ Some value →
+    slice_get b.window i ≡ Some w → later.window ≡ slice_set b.window i (answered_as w value) → (U : UpdateUnit) → IsReached b.program.now (sizes b) U → StandsFor b U →
+    LoadsOn b U i w (record b { window = later.window; missed = later.missed; settled = later.settled })
+loaded_on b later i w value none here is new U r s = go (found_in P b.window U.tenants i w s.window is)
   where
     P : Program
     P = b.program.now
@@ -375,7 +420,7 @@ loaded_turn b later none nm nl nc to rest U r s = subst (Moved b U Loaded) (sym 
     now : Pipeline
     now = record b { window = later.window; missed = later.missed; settled = later.settled }
 
-    go : FoundIn P b.window U.tenants to.i to.w → Moved b U Loaded now
+    go : FoundIn P b.window U.tenants i w → LoadsOn b U i w now
     go f = with (loaded_run P C 0 U ys t ts sp.sound sp.still sp.stops can.may)
       where
         t : Tenant
@@ -393,12 +438,11 @@ loaded_turn b later none nm nl nc to rest U r s = subst (Moved b U Loaded) (sym 
         sp : IsSplit b ys t ts
         sp = split_of b U ys t ts (knows b U none r s) f.found.split f.found.live
 
-        given : load_in regs mem W (station_of P t) ≡ Some to.value
-        given = ap (λ l. load_in regs mem l (station_of P t)) (sym f.taken) ∙ ap (load_in regs mem (take to.i b.window)) f.found.station ∙
-            given_station (load_in regs mem) b.window to.i to.w to.value to.is to.first.here
+        given : load_in regs mem W (station_of P t) ≡ Some value
+        given = ap (λ l. load_in regs mem l (station_of P t)) (sym f.taken) ∙ ap (load_in regs mem (take i b.window)) f.found.station ∙ given_station (load_in regs mem) b.window i w value is here
 
         asks : (a : ℕ) × (waits (station_of P t) ≡ Some a)
-        asks = answered_waits regs mem W (station_of P t) to.value given
+        asks = answered_waits regs mem W (station_of P t) value given
 
         a : ℕ
         a = asks.0
@@ -412,43 +456,81 @@ loaded_turn b later none nm nl nc to rest U r s = subst (Moved b U Loaded) (sym 
             (queue_like P ts (sound_from P ys (t ∷ ts) sp.sound).1 (all_from IsNoRetiredStop ys (t ∷ ts) sp.stops).1 (still_from ys (t ∷ ts) sp.still).1))
             ∙ ap (λ g. answer_over (entries g W (length W)) a (width (instr P t).op)) (sym sp.before)
 
-        can : CanLoad P ts t to.value
+        can : CanLoad P ts t value
         can =
-            can_load P ys t ts a to.value mem sp.sound f.found.live is_waiting.kind is_waiting.fate (ap (λ c. c.memory) s.committed ∙ ap (λ X. (committed P X).memory) f.found.split)
+            can_load P ys t ts a value mem sp.sound f.found.live is_waiting.kind is_waiting.fate (ap (λ c. c.memory) s.committed ∙ ap (λ X. (committed P X).memory) f.found.split)
             (ap (λ x. value_by x mem (instr P t).op a) same ∙ sym (ap (loaded_over (entries regs W (length W)) mem (instr P t).op) asks.1) ∙ given)
 
         u : Tenant
         u = settled P ts t
 
-        shown : station_of P u ≡ record to.w { stage = IsDone; made = Some to.value }
-        shown = ap (answered_as (station_of P t)) can.value ∙ ap (λ w. answered_as w to.value) f.found.station
+        shown : station_of P u ≡ answered_as w value
+        shown = ap (answered_as (station_of P t)) can.value ∙ ap (λ w. answered_as w value) f.found.station
 
-        with : ActRun P C 0 U ys t u ts (On (length ts) Load ∷ []) → Moved b U Loaded now
+        with : ActRun P C 0 U ys t u ts (load_steps ts) → LoadsOn b U i w now
         with k =
-            let leads : Leads P C 0 U (k.delivers ++ On (length ts) Load ∷ []) (with_tenants U k.later) = subst
-            (λ X. Leads P C 0 (with_tenants U X) (k.delivers ++ On (length ts) Load ∷ []) (with_tenants U k.later)) (sym f.found.split) k.leads in
+            let leads : Leads P C 0 U (k.delivers ++ load_steps ts) (with_tenants U k.later) = subst
+            (λ X. Leads P C 0 (with_tenants U X) (k.delivers ++ load_steps ts) (with_tenants U k.later)) (sym f.found.split) k.leads in
             record {
-              unit = with_tenants U k.later;
-              reached = reach_on P C 0 U (k.delivers ++ On (length ts) Load ∷ []) (with_tenants U k.later) r leads;
-              stands = changed_stands b later U ys t u ts (On (length ts) Load ∷ []) (record to.w { stage = IsDone; made = Some to.value }) none r s f.found.split f.found.live f.found.live refl
-                  (tt, tt) k leads shown (to.new ∙ set_shown P b.window U.tenants to.i to.w (record to.w { stage = IsDone; made = Some to.value }) f);
-              does = record {
-                goes_on = (knows b U none r s).stops;
-                no_miss = no_miss P U.tenants (none_in miss_in P b.window U.tenants s.window nm);
-                no_let = cannot_let b U none r s nl;
-                no_claim = nobody_claims b U none r s nc;
-                ys = ys;
-                tenant = t;
-                ts = ts;
-                stands = f.found.split;
-                unblocked = can.unblocked;
-                oldest = all_blocked P regs mem (ys ++ t ∷ []) ts (subst (IsSound P) (sym (append_assoc ys (t ∷ []) ts)) sp.sound)
-                    (still_from ys (t ∷ ts) sp.still).1 (all_from IsNoRetiredStop ys (t ∷ ts) sp.stops).1
-                    (sp.registers ∙ ap (λ X. (ahead P X).registers) (sym (append_assoc ys (t ∷ []) ts)))
-                    (oldest_is (load_in regs mem) P b.window U.tenants to.i to.w f to.first.first);
+              on = record {
+                there = f;
+                split = sp;
+                unit = with_tenants U k.later;
+                reached = reach_on P C 0 U (k.delivers ++ load_steps ts) (with_tenants U k.later) r leads;
+                stands = changed_stands b later U ys t u ts (load_steps ts) (answered_as w value) none r s f.found.split f.found.live f.found.live refl
+                    (tt, tt) k leads shown (new ∙ set_shown P b.window U.tenants i w (answered_as w value) f);
                 delivers = k.delivers;
                 are = k.are;
                 leads = leads;
-                every = k.still;
+                still = k.still;
               };
+              unblocked = can.unblocked;
             }
+
+pub loaded_turn : (b later : Pipeline) → b.over ≡ None → NoneGives miss_in b.window →
+    CannotLet b.program.now b.ring b.queue b.committed.pc b.window →
+    NoneGives (operands_in (registers_of b)) b.window →
+    LoadsTo (registers_of b) b.committed.memory b.window later.window →
+    later ≡ record b { window = later.window; missed = later.missed; settled = later.settled } → Moves b Loaded later
+loaded_turn b later none nm nl nc to rest U r s = subst (Moved b U Loaded) (sym rest) (go (loaded_on b later to.i to.w to.value none to.first.here to.is to.new U r s))
+  where
+    P : Program
+    P = b.program.now
+
+    regs : List ℕ
+    regs = registers_of b
+
+    mem : List ℕ
+    mem = b.committed.memory
+
+    now : Pipeline
+    now = record b { window = later.window; missed = later.missed; settled = later.settled }
+
+    go : LoadsOn b U to.i to.w now → Moved b U Loaded now
+    go l =
+        let x = l.on in
+        let f = x.there.found in
+        record {
+          unit = x.unit;
+          reached = x.reached;
+          stands = x.stands;
+          does = record {
+            goes_on = (knows b U none r s).stops;
+            no_miss = no_miss P U.tenants (none_in miss_in P b.window U.tenants s.window nm);
+            no_let = cannot_let b U none r s nl;
+            no_claim = nobody_claims b U none r s nc;
+            ys = f.ys;
+            tenant = f.t;
+            ts = f.ts;
+            stands = f.split;
+            unblocked = l.unblocked;
+            oldest = all_blocked P regs mem (f.ys ++ f.t ∷ []) f.ts (subst (IsSound P) (sym (append_assoc f.ys (f.t ∷ []) f.ts)) x.split.sound)
+                (still_from f.ys (f.t ∷ f.ts) x.split.still).1 (all_from IsNoRetiredStop f.ys (f.t ∷ f.ts) x.split.stops).1
+                (x.split.registers ∙ ap (λ X. (ahead P X).registers) (sym (append_assoc f.ys (f.t ∷ []) f.ts)))
+                (oldest_is (load_in regs mem) P b.window U.tenants to.i to.w x.there to.first.first);
+            delivers = x.delivers;
+            are = x.are;
+            leads = x.leads;
+            every = x.still;
+          };
+        }

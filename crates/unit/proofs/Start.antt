@@ -5,7 +5,7 @@ use Rattle.std.specs.Prelude.{slice_get, slice_set, replicate}
 use Rattle.instructions.specs.Instruction.{is_first_half}
 use Rattle.inorder.specs.Callers.{is_retired}
 use Rattle.inorder.specs.Machine.{start}
-use Rattle.inorder.specs.Unit.{how_many}
+use Rattle.inorder.specs.Unit.{UpdateUnit, how_many}
 use Rattle.inorder.specs.Moves.{IsReached}
 use Rattle.unit.specs.declared.bench.Turn.{Turn}
 use Rattle.instructions.specs.declared.guessing.Leaver.{Leaver}
@@ -62,30 +62,32 @@ start_unit b w c o l n f z room most least code =
       code = code;
     }
 
+-- the unit that steps have led to stands behind the later fields
+pub unit_on : (b later : Pipeline) (V : UpdateUnit) → StandsForSome b → IsReached b.program.now (sizes b) V → StandsFor later V → SizesStay b later →
+    length later.leavers ≡ 32 → AreNoted later.missed later.settled later.window → StandsForSome later
+unit_on b later V h reached stands e l n =
+    record {
+      unit = V;
+      reached = subst (λ P. IsReached P (sizes later) V) (sym (ap (λ p. p.now) e.program)) (subst (λ C. IsReached b.program.now C V) same reached);
+      stands = stands;
+      room = subst (λ r. 0 < r) (sym e.ring) h.room;
+      ring = subst (λ r. r ≤ 32) (sym e.ring) h.ring;
+      least = subst (λ r. 2 ≤ r) (sym e.queue) h.least;
+      leavers = l;
+      oldest = subst (λ k. k < later.ring) (sym stands.oldest) (mod-lt (how_many is_retired V.tenants) (subst (λ r. 0 < r) (sym e.ring) h.room));
+      noted = n;
+      code = subst (λ p. IsDecoded later.code.items p.now) (sym e.program) (subst (λ v. IsDecoded v.items b.program.now) (sym e.code) h.code);
+    }
+  where
+    same : sizes b ≡ sizes later
+    same =
+        ap (λ r. record { ring = r; queue = b.queue; first_tag = b.first_tag }) (sym e.ring)
+        ∙ ap (λ q. record { ring = later.ring; queue = q; first_tag = b.first_tag }) (sym e.queue)
+        ∙ ap (λ f. record { ring = later.ring; queue = later.queue; first_tag = f }) (sym e.first_tag)
+
 pub unit_next : (b later : Pipeline) (answer : Turn) → StandsForSome b → Moves b answer later → SizesStay b later →
     length later.leavers ≡ 32 → AreNoted later.missed later.settled later.window → StandsForSome later
-unit_next b later answer h t e l n = go (t h.unit h.reached h.stands)
-  where
-    go : Rattle.unit.specs.Turns.Moved b h.unit answer later → StandsForSome later
-    go x =
-        record {
-          unit = x.unit;
-          reached = subst (λ P. IsReached P (sizes later) x.unit) (sym (ap (λ p. p.now) e.program)) (subst (λ C. IsReached b.program.now C x.unit) same x.reached);
-          stands = x.stands;
-          room = subst (λ r. 0 < r) (sym e.ring) h.room;
-          ring = subst (λ r. r ≤ 32) (sym e.ring) h.ring;
-          least = subst (λ r. 2 ≤ r) (sym e.queue) h.least;
-          leavers = l;
-          oldest = subst (λ k. k < later.ring) (sym x.stands.oldest) (mod-lt (how_many is_retired x.unit.tenants) (subst (λ r. 0 < r) (sym e.ring) h.room));
-          noted = n;
-          code = subst (λ p. IsDecoded later.code.items p.now) (sym e.program) (subst (λ v. IsDecoded v.items b.program.now) (sym e.code) h.code);
-        }
-      where
-        same : sizes b ≡ sizes later
-        same =
-            ap (λ r. record { ring = r; queue = b.queue; first_tag = b.first_tag }) (sym e.ring)
-            ∙ ap (λ q. record { ring = later.ring; queue = q; first_tag = b.first_tag }) (sym e.queue)
-            ∙ ap (λ f. record { ring = later.ring; queue = later.queue; first_tag = f }) (sym e.first_tag)
+unit_next b later answer h t e l n = let x = t h.unit h.reached h.stands in unit_on b later x.unit h x.reached x.stands e l n
 
 -- what a retirement keeps
 pub record IsKept (b later : Pipeline) : Type 0 where

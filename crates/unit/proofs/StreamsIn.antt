@@ -1,31 +1,30 @@
 -- The steady state: what is let is claimed and finished at once.
-use Rattle.std.proofs.Common.{◌≡◌, ◌<◌, ◌≤◌, ℕ, List, [], ◌∷◌, ◌++◌, length, Some, None, refl, sym, ap, ◌∙◌, subst, arith, length-append}
-use Rattle.std.proofs.lemmas.Option.{slice_get_within}
+use Rattle.std.proofs.Common.{◌≡◌, ◌<◌, ℕ, Bool, true, false, cond, eqb, List, [], ◌∷◌, ◌++◌, length, Some, None, refl, sym, ap, ◌∙◌, subst}
 use Rattle.std.specs.Prelude.{slice_get, slice_index, slice_set}
 use Rattle.instructions.specs.Instruction.{first_of, kind, second_of}
 use Rattle.instructions.specs.declared.op.Kind.{Kind}
 use Rattle.instructions.specs.Operations.{outcome_of}
 use Rattle.instructions.specs.declared.stop.Outcome.{Outcome}
-use Rattle.unit.specs.declared.bench.Turn.TheVariants.{Ran}
+use Rattle.instructions.specs.declared.stop.Outcome.TheVariants.{Address, Next, Pair, Stop, Value}
 use Rattle.unit.specs.declared.dispatch.Fetched.{Fetched}
 use Rattle.unit.specs.declared.execute.Operands.{Operands}
 use Rattle.unit.specs.declared.future.Future.{Future}
 use Rattle.unit.specs.declared.pipeline.Pipeline.{Pipeline}
+use Rattle.unit.specs.declared.station.Stage.{Stage}
+use Rattle.unit.specs.declared.station.Stage.TheVariants.{Open, Addr, Done, Miss, Stops}
 use Rattle.unit.specs.declared.station.Station.{Station}
-use Rattle.unit.specs.Changes.{CanClaim, RunsAt, ran_at, registers_of}
-use Rattle.unit.specs.Givers.{NoneGives, gives}
-use Rattle.unit.specs.Notes.{AreNoted, AreSettled, miss_in, missed_after}
-use Rattle.unit.specs.Stages.{CannotLet, NoRoom, RunsTo}
+use Rattle.unit.specs.Changes.{CanClaim, registers_of}
+use Rattle.unit.specs.Givers.{gives}
+use Rattle.unit.specs.Notes.{AreNoted, missed_after}
 use Rattle.unit.specs.StandsFor.{StandsForSome}
-use Rattle.unit.specs.Steady.{EndsWith, Follows, FollowsYoungest, IsSteady}
-use Rattle.unit.specs.Window.{let_at, operands_by, operands_in, source_in, stage_after, station_after}
+use Rattle.unit.specs.Steady.{EndsWith, Follows, FollowsYoungest, IsSteady, arrives, as_let}
+use Rattle.unit.specs.Window.{let_at, miss_of, operands_by, operands_in, source_in, stage_after, station_after}
 use Rattle.unit.proofs.EndTurns.{both_there}
-use Rattle.unit.proofs.Idle.{Shows, ran_shows}
-use Rattle.unit.proofs.Noted.{none_more, noted_ran, settled_more}
+use Rattle.unit.proofs.Idle.{ran_unit}
+use Rattle.unit.proofs.Noted.{noted_ran}
 use Rattle.unit.proofs.Scan.{get_end, set_middle}
-use Rattle.unit.proofs.Settled.{settled_closed}
 use Rattle.unit.proofs.Tests.{gives_here}
-use Rattle.unit.proofs.Awaiting.{last_same, passed_no_miss, passed_settled, whole_registers}
+use Rattle.unit.proofs.Awaiting.{last_same, whole_registers}
 
 -- An instruction is let: it can be claimed at once
 
@@ -63,131 +62,114 @@ pub entered_get : (b mid : Pipeline) (next : Fetched) (predicted at : ℕ) → H
 entered_get b mid next predicted at e place = ap (λ W. slice_get W at) e.window ∙ ap (slice_get (b.window ++ let_at next.instr next.half next.pc predicted ∷ [])) place ∙
     get_end b.window [] (let_at next.instr next.half next.pc predicted)
 
-pub let_last : (b mid : Pipeline) (next : Fetched) (predicted at : ℕ) (w : Station) → HasEntered b mid next predicted → at ≡ length b.window → slice_get mid.window at ≡ Some w →
-    w ≡ let_at next.instr next.half next.pc predicted
-let_last b mid next predicted at w e place is =
-    let both : Some w ≡ Some (let_at next.instr next.half next.pc predicted) = sym is ∙ entered_get b mid next predicted at e place in
-    cc both
+-- What is let comes as far as its outcome says, unless that is a miss
 
-pub entered_full : (b mid : Pipeline) (f : Future) (next : Fetched) (predicted : ℕ) → IsSteady b f → HasEntered b mid next predicted → mid.ring ≤ length mid.window
-entered_full b mid f next predicted s e =
+arrives_instr : (w : Station) (o : Outcome) → (arrives w o).instr ≡ w.instr
+arrives_instr w (Value v) = refl
+arrives_instr w (Pair l h) = refl
+arrives_instr w (Address a) = refl
+arrives_instr w (Stop c) = refl
+arrives_instr w (Next x) = by (eqb x w.predicted)
+  where
+    by : (b : Bool) → (cond b (station_after w (Next x)) w).instr ≡ w.instr
+    by true = refl
+    by false = refl
+
+arrives_half : (w : Station) (o : Outcome) → (arrives w o).half ≡ w.half
+arrives_half w (Value v) = refl
+arrives_half w (Pair l h) = refl
+arrives_half w (Address a) = refl
+arrives_half w (Stop c) = refl
+arrives_half w (Next x) = by (eqb x w.predicted)
+  where
+    by : (b : Bool) → (cond b (station_after w (Next x)) w).half ≡ w.half
+    by true = refl
+    by false = refl
+
+pub arrived_ends : (W later : List Station) (next : Fetched) (predicted : ℕ) (o : Outcome) → later ≡ W ++ arrives (let_at next.instr next.half next.pc predicted) o ∷ [] → EndsWith W next later
+arrived_ends W later next predicted o e =
     let w = let_at next.instr next.half next.pc predicted in
-    omega (arith, ap (λ x. x.ring) e.rest, s.free, ap length e.window, length-append b.window (w ∷ []))
+    record { station = arrives w o; is = e; instr = arrives_instr w o; half = arrives_half w o }
 
-pub ran_youngest : (b mid later : Pipeline) (f : Future) (next : Fetched) (predicted at : ℕ) (o : Operands) → IsSteady b f → HasEntered b mid next predicted → at ≡ length b.window →
-    CanClaim mid (record { at = at; operands = o }) → RunsAt mid (record { at = at; operands = o }) later → later ≡ record mid { window = later.window; missed = later.missed } →
-    AreNoted later.missed later.settled later.window → Shows mid Ran later
-ran_youngest b mid later f next predicted at o s e place ready runs rest noted = ran_shows mid later e.unit none miss lets to rest' noted
+pub arrived_follows : (f g : Future) (W later : List Station) (w : Station) → later ≡ W ++ w ∷ [] → Follows f w g → FollowsYoungest f W later g
+arrived_follows f g W later w e follows v is = subst (λ x. Follows f x g) (last_same W w v (sym e ∙ is)) follows
+
+pub arrives_let : (w : Station) (o : Outcome) → as_let (arrives w o) ≡ as_let w
+arrives_let w (Value v) = refl
+arrives_let w (Pair l h) = refl
+arrives_let w (Address a) = refl
+arrives_let w (Stop c) = refl
+arrives_let w (Next x) = by (eqb x w.predicted)
+  where
+    by : (b : Bool) → as_let (cond b (station_after w (Next x)) w) ≡ as_let w
+    by true = refl
+    by false = refl
+
+-- It is left as it was let, or it has come further and is no miss
+data Arrival (w : Station) (o : Outcome) : Type 0 where
+  IsLeft : arrives w o ≡ w → Arrival w o
+  HasCome : arrives w o ≡ station_after w o → miss_of (stage_after o w.predicted) ≡ None → Arrival w o
+
+arrival : (w : Station) (o : Outcome) → Arrival w o
+arrival w (Value v) = HasCome refl refl
+arrival w (Pair l h) = HasCome refl refl
+arrival w (Address a) = HasCome refl refl
+arrival w (Stop c) = IsLeft refl
+arrival w (Next x) = by (eqb x w.predicted) refl
+  where
+    by : (b : Bool) → eqb x w.predicted ≡ b → Arrival w (Next x)
+    by true e = HasCome (ap (λ b. cond b (station_after w (Next x)) w) e) (ap (λ b. miss_of (cond b Done (Miss x))) e)
+    by false e = IsLeft (ap (λ b. cond b (station_after w (Next x)) w) e)
+
+missed_same : (missed : Bool) (s : Stage) → miss_of s ≡ None → missed_after missed s ≡ missed
+missed_same missed (Miss x) e = absurd (cc)
+missed_same missed Open e = refl
+missed_same missed (Addr a) e = refl
+missed_same missed Done e = refl
+missed_same missed (Stops c) e = refl
+
+-- What was let is claimed with what its registers hold
+pub record HasArrived (b mid later : Pipeline) (f : Future) (next : Fetched) (predicted : ℕ) (o : Operands) (outcome : Outcome) : Type 0 where
+  pub steady : IsSteady b f
+  pub entered : HasEntered b mid next predicted
+  pub first_small : first_of next.instr < 34
+  pub second_small : second_of next.instr < 34
+  pub first : o.a ≡ slice_index f.values (first_of next.instr)
+  pub second : o.b ≡ slice_index f.values (second_of next.instr)
+  pub comes : outcome ≡ outcome_of next.instr next.half next.pc o.a o.b (length mid.program.now.bytes)
+  pub window : later.window ≡ b.window ++ arrives (let_at next.instr next.half next.pc predicted) outcome ∷ []
+  pub rest : later ≡ record mid { window = later.window }
+
+pub arrived_unit : (b mid later : Pipeline) (f : Future) (next : Fetched) (predicted : ℕ) (o : Operands) (outcome : Outcome) →
+    HasArrived b mid later f next predicted o outcome → StandsForSome later
+arrived_unit b mid later f next predicted o outcome h = by (arrival w outcome)
   where
     w : Station
     w = let_at next.instr next.half next.pc predicted
 
-    none : mid.over ≡ None
-    none = ap (λ x. x.over) e.rest ∙ s.goes_on
+    at : ℕ
+    at = length b.window
 
-    miss : NoneGives miss_in mid.window
-    miss = subst (NoneGives miss_in) (sym e.window) (none_more b.window w refl (passed_no_miss b.window s.passed))
+    there : slice_get mid.window at ≡ Some w
+    there = entered_get b mid next predicted at h.entered refl
 
-    lets : CannotLet mid.program.now mid.ring mid.queue mid.committed.pc mid.window
-    lets = NoRoom (entered_full b mid f next predicted s e)
-
-    before : AreSettled (length b.window) mid.window
-    before = subst (AreSettled (length b.window)) (sym e.window) (settled_more b.window (length b.window) w (passed_settled b.window s.passed))
-
-    is : slice_get mid.window at ≡ Some w
-    is = entered_get b mid next predicted at e place
-
-    to : RunsTo (registers_of mid) (length mid.program.now.bytes) mid.window later.window
-    to =
-        record {
-          i = at;
-          w = w;
-          o = o;
-          first = record {
-            inside = slice_get_within mid.window at w is;
-            here = ready;
-            first = λ k l. let less : k < length b.window = omega (arith, l, place) in settled_closed (registers_of mid) mid.window k (before.each k less);
-          };
-          is = is;
-          new = runs w is;
-        }
-
-    rest' : later ≡ record mid { window = later.window; missed = later.missed; settled = later.settled }
-    rest' = rest ∙ ap (λ n. record mid { window = later.window; missed = later.missed; settled = n }) (sym (ap (λ x. x.settled) rest))
-
-pub ran_ends : (b mid later : Pipeline) (next : Fetched) (predicted at : ℕ) (o : Operands) → HasEntered b mid next predicted → at ≡ length b.window →
-    RunsAt mid (record { at = at; operands = o }) later → EndsWith b.window next later.window
-ran_ends b mid later next predicted at o e place runs =
-    let w = let_at next.instr next.half next.pc predicted in
-    let y = ran_at mid (record { at = at; operands = o }) w in
-    record {
-      station = y;
-      is = runs w (entered_get b mid next predicted at e place)
-          ∙ ap (λ l. slice_set l at y) e.window
-          ∙ ap (λ n. slice_set (b.window ++ w ∷ []) n y) place
-          ∙ set_middle b.window [] w y;
-      instr = refl;
-      half = refl;
-    }
-
--- the same from what is known of its outcome
-pub finished_runs : (mid later : Pipeline) (at : ℕ) (o : Operands) (w : Station) (outcome : Outcome) → slice_get mid.window at ≡ Some w →
-    outcome ≡ outcome_of w.instr w.half w.pc o.a o.b (length mid.program.now.bytes) → later.window ≡ slice_set mid.window at (station_after w outcome) →
-    RunsAt mid (record { at = at; operands = o }) later
-finished_runs mid later at o w outcome is comes new v there =
-    let both : Some w ≡ Some v = sym is ∙ there in
-    let same : w ≡ v = cc both in
-    new
-    ∙ ap (λ x. slice_set mid.window at (station_after w x)) comes
-    ∙ ap (λ x. slice_set mid.window at (ran_at mid (record { at = at; operands = o }) x)) same
-
-pub finished_noted : (mid later : Pipeline) (at : ℕ) (o : Operands) (w : Station) (outcome : Outcome) → StandsForSome mid → slice_get mid.window at ≡ Some w →
-    CanClaim mid (record { at = at; operands = o }) → later.window ≡ slice_set mid.window at (station_after w outcome) →
-    later.missed ≡ missed_after mid.missed (stage_after outcome w.predicted) → later.settled ≡ mid.settled → AreNoted later.missed later.settled later.window
-finished_noted mid later at o w outcome h is ready new missed settled =
-    let y : Station = station_after w outcome in
-    let noted = noted_ran (registers_of mid) mid.missed mid.settled at mid.window w y o is ready h.noted in
-    subst (AreNoted later.missed later.settled) (sym new)
-    (subst (λ n. AreNoted later.missed n (slice_set mid.window at y)) (sym settled)
-    (subst (λ m. AreNoted m mid.settled (slice_set mid.window at y)) (sym missed) noted))
-
--- What was let is claimed with what its registers hold, and finished
-pub record HasFinished (b mid later : Pipeline) (f : Future) (next : Fetched) (predicted at : ℕ) (o : Operands) (w : Station) (outcome : Outcome) : Type 0 where
-  pub steady : IsSteady b f
-  pub entered : HasEntered b mid next predicted
-  pub place : at ≡ length b.window
-  pub there : slice_get mid.window at ≡ Some w
-  pub first_small : first_of w.instr < 34
-  pub second_small : second_of w.instr < 34
-  pub first : o.a ≡ slice_index f.values (first_of w.instr)
-  pub second : o.b ≡ slice_index f.values (second_of w.instr)
-  pub comes : outcome ≡ outcome_of w.instr w.half w.pc o.a o.b (length mid.program.now.bytes)
-  pub window : later.window ≡ slice_set mid.window at (station_after w outcome)
-  pub missed : later.missed ≡ missed_after mid.missed (stage_after outcome w.predicted)
-  pub rest : later ≡ record mid { window = later.window; missed = later.missed }
-
-pub finished_shows : (b mid later : Pipeline) (f : Future) (next : Fetched) (predicted at : ℕ) (o : Operands) (w : Station) (outcome : Outcome) →
-    HasFinished b mid later f next predicted at o w outcome → Shows mid Ran later
-finished_shows b mid later f next predicted at o w outcome h =
-    let same : w.instr ≡ next.instr = ap (λ x. x.instr) (let_last b mid next predicted at w h.entered h.place h.there) in
-    let ready = let_ready b mid f next predicted at o h.steady h.place h.entered.window h.entered.rest (subst (λ i. first_of i < 34) same h.first_small)
-    (subst (λ i. second_of i < 34) same h.second_small) (h.first ∙ ap (λ i. slice_index f.values (first_of i)) same) (h.second ∙ ap (λ i. slice_index f.values (second_of i)) same) in
-    let runs = finished_runs mid later at o w outcome h.there h.comes h.window in
-    let noted = finished_noted mid later at o w outcome h.entered.unit h.there ready h.window h.missed (ap (λ x. x.settled) h.rest) in
-    ran_youngest b mid later f next predicted at o h.steady h.entered h.place ready runs h.rest noted
-
-pub finished_ends : (b mid later : Pipeline) (f : Future) (next : Fetched) (predicted at : ℕ) (o : Operands) (w : Station) (outcome : Outcome) →
-    HasFinished b mid later f next predicted at o w outcome → EndsWith b.window next later.window
-finished_ends b mid later f next predicted at o w outcome h =
-    ran_ends b mid later next predicted at o h.entered h.place (finished_runs mid later at o w outcome h.there h.comes h.window)
-
-pub finished_follows : (b mid later : Pipeline) (f g : Future) (next : Fetched) (predicted at : ℕ) (y : Station) → HasEntered b mid next predicted → at ≡ length b.window →
-    later.window ≡ slice_set mid.window at y → Follows f y g → FollowsYoungest f b.window later.window g
-finished_follows b mid later f g next predicted at y e place new follows w is =
-    let v : Station = let_at next.instr next.half next.pc predicted in
-    let ends : later.window ≡ b.window ++ y ∷ [] =
-    new
-    ∙ ap (λ l. slice_set l at y) e.window
-    ∙ ap (λ n. slice_set (b.window ++ v ∷ []) n y) place
-    ∙ set_middle b.window [] v y in
-    subst (λ x. Follows f x g) (last_same b.window y w (sym ends ∙ is)) follows
+    by : Arrival w outcome → StandsForSome later
+    by (IsLeft e) =
+        let same : later.window ≡ mid.window = h.window ∙ ap (λ x. b.window ++ x ∷ []) e ∙ sym h.entered.window in
+        subst StandsForSome (sym (h.rest ∙ ap (λ W. record mid { window = W }) same)) h.entered.unit
+    by (HasCome e m) =
+        let y = station_after w outcome in
+        let ready = let_ready b mid f next predicted at o h.steady refl h.entered.window h.entered.rest h.first_small h.second_small h.first h.second in
+        let new : later.window ≡ slice_set mid.window at y =
+        h.window ∙ ap (λ x. b.window ++ x ∷ []) e ∙ sym (ap (λ l. slice_set l at y) h.entered.window ∙ set_middle b.window [] w y) in
+        let noted = noted_ran (registers_of mid) mid.missed mid.settled at mid.window w y o there ready h.entered.unit.noted in
+        let settled : later.settled ≡ mid.settled = ap (λ x. x.settled) h.rest in
+        let missed : later.missed ≡ missed_after mid.missed y.stage = ap (λ x. x.missed) h.rest ∙ sym (missed_same mid.missed y.stage m) in
+        ran_unit mid later at w o h.entered.unit (ap (λ x. x.over) h.entered.rest ∙ h.steady.goes_on) ready there
+        (new ∙ ap (λ x. slice_set mid.window at (station_after w x)) h.comes)
+        (h.rest
+        ∙ ap (λ m. record mid { window = later.window; missed = m }) (sym (ap (λ x. x.missed) h.rest))
+        ∙ ap (λ n. record mid { window = later.window; missed = later.missed; settled = n }) (sym settled))
+        (subst (AreNoted later.missed later.settled) (sym new)
+        (subst (λ n. AreNoted later.missed n (slice_set mid.window at y)) (sym settled)
+        (subst (λ m. AreNoted m mid.settled (slice_set mid.window at y)) (sym missed) noted)))

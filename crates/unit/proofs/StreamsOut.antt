@@ -1,6 +1,5 @@
 -- The steady state: the oldest retires, and it is there again.
-use Rattle.std.proofs.Common.{◌≡◌, ◌≢◌, ◌<◌, ℕ, suc, ◌+◌, ◌*◌, ◌%◌, false, List, [], ◌∷◌, length, drop, Some, None, refl, sym, ap, ◌∙◌, subst, arith}
-use Rattle.std.proofs.Math.Nat.{add-mul-mod_self_left, mod-eq_of_lt}
+use Rattle.std.proofs.Common.{◌≡◌, ◌≢◌, ◌<◌, suc, false, List, [], ◌∷◌, length, drop, Some, None, refl, sym, ap, ◌∙◌, subst, arith}
 use Rattle.std.specs.Prelude.{slice_get, unwrap_or}
 use Rattle.instructions.specs.Instruction.{is_first_half}
 use Rattle.instructions.specs.declared.stop.Stop.{Stop}
@@ -16,10 +15,9 @@ use Rattle.unit.specs.Changes.{registers_of}
 use Rattle.unit.specs.Givers.{NoneGives}
 use Rattle.unit.specs.Loads.{load_in}
 use Rattle.unit.specs.Notes.{AreNoted}
-use Rattle.unit.specs.Stages.{NoRoom}
+use Rattle.unit.specs.Stages.{CannotLet}
 use Rattle.unit.specs.StandsFor.{StandsForSome}
 use Rattle.unit.specs.Steady.{AwaitRetirement, AwaitsRetirement, Foresees, IsSteady}
-use Rattle.unit.proofs.Ring.{mod_first}
 use Rattle.unit.proofs.LookBack.{settled_unanswered}
 use Rattle.unit.proofs.Futures.{foresees_left}
 use Rattle.unit.proofs.Idle.{Idle, Shows, idle, leaves_after, retired_shows}
@@ -40,7 +38,7 @@ pub record IsDue (b : Pipeline) : Type 0 where
   pub unit : StandsForSome b
   pub goes_on : b.over ≡ None
   pub whole : b.low ≡ None
-  pub full : b.ring ≡ length b.window
+  pub full : CannotLet b.program.now b.ring b.queue b.committed.pc b.window
   pub passed : AwaitRetirement b.window
   pub settled : b.settled < length b.window
 
@@ -56,7 +54,7 @@ due_noted b d =
 due_idle : (b now : Pipeline) → IsDue b → now ≡ record b { settled = suc b.settled } → Idle b now
 due_idle b now d e =
     let each = (passed_settled b.window d.passed).each in
-    idle b now d.unit d.goes_on (passed_no_miss b.window d.passed) (NoRoom (omega (arith, d.full))) (λ k l. settled_closed (registers_of b) b.window k (each k l)) (ap (λ x. x.window) e)
+    idle b now d.unit d.goes_on (passed_no_miss b.window d.passed) d.full (λ k l. settled_closed (registers_of b) b.window k (each k l)) (ap (λ x. x.window) e)
     (subst (λ x. x ≡ record b { window = x.window; missed = x.missed; settled = x.settled }) (sym e) refl)
     (subst (λ x. AreNoted x.missed x.settled x.window) (sym e) (due_noted b d))
 
@@ -71,16 +69,10 @@ due_shows b now later w d e is leaves =
     (subst (λ x. NoneGives (load_in (registers_of x) x.committed.memory) x.window) (sym e) loads)
     (subst (λ o. RetiresTo now o Retired later) (sym here) (leaves_to now later w w.stage p.goes_on p.whole leaves))
 
--- the station that it leaves is the next one
-behind_last : (oldest n ring : ℕ) → oldest < ring → suc n ≡ ring → oldest ≡ ((oldest + 1) % ring + n) % ring
-behind_last oldest n ring less e =
-    let sum : oldest + 1 + n ≡ oldest + ring * 1 = omega (arith, e) in
-    sym (mod_first (oldest + 1) n ring ∙ ap (λ k. k % ring) sum ∙ add-mul-mod_self_left oldest ring 1 ∙ mod-eq_of_lt less)
-
 -- and the steady state is there again
 pub due_steady : (b now later : Pipeline) (w : Station) (f : Future) → IsDue b → now ≡ record b { settled = suc b.settled } → slice_get b.window 0 ≡ Some w → later ≡ left now w →
-    Foresees f b.committed.registers b.committed.pc b.window → f.station ≡ b.oldest → IsSteady later f
-due_steady b now later w f d e is leaves h at = subst (λ x. IsSteady x f) (sym (leaves ∙ ap (λ x. left x w) e)) (go b.window refl)
+    IsSteady b f → IsSteady later f
+due_steady b now later w f d e is leaves s = subst (λ x. IsSteady x f) (sym (leaves ∙ ap (λ x. left x w) e)) (go b.window refl)
   where
     p : AwaitsRetirement w
     p = d.passed 0 w is
@@ -91,16 +83,14 @@ due_steady b now later w f d e is leaves h at = subst (λ x. IsSteady x f) (sym 
         let same : x ≡ w = cc (sym (ap (λ l. slice_get l 0) q) ∙ is) in
         let all : b.window ≡ w ∷ W = q ∙ ap (λ y. y ∷ W) same in
         let rest : drop 1 b.window ≡ W = ap (drop 1) all in
-        let now' : Foresees f b.committed.registers b.committed.pc (w ∷ W) = subst (Foresees f b.committed.registers b.committed.pc) all h in
+        let now' : Foresees f b.committed.registers b.committed.pc (w ∷ W) = subst (Foresees f b.committed.registers b.committed.pc) all s.foresees in
         record {
           goes_on = d.goes_on;
           whole = refl;
-          free = omega (arith, ap length rest, ap length all, d.full);
           passed = λ k y g. d.passed (suc k) y (sym (get_drop b.window k) ∙ g);
           foresees = subst (Foresees f (write (registers_of b) w.destination (unwrap_or w.made 0)) w.next) (sym rest)
               (subst (λ r. Foresees f (write r w.destination (unwrap_or w.made 0)) w.next W) (sym (whole_registers b d.whole))
               (foresees_left f b.committed.registers b.committed.pc w W (registers_long b d.unit d.whole) p now'));
-          station = at ∙ behind_last b.oldest (length (drop 1 b.window)) b.ring d.unit.oldest (omega (arith, ap length rest, ap length all, d.full));
         }
 
 pub due_ended : (b : Pipeline) (w : Station) → IsDue b → slice_get b.window 0 ≡ Some w → HasEnded (length b.committed.memory) w.instr w.stage

@@ -1,5 +1,5 @@
 -- No predictor is told of the station of the oldest tenant before that leaves it.
-use Rattle.std.proofs.Common.{◌≡◌, ◌≢◌, ℕ, suc, ◌+◌, ◌%◌, cond, List, [], ◌∷◌, ◌++◌, length, Some, None, refl, sym, ap, ◌∙◌, subst, eq-eqb, ne_eqb, arith}
+use Rattle.std.proofs.Common.{◌≡◌, ◌≢◌, suc, ◌%◌, cond, List, [], ◌∷◌, ◌++◌, length, Some, None, refl, sym, ap, ◌∙◌, subst, eq-eqb, ne_eqb, arith}
 use Rattle.std.specs.Prelude.{slice_get}
 use Rattle.std.specs.List.{AllByRecursion}
 use Rattle.instructions.specs.Programs.{Program}
@@ -15,7 +15,6 @@ use Rattle.unit.specs.declared.pipeline.Pipeline.{Pipeline}
 use Rattle.unit.specs.declared.station.Station.{Station}
 use Rattle.unit.specs.Leavers.{leaver, told_of}
 use Rattle.unit.specs.StandsFor.{StandsFor, StandsForSome, sizes}
-use Rattle.unit.specs.Window.{window}
 use Rattle.unit.proofs.Found.{Found, found}
 use Rattle.unit.proofs.Leavers.{told_live}
 use Rattle.unit.proofs.Waiting.{retired_over}

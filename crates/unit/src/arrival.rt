@@ -1,17 +1,16 @@
 //! An instruction arrives in the steady state: it is let, and is claimed, finished and answered as far as that can be
 //! done at once.
-ghost use Rattle.std.specs.Prelude.{⊤, ◌≡◌, ◌<◌, ◌≤◌, suc, [], ◌∷◌, ◌++◌, false, length, take, slice_get, slice_set, Some, None};
+ghost use Rattle.std.specs.Prelude.{⊤, ◌≡◌, ◌<◌, ◌≤◌, ℕ, suc, [], ◌∷◌, ◌++◌, false, length, take, slice_get, slice_set, Some, None};
 ghost use Rattle.instructions.specs.Instruction.{is_first_half};
 ghost use Rattle.instructions.specs.Programs.{instr_at};
 ghost use Rattle.unit.specs.Changes.{NextOf};
 ghost use Rattle.unit.specs.Decoding.{IsDecoded};
 ghost use Rattle.unit.specs.declared.dispatch.Fetched.{Fetched as Next};
 ghost use Rattle.unit.specs.Givers.{Chosen};
-ghost use Rattle.unit.specs.Notes.{AreSettled, missed_after};
 ghost use Rattle.unit.specs.declared.station.Station.{Station as Last};
-ghost use Rattle.unit.specs.Window.{let_at, stage_after, station_after};
+ghost use Rattle.unit.specs.Window.{let_at};
 ghost use Rattle.unit.specs.StandsFor.{StandsForSome};
-ghost use Rattle.unit.specs.Steady.{EndsWith, Follows, FollowsYoungest, IsSteady};
+ghost use Rattle.unit.specs.Steady.{EndsWith, Follows, FollowsYoungest, IsSteady, StayOpen, arrives, reopened};
 
 use crate::dispatch::Fetched;
 use crate::execute::Operands;
@@ -23,38 +22,32 @@ use crate::station::{Stage, made_at_let};
 use instructions::{Kind, Outcome, Predictor, outcome_of};
 
 impl<'a> Pipeline<'a> {
-    // Lets the next instruction, which has come further by its outcome at once. Answers whether it has only to retire
-    // then; what the next one finds goes on behind it.
+    // Lets the next instruction, which has come further by its outcome at once, unless that is a miss or a stop.
+    // Answers whether it has only to retire then; what the next one finds goes on behind it.
     #[inline(always)]
     fn finishes(
         &mut self,
         future: &mut Future,
         next: Fetched,
+        station: usize,
         predicted: u32,
         outcome: Outcome,
     ) -> bool
-        requires small { future.old.station < 32 }
+        requires small { station < 32 }
         requires room { length self.old.window < 32 }
         requires code { IsDecoded self.old.code.items self.old.program.now }
         requires is { instr_at self.old.program.now next.pc ≡ Some next.instr }
         requires all { length future.old.values ≡ 34 }
         requires whole { is_first_half next.instr.op next.half ≡ false }
         ensures window { self.new.window ≡ self.old.window ++
-            station_after (let_at next.instr next.half next.pc predicted) outcome ∷ [] }
-        ensures leavers { self.new.leavers ≡
-            slice_set self.old.leavers future.old.station None }
-        ensures missed { self.new.missed ≡
-            missed_after self.old.missed (stage_after outcome predicted) }
-        ensures rest { self.new ≡ record self.old {
-          window = self.new.window;
-          leavers = self.new.leavers;
-          missed = self.new.missed;
-        } }
+            arrives (let_at next.instr next.half next.pc predicted) outcome ∷ [] }
+        ensures leavers { self.new.leavers ≡ slice_set self.old.leavers station None }
+        ensures rest { self.new ≡
+            record self.old { window = self.new.window; leavers = self.new.leavers } }
         ensures follows { Chosen result (Follows future.old
-            (station_after (let_at next.instr next.half next.pc predicted) outcome) future.new)
+            (arrives (let_at next.instr next.half next.pc predicted) outcome) future.new)
             (future.new ≡ future.old) }
     {
-        let station = future.station;
         let kind = next.instr.kind();
         let destination = next.instr.destination(next.half);
         let made = made_at_let(kind, next.pc);
@@ -67,17 +60,12 @@ impl<'a> Pipeline<'a> {
                 self.let_as(next, station, predicted, made, Stage::Done);
                 future.goes_on(destination, made, predicted)
             }
-            Outcome::Next(x) => {
-                self.missed = true;
-                self.let_as(next, station, predicted, made, Stage::Miss(x));
-                false
-            }
             Outcome::Address(a) => {
                 self.let_as(next, station, predicted, made, Stage::Addr(a));
                 matches!(kind, Kind::Stores) && future.goes_on(destination, made, predicted)
             }
-            Outcome::Stop(c) => {
-                self.let_as(next, station, predicted, made, Stage::Stops(c));
+            Outcome::Next(_) | Outcome::Stop(_) => {
+                self.let_out(next, station, predicted);
                 false
             }
         }
@@ -96,23 +84,22 @@ impl<'a> Pipeline<'a> {
         requires next { NextOf self.old (Some next) }
         requires whole { is_first_half next.instr.op next.half ≡ false }
         ensures unit { StandsForSome self.new }
+        ensures stays { StayOpen self.old self.new }
         ensures window { EndsWith self.old.window next self.new.window }
-        ensures rest { self.new ≡ record self.old {
-          window = self.new.window;
-          leavers = self.new.leavers;
-          missed = self.new.missed;
-        } }
+        ensures rest { self.new ≡
+            record self.old { window = self.new.window; leavers = self.new.leavers } }
         ensures follows { Chosen result
             (FollowsYoungest future.old self.old.window self.new.window future.new)
             (future.new ≡ future.old) }
     {
-        let left = self.leaver(future.station);
+        let station = self.station_at(self.window.len());
+        let left = self.leaver(station);
         let predicted = guess(predictor, left, &next);
         let Operands { a, b } = future.operands(&next.instr);
         let size = self.program.size();
         let instr = next.instr.to_instr();
         let outcome = outcome_of(&instr, next.half, next.pc, a, b, size);
-        self.finishes(future, next, predicted, outcome)
+        self.finishes(future, next, station, predicted, outcome)
     }
 
     // Answers the youngest tenant, if it is a load that is not blocked.
@@ -120,10 +107,10 @@ impl<'a> Pipeline<'a> {
     fn loads_youngest(&mut self, at: usize) -> bool
         requires unit { StandsForSome self.old }
         requires goes_on { self.old.over ≡ None }
-        requires full { self.old.ring ≤ length self.old.window }
         requires youngest { length self.old.window ≡ suc at }
-        requires older { AreSettled at self.old.window }
         ensures unit { StandsForSome self.new }
+        ensures stays { (n : ℕ) → n ≤ at →
+            reopened n self.new.window ≡ reopened n self.old.window }
         ensures window { (next : Next) →
             EndsWith (take at self.old.window) next self.old.window →
             EndsWith (take at self.old.window) next self.new.window }
@@ -141,13 +128,13 @@ impl<'a> Pipeline<'a> {
     fn loads_next(&mut self, future: &mut Future, at: usize) -> bool
         requires unit { StandsForSome self.old }
         requires goes_on { self.old.over ≡ None }
-        requires full { self.old.ring ≤ length self.old.window }
         requires youngest { length self.old.window ≡ suc at }
-        requires older { AreSettled at self.old.window }
         requires all { length future.old.values ≡ 34 }
         requires whole { (w : Last) → slice_get self.old.window at ≡ Some w →
             is_first_half w.instr.op w.half ≡ false }
         ensures unit { StandsForSome self.new }
+        ensures stays { (n : ℕ) → n ≤ at →
+            reopened n self.new.window ≡ reopened n self.old.window }
         ensures window { (next : Next) →
             EndsWith (take at self.old.window) next self.old.window →
             EndsWith (take at self.old.window) next self.new.window }
@@ -177,12 +164,10 @@ impl<'a> Pipeline<'a> {
         requires next { NextOf self.old (Some next) }
         requires whole { is_first_half next.instr.op next.half ≡ false }
         ensures unit { StandsForSome self.new }
+        ensures stays { StayOpen self.old self.new }
         ensures window { EndsWith self.old.window next self.new.window }
-        ensures rest { self.new ≡ record self.old {
-          window = self.new.window;
-          leavers = self.new.leavers;
-          missed = self.new.missed;
-        } }
+        ensures rest { self.new ≡
+            record self.old { window = self.new.window; leavers = self.new.leavers } }
         ensures follows { Chosen result
             (FollowsYoungest future.old self.old.window self.new.window future.new) ⊤ }
     {

@@ -61,14 +61,15 @@ impl<'a> Pipeline<'a> {
         wrapped(self.oldest + i, self.ring)
     }
 
-    /// The station behind that of the oldest tenant.
-    pub fn second_station(&self) -> usize
-        requires oldest { self.now.oldest < self.now.ring }
+    /// The station behind another.
+    #[inline(always)]
+    pub fn station_behind(&self, station: usize) -> usize
+        requires there { station < self.now.ring }
         requires most { self.now.ring ≤ 32 }
-        ensures value { result ≡ (self.now.oldest + 1) % self.now.ring }
+        ensures value { result ≡ (station + 1) % self.now.ring }
         ensures small { result < self.now.ring }
     {
-        let next = self.oldest + 1;
+        let next = station + 1;
         if next == self.ring { 0 } else { next }
     }
 

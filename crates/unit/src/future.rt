@@ -19,8 +19,6 @@ use instructions::{Kind, Reg};
 pub struct Future {
     pub values: [u32; 34],
     pub pc: u32,
-    /// The station that is let next.
-    pub station: usize,
 }
 
 // It has ended, or is a store with its address, and does not stop.
@@ -39,17 +37,15 @@ fn has_ended(station: &Station) -> bool
 
 impl Future {
     /// Where nobody is live.
-    pub fn new(committed: &Committed, station: usize) -> Future
+    pub fn new(committed: &Committed) -> Future
         requires { length committed.now.registers ≡ 34 }
-        ensures foresees { Foresees result committed.now.registers committed.now.pc [] }
-        ensures station { result.station ≡ station }
+        ensures { Foresees result committed.now.registers committed.now.pc [] }
     {
         let mut values = *committed.registers();
         values[0] = 0;
         Future {
             values,
             pc: committed.pc(),
-            station,
         }
     }
 

@@ -68,7 +68,7 @@ impl<'a> Pipeline<'a> {
         self.commits_whole(oldest);
     }
 
-    // The oldest station is free again. How many are settled is not counted down.
+    // The oldest station is free again. As many are known to be settled as before.
     #[inline(always)]
     fn frees(&mut self, oldest: &Station)
         requires oldest { self.old.oldest < self.old.ring }
@@ -76,7 +76,7 @@ impl<'a> Pipeline<'a> {
         requires is { slice_get self.old.window 0 ≡ Some oldest.now }
         ensures { self.new ≡ record (shifted self.old) { settled = self.old.settled } }
     {
-        self.oldest = self.second_station();
+        self.oldest = self.station_behind(self.oldest);
         self.window.shift(oldest);
     }
 
@@ -138,7 +138,7 @@ impl<'a> Pipeline<'a> {
         Turn::Retired
     }
 
-    /// The same where nothing waits for LO and all are settled: one more is then than was known.
+    /// The same where nothing waits for LO, and one more is settled than is known: as many are known to be behind it.
     #[inline(always)]
     pub fn leaves_settled(&mut self, oldest: Station)
         requires oldest { self.old.oldest < self.old.ring }

@@ -1,20 +1,45 @@
-//! The steady state of a run: one station is free, and all live tenants have only to retire. So what is let is the only
-//! tenant that can be claimed, and has then only to retire itself, unless it was mispredicted, stops or is blocked. The
-//! turns are those of any run, in the same order; no station is searched for the next.
+//! The steady state of a run: all live tenants have only to retire. So what is let next can be claimed at once, and
+//! has then only to retire itself, unless it was mispredicted, stops or is blocked; no station is searched for it.
+//! Where more can be let before any is claimed, each is claimed, finished and answered as it is let; should one of
+//! them not have only to retire then, all of these are again as they were let. So what stands in the stations behind
+//! each retirement is the same as if all turns were made one by one, in their order.
 ghost use Rattle.std.specs.Prelude.{⊤, ◌≡◌, ◌<◌, ◌≤◌, ◌-◌, ◌^◌, false, length, IfSome, Some, None};
 ghost use Rattle.instructions.specs.Instruction.{is_first_half};
 ghost use Rattle.unit.specs.Changes.{NextOf, RetiresOne, run_from};
-ghost use Rattle.unit.specs.Decoding.{IsDecoded};
 ghost use Rattle.unit.specs.Givers.{Chosen};
 ghost use Rattle.unit.specs.StandsFor.{StandsForSome};
 ghost use Rattle.unit.specs.declared.future.Future.{Future as Foreseen};
-ghost use Rattle.unit.specs.Steady.{AwaitRetirement, Foresees, IsSteady};
+ghost use Rattle.unit.specs.Steady.{AwaitRetirement, IsSteady, IsStreamed, IsUpcoming, StayOpen, with_reopened};
+ghost use Rattle.unit.specs.Turns.{SizesStay};
 
 use crate::dispatch::Fetched;
 use crate::fetch::fetch;
 use crate::future::Future;
 use crate::pipeline::Pipeline;
+use crate::station::{Stage, made_at_let};
 use instructions::{Half, Predictor};
+
+/// What comes next in the steady state.
+#[derive(Clone, Copy)]
+enum Upcoming {
+    /// It can be let.
+    Fits(Fetched),
+    /// It reaches memory, and the queue is full.
+    Waits,
+    /// There is no instruction, or one of two halves.
+    Ends,
+}
+
+/// What became of it.
+#[derive(Clone, Copy)]
+enum Streamed {
+    /// It was let and has only to retire, and more may be let.
+    Let,
+    /// The same, or it waits, and the oldest tenant has to retire first.
+    Full,
+    /// There is none, or it has not only to retire.
+    Ends,
+}
 
 impl<'a> Pipeline<'a> {
     // What the next tenant finds, if the unit is in its steady state.
@@ -22,13 +47,14 @@ impl<'a> Pipeline<'a> {
     #[inline(never)]
     fn future(&self) -> Option<Future>
         requires { StandsForSome self.now }
-        ensures { IfSome result (λ f. IsSteady self.now f) }
+        ensures steady { IfSome result (λ f. IsSteady self.now f) }
+        ensures room { IfSome result (λ f. length self.now.window < self.now.ring) }
     {
         let len = self.window.len();
-        if self.over.is_some() || self.low.is_some() || len + 1 != self.ring {
+        if self.over.is_some() || self.low.is_some() || self.ring <= len {
             return None;
         }
-        let mut future = Future::new(&self.committed, self.station_at(len));
+        let mut future = Future::new(&self.committed);
         for i in 0..len {
             let station = self.window.peek(i)?;
             if station.instr.is_first_half(station.half) || !future.passes(station) {
@@ -38,75 +64,114 @@ impl<'a> Pipeline<'a> {
         Some(future)
     }
 
-    // The next instruction, if it can be let and has no second half.
+    // What comes next behind the youngest tenant.
     #[inline(always)]
-    fn next_behind(&self, future: &Future) -> Option<Fetched>
+    fn next_behind(&self, future: &Future) -> Upcoming
+        requires unit { StandsForSome self.now }
         requires steady { IsSteady self.now future.now }
-        requires code { IsDecoded self.now.code.items self.now.program.now }
-        ensures next { IfSome result (λ next. NextOf self.now (Some next)) }
-        ensures whole { IfSome result (λ next. is_first_half next.instr.op next.half ≡ false) }
+        requires room { length self.now.window < self.now.ring }
+        ensures { IsUpcoming self.now result }
     {
-        let instr = fetch(self.code.as_slice(), future.pc)?;
+        let Some(instr) = fetch(self.code.as_slice(), future.pc) else {
+            return Upcoming::Ends;
+        };
         if instr.is_first_half(Half::Low) {
-            return None;
+            return Upcoming::Ends;
         }
         if self.queue <= self.window.accesses() && instr.is_access() {
-            return None;
+            return Upcoming::Waits;
         }
-        Some(Fetched {
+        Upcoming::Fits(Fetched {
             instr: *instr,
             half: Half::Low,
             pc: future.pc,
         })
     }
 
-    // The oldest tenant retires, where all have only to retire.
+    // One less is known to be settled.
+    #[inline(always)]
+    fn forgets_one(&mut self)
+        requires { StandsForSome self.old }
+        ensures unit { StandsForSome self.new }
+        ensures fewer { self.new.settled ≤ self.old.settled }
+        ensures less { 0 < length self.old.window → self.new.settled < length self.old.window }
+        ensures rest { self.new ≡ record self.old { settled = self.new.settled } }
+    {
+        self.settled = self.settled.saturating_sub(1);
+    }
+
+    // All but the oldest `from` are again as they were let.
+    #[cold]
+    #[inline(never)]
+    fn reopens(&mut self, from: usize)
+        requires { from ≤ length self.old.window }
+        ensures { self.new ≡ with_reopened from self.old }
+    {
+        let mut at = self.window.len();
+        while from < at {
+            at -= 1;
+            if let Some(station) = self.window.at(at) {
+                let made = made_at_let(station.instr.kind(), station.pc);
+                self.window.advance(at, Stage::Open, made);
+            }
+        }
+    }
+
+    // Lets what comes next, if it can be let, and does with it what can be done then.
+    #[inline(always)]
+    fn streams_one<P: Predictor>(&mut self, predictor: &mut P, future: &mut Future) -> Streamed
+        requires unit { StandsForSome self.old }
+        requires steady { IsSteady self.old future.old }
+        requires room { length self.old.window < self.old.ring }
+        ensures unit { StandsForSome self.new }
+        ensures same { SizesStay self.old self.new }
+        ensures committed { self.new.committed ≡ self.old.committed }
+        ensures stays { StayOpen self.old self.new }
+        ensures longer { length self.old.window ≤ length self.new.window }
+        ensures streamed { IsStreamed result self.old self.new future.new }
+    {
+        match self.next_behind(future) {
+            Upcoming::Ends => Streamed::Ends,
+            Upcoming::Waits => {
+                self.forgets_one();
+                Streamed::Full
+            }
+            Upcoming::Fits(next) => {
+                if !self.streams_in(predictor, future, next) {
+                    return Streamed::Ends;
+                }
+                if self.window.len() < self.ring {
+                    return Streamed::Let;
+                }
+                Streamed::Full
+            }
+        }
+    }
+
+    // The oldest tenant retires, where all have only to retire and nothing can be let.
     #[inline(always)]
     fn streams_out(&mut self)
         requires unit { StandsForSome self.old }
         requires goes_on { self.old.over ≡ None }
         requires whole { self.old.low ≡ None }
-        requires full { self.old.ring ≡ length self.old.window }
+        requires room { length self.old.window ≤ self.old.ring }
+        requires full { NextOf self.old None }
         requires passed { AwaitRetirement self.old.window }
         requires settled { self.old.settled < length self.old.window }
         requires count { self.old.committed.count < 2 ^ 64 - 1 }
         ensures unit { StandsForSome self.new }
         ensures program { self.new.program ≡ self.old.program }
+        ensures room { length self.new.window < self.new.ring }
         ensures retires { RetiresOne None self.old self.new }
-        ensures steady { (f : Foreseen) →
-            Foresees f self.old.committed.registers self.old.committed.pc self.old.window →
-            f.station ≡ self.old.oldest → IsSteady self.new f }
+        ensures steady { (f : Foreseen) → IsSteady self.old f → IsSteady self.new f }
     {
         let oldest = self.window.oldest();
         self.leaves_settled(oldest);
     }
 
-    // One turn of each stage: lets the next instruction, and retires the oldest tenant. Answers whether the unit is in
-    // its steady state again.
-    #[inline(always)]
-    fn streams_one<P: Predictor>(&mut self, predictor: &mut P, future: &mut Future) -> bool
-        requires unit { StandsForSome self.old }
-        requires steady { IsSteady self.old future.old }
-        requires count { self.old.committed.count < 2 ^ 64 - 1 }
-        ensures unit { StandsForSome self.new }
-        ensures program { self.new.program ≡ self.old.program }
-        ensures retires { Chosen result
-            (RetiresOne None self.old self.new) (self.new.committed ≡ self.old.committed) }
-        ensures steady { Chosen result (IsSteady self.new future.new) ⊤ }
-    {
-        let Some(next) = self.next_behind(future) else {
-            return false;
-        };
-        if !self.streams_in(predictor, future, next) {
-            return false;
-        }
-        future.station = self.oldest;
-        self.streams_out();
-        true
-    }
-
-    /// Turns as long as the unit is in its steady state and its count has not reached a limit. Answers at which count it
-    /// is to be looked for again: what keeps the unit out of it, as half of a pair, leaves within a ring of instructions.
+    /// Turns as long as the unit is in its steady state and its count has not reached a limit. Answers at which count
+    /// that is to be looked for again: what keeps the unit out of it, as half of a pair, leaves within a ring of
+    /// instructions.
     #[inline(always)]
     pub fn streams<P: Predictor>(&mut self, predictor: &mut P, limit: u64) -> u64
         requires unit { StandsForSome self.old }
@@ -115,16 +180,25 @@ impl<'a> Pipeline<'a> {
         ensures more { self.old.committed.count ≤ self.new.committed.count }
         ensures ends { run_from self.new limit ≡ run_from self.old limit }
     {
-        if self.settled + 1 != self.ring {
+        if self.settled < self.window.len() {
             return 0;
         }
         let Some(future) = self.future() else {
             return self.committed.count().saturating_add(self.ring as u64);
         };
         let mut future = future;
+        let mut from = self.window.len();
         while self.committed.count() < limit {
-            if !self.streams_one(predictor, &mut future) {
-                return 0;
+            match self.streams_one(predictor, &mut future) {
+                Streamed::Let => {}
+                Streamed::Full => {
+                    self.streams_out();
+                    from = self.window.len();
+                }
+                Streamed::Ends => {
+                    self.reopens(from);
+                    return 0;
+                }
             }
         }
         0

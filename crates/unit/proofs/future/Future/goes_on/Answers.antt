@@ -16,11 +16,11 @@ returns-clause-on c =
           let apart : d ≢ 0 = λ e. s.if-r-ne0.true (c.number-r.ensures.value ∙ e) in
           let inside : d < 34 = omega (arith, c.number-r.ensures.value, c.number-r.ensures.small) in
           let value = s.in-Some.value in
-          let with : ℕ → Future = λ r. record { values = slice_set f.values r value; pc = next; station = f.station } in
+          let with : ℕ → Future = λ r. record { values = slice_set f.values r value; pc = next } in
           let now : Future = c.if-r-ne0.self in
           let is : record now { pc = next } ≡ with d = ap (λ (x : Future). record x { pc = next }) s.self-is ∙ ap with c.number-r.ensures.value in
           subst (λ x. GoesOnBehind f d c.args.made next x) (sym is)
-          (subst (λ o. GoesOnBehind f d o next (record { values = slice_set f.values d value; pc = next; station = f.station })) (sym s.in-Some.is)
+          (subst (λ o. GoesOnBehind f d o next (record { values = slice_set f.values d value; pc = next })) (sym s.in-Some.is)
           (behind_writes f d value next c.requires apart inside))
       | else-r-ne0 s ↦
           let now : Future = c.if-r-ne0.self in

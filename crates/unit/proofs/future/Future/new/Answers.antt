@@ -3,8 +3,8 @@ use Rattle.std.specs.Prelude.{slice_index, slice_set}
 use Rattle.unit.proofs.Futures.{values_none}
 use Rattle.unit.proofs.future.Future.new.Goals as goal
 
-pub returns-clause-foresees : goal.returns-clause-foresees
-returns-clause-foresees c =
+pub returns : goal.returns
+returns c =
     let registers = c.args.committed.now.registers in
     record {
       all = length-set c.registers.result.now 0 0 ∙ ap length c.registers.ensures ∙ c.requires;

@@ -14,17 +14,15 @@ loop-i-preserved c =
     let is = sym c.peek.ensures ∙ ap option_copied c.in_ok-station.was in
     let next = foresees_next c.loop-i.future c.passes.new.self b.committed.registers b.committed.pc c.loop-i.i b.window c.in_ok-station.station.now is c.if-not-passes.ensures
     c.loop-i.invariant.passed c.loop-i.invariant.foresees in
-    record { passed = next.0; foresees = next.1; station = c.if-not-passes.ensures.goes_on.station ∙ c.loop-i.invariant.station }
+    record { passed = next.0; foresees = next.1 }
 
-pub returns : goal.returns
-returns c =
+pub returns-clause-steady : goal.returns-clause-steady
+returns-clause-steady c =
     let b = c.args.self.now in
     let whole : take c.loop-i.i b.window ≡ b.window = take_all c.loop-i.i b.window (omega (arith, c.loop-i-test.false, c.len-len.ensures.value)) in
     record {
       goes_on = none_is b.over (sym c.is_some.ensures ∙ c.if-is_some.false);
       whole = none_is b.low (sym c.is_some-else-is_some.ensures ∙ c.if-is_some-2.false);
-      free = omega (arith, c.if-len-self.false, c.len-len.ensures.value);
       passed = subst AwaitRetirement whole c.loop-i.invariant.passed;
       foresees = subst (Foresees c.loop-i.future b.committed.registers b.committed.pc) whole c.loop-i.invariant.foresees;
-      station = c.loop-i.invariant.station;
     }

@@ -1,4 +1,4 @@
-use Rattle.std.proofs.Common.{◌≡◌, ◌+◌, ◌%◌, length, take}
+use Rattle.std.proofs.Common.{take}
 use Rattle.unit.specs.Steady.{Foresees, AwaitRetirement}
 use Rattle.unit.proofs.pipeline.Pipeline.future.Given as goal
 
@@ -7,5 +7,4 @@ invariant-loop-i l =
     record {
       passed : AwaitRetirement (take l.i l.self.window);
       foresees : Foresees l.future l.self.committed.registers l.self.committed.pc (take l.i l.self.window);
-      station : l.future.station ≡ (l.self.oldest + length l.self.window) % l.self.ring;
     }

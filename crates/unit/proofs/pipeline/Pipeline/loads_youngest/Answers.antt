@@ -1,7 +1,12 @@
-use Rattle.std.proofs.Common.{length, sym, ap, ◌∙◌, subst, arith}
+use Rattle.std.proofs.Common.{Some, length, refl, sym, ap, ◌∙◌, subst, arith}
+use Rattle.circular_buffer.proofs.Places.{slice_get-some}
 use Rattle.unit.specs.Changes.{LoadGives}
 use Rattle.unit.specs.Givers.{gives}
 use Rattle.unit.specs.Loads.{AreInside, load_in}
+use Rattle.unit.specs.Steady.{reopened}
+use Rattle.unit.specs.Window.{further_on}
+use Rattle.unit.specs.declared.station.Stage.TheVariants.{Done}
+use Rattle.unit.proofs.Reopened.{reopened_set}
 use Rattle.unit.proofs.EndTurns.{are_inside, stores_write_none}
 use Rattle.unit.proofs.StreamsLoads.{loaded_ends, loaded_youngest}
 use Rattle.unit.proofs.pipeline.Pipeline.loads_youngest.Goals as goal
@@ -27,9 +32,15 @@ returns-clause-unit c =
     let b = c.args.self.now in
     let answered : LoadGives b (record { at = c.args.at; value = c.in-Some.value }) =
     sym (ap (λ s. gives (load_in s.registers s.memory) b.window c.args.at) c.ahead.ensures) ∙ sym c.value_at.ensures ∙ c.in-Some.is in
-    let shows = loaded_youngest b c.answers.new.self c.args.at c.in-Some.value c.requires.unit c.requires.goes_on c.requires.full c.requires.youngest c.requires.older answered
-    c.answers.ensures.window c.answers.ensures.rest c.answers.ensures.noted in
-    shows.unit
+    loaded_youngest b c.answers.new.self c.args.at c.in-Some.value c.requires.unit c.requires.goes_on c.requires.youngest answered
+    c.answers.ensures.window c.answers.ensures.rest c.answers.ensures.noted
 
 pub returns-clause-window : goal.returns-clause-window
 returns-clause-window c = loaded_ends c.args.self.now c.answers.new.self c.args.at c.in-Some.value c.requires.youngest c.answers.ensures.window
+
+pub returns-clause-stays : goal.returns-clause-stays
+returns-clause-stays c n l =
+    let W = c.args.self.now.window in
+    let there = slice_get-some W c.args.at (omega (arith, c.requires.youngest)) in
+    let y = further_on there.0 Done (Some c.in-Some.value) in
+    ap (reopened n) (c.answers.ensures.window there.0 there.1) ∙ reopened_set n c.args.at W there.0 y l there.1 refl

@@ -6,20 +6,22 @@ use Rattle.unit.proofs.Awaiting.{half_passed}
 use Rattle.unit.proofs.pipeline.Pipeline.next_behind.Goals.{else-self-accesses-via-else-self-accesses, else-self-accesses-via-then-self-accesses+else-is_access}
 use Rattle.unit.proofs.pipeline.Pipeline.next_behind.Goals as goal
 
-pub returns-clause-next : goal.returns-clause-next
-returns-clause-next c =
+pub returns : goal.returns
+returns c =
     let b = c.args.self.now in
     let s = c.requires.steady in
-    let i = c.in_ok-instr.instr.now in
+    let i = c.in-Some.instr.now in
     let free : reaches_memory i.op ≡ true → accesses b.window (length b.window) < b.queue =
     elim c.else-self-accesses.branch [
       | else-self-accesses-via-then-self-accesses+else-is_access w ↦ λ e. absurd (true≢false (sym e ∙ sym w.is_access.ensures ∙ w.if-is_access.false))
       | else-self-accesses-via-else-self-accesses w ↦ λ e. omega (arith, w.if-self-accesses, c.accesses.ensures)
-    ] in
-    record {
-      room = omega (arith, s.free);
-      place = s.foresees.path;
-      half = sym (ap (λ l. half_in l b.window) s.whole ∙ half_passed b.window s.passed);
-      is = sym (c.fetch.ensures b.program.now (subst (λ l. IsDecoded l b.program.now) (sym c.as_slice.ensures.value) c.requires.code)) ∙ ap option_copied c.in_ok-instr.was;
-      free = free;
-    }
+    ] in (
+      record {
+        room = c.requires.room;
+        place = s.foresees.path;
+        half = sym (ap (λ l. half_in l b.window) s.whole ∙ half_passed b.window s.passed);
+        is = sym (c.fetch.ensures b.program.now (subst (λ l. IsDecoded l b.program.now) (sym c.as_slice.ensures.value) c.requires.unit.code)) ∙ ap option_copied c.in-Some.is;
+        free = free;
+      },
+      sym c.is_first_half.ensures ∙ c.if-is_first_half.false,
+    )

@@ -1,6 +1,42 @@
-use Rattle.std.proofs.Common.{arith}
-use Rattle.unit.proofs.EndTurns.{window_room}
+use Rattle.std.proofs.Common.{◌≡◌, ◌<◌, ◌-◌, refl, ap, ◌∙◌, arith}
+use Rattle.inorder.specs.Runs.{end_from}
+use Rattle.unit.specs.Changes.{run_from}
+use Rattle.unit.proofs.Reopened.{none_reopened}
 use Rattle.unit.proofs.pipeline.Pipeline.streams.Goals as goal
 
-pub overflow_add-self : goal.overflow_add-self
-overflow_add-self g c = omega (arith, window_room c.args.self.now c.requires.unit, c.requires.unit.noted.are_settled.inside)
+pub loop-future-init : goal.loop-future-init
+loop-future-init g c =
+    record {
+      unit = c.requires.unit;
+      steady = c.in-Some.ensures.steady;
+      room = c.in-Some.ensures.room;
+      program = refl;
+      more = omega arith;
+      ends = refl;
+      from = omega (arith, c.len-from.ensures.value);
+      stays = none_reopened c.args.self.now c.len-from.result c.len-from.ensures.value c.requires.unit;
+    }
+
+pub loop-future-preserved : goal.loop-future-preserved
+loop-future-preserved g c =
+    let b = c.loop-future.self in
+    let mid = c.streams_one.new.self in
+    let later = c.streams_out.new.self in
+    let limit = c.args.limit in
+    let before = c.loop-future.invariant in
+    let same : mid.committed ≡ b.committed = c.streams_one.ensures.committed in
+    let program : mid.program ≡ b.program = c.streams_one.ensures.same.program in
+    let count = ap (λ s. s.count) same in
+    let less : mid.committed.count < limit = omega (arith, count, c.loop-future-test.true, c.count-in-loop-future.ensures) in
+    let run : run_from mid limit ≡ run_from b limit =
+    ap (λ s. end_from mid.program.now (limit - s.count) s) same ∙ ap (λ p. end_from p.now (limit - b.committed.count) b.committed) program in
+    record {
+      unit = c.streams_out.ensures.unit;
+      steady = c.streams_out.ensures.steady c.streams_one.new.future c.in-Full.ensures.streamed.0;
+      room = c.streams_out.ensures.room;
+      program = c.streams_out.ensures.program ∙ program ∙ before.program;
+      more = omega (arith, c.streams_out.ensures.retires.0, count, before.more);
+      ends = c.streams_out.ensures.retires.1 limit less ∙ run ∙ before.ends;
+      from = omega (arith, c.len-from-in-Full.ensures.value);
+      stays = none_reopened later c.len-from-in-Full.result c.len-from-in-Full.ensures.value c.streams_out.ensures.unit;
+    }

@@ -1,32 +1,42 @@
-use Rattle.std.proofs.Common.{◌≤◌, [], ◌∷◌, length, refl, sym, ap, subst, arith, length-append}
-use Rattle.unit.specs.declared.future.Future.{Future}
-use Rattle.unit.specs.Steady.{AwaitRetirement, Foresees}
-use Rattle.unit.proofs.Awaiting.{passed_more}
+use Rattle.std.proofs.Common.{◌≡◌, None, length, sym, ap, subst, arith}
+use Rattle.unit.specs.declared.pipeline.Pipeline.{Pipeline}
+use Rattle.unit.specs.Changes.{NextOf}
+use Rattle.unit.specs.Stages.{NoRoom}
+use Rattle.unit.proofs.StreamsFill.{forgotten_stays, let_steady, longer, steady_less}
 use Rattle.unit.proofs.pipeline.Pipeline.streams_one.Goals as goal
 
-pub streams_out-requires-clause-passed : goal.streams_out-requires-clause-passed
-streams_out-requires-clause-passed g c =
-    let e = c.streams_in.ensures.window in
-    let follows = c.if-not-streams_in.ensures.follows e.station e.is in
-    subst AwaitRetirement (sym e.is) (passed_more c.args.self.now.window e.station c.requires.steady.passed follows.passed)
-
-pub streams_out-requires-clause-settled : goal.streams_out-requires-clause-settled
-streams_out-requires-clause-settled g c =
-    let e = c.streams_in.ensures.window in
-    let known : c.args.self.now.settled ≤ length c.args.self.now.window = c.requires.unit.noted.are_settled.inside in
-    omega (arith, known, ap length e.is, length-append c.args.self.now.window (e.station ∷ []), ap (λ x. x.settled) c.streams_in.ensures.rest)
-
-pub returns-clause-steady : goal.returns-clause-steady
-returns-clause-steady g c =
+pub returns-then-len-self-clause-streamed : goal.returns-then-len-self-clause-streamed
+returns-then-len-self-clause-streamed g c =
     let b = c.args.self.now in
-    let mid = c.streams_in.new.self in
-    let f : Future = c.streams_in.new.future in
-    let e = c.streams_in.ensures.window in
-    let follows = c.if-not-streams_in.ensures.follows e.station e.is in
-    let next : Future = record f { station = mid.oldest } in
-    let on : Foresees f b.committed.registers b.committed.pc mid.window =
-    subst (Foresees f b.committed.registers b.committed.pc) (sym e.is)
-    (follows.goes_on.on e.station refl refl refl b.committed.registers b.committed.pc b.window c.requires.steady.foresees) in
-    let there : Foresees next b.committed.registers b.committed.pc mid.window = record { all = on.all; values = on.values; path = on.path } in
-    c.streams_out.ensures.steady next
-    (subst (λ s. Foresees next s.registers s.pc mid.window) (sym (ap (λ x. x.committed) c.streams_in.ensures.rest)) there) refl
+    let later = c.streams_in.new.self in (
+      let_steady b later c.args.future.now c.streams_in.new.future c.in-Fits.next c.requires.steady c.streams_in.ensures.window c.if-not-streams_in.ensures.follows c.streams_in.ensures.rest,
+      omega (arith, c.if-len-self.true, c.len.ensures.value),
+      longer b.window later.window c.in-Fits.next c.streams_in.ensures.window,
+    )
+
+pub returns-else-len-self-clause-streamed : goal.returns-else-len-self-clause-streamed
+returns-else-len-self-clause-streamed g c =
+    let b = c.args.self.now in
+    let later = c.streams_in.new.self in
+    let rest = c.streams_in.ensures.rest in
+    let long = longer b.window later.window c.in-Fits.next c.streams_in.ensures.window in (
+      let_steady b later c.args.future.now c.streams_in.new.future c.in-Fits.next c.requires.steady c.streams_in.ensures.window c.if-not-streams_in.ensures.follows rest,
+      omega (arith, long, ap (λ (p : Pipeline). p.ring) rest, c.requires.room),
+      NoRoom (omega (arith, c.if-len-self.false, c.len.ensures.value)),
+      omega (arith, long, ap (λ (p : Pipeline). p.settled) rest, c.requires.unit.noted.are_settled.inside),
+    )
+
+pub returns-in-Waits-clause-stays : goal.returns-in-Waits-clause-stays
+returns-in-Waits-clause-stays g c = forgotten_stays c.args.self.now c.forgets_one.new.self c.forgets_one.ensures.fewer c.forgets_one.ensures.rest
+
+pub returns-in-Waits-clause-streamed : goal.returns-in-Waits-clause-streamed
+returns-in-Waits-clause-streamed g c =
+    let b = c.args.self.now in
+    let later = c.forgets_one.new.self in
+    let rest = c.forgets_one.ensures.rest in
+    let same : length later.window ≡ length b.window = ap (λ (p : Pipeline). length p.window) rest in (
+      steady_less b later c.args.future.now rest c.requires.steady,
+      omega (arith, same, ap (λ (p : Pipeline). p.ring) rest, c.requires.room),
+      subst (λ (p : Pipeline). NextOf p None) (sym rest) c.in-Waits.ensures.0,
+      omega (arith, same, c.forgets_one.ensures.less c.in-Waits.ensures.1),
+    )

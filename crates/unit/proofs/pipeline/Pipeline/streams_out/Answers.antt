@@ -34,9 +34,9 @@ returns-clause-retires c =
     one_retired b b c.leaves_settled.new.self r.unit shows.turn shows.same refl refl shows.falls
 
 pub returns-clause-steady : goal.returns-clause-steady
-returns-clause-steady c f h at =
+returns-clause-steady c f s =
     let b = c.args.self.now in
     let r = c.requires in
     let due : IsDue b = record { unit = r.unit; goes_on = r.goes_on; whole = r.whole; full = r.full; passed = r.passed; settled = r.settled } in
     let now : Pipeline = record b { settled = suc b.settled } in
-    due_steady b now c.leaves_settled.new.self c.oldest-oldest.result f due refl c.oldest-oldest.ensures c.leaves_settled.ensures h at
+    due_steady b now c.leaves_settled.new.self c.oldest-oldest.result f due refl c.oldest-oldest.ensures c.leaves_settled.ensures s

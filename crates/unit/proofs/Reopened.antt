@@ -1,0 +1,122 @@
+-- Tenants that were let in a row are again as they were let.
+use Rattle.std.proofs.Common.{◌≡◌, ◌<◌, ◌≤◌, ℕ, zero, suc, ◌+◌, ◌-◌, ◌%◌, ◌^◌, List, [], ◌∷◌, ◌++◌, length, Option, Some, None, refl, sym, ap, ◌∙◌, subst, arith}
+use Rattle.std.specs.Prelude.{IfSome, slice_get, slice_set}
+use Rattle.instructions.specs.Instruction.{fixed_next, kind}
+use Rattle.inorder.specs.Tenants.{made_at_let}
+use Rattle.unit.specs.declared.dispatch.Fetched.{Fetched}
+use Rattle.unit.specs.declared.pipeline.Pipeline.{Pipeline}
+use Rattle.unit.specs.declared.station.Stage.TheVariants.{Open}
+use Rattle.unit.specs.declared.station.Station.{Station}
+use Rattle.unit.specs.Changes.{NextOf}
+use Rattle.unit.specs.Givers.{NoneGives, given_at}
+use Rattle.unit.specs.Notes.{miss_in}
+use Rattle.unit.specs.StandsFor.{StandsForSome}
+use Rattle.unit.specs.Steady.{as_let, reopened, with_reopened}
+use Rattle.unit.specs.Window.{access_at, accesses, further_on, half_behind, let_at, next_after}
+use Rattle.unit.proofs.BenchTurns.{let_shows}
+
+-- The list
+
+pub reopened_all : (W : List Station) → reopened (length W) W ≡ W
+reopened_all [] = refl
+reopened_all (w ∷ W) = ap (λ l. w ∷ l) (reopened_all W)
+
+pub reopened_long : (n : ℕ) (W : List Station) → length (reopened n W) ≡ length W
+reopened_long n [] = refl
+reopened_long zero (w ∷ W) = ap suc (reopened_long zero W)
+reopened_long (suc n) (w ∷ W) = ap suc (reopened_long n W)
+
+pub reopened_end : (n : ℕ) (W : List Station) (y : Station) → n ≤ length W → reopened n (W ++ y ∷ []) ≡ reopened n W ++ as_let y ∷ []
+reopened_end zero [] y l = refl
+reopened_end (suc n) [] y l = absurd (omega (arith, l))
+reopened_end zero (w ∷ W) y l = ap (λ l. as_let w ∷ l) (reopened_end zero W y (omega arith))
+reopened_end (suc n) (w ∷ W) y l = ap (λ l. w ∷ l) (reopened_end n W y (omega (arith, l)))
+
+-- another stage of one of them makes no difference
+pub reopened_set : (n i : ℕ) (W : List Station) (w y : Station) → n ≤ i → slice_get W i ≡ Some w → as_let y ≡ as_let w → reopened n (slice_set W i y) ≡ reopened n W
+reopened_set n i [] w y l e a = absurd (cc)
+reopened_set zero zero (x ∷ W) w y l e a = let same : x ≡ w = cc in ap (λ z. z ∷ reopened zero W) (a ∙ ap as_let (sym same))
+reopened_set zero (suc i) (x ∷ W) w y l e a = ap (λ l. as_let x ∷ l) (reopened_set zero i W w y (omega arith) e a)
+reopened_set (suc n) zero (x ∷ W) w y l e a = absurd (omega (arith, l))
+reopened_set (suc n) (suc i) (x ∷ W) w y l e a = ap (λ l. x ∷ l) (reopened_set n i W w y (omega (arith, l)) e a)
+
+-- one more is as it was let
+pub reopened_older : (n i : ℕ) (W : List Station) → i < n → slice_get (reopened n W) i ≡ slice_get W i
+reopened_older n i [] l = refl
+reopened_older zero i (w ∷ W) l = absurd (omega (arith, l))
+reopened_older (suc n) zero (w ∷ W) l = refl
+reopened_older (suc n) (suc i) (w ∷ W) l = reopened_older n i W (omega (arith, l))
+
+pub reopened_next : (i : ℕ) (W : List Station) (w : Station) → slice_get W i ≡ Some w → slice_set (reopened (suc i) W) i (as_let w) ≡ reopened i W
+reopened_next i [] w e = absurd (cc)
+reopened_next zero (x ∷ W) w e = let same : x ≡ w = cc in ap (λ z. as_let z ∷ reopened zero W) (sym same)
+reopened_next (suc i) (x ∷ W) w e = ap (λ l. x ∷ l) (reopened_next i W w e)
+
+-- what no stage changes
+reopened_same : {X : Type 0} → (g : Option Station → X) → ((w : Station) → g (Some (as_let w)) ≡ g (Some w)) → (n : ℕ) (W : List Station) (k : ℕ) →
+    g (slice_get (reopened n W) k) ≡ g (slice_get W k)
+reopened_same g h n [] k = refl
+reopened_same g h zero (w ∷ W) zero = h w
+reopened_same g h zero (w ∷ W) (suc k) = reopened_same g h zero W k
+reopened_same g h (suc n) (w ∷ W) zero = refl
+reopened_same g h (suc n) (w ∷ W) (suc k) = reopened_same g h n W k
+
+reopened_accesses : (n : ℕ) (W : List Station) (k : ℕ) → accesses (reopened n W) k ≡ accesses W k
+reopened_accesses n W zero = refl
+reopened_accesses n W (suc k) = ap (λ x. x + access_at (slice_get (reopened n W) k)) (reopened_accesses n W k) ∙ ap (λ x. accesses W k + x) (reopened_same access_at (λ w. refl) n W k)
+
+reopened_miss : (V V' : List Station) (n : ℕ) (W : List Station) (k i j : ℕ) → given_at miss_in V (slice_get W k) i ≡ None → given_at miss_in V' (slice_get (reopened n W) k) j ≡ None
+reopened_miss V V' n [] k i j e = refl
+reopened_miss V V' zero (w ∷ W) zero i j e = refl
+reopened_miss V V' zero (w ∷ W) (suc k) i j e = reopened_miss V V' zero W k i j e
+reopened_miss V V' (suc n) (w ∷ W) zero i j e = e
+reopened_miss V V' (suc n) (w ∷ W) (suc k) i j e = reopened_miss V V' n W k i j e
+
+reopened_no_miss : (n : ℕ) (W : List Station) → NoneGives miss_in W → NoneGives miss_in (reopened n W)
+reopened_no_miss n W h k l = reopened_miss W (reopened n W) n W k k k (h k (subst (λ m. k < m) (reopened_long n W) l))
+
+-- What can be let can be let behind them
+
+reopened_lets : (b : Pipeline) (n : ℕ) (f : Fetched) → NextOf b (Some f) → NextOf (with_reopened n b) (Some f)
+reopened_lets b n f h =
+    let long = reopened_long n b.window in
+    record {
+      room = omega (arith, long, h.room);
+      place = h.place ∙ sym (reopened_same (next_after b.committed.pc) (λ w. refl) n b.window (length b.window - 1)) ∙
+          ap (λ m. next_after b.committed.pc (slice_get (reopened n b.window) (m - 1))) (sym long);
+      half = h.half ∙ sym (reopened_same (half_behind b.low) (λ w. refl) n b.window (length b.window - 1)) ∙
+          ap (λ m. half_behind b.low (slice_get (reopened n b.window) (m - 1))) (sym long);
+      is = h.is;
+      free = λ e. let before = h.free e in omega (arith, before, long, ap (accesses (reopened n b.window)) long, reopened_accesses n b.window (length b.window));
+    }
+
+pub reopened_let : (b later : Pipeline) (f : Fetched) (guess n : ℕ) (y : Station) → n ≤ length b.window → StandsForSome (with_reopened n b) → b.over ≡ None → NoneGives miss_in b.window →
+    NextOf b (Some f) → guess < 2 ^ 32 → IfSome (fixed_next f.instr f.half f.pc) (λ x. guess ≡ x) → later.window ≡ b.window ++ y ∷ [] → as_let y ≡ let_at f.instr f.half f.pc guess →
+    later.leavers ≡ slice_set b.leavers ((b.oldest + length b.window) % b.ring) None → later ≡ record b { window = later.window; leavers = later.leavers } →
+    StandsForSome (with_reopened n later)
+reopened_let b later f guess n y l h none miss can small fixed wl is ll rest =
+    let on : with_reopened n later ≡ record (with_reopened n b) { window = reopened n later.window; leavers = later.leavers } =
+    ap (λ (p : Pipeline). record p { window = reopened n later.window }) rest in
+    let shows = let_shows (with_reopened n b) (with_reopened n later) f guess h none (reopened_no_miss n b.window miss) (reopened_lets b n f can) small fixed
+    (ap (reopened n) wl ∙ reopened_end n b.window y l ∙ ap (λ x. reopened n b.window ++ x ∷ []) is)
+    (ll ∙ ap (λ m. slice_set b.leavers ((b.oldest + m) % b.ring) None) (sym (reopened_long n b.window))) on in
+    shows.unit
+
+-- From the youngest on, one after another
+
+pub reopened_step : (W now later : List Station) (at : ℕ) (w : Station) (made : Option ℕ) → 0 < at → now ≡ reopened at W → slice_get now (at - 1) ≡ Some w → made ≡ made_at_let (kind w.instr.op) w.pc →
+    later ≡ slice_set now (at - 1) (further_on w Open made) → later ≡ reopened (at - 1) W
+reopened_step W now later at w made some is there makes new =
+    let one : suc (at - 1) ≡ at = omega (arith, some) in
+    let before : slice_get W (at - 1) ≡ Some w = sym (reopened_older at (at - 1) W (omega (arith, some))) ∙ ap (λ l. slice_get l (at - 1)) (sym is) ∙ there in
+    new
+    ∙ ap (λ l. slice_set l (at - 1) (further_on w Open made)) (is ∙ ap (λ n. reopened n W) (sym one))
+    ∙ ap (λ m. slice_set (reopened (suc (at - 1)) W) (at - 1) (further_on w Open m)) makes
+    ∙ reopened_next (at - 1) W w before
+
+-- None of them
+
+pub none_reopened : (b : Pipeline) (n : ℕ) → n ≡ length b.window → StandsForSome b → StandsForSome (with_reopened n b)
+none_reopened b n e h =
+    let all : with_reopened n b ≡ b = ap (λ W. record b { window = W }) (ap (λ m. reopened m b.window) e ∙ reopened_all b.window) in
+    subst StandsForSome (sym all) h
