@@ -172,7 +172,7 @@ impl<'a> Pipeline<'a> {
     /// Turns as long as the unit is in its steady state and its count has not reached a limit. Answers at which count
     /// that is to be looked for again: what keeps the unit out of it, as half of a pair, leaves within a ring of
     /// instructions.
-    #[inline(always)]
+    #[inline(never)]
     pub fn streams<P: Predictor>(&mut self, predictor: &mut P, limit: u64) -> u64
         requires unit { StandsForSome self.old }
         ensures unit { StandsForSome self.new }
