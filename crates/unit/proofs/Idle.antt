@@ -29,6 +29,22 @@ same_rest b later W m n e = record { program = ap (λ x. x.program) e; code = ap
 same_both : (b c d : Pipeline) → SizesStay b c → SizesStay c d → SizesStay b d
 same_both b c d x y = record { program = y.program ∙ x.program; code = y.code ∙ x.code; ring = y.ring ∙ x.ring; queue = y.queue ∙ x.queue; first_tag = y.first_tag ∙ x.first_tag }
 
+-- Another thing may be remembered of the window, where that is so
+pub noted_unit : (b : Pipeline) (missed : Bool) (settled : ℕ) → StandsForSome b → AreNoted missed settled b.window → StandsForSome (record b { missed = missed; settled = settled })
+noted_unit b missed settled h noted =
+    record {
+      unit = h.unit;
+      reached = h.reached;
+      stands = record { window = h.stands.window; committed = h.stands.committed; leavers = h.stands.leavers; over = h.stands.over; low = h.stands.low; oldest = h.stands.oldest };
+      room = h.room;
+      ring = h.ring;
+      least = h.least;
+      leavers = h.leavers;
+      oldest = h.oldest;
+      noted = noted;
+      code = h.code;
+    }
+
 -- b' is b, but for what is remembered, and nothing recovers, is let or is claimed there
 pub record Idle (b b' : Pipeline) : Type 0 where
   pub is : b' ≡ record b { missed = b'.missed; settled = b'.settled }
@@ -57,19 +73,7 @@ idle b b' h none miss lets ready same rest noted =
     is = rest ∙ ap (λ W. record b { window = W; missed = b'.missed; settled = b'.settled }) same
 
     unit : StandsForSome (record b { missed = b'.missed; settled = b'.settled })
-    unit =
-        record {
-          unit = h.unit;
-          reached = h.reached;
-          stands = record { window = h.stands.window; committed = h.stands.committed; leavers = h.stands.leavers; over = h.stands.over; low = h.stands.low; oldest = h.stands.oldest };
-          room = h.room;
-          ring = h.ring;
-          least = h.least;
-          leavers = h.leavers;
-          oldest = h.oldest;
-          noted = subst (AreNoted b'.missed b'.settled) same noted;
-          code = h.code;
-        }
+    unit = noted_unit b b'.missed b'.settled h (subst (AreNoted b'.missed b'.settled) same noted)
 
 idle_same : (b b' : Pipeline) → Idle b b' → SizesStay b b'
 idle_same b b' i = same_rest b b' b.window b'.missed b'.settled i.is

@@ -7,26 +7,17 @@ use Rattle.unit.specs.declared.station.Station.{Station}
 use Rattle.unit.specs.StandsFor.{StandsForSome}
 use Rattle.unit.specs.Steady.{AwaitRetirement, EndsWith, FollowsYoungest, Foresees, IsSteady, StayOpen, with_reopened}
 use Rattle.unit.proofs.Awaiting.{passed_more}
+use Rattle.unit.proofs.Idle.{noted_unit}
 
 -- Fewer are known to be settled
 
 pub settled_less : (b : Pipeline) (n : ℕ) → n ≤ b.settled → StandsForSome b → StandsForSome (record b { settled = n })
 settled_less b n less h =
-    record {
-      unit = h.unit;
-      reached = h.reached;
-      stands = record { window = h.stands.window; committed = h.stands.committed; leavers = h.stands.leavers; over = h.stands.over; low = h.stands.low; oldest = h.stands.oldest };
-      room = h.room;
-      ring = h.ring;
-      least = h.least;
-      leavers = h.leavers;
-      oldest = h.oldest;
-      noted = record {
-        no_miss = h.noted.no_miss;
-        are_settled = record { inside = omega (arith, less, h.noted.are_settled.inside); each = λ k l. h.noted.are_settled.each k (omega (arith, less, l)) };
-      };
-      code = h.code;
-    }
+    noted_unit b b.missed n h
+    (record {
+      no_miss = h.noted.no_miss;
+      are_settled = record { inside = omega (arith, less, h.noted.are_settled.inside); each = λ k l. h.noted.are_settled.each k (omega (arith, less, l)) };
+    })
 
 pub forgotten_stays : (b later : Pipeline) → later.settled ≤ b.settled → later ≡ record b { settled = later.settled } → StayOpen b later
 forgotten_stays b later less rest n l h =

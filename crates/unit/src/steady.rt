@@ -2,7 +2,8 @@
 //! has then only to retire itself, unless it was mispredicted, stops or is blocked; no station is searched for it.
 //! Where more can be let before any is claimed, each is claimed, finished and answered as it is let; should one of
 //! them not have only to retire then, all of these are again as they were let. So what stands in the stations behind
-//! each retirement is the same as if all turns were made one by one, in their order.
+//! each retirement is meant to be the same as if all turns were made one by one, in their order; the contracts promise
+//! a unit that legal steps reach, and the end of the run.
 ghost use Rattle.std.specs.Prelude.{⊤, ◌≡◌, ◌<◌, ◌≤◌, ◌-◌, ◌^◌, false, length, IfSome, Some, None};
 ghost use Rattle.instructions.specs.Instruction.{is_first_half};
 ghost use Rattle.unit.specs.Changes.{NextOf, RetiresOne, run_from};
