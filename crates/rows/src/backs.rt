@@ -1,7 +1,7 @@
 //! Backs that end at once, and that leave their core.
 ghost use Rattle.std.specs.Prelude.{◌≡◌};
 
-use crate::drive::{Setup, by_hand, commits, finish_one, half, let_at, set_up};
+use crate::drive::{Setup, by_hand, commits, finishes, half, let_at, set_up};
 use crate::same::same;
 use back::{Commit, Mark, Naming, Refresh};
 use instructions::{Ending, Program, Stop};
@@ -51,7 +51,7 @@ fn leave_and_enter<J: Naming, R: Wait + Abort>(rt: &R, setup: &Setup) -> Result<
         4,
         &[let_at(0, 1, 0x0040_0000)],
     )?;
-    assert!(rt; finish_one(&core, &setup.program, &mut unit, 0));
+    finishes(rt, &core, &setup.program, &mut unit, &[0]);
     assert!(rt; fresh.ended().is_none());
     let (given, still) = fresh.leave();
     let mut entered = still.enter_again(given);

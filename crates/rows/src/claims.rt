@@ -2,7 +2,7 @@
 ghost use Rattle.std.specs.Prelude.{◌≡◌, ◌<◌, ◌≤◌};
 ghost use Rattle.station.specs.Seats.{IsSameSeat};
 
-use crate::drive::{Done, finish_job, finish_one, let_at, made, takes};
+use crate::drive::{Done, finish_job, finishes, let_at, made, takes};
 use crate::same::same;
 use front::{Front, Turn};
 use instructions::{NotTaken, Program};
@@ -84,7 +84,7 @@ fn a_question_finds_a_value_that_is_there(rt: HostRuntime) -> Result<(), Fail> {
     assert!(rt; core.ring() == 4);
     let mut front = Front::new(&core, seat, &program, NotTaken);
     takes(&rt, &core, &mut front, &[let_at(0, 1, 0x0040_0000)]);
-    assert!(rt; finish_one(&core, &program, &mut unit, 0));
+    finishes(&rt, &core, &program, &mut unit, &[0]);
     takes(&rt, &core, &mut front, &[let_at(1, 1, 0x0040_0004)]);
     same(&rt, &claim(&core, &program, &mut unit, 1), &job(5, 5));
     Ok(())

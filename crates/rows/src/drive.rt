@@ -138,6 +138,24 @@ pub fn finish_one(core: &Core, program: &Program, seat: &mut UnitSeat, station: 
     }
 }
 
+/// The tenants of these stations are claimed and finished, in this order.
+pub fn finishes(
+    rt: &impl Abort,
+    core: &Core,
+    program: &Program,
+    unit: &mut UnitSeat,
+    stations: &[usize],
+)
+    requires unit { unit.old.core ≡ core.now }
+    requires program { program.now ≡ core.now.program }
+    ensures { unit.new.core ≡ core.now }
+{
+    for station in stations {
+        let station = *station;
+        assert!(rt; station < core.ring() && finish_one(core, program, unit, station));
+    }
+}
+
 /// The back of a core, and the first snapper of what it shows.
 pub fn back_at<J: Naming>(
     alloc: Global,

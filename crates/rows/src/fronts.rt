@@ -32,6 +32,41 @@ fn waits(core: &Core, program: &Program, seat: &mut UnitSeat, station: usize) ->
     }
 }
 
+// The branch of a station, where it goes on other than predicted, and how many are squashed behind it.
+#[derive(Clone, Copy)]
+struct Miss {
+    station: usize,
+    next: u32,
+    squashed: usize,
+}
+
+// A unit finishes a branch, and the front recovers from it.
+fn misses<'a, P: Predictor + Drop>(
+    rt: &impl Abort,
+    core: &Core,
+    program: &Program,
+    front: &mut Front<'a, P>,
+    unit: &mut UnitSeat,
+    miss: Miss,
+)
+    requires front { front.old.core ≡ core.now }
+    requires program { program.now ≡ core.now.program }
+    requires unit { unit.old.core ≡ core.now }
+    requires station { miss.station < core.now.sizes.ring }
+    ensures front { front.new.core ≡ core.now }
+    ensures unit { IsSameSeat unit.old unit.new }
+{
+    let Miss {
+        station,
+        next,
+        squashed,
+    } = miss;
+    let done = work(core, program, unit, station);
+    let recovery = front.recover(core);
+    same(rt, &done, &Some(finished(0, 0, Outcome::Next(next))));
+    same(rt, &recovery, &Recovery::Mended { station, squashed });
+}
+
 // A unit keeps the job of a station, while another finishes a branch, the front recovers from it and takes a turn.
 fn keeps<'a>(
     rt: &impl Abort,
@@ -39,24 +74,25 @@ fn keeps<'a>(
     program: &Program,
     front: &mut Front<'a, NotTaken>,
     units: (UnitSeat, UnitSeat),
-    stations: (usize, usize),
+    station: usize,
+    miss: Miss,
     turn: Turn,
-) -> Option<(Option<Done>, Recovery, Done, UnitSeat)>
+) -> Option<(Done, UnitSeat)>
     requires front { front.old.core ≡ core.now }
     requires program { program.now ≡ core.now.program }
     requires units { (units.0.core ≡ core.now) × (units.1.core ≡ core.now) }
-    requires stations { (stations.0 < core.now.sizes.ring) × (stations.1 < core.now.sizes.ring) }
+    requires station { station < core.now.sizes.ring }
+    requires branch { miss.station < core.now.sizes.ring }
     ensures front { front.new.core ≡ core.now }
-    ensures unit { IfSome result (λ t. t.3.core ≡ core.now) }
+    ensures unit { IfSome result (λ t. t.1.core ≡ core.now) }
 {
     let (mut one, mut other) = units;
-    match core.claim(&mut one, stations.0) {
+    match core.claim(&mut one, station) {
         Claim::Job(job) => {
-            let branch = work(core, program, &mut other, stations.1);
-            let recovery = front.recover(core);
+            misses(rt, core, program, front, &mut other, miss);
             takes(rt, core, front, &[turn]);
             let kept = finish_job(core, program, &mut one, job);
-            Some((branch, recovery, kept, other))
+            Some((kept, other))
         }
         Claim::NotOpen => None,
         Claim::Waiting { tag: _, k: _ } => None,
@@ -90,25 +126,17 @@ fn a_station_is_let_again_under_an_old_job(rt: HostRuntime) -> Result<(), Fail> 
     ];
     takes(&rt, &core, &mut front, &lets);
     let again = let_at(1, 2, 0x0040_0008);
-    let kept = keeps(&rt, &core, &program, &mut front, units, (1, 0), again);
-    let Some((branch, recovery, stale, _other)) = kept else {
+    let miss = Miss {
+        station: 0,
+        next: 0x0040_0008,
+        squashed: 2,
+    };
+    let kept = keeps(&rt, &core, &program, &mut front, units, 1, miss, again);
+    let Some((stale, _other)) = kept else {
         return Err(Fail::new("no job"));
     };
-    let word = front.look(&core, 1);
-    same(
-        &rt,
-        &branch,
-        &Some(finished(0, 0, Outcome::Next(0x0040_0008))),
-    );
-    same(
-        &rt,
-        &recovery,
-        &Recovery::Mended {
-            station: 0,
-            squashed: 2,
-        },
-    );
     same(&rt, &stale.finish, &Finish::Stale);
+    let word = front.look(&core, 1);
     assert!(rt; word.tag == 2 && word.state == StationState::Open);
     Ok(())
 }
@@ -130,26 +158,18 @@ fn a_link_dies_with_its_tenant(rt: HostRuntime) -> Result<(), Fail> {
     ];
     takes(&rt, &core, &mut front, &lets);
     let again = let_at(3, 2, 0x0040_0010);
-    let kept = keeps(&rt, &core, &program, &mut front, units, (0, 2), again);
-    let Some((branch, recovery, one, mut other)) = kept else {
+    let miss = Miss {
+        station: 2,
+        next: 0x0040_0010,
+        squashed: 1,
+    };
+    let kept = keeps(&rt, &core, &program, &mut front, units, 0, miss, again);
+    let Some((one, mut other)) = kept else {
         return Err(Fail::new("no job"));
     };
     let waiting = waits(&core, &program, &mut other, 3);
     let three = work(&core, &program, &mut other, 1);
     let six = work(&core, &program, &mut other, 3);
-    same(
-        &rt,
-        &branch,
-        &Some(finished(0, 0, Outcome::Next(0x0040_0010))),
-    );
-    same(
-        &rt,
-        &recovery,
-        &Recovery::Mended {
-            station: 2,
-            squashed: 1,
-        },
-    );
     same(&rt, &one, &finished(0, 0, Outcome::Value(1)));
     same(&rt, &waiting, &Some((2, true)));
     same(&rt, &three, &Some(finished(0, 0, Outcome::Value(3))));
@@ -201,21 +221,12 @@ fn a_predictor_may_answer_anything(rt: HostRuntime) -> Result<(), Fail> {
         &mut front,
         &[let_at(0, 1, 0x0040_0000), Turn::NoInstr],
     );
-    let branch = work(&core, &program, &mut unit, 0);
-    let recovery = front.recover(&core);
-    same(
-        &rt,
-        &branch,
-        &Some(finished(0, 0, Outcome::Next(0x0040_0004))),
-    );
-    same(
-        &rt,
-        &recovery,
-        &Recovery::Mended {
-            station: 0,
-            squashed: 0,
-        },
-    );
+    let miss = Miss {
+        station: 0,
+        next: 0x0040_0004,
+        squashed: 0,
+    };
+    misses(&rt, &core, &program, &mut front, &mut unit, miss);
     takes(&rt, &core, &mut front, &[let_at(1, 1, 0x0040_0004)]);
     Ok(())
 }

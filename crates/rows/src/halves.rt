@@ -1,7 +1,7 @@
 //! Multiplications, whose two halves retire one by one.
 ghost use Rattle.std.specs.Prelude.{◌≡◌, ◌≤◌};
 
-use crate::drive::{Setup, by_hand, commits, finish_one, half, let_at, retired, set_up, takes};
+use crate::drive::{Setup, by_hand, commits, finishes, half, let_at, retired, set_up, takes};
 use crate::same::same;
 use back::{Back, Commit, Naming, Snapper};
 use front::{Recovery, Turn};
@@ -39,12 +39,10 @@ fn first_half_retires<J: Naming>(
     requires unit { unit.old.core ≡ core.now }
     requires back { back.old.core ≡ core.now }
     requires program { program.now ≡ core.now.program }
-    requires ring { 4 ≤ core.now.sizes.ring }
     ensures unit { unit.new.core ≡ core.now }
     ensures back { back.new.core ≡ core.now }
 {
-    assert!(rt; finish_one(core, program, unit, 0));
-    assert!(rt; finish_one(core, program, unit, 1));
+    finishes(rt, core, program, unit, &[0, 1]);
     let answers = [retired(0x0040_0000, 1), half(0x0040_0004), Commit::NotDone];
     commits(rt, core, back, &answers);
 }
@@ -74,8 +72,7 @@ fn snapshots_of_a_product<J: Naming, R: Wait + Abort>(rt: &R, setup: &Setup) -> 
     let (core, _front, mut back, mut snapper, mut unit) = by_hand::<J>(rt, setup, 4, &square())?;
     first_half_retires(rt, &core, &setup.program, &mut unit, &mut back);
     let between = shown(rt, &mut back, &mut snapper);
-    assert!(rt; finish_one(&core, &setup.program, &mut unit, 2));
-    assert!(rt; finish_one(&core, &setup.program, &mut unit, 3));
+    finishes(rt, &core, &setup.program, &mut unit, &[2, 3]);
     let answers = [retired(0x0040_0004, 2), retired(0x0040_0008, 3)];
     commits(rt, &core, &mut back, &answers);
     let behind = shown(rt, &mut back, &mut snapper);
@@ -123,16 +120,14 @@ fn both_squashed<J: Naming, R: Wait + Abort>(rt: &R, setup: &Setup) -> Result<()
         let_at(3, 1, 0x0040_0008),
     ];
     let (core, mut front, mut back, _snapper, mut unit) = by_hand::<J>(rt, setup, 4, &lets)?;
-    assert!(rt; finish_one(&core, &setup.program, &mut unit, 0));
-    assert!(rt; finish_one(&core, &setup.program, &mut unit, 2));
-    assert!(rt; finish_one(&core, &setup.program, &mut unit, 1));
+    finishes(rt, &core, &setup.program, &mut unit, &[0, 2, 1]);
     let mended = Recovery::Mended {
         station: 1,
         squashed: 2,
     };
     same(rt, &front.recover(&core), &mended);
     takes(rt, &core, &mut front, &[let_at(2, 2, 0x0040_000c)]);
-    assert!(rt; finish_one(&core, &setup.program, &mut unit, 2));
+    finishes(rt, &core, &setup.program, &mut unit, &[2]);
     let answers = [
         retired(0x0040_0000, 1),
         retired(0x0040_0004, 2),

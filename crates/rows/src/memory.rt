@@ -1,7 +1,7 @@
 //! Loads behind stores.
 ghost use Rattle.std.specs.Prelude.{◌≡◌};
 
-use crate::drive::{Setup, by_hand, commits, finish_one, let_at, retired, set_up};
+use crate::drive::{Setup, by_hand, commits, finishes, let_at, retired, set_up};
 use crate::same::same;
 use back::{Commit, Naming, Refresh};
 use instructions::{Ending, Stop};
@@ -32,11 +32,11 @@ fn load_behind_a_store<J: Naming, R: Wait + Abort>(rt: &R, setup: &Setup) -> Res
     ];
     let (core, _front, mut back, _snapper, mut unit) = by_hand::<J>(rt, setup, 4, &lets)?;
     same(rt, &back.refresh(&core), &Refresh::Idle);
-    assert!(rt; finish_one(&core, &setup.program, &mut unit, 2));
+    finishes(rt, &core, &setup.program, &mut unit, &[2]);
     same(rt, &back.refresh(&core), &BLOCKED);
-    assert!(rt; finish_one(&core, &setup.program, &mut unit, 1));
+    finishes(rt, &core, &setup.program, &mut unit, &[1]);
     same(rt, &back.refresh(&core), &BLOCKED);
-    assert!(rt; finish_one(&core, &setup.program, &mut unit, 0));
+    finishes(rt, &core, &setup.program, &mut unit, &[0]);
     same(rt, &back.refresh(&core), &loaded(2, 7));
     let answers = [
         retired(0x0040_0000, 1),
@@ -45,7 +45,7 @@ fn load_behind_a_store<J: Naming, R: Wait + Abort>(rt: &R, setup: &Setup) -> Res
         Commit::NotDone,
     ];
     commits(rt, &core, &mut back, &answers);
-    assert!(rt; finish_one(&core, &setup.program, &mut unit, 3));
+    finishes(rt, &core, &setup.program, &mut unit, &[3]);
     let ended = Commit::Ended(Stop::Break);
     commits(rt, &core, &mut back, &[ended, ended]);
     let end = back.end(rt);
@@ -72,7 +72,7 @@ fn woken_by_a_load<J: Naming, R: Wait + Abort>(rt: &R, setup: &Setup) -> Result<
 {
     let lets = [let_at(0, 1, 0x0040_0000), let_at(1, 1, 0x0040_0004)];
     let (core, _front, mut back, _snapper, mut unit) = by_hand::<J>(rt, setup, 4, &lets)?;
-    assert!(rt; finish_one(&core, &setup.program, &mut unit, 0));
+    finishes(rt, &core, &setup.program, &mut unit, &[0]);
     let before = back.woken();
     let found = back.refresh(&core);
     let woken = back.woken();
@@ -96,8 +96,7 @@ fn from_memory<J: Naming, R: Wait + Abort>(rt: &R, setup: &Setup) -> Result<(), 
 {
     let lets = [let_at(0, 1, 0x0040_0000), let_at(1, 1, 0x0040_0004)];
     let (core, _front, mut back, _snapper, mut unit) = by_hand::<J>(rt, setup, 4, &lets)?;
-    assert!(rt; finish_one(&core, &setup.program, &mut unit, 0));
-    assert!(rt; finish_one(&core, &setup.program, &mut unit, 1));
+    finishes(rt, &core, &setup.program, &mut unit, &[0, 1]);
     let found = back.refresh(&core);
     let answers = [
         retired(0x0040_0000, 1),
@@ -124,8 +123,7 @@ fn part_of_a_store<J: Naming, R: Wait + Abort>(rt: &R, setup: &Setup) -> Result<
 {
     let lets = [let_at(0, 1, 0x0040_0000), let_at(1, 1, 0x0040_0004)];
     let (core, _front, mut back, _snapper, mut unit) = by_hand::<J>(rt, setup, 4, &lets)?;
-    assert!(rt; finish_one(&core, &setup.program, &mut unit, 0));
-    assert!(rt; finish_one(&core, &setup.program, &mut unit, 1));
+    finishes(rt, &core, &setup.program, &mut unit, &[0, 1]);
     let blocked = back.refresh(&core);
     let store = [retired(0x0040_0000, 1), Commit::NotDone];
     commits(rt, &core, &mut back, &store);
@@ -159,7 +157,7 @@ fn fault<J: Naming, R: Wait + Abort>(rt: &R, setup: &Setup) -> Result<(), Fail>
         4,
         &[let_at(0, 1, 0x0040_0000)],
     )?;
-    assert!(rt; finish_one(&core, &setup.program, &mut unit, 0));
+    finishes(rt, &core, &setup.program, &mut unit, &[0]);
     let idle = back.refresh(&core);
     commits(rt, &core, &mut back, &[Commit::Ended(Stop::Unaligned)]);
     let end = back.end(rt);

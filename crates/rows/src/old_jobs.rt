@@ -1,9 +1,7 @@
 //! A job that is held while its station is let again and again.
 ghost use Rattle.std.specs.Prelude.{◌≡◌, ◌≤◌};
 
-use crate::drive::{
-    Setup, by_hand, commits, finish_job, finish_one, let_at, retired, set_up, takes,
-};
+use crate::drive::{Setup, by_hand, commits, finish_job, finishes, let_at, retired, set_up, takes};
 use crate::same::same;
 use back::{Back, Naming};
 use front::{Front, Recovery, Turn};
@@ -34,15 +32,14 @@ fn lets_again<'a, J: Naming>(
     requires other { other.old.core ≡ core.now }
     requires back { back.old.core ≡ core.now }
     requires program { program.now ≡ core.now.program }
-    requires ring { 2 ≤ core.now.sizes.ring }
     ensures front { front.new.core ≡ core.now }
 {
-    assert!(rt; finish_one(core, program, other, 0));
+    finishes(rt, core, program, other, &[0]);
     same(rt, &front.recover(core), &mended(0));
     takes(rt, core, front, &[let_at(1, 2, 0x0040_0000), Turn::Full]);
     commits(rt, core, back, &[retired(0x0040_0000, 1)]);
     takes(rt, core, front, &[let_at(0, 2, 0x0040_0004)]);
-    assert!(rt; finish_one(core, program, other, 1));
+    finishes(rt, core, program, other, &[1]);
     same(rt, &front.recover(core), &mended(1));
     takes(rt, core, front, &[let_at(0, 3, 0x0040_0000)]);
     commits(rt, core, back, &[retired(0x0040_0000, 2)]);

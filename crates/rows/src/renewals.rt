@@ -1,7 +1,9 @@
 //! Cores that are renewed where their tags are spent.
 ghost use Rattle.std.specs.Prelude.{◌≡◌, ◌≤◌, IfOk};
 
-use crate::drive::{Setup, by_hand, commits, finish_one, half, let_at, retired, set_up, takes};
+use crate::drive::{
+    Hands, Setup, by_hand, commits, finishes, half, let_at, retired, set_up, takes,
+};
 use crate::same::same;
 use back::{Back, Commit, Naming, Snapper, a_back_enters_behind_a_renewal};
 use front::{Front, Rest, Turn, a_front_enters_behind_a_renewal};
@@ -40,15 +42,13 @@ fn spend<'a, J: Naming>(
     requires unit { unit.old.core ≡ core.now }
     requires back { back.old.core ≡ core.now }
     requires program { program.now ≡ core.now.program }
-    requires ring { 2 ≤ core.now.sizes.ring }
     ensures front { front.new.core ≡ core.now }
     ensures unit { unit.new.core ≡ core.now }
     ensures back { back.new.core ≡ core.now }
 {
     let lets = [let_at(0, LAST, 0x0040_0000), let_at(1, LAST, 0x0040_0004)];
     takes(rt, core, front, &lets);
-    assert!(rt; finish_one(core, program, unit, 0));
-    assert!(rt; finish_one(core, program, unit, 1));
+    finishes(rt, core, program, unit, &[0, 1]);
     commits(rt, core, back, answers);
     takes(rt, core, front, &[Turn::Spent]);
     commits(rt, core, back, &[Commit::Empty]);
@@ -95,33 +95,38 @@ fn renewed<'a, J: Naming, R: Wait>(
     }
 }
 
+// Who works by hand on a core of two stations, behind its renewal. Before it the back's commits answered these.
+fn behind_a_renewal<'a, J: Naming, R: Wait + Abort>(
+    rt: &R,
+    setup: &'a Setup,
+    answers: &[Commit],
+) -> Result<Hands<'a, J>, Fail>
+    requires { setup.now.program ≡ J.program }
+    ensures program { IfOk result (λ made. made.0.program ≡ setup.now.program) }
+    ensures ring { IfOk result (λ made. made.0.sizes.ring ≡ 2) }
+    ensures front { IfOk result (λ made. made.1.core ≡ made.0) }
+    ensures back { IfOk result (λ made. made.2.core ≡ made.0) }
+    ensures unit { IfOk result (λ made. made.4.core ≡ made.0) }
+{
+    let (core, mut front, mut back, snapper, mut unit) = by_hand::<J>(rt, setup, 2, &[])?;
+    let program = &setup.program;
+    spend(
+        rt, &core, program, &mut front, &mut unit, &mut back, answers,
+    );
+    let (core, front, back, unit) = renewed(rt, setup.alloc, core, front, back, unit, program)?;
+    assert!(rt; core.ring() == 2);
+    Ok((core, front, back, snapper, unit))
+}
+
 // The tags of row 16 are spent, and its program goes on.
 fn goes_on<J: Naming, R: Wait + Abort>(rt: &R, setup: &Setup) -> Result<(), Fail>
     requires { setup.now.program ≡ J.program }
 {
-    let (core, mut front, mut back, _snapper, mut unit) = by_hand::<J>(rt, setup, 2, &[])?;
     let both = [retired(0x0040_0000, 1), retired(0x0040_0004, 2)];
-    spend(
-        rt,
-        &core,
-        &setup.program,
-        &mut front,
-        &mut unit,
-        &mut back,
-        &both,
-    );
-    let (core, mut front, mut back, mut unit) = renewed(
-        rt,
-        setup.alloc,
-        core,
-        front,
-        back,
-        unit,
-        &setup.program,
-    )?;
-    assert!(rt; core.ring() == 2);
+    let hands = behind_a_renewal::<J, R>(rt, setup, &both)?;
+    let (core, mut front, mut back, _snapper, mut unit) = hands;
     takes(rt, &core, &mut front, &[let_at(0, LAST, 0x0040_0008)]);
-    assert!(rt; finish_one(&core, &setup.program, &mut unit, 0));
+    finishes(rt, &core, &setup.program, &mut unit, &[0]);
     commits(rt, &core, &mut back, &[Commit::Ended(Stop::Break)]);
     let end = back.end(rt);
     same(
@@ -143,31 +148,12 @@ fn a_program_goes_on_behind_a_renewal(rt: HostRuntime) -> Result<(), Fail> {
 fn between_halves<J: Naming, R: Wait + Abort>(rt: &R, setup: &Setup) -> Result<(), Fail>
     requires { setup.now.program ≡ J.program }
 {
-    let (core, mut front, mut back, _snapper, mut unit) = by_hand::<J>(rt, setup, 2, &[])?;
     let first_half = [retired(0x0040_0000, 1), half(0x0040_0004)];
-    spend(
-        rt,
-        &core,
-        &setup.program,
-        &mut front,
-        &mut unit,
-        &mut back,
-        &first_half,
-    );
-    let (core, mut front, mut back, mut unit) = renewed(
-        rt,
-        setup.alloc,
-        core,
-        front,
-        back,
-        unit,
-        &setup.program,
-    )?;
-    assert!(rt; core.ring() == 2);
+    let hands = behind_a_renewal::<J, R>(rt, setup, &first_half)?;
+    let (core, mut front, mut back, _snapper, mut unit) = hands;
     let lets = [let_at(0, LAST, 0x0040_0004), let_at(1, LAST, 0x0040_0008)];
     takes(rt, &core, &mut front, &lets);
-    assert!(rt; finish_one(&core, &setup.program, &mut unit, 0));
-    assert!(rt; finish_one(&core, &setup.program, &mut unit, 1));
+    finishes(rt, &core, &setup.program, &mut unit, &[0, 1]);
     let answers = [retired(0x0040_0004, 2), Commit::Ended(Stop::Break)];
     commits(rt, &core, &mut back, &answers);
     let end = back.end(rt);
@@ -201,31 +187,17 @@ fn snapshots<J: Naming, R: Wait + Abort>(rt: &R, setup: &Setup) -> Result<(), Fa
     requires { setup.now.program ≡ J.program }
 {
     let (core, mut front, mut back, mut snapper, mut unit) = by_hand::<J>(rt, setup, 2, &[])?;
+    let program = &setup.program;
     let both = [retired(0x0040_0000, 1), retired(0x0040_0004, 2)];
-    spend(
-        rt,
-        &core,
-        &setup.program,
-        &mut front,
-        &mut unit,
-        &mut back,
-        &both,
-    );
+    spend(rt, &core, program, &mut front, &mut unit, &mut back, &both);
     let before = shown(rt, &mut back, &mut snapper);
-    let (core, mut front, mut back, mut unit) = renewed(
-        rt,
-        setup.alloc,
-        core,
-        front,
-        back,
-        unit,
-        &setup.program,
-    )?;
+    let there = renewed(rt, setup.alloc, core, front, back, unit, program)?;
+    let (core, mut front, mut back, mut unit) = there;
     assert!(rt; core.ring() == 2);
     let still = snapper.take().ok();
     let again = shown(rt, &mut back, &mut snapper);
     takes(rt, &core, &mut front, &[let_at(0, LAST, 0x0040_0008)]);
-    assert!(rt; finish_one(&core, &setup.program, &mut unit, 0));
+    finishes(rt, &core, program, &mut unit, &[0]);
     commits(rt, &core, &mut back, &[retired(0x0040_0008, 3)]);
     let behind = shown(rt, &mut back, &mut snapper);
     let end = back.end(rt);

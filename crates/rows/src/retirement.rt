@@ -1,7 +1,7 @@
 //! What the back sees of a station that it retires.
 ghost use Rattle.std.specs.Prelude.{◌≡◌};
 
-use crate::drive::{Setup, by_hand, commits, finish_one, let_at, retired, set_up};
+use crate::drive::{Setup, by_hand, commits, finishes, let_at, retired, set_up};
 use crate::same::same;
 use back::{Commit, Naming};
 use instructions::Stop;
@@ -16,7 +16,7 @@ fn met_a_unit<J: Naming, R: Wait + Abort>(rt: &R, setup: &Setup) -> Result<(), F
 {
     let lets = [let_at(0, 1, 0x0040_0000), let_at(1, 1, 0x0040_0004)];
     let (core, _front, mut back, _snapper, mut unit) = by_hand::<J>(rt, setup, 2, &lets)?;
-    assert!(rt; finish_one(&core, &setup.program, &mut unit, 0));
+    finishes(rt, &core, &setup.program, &mut unit, &[0]);
     back.meet(&core, &mut unit);
     let done = back.look(&core, 0);
     commits(
@@ -26,7 +26,7 @@ fn met_a_unit<J: Naming, R: Wait + Abort>(rt: &R, setup: &Setup) -> Result<(), F
         &[retired(0x0040_0000, 1), Commit::NotDone],
     );
     let free = back.look(&core, 0);
-    assert!(rt; finish_one(&core, &setup.program, &mut unit, 1));
+    finishes(rt, &core, &setup.program, &mut unit, &[1]);
     let going = back.ended();
     commits(rt, &core, &mut back, &[Commit::Ended(Stop::Break)]);
     let ended = back.ended();

@@ -1,7 +1,7 @@
 //! Snapshots of what was committed.
 ghost use Rattle.std.specs.Prelude.{◌≡◌};
 
-use crate::drive::{Setup, back_at, by_hand, commits, finish_one, let_at, retired, set_up, takes};
+use crate::drive::{Setup, back_at, by_hand, commits, finishes, let_at, retired, set_up, takes};
 use crate::same::same;
 use back::{Back, Gone, Mark, Naming, NoPlace, Snap, Snapper};
 use front::Front;
@@ -42,9 +42,7 @@ fn three_commits<J: Naming, R: Wait + Abort>(rt: &R, setup: &Setup) -> Result<()
         let_at(2, 1, 0x0040_0008),
     ];
     let (core, _front, mut back, mut snapper, mut unit) = by_hand::<J>(rt, setup, 4, &lets)?;
-    assert!(rt; finish_one(&core, &setup.program, &mut unit, 0));
-    assert!(rt; finish_one(&core, &setup.program, &mut unit, 1));
-    assert!(rt; finish_one(&core, &setup.program, &mut unit, 2));
+    finishes(rt, &core, &setup.program, &mut unit, &[0, 1, 2]);
     let answers = [
         retired(0x0040_0000, 1),
         retired(0x0040_0004, 2),
@@ -85,7 +83,7 @@ fn refused_once<J: Naming, R: Wait + Abort>(rt: &R, setup: &Setup) -> Result<(),
     assert!(rt; core.ring() == 4);
     let mut front = Front::new(&core, seat, program, NotTaken);
     takes(rt, &core, &mut front, &[let_at(0, 1, 0x0040_0000)]);
-    assert!(rt; finish_one(&core, program, &mut unit, 0));
+    finishes(rt, &core, program, &mut unit, &[0]);
     let (mut back, mut snapper) = match Back::<J>::new(alloc, &core, back_seat, program, config) {
         Ok(made) => made,
         Err((_, seat)) => back_at::<J>(alloc, &core, seat, program, config)?,

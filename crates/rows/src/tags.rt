@@ -1,7 +1,7 @@
 //! Rings that are full, and tags that are spent.
 ghost use Rattle.std.specs.Prelude.{◌≡◌};
 
-use crate::drive::{Setup, by_hand, commits, finish_one, let_at, retired, set_up, takes};
+use crate::drive::{Setup, by_hand, commits, finishes, let_at, retired, set_up, takes};
 use crate::same::same;
 use back::{Commit, Naming};
 use front::Turn;
@@ -21,8 +21,7 @@ fn spent_tags<J: Naming, R: Wait + Abort>(rt: &R, setup: &Setup) -> Result<(), F
         let_at(1, 0x0fff_fffe, 0x0040_0004),
     ];
     let (core, mut front, mut back, _snapper, mut unit) = by_hand::<J>(rt, setup, 2, &lets)?;
-    assert!(rt; finish_one(&core, &setup.program, &mut unit, 0));
-    assert!(rt; finish_one(&core, &setup.program, &mut unit, 1));
+    finishes(rt, &core, &setup.program, &mut unit, &[0, 1]);
     let both = [retired(0x0040_0000, 1), retired(0x0040_0004, 2)];
     commits(rt, &core, &mut back, &both);
     takes(rt, &core, &mut front, &[Turn::Spent]);
@@ -52,7 +51,7 @@ fn full_ring<J: Naming, R: Wait + Abort>(rt: &R, setup: &Setup) -> Result<(), Fa
         Turn::Full,
     ];
     let (core, mut front, mut back, _snapper, mut unit) = by_hand::<J>(rt, setup, 2, &lets)?;
-    assert!(rt; finish_one(&core, &setup.program, &mut unit, 0));
+    finishes(rt, &core, &setup.program, &mut unit, &[0]);
     commits(rt, &core, &mut back, &[retired(0x0040_0000, 1)]);
     takes(rt, &core, &mut front, &[let_at(0, 2, 0x0040_0008)]);
     let end = back.end(rt);

@@ -1,8 +1,8 @@
 //! The creator of a register, behind a recovery and behind a let of its station.
-use super::retires;
+use super::{Miss, misses, retires};
 use crate::drive::{finished, let_at, made, takes, work};
 use crate::same::same;
-use front::{Front, Made, Recovery};
+use front::{Front, Made};
 use instructions::{NotTaken, Outcome, Reg};
 use station::Core;
 use std::test::Fail;
@@ -24,28 +24,18 @@ fn a_recovery_brings_the_older_creator_back(rt: HostRuntime) -> Result<(), Fail>
     let (Some(one), Some(two)) = (Reg::new(1), Reg::new(2)) else {
         return Err(Fail::new("no register"));
     };
-    let before = front.creator(one);
+    let made_by = Made::Made { station: 2, tag: 1 };
+    same(&rt, &front.creator(one), &made_by);
     let touched = front.touched();
-    let branch = work(&core, &program, &mut unit, 1);
-    let recovery = front.recover(&core);
-    let after = front.creator(one);
-    let none = front.creator(two);
-    same(
-        &rt,
-        &branch,
-        &Some(finished(0, 0, Outcome::Next(0x0040_000c))),
-    );
-    same(
-        &rt,
-        &recovery,
-        &Recovery::Mended {
-            station: 1,
-            squashed: 2,
-        },
-    );
-    same(&rt, &before, &Made::Made { station: 2, tag: 1 });
-    same(&rt, &after, &Made::Made { station: 0, tag: 1 });
-    same(&rt, &none, &Made::Base(0));
+    let miss = Miss {
+        station: 1,
+        next: 0x0040_000c,
+        squashed: 2,
+    };
+    misses(&rt, &core, &program, &mut front, &mut unit, miss);
+    let made_by = Made::Made { station: 0, tag: 1 };
+    same(&rt, &front.creator(one), &made_by);
+    same(&rt, &front.creator(two), &Made::Base(0));
     assert!(rt; touched > 0 && front.touched() > touched && front.touched() - touched <= 8);
     Ok(())
 }
@@ -63,21 +53,12 @@ fn a_creator_of_a_station_let_again_is_a_base_register(rt: HostRuntime) -> Resul
     same(&rt, &one, &Some(finished(0, 0, Outcome::Value(1))));
     assert!(rt; retires(&core, &mut back, 0));
     takes(&rt, &core, &mut front, &[let_at(0, 2, 0x0040_0008)]);
-    let branch = work(&core, &program, &mut unit, 1);
-    let recovery = front.recover(&core);
-    same(
-        &rt,
-        &branch,
-        &Some(finished(0, 0, Outcome::Next(0x0040_000c))),
-    );
-    same(
-        &rt,
-        &recovery,
-        &Recovery::Mended {
-            station: 1,
-            squashed: 1,
-        },
-    );
+    let miss = Miss {
+        station: 1,
+        next: 0x0040_000c,
+        squashed: 1,
+    };
+    misses(&rt, &core, &program, &mut front, &mut unit, miss);
     let Some(first) = Reg::new(1) else {
         return Err(Fail::new("no register"));
     };

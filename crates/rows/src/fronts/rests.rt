@@ -1,6 +1,6 @@
 //! A front that rests.
-use super::retires;
-use crate::drive::{finished, let_at, made, takes, work};
+use super::{Miss, misses, retires};
+use crate::drive::{finished, finishes, let_at, made, takes, work};
 use crate::same::same;
 use front::{Front, Made, Recovery, Rest, Turn};
 use instructions::{Bimod, NotTaken, Outcome, Reg};
@@ -17,35 +17,39 @@ fn a_front_rests_when_all_have_left(rt: HostRuntime) -> Result<(), Fail> {
         return Err(Fail::new("no register"));
     };
     let mut front = Front::new(&core, seat, &program, NotTaken);
-    let nobody_yet = front.rest(&core);
     let lets = [let_at(0, 1, 0x0040_0000), let_at(1, 1, 0x0040_0004)];
     takes(&rt, &core, &mut front, &lets);
-    let open = front.rest(&core);
     let five = work(&core, &program, &mut unit, 0);
     let ten = work(&core, &program, &mut unit, 1);
+    same(&rt, &five, &Some(finished(0, 0, Outcome::Value(5))));
+    same(&rt, &ten, &Some(finished(5, 5, Outcome::Value(10))));
     assert!(rt; retires(&core, &mut back, 0));
     let one_left = front.rest(&core);
     let made_by = front.creator(second);
     assert!(rt; retires(&core, &mut back, 1));
     let idle = front.rest(&core);
-    let base = front.creator(second);
-    let still = front.rest(&core);
-    takes(&rt, &core, &mut front, &[let_at(2, 1, 0x0040_0008)]);
-    let let_again = front.rest(&core);
-    same(&rt, &five, &Some(finished(0, 0, Outcome::Value(5))));
-    same(&rt, &ten, &Some(finished(5, 5, Outcome::Value(10))));
-    same(
-        &rt,
-        &(nobody_yet, open, one_left),
-        &(Rest::Idle, Rest::Live, Rest::Live),
-    );
+    same(&rt, &(one_left, idle), &(Rest::Live, Rest::Idle));
     same(&rt, &made_by, &Made::Made { station: 1, tag: 1 });
-    same(
-        &rt,
-        &(idle, still, let_again),
-        &(Rest::Idle, Rest::Idle, Rest::Live),
-    );
-    same(&rt, &base, &Made::Base(10));
+    same(&rt, &front.creator(second), &Made::Base(10));
+    Ok(())
+}
+
+#[test]
+fn a_front_rests_until_it_lets(rt: HostRuntime) -> Result<(), Fail> {
+    let (program, config) = made(rt.alloc(), b"addiu $1,$0,5\nbreak\n", 4, 1, 1)?;
+    let (core, seat, mut back, mut unit) = Core::make(rt.alloc(), &program, &config)?;
+    assert!(rt; core.ring() == 4);
+    let mut front = Front::new(&core, seat, &program, NotTaken);
+    let nobody_yet = front.rest(&core);
+    takes(&rt, &core, &mut front, &[let_at(0, 1, 0x0040_0000)]);
+    let open = front.rest(&core);
+    same(&rt, &(nobody_yet, open), &(Rest::Idle, Rest::Live));
+    finishes(&rt, &core, &program, &mut unit, &[0]);
+    assert!(rt; retires(&core, &mut back, 0));
+    let idle = (front.rest(&core), front.rest(&core));
+    takes(&rt, &core, &mut front, &[let_at(1, 1, 0x0040_0004)]);
+    same(&rt, &idle, &(Rest::Idle, Rest::Idle));
+    same(&rt, &front.rest(&core), &Rest::Live);
     Ok(())
 }
 
@@ -56,33 +60,20 @@ fn a_rest_tells_of_the_last_branch_once(rt: HostRuntime) -> Result<(), Fail> {
     assert!(rt; core.ring() == 2);
     let mut front = Front::new(&core, seat, &program, Bimod::new());
     takes(&rt, &core, &mut front, &[let_at(0, 1, 0x0040_0000)]);
-    let missed = work(&core, &program, &mut unit, 0);
-    let mended = front.recover(&core);
+    let miss = Miss {
+        station: 0,
+        next: 0x0040_0000,
+        squashed: 0,
+    };
+    misses(&rt, &core, &program, &mut front, &mut unit, miss);
     assert!(rt; retires(&core, &mut back, 0));
     let idle = front.rest(&core);
     // weakly not taken, and then told once that it was taken
     takes(&rt, &core, &mut front, &[let_at(1, 1, 0x0040_0000)]);
     let taken = work(&core, &program, &mut unit, 1);
     let none = front.recover(&core);
-    same(
-        &rt,
-        &missed,
-        &Some(finished(0, 0, Outcome::Next(0x0040_0000))),
-    );
-    let squashed = 0;
-    same(
-        &rt,
-        &mended,
-        &Recovery::Mended {
-            station: 0,
-            squashed,
-        },
-    );
-    same(
-        &rt,
-        &taken,
-        &Some(finished(0, 0, Outcome::Next(0x0040_0000))),
-    );
+    let goes_on = Outcome::Next(0x0040_0000);
+    same(&rt, &taken, &Some(finished(0, 0, goes_on)));
     same(&rt, &(idle, none), &(Rest::Idle, Recovery::NoMiss));
     // the station of the branch that was told of at the rest: nobody is told again
     takes(
