@@ -13,18 +13,15 @@ fn a_front_rests_when_all_have_left(rt: HostRuntime) -> Result<(), Fail> {
     let (program, config) = made(rt.alloc(), listing, 4, 1, 1)?;
     let (core, seat, mut back, mut unit) = Core::make(rt.alloc(), &program, &config)?;
     assert!(rt; core.ring() == 4);
-    let Some(second) = Reg::new(2) else {
-        return Err(Fail::new("no register"));
-    };
     let mut front = Front::new(&core, seat, &program, NotTaken);
     let lets = [let_at(0, 1, 0x0040_0000), let_at(1, 1, 0x0040_0004)];
     takes(&rt, &core, &mut front, &lets);
-    let five = work(&core, &program, &mut unit, 0);
-    let ten = work(&core, &program, &mut unit, 1);
-    same(&rt, &five, &Some(finished(0, 0, Outcome::Value(5))));
-    same(&rt, &ten, &Some(finished(5, 5, Outcome::Value(10))));
+    finishes(&rt, &core, &program, &mut unit, &[0, 1]);
     assert!(rt; retires(&core, &mut back, 0));
     let one_left = front.rest(&core);
+    let Some(second) = Reg::new(2) else {
+        return Err(Fail::new("no register"));
+    };
     let made_by = front.creator(second);
     assert!(rt; retires(&core, &mut back, 1));
     let idle = front.rest(&core);
