@@ -118,7 +118,7 @@ fn behind_a_renewal<'a, J: Naming, R: Wait + Abort>(
     Ok((core, front, back, snapper, unit))
 }
 
-// The tags of row 16 are spent, and its program goes on.
+// The tags of both stations are spent, and the program goes on.
 fn goes_on<J: Naming, R: Wait + Abort>(rt: &R, setup: &Setup) -> Result<(), Fail>
     requires { setup.now.program ≡ J.program }
 {
