@@ -1,0 +1,117 @@
+"""Lists what is promised: of each crate each public function, with the names of its conditions and clauses.
+
+    tests/clauses.py [--text] [FOLDER]   of this repository, or of another checkout of it; with --text each clause whole
+    tests/clauses.py --since FOLDER      which functions and clauses of that checkout are not here, or are others here
+
+A line is `crate file function: requires NAME ..; ensures NAME ..`. A clause without a name has the name `-`. What is private
+to its crate is left out: a function counts if it is `pub`, or is of a trait that is."""
+import os
+import re
+import sys
+
+ROOT = os.path.dirname(os.path.dirname(os.path.realpath(__file__)))
+HEAD = re.compile(r"^( *)(pub )?(?:const )?(?:unsafe )?fn (\w+)")
+BLOCK = re.compile(r"^( *)(?:(pub) )?(?:unsafe )?(impl|trait)\b(.*)$")
+CLAUSE = re.compile(r"^\s+(requires|ensures)(?: \*)?(?: (\w+))? \{")
+
+
+def closed(lines, at):
+    """The text of a clause that begins in a line, to its closing brace, and the line behind it."""
+    depth, text = 0, []
+    for end in range(at, len(lines)):
+        depth += lines[end].count("{") - lines[end].count("}")
+        text.append(lines[end].strip())
+        if depth <= 0:
+            return " ".join(text), end + 1
+    return " ".join(text), len(lines)
+
+
+def owner_of(rest):
+    """The type or trait that a block is of, and whether it is of a trait."""
+    rest = re.sub(r"<[^<>]*(?:<[^<>]*>[^<>]*)*>", "", rest)
+    of = re.match(r"\s*(?:(\w[\w:]*) for )?(\w[\w:]*)", rest)
+    return (of[2], bool(of[1])) if of else ("", False)
+
+
+def clauses_of(file):
+    """Of each function of a file that others can call, its clauses: pairs of a name and the text."""
+    with open(file, encoding="utf-8") as it:
+        lines = it.read().split("\n")
+    found, block, at = {}, ("", 0, False), 0
+    while at < len(lines):
+        line = lines[at]
+        of, head = BLOCK.match(line), HEAD.match(line)
+        at += 1
+        if of:
+            name, of_trait = owner_of(of[4])
+            block = (name, len(of[1]), of_trait or (of[3] == "trait" and bool(of[2])))
+        elif line[: block[1] + 1].strip() == "}":
+            block = ("", 0, False)
+        elif head:
+            name = f"{block[0]}::{head[3]}" if block[0] and head[1] else head[3]
+            said = []
+            while at < len(lines) and not re.match(r"^\s*[{}]", lines[at]) and lines[at - 1].rstrip()[-1:] not in "{;":
+                clause = CLAUSE.match(lines[at])
+                if clause:
+                    text, at = closed(lines, at)
+                    said.append((clause[1], clause[2] or "-", text))
+                else:
+                    at += 1
+            if head[2] or (head[1] and block[2]):
+                found[name] = said
+    return found
+
+
+def promises(root):
+    found = {}
+    for crate in sorted(os.listdir(f"{root}/crates")):
+        for folder, _, files in sorted(os.walk(f"{root}/crates/{crate}/src")):
+            for name in sorted(it for it in files if it.endswith(".rt")):
+                file = os.path.relpath(f"{folder}/{name}", f"{root}/crates/{crate}/src")
+                for function, said in clauses_of(f"{folder}/{name}").items():
+                    found[crate, file, function] = said
+    return found
+
+
+def line_of(key, said, whole):
+    if whole:
+        return "\n    ".join([" ".join(key), *(text for _, _, text in said)])
+    parts = [f"{word} " + " ".join(name for it, name, _ in said if it == word) for word in ("requires", "ensures")]
+    return f"{' '.join(key)}: " + "; ".join(it for it in parts if it.split()[1:])
+
+
+def compare(old, new):
+    """What was promised and is not now. A function that moved to another file or crate counts as there."""
+    places, lost = {}, []
+    for (_, _, function), said in new.items():
+        places.setdefault(function, []).append(said)
+    for key, said in old.items():
+        now = new.get(key)
+        others = [now] if now is not None else places.get(key[2], [])
+        texts = {text for it in others for _, _, text in it}
+        if not others:
+            lost.append(f"gone: {line_of(key, said, False)}")
+        lost += [f"other: {' '.join(key)}: {text}" for word, _, text in said if others and word == "ensures" and text not in texts]
+        old_conditions = {text for word, _, text in said if word == "requires"}
+        if now is not None:
+            lost += [f"condition: {' '.join(key)}: {text}" for word, _, text in now if word == "requires" and text not in old_conditions]
+    count = lambda of: sum(len([1 for word, _, _ in said if word == "ensures"]) for said in of.values())
+    print("\n".join([*lost, f"before: {len(old)} functions, {count(old)} clauses; now: {len(new)}, {count(new)}"]))
+
+
+def main(words):
+    if words[:1] == ["--since"] and len(words) == 2:
+        compare(promises(words[1]), promises(ROOT))
+        return 0
+    whole = words[:1] == ["--text"]
+    words = words[whole:]
+    if len(words) > 1 or words[:1] and not os.path.isdir(f"{words[0]}/crates"):
+        print(__doc__, file=sys.stderr)
+        return 2
+    for key, said in promises(words[0] if words else ROOT).items():
+        print(line_of(key, said, whole))
+    return 0
+
+
+if __name__ == "__main__":
+    sys.exit(main(sys.argv[1:]))
