@@ -141,6 +141,34 @@ def check_spans(page, known):
     return count
 
 
+def crates():
+    """What crates.txt says: each crate, and what it stands on."""
+    uses = {}
+    with open("crates.txt", encoding="utf-8") as it:
+        for line in it:
+            head, _, deps = line.partition("#")[0].partition(":")
+            if head.split():
+                uses[head.split()[0]] = deps.split()
+    return uses
+
+
+def check_rooms(page, names):
+    """Each place below `src/`, `specs/`, `proofs/` or `must-fail/` is in the crate that is named before it, in that of its row on
+    the map, or else in some crate."""
+    count = 0
+    for line in prose(page).splitlines():
+        row = re.match(r"\| `(\w+)` \|", line) if page == "docs/MAP.md" else None
+        for span in re.findall(r"`([^`]+)`", line):
+            named = re.fullmatch(r"(?:(\w+)/)?((?:src|specs|proofs|must-fail)/[\w./-]+)", span)
+            if not named or named[1] == "crates" or ".." in span or "FILE" in span:
+                continue
+            count += 1
+            homes = [named[1]] if named[1] else [row[1]] if row else names
+            if not any(os.path.exists(f"crates/{home}/{named[2]}{ending}") for home in homes for ending in ("", ".antt")):
+                wrong(page, f"no place {span}")
+    return count
+
+
 def check_places(page):
     """Each place of a decision is a file below `crates/`, and has the names that stand in parentheses behind it."""
     count = 0
@@ -205,12 +233,7 @@ def check_kit():
 
 def check_map():
     """The map says of each crate what crates.txt says."""
-    uses = {}
-    with open("crates.txt", encoding="utf-8") as it:
-        for line in it:
-            head, _, deps = line.partition("#")[0].partition(":")
-            if head.split():
-                uses[head.split()[0]] = deps.split()
+    uses = crates()
     rows = re.findall(r"^\| `(\w+)` \|.*\|([^|]*)\|$", prose("docs/MAP.md"), re.M)
     said = {name: re.findall(r"`(\w+)`", calls) for name, calls in rows}
     for name, deps in uses.items():
@@ -228,7 +251,7 @@ def check_picture():
 
 
 def main():
-    known, ran, looked = subcommands(), 0, 0
+    known, names, ran, looked = subcommands(), [*crates()], 0, 0
     for page in PAGES:
         with tempfile.TemporaryDirectory() as room:
             place(room)
@@ -245,7 +268,7 @@ def main():
                 ran += check_forms(room)
             if page == "docs/DECISIONS.md":
                 looked += check_places(page)
-        looked += check_links(page) + check_spans(page, known)
+        looked += check_links(page) + check_spans(page, known) + check_rooms(page, names)
     check_kit()
     check_picture()
     check_map()

@@ -1,8 +1,8 @@
 #!/usr/bin/env bash
-# Compiles the programs of this folder, or those that are named, to an executable beside each: ./compile.sh [NAME..].
+# Compiles the files in C that are named, or the programs of this folder, to an executable beside each: compile.sh [FILE.c ..].
 # It needs Debian's cross compiler: apt-get install gcc-mipsel-linux-gnu. Another one is named by CC=..
 set -eu
-cd "$(dirname "${BASH_SOURCE[0]}")"
+here=$(dirname "$(readlink -f "${BASH_SOURCE[0]}")")
 flags=(
   -O2 -ffreestanding -nostdlib -static
   -march=mips1 -msoft-float           # the operations of MIPS I, and no floating point
@@ -16,11 +16,10 @@ flags=(
 )
 work=$(mktemp -d)
 trap 'rm -rf "$work"' EXIT
-for file in "${@:-*.c}"; do
-  for source in ${file%.c}.c; do
-    name=${source%.c}
-    "${CC:-mipsel-linux-gnu-gcc}" "${flags[@]}" -c -o "$work/start.o" start.S
-    "${CC:-mipsel-linux-gnu-gcc}" "${flags[@]}" -c -o "$work/$name.o" "$source"
-    "${CC:-mipsel-linux-gnu-gcc}" "${flags[@]}" -T link.ld -Wl,-n,--build-id=none -o "$name.elf" "$work/start.o" "$work/$name.o"
-  done
+cc=${CC:-mipsel-linux-gnu-gcc}
+"$cc" "${flags[@]}" -c -o "$work/start.o" "$here/start.S"
+[ $# -gt 0 ] || set -- "$here"/*.c
+for source in "$@"; do
+  "$cc" "${flags[@]}" -c -o "$work/program.o" "$source"
+  "$cc" "${flags[@]}" -T "$here/link.ld" -Wl,-n,--build-id=none -o "${source%.c}.elf" "$work/start.o" "$work/program.o"
 done

@@ -1,5 +1,5 @@
 /* The text from 0x00400000 on, and data memory from 0 on: constants, variables, and what is 0 at the start. The heap, if
-   a program has one, is behind them, and the stack comes down from 65536. */
+   a program has one, is behind them, and the stack comes down from 65520. */
 OUTPUT_ARCH(mips)
 ENTRY(_start)
 PHDRS
