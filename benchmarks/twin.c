@@ -5,8 +5,9 @@
 
    Runs the listing on so many unit threads, beside one that dispatches, one that commits and one that takes snapshots, with
    the predictor bimod; compares the end with an interpreter of one instruction after the other; and prints the
-   microseconds of the run, the instructions, and the totals. Compiled with -DNO_HINTS units look at the next station in
-   ring order alone, and with -DPADDED each station's word has a cache line of its own: what the design itself costs. */
+   microseconds of the run, the instructions, and the totals. The queue of hints has its stamps apart from its values, as
+   the kit's has. What the design itself costs: with -DTOGETHER each stamp stands beside its value, with -DNO_HINTS units look
+   at the next station in ring order alone, and with -DPADDED each station's word has a cache line of its own. */
 #define _GNU_SOURCE
 #include <linux/futex.h>
 #include <pthread.h>
@@ -194,8 +195,19 @@ static uint64_t exchange(_Atomic uint64_t *at, uint64_t old, uint64_t new) {
 }
 
 /* The queue of hints: a bounded queue as that of crossbeam. */
+#ifdef TOGETHER
 struct slot { _Atomic uint64_t stamp; _Atomic uint32_t value; };
+static _Atomic uint32_t *value_of(struct slot *slot) { return &slot->value; }
+#else
+struct slot { _Atomic uint64_t stamp; };
+static _Alignas(64) _Atomic uint64_t values[2 * MOST_RING];
+static _Atomic uint64_t *value_of(struct slot *slot);
+#endif
 static struct { _Alignas(128) _Atomic uint64_t head; _Alignas(128) _Atomic uint64_t tail; _Alignas(128) uint64_t capacity, lap; struct slot *slots; } hints;
+
+#ifndef TOGETHER
+static _Atomic uint64_t *value_of(struct slot *slot) { return &values[slot - hints.slots]; }
+#endif
 
 static void make_hints(void) {
     hints.capacity = 2 * ring;
@@ -217,7 +229,7 @@ static void push(uint32_t station) {
         uint64_t stamp = atomic_load(&slot->stamp);
         if (stamp == tail) {
             if (atomic_compare_exchange_strong(&hints.tail, &tail, behind(tail))) {
-                atomic_store_explicit(&slot->value, station, memory_order_relaxed);
+                atomic_store_explicit(value_of(slot), station, memory_order_relaxed);
                 atomic_store(&slot->stamp, tail + 1);
                 return;
             }
@@ -233,15 +245,17 @@ static void push(uint32_t station) {
 #endif
 }
 
+#ifndef NO_HINTS
 static bool try_pop(uint32_t *station, uint64_t *head) {
     struct slot *slot = &hints.slots[*head & (hints.lap - 1)];
     if (atomic_load(&slot->stamp) != *head + 1) return false;
     uint64_t old = *head;
     if (!atomic_compare_exchange_strong(&hints.head, &old, behind(*head))) return false;
-    *station = atomic_load_explicit(&slot->value, memory_order_relaxed);
+    *station = atomic_load_explicit(value_of(slot), memory_order_relaxed);
     atomic_store(&slot->stamp, *head + hints.lap);
     return true;
 }
+#endif
 
 static bool pop(uint32_t *station) {
 #ifndef NO_HINTS
