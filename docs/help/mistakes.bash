@@ -1,0 +1,171 @@
+# Tells a mistake in the words of a command before anything is built for it, as the programs tell it (tests/script.sh compares
+# them), and ends the script with status 3. A mistake that shows only in a program, as a number out of its range, is not told here.
+# The script `ruu` reads this file, after it has chosen a program. The options of a command are those of its help in this folder.
+
+# Sets `alike` to how alike two words are, in millionths: the measure of Jaro, by which `clap` finds what was meant.
+jaro() { # word, word
+    local n=${#1} m=${#2} i j range met=0 differ=0 left='' right='' taken=()
+    alike=0 range=$(((${#1} > ${#2} ? ${#1} : ${#2}) / 2 - 1))
+    for ((i = 0; i < n; i++)); do
+        for ((j = i > range ? i - range : 0; j < m && (j <= i + range || j == i); j++)); do
+            if [ -z "${taken[j]:-}" ] && [ "${1:i:1}" = "${2:j:1}" ]; then
+                taken[j]=1 left+=${1:i:1} met=$((met + 1))
+                break
+            fi
+        done
+    done
+    [ $met -gt 0 ] || return 0
+    for ((j = 0; j < m; j++)); do
+        [ -z "${taken[j]:-}" ] || right+=${2:j:1}
+    done
+    for ((i = 0; i < met; i++)); do
+        [ "${left:i:1}" = "${right:i:1}" ] || differ=$((differ + 1))
+    done
+    alike=$(((1000000 * met / n + 1000000 * met / m + 1000000 * (met - differ / 2) / met) / 3))
+}
+
+# Sets `found` to those of the names that are like the word, the most alike last.
+find_alike() { # word, names
+    local word=$1 name scored='' alike
+    for name in "${@:2}"; do
+        jaro "$word" "$name"
+        [ "$alike" -le 700000 ] || scored+="$alike $name"$'\n'
+    done
+    mapfile -t found < <(printf %s "$scored" | sort -s -n -k 1,1 | cut -d ' ' -f 2)
+}
+
+# Ends the script with a mistake that is told.
+mistaken() { # what is wrong, the usage or nothing, how the help is had
+    {
+        printf 'error: %s\n' "$1"
+        [ -z "$2" ] || printf '\nUsage: %s\n' "$2"
+        printf "\nFor more information, try '%s'.\n" "${3:---help}"
+    } >&2
+    exit 3
+}
+
+# Sets `names` and `values` of the options of a command.
+read_options() { # command
+    local name value
+    names=(help) values=([help]='')
+    while IFS=' ' read -r name value; do
+        names+=("$name")
+        values[$name]=${value:+ $value}
+    done < <(sed -nE 's/^ +--([a-z-]+)( <[A-Z]+>)?.*/\1\2/p' "$help/$1.txt")
+}
+
+# Prints the usage of a command with these of its options, or with the word OPTIONS.
+usage() { # command, options and FILE that were met
+    local name text="ruu $1"
+    shift
+    [ $# -gt 0 ] || [ ${#values[@]} -eq 1 ] || text+=' [OPTIONS]'
+    for name; do
+        [ "$name" = FILE ] || text+=" --$name${values[$name]}"
+    done
+    echo "$text <FILE>"
+}
+
+# An option before the command, which has none there but --help and --version; it may be one of the command behind it.
+bad_first_option() { # its name, the words behind it
+    local found names word tip=
+    local -A values
+    find_alike "$1" help version
+    [ ${#found[@]} -eq 0 ] \
+        || mistaken "unexpected argument '--$1' found"$'\n\n'"  tip: a similar argument exists: '--${found[-1]}'" "ruu --${found[-1]}"
+    for word in "${@:2}"; do
+        [[ $word == @(run|check|drive) ]] || continue
+        read_options "$word"
+        find_alike "$1" "${names[@]}"
+        [ ${#found[@]} -eq 0 ] || mistaken "unexpected argument '--$1' found"$'\n\n'"  tip: '$word --${found[-1]}' exists" 'ruu [COMMAND]'
+    done
+    mistaken "unexpected argument '--$1' found" 'ruu [COMMAND]'
+}
+
+# The first word is no command.
+bad_command() { # words
+    local names found name tip=
+    mapfile -t names < <(sed -n '/^Commands:/,/^$/s/^  \([a-z]*\) .*/\1/p' "$help/ruu.txt")
+    case $1 in
+        --)
+            [ $# -gt 1 ] || no_command
+            [[ " ${names[*]} " != *" $2 "* ]] \
+                || mistaken "unexpected argument '$2' found"$'\n\n'"  tip: subcommand '$2' exists; to use it, remove the '--' before it" 'ruu [COMMAND]'
+            shift
+            ;;
+        --?*) name=${1#--} && bad_first_option "${name%%=*}" "${@:2}" ;;
+        -?*) mistaken "unexpected argument '${1:0:2}' found" 'ruu [COMMAND]' ;;
+    esac
+    find_alike "$1" "${names[@]}"
+    for name in "${found[@]}"; do
+        tip+="${tip:+, }'$name'"
+    done
+    case ${#found[@]} in
+        0) ;;
+        1) tip=$'\n\n  tip: a similar subcommand exists: '$tip ;;
+        *) tip=$'\n\n  tip: some similar subcommands exist: '$tip ;;
+    esac
+    mistaken "unrecognized subcommand '$1'$tip" 'ruu [COMMAND]'
+}
+
+no_command() {
+    mistaken 'there is no command' '' 'ruu --help'
+}
+
+# An option that the command does not have.
+bad_option() { # command, its name, options and FILE that were met
+    local found tip="to pass '--$2' as a value, use '-- --$2'" met=("${@:3}")
+    find_alike "$2" "${names[@]}"
+    if [ ${#found[@]} -gt 0 ]; then
+        tip="a similar argument exists: '--${found[-1]}'"
+        [[ " ${met[*]} " == *" ${found[-1]} "* ]] || met+=("${found[-1]}")
+    fi
+    mistaken "unexpected argument '--$2' found"$'\n\n'"  tip: $tip" "$(usage "$1" "${met[@]}")"
+}
+
+# The words of a command in turn: an option that it has not, one with a value too many, too few or twice, a word too many, no FILE.
+bad_words() { # command, words
+    local command=$1 word name waits='' ends=false met=() names
+    local -A values
+    read_options "$command"
+    for word in "${@:2}"; do
+        name=${word#--} name=${name%%=*}
+        case $ends$word in
+            false--) [ -z "$waits" ] || break && ends=true ;;
+            false--*)
+                [ -n "${values[$name]+known}" ] || bad_option "$command" "$name" "${met[@]}"
+                [ -z "$waits" ] || break
+                if [[ " ${met[*]} " == *" $name "* ]]; then
+                    mistaken "the argument '--$name${values[$name]}' cannot be used multiple times" "$(usage "$command")"
+                elif [[ -n ${values[$name]} && $word != *=* ]]; then
+                    waits=$name
+                elif [[ -z ${values[$name]} && $word == *=* ]]; then
+                    mistaken "unexpected value '${word#*=}' for '--$name' found; no more were expected" "$(usage "$command" "${met[@]}" "$name")"
+                else
+                    met+=("$name")
+                fi
+                ;;
+            false-?*) mistaken "unexpected argument '${word:0:2}' found"$'\n\n'"  tip: to pass '${word:0:2}' as a value, use '-- ${word:0:2}'" "$(usage "$command")" ;;
+            *)
+                [ -n "$waits" ] || waits=FILE
+                [ "$waits" != FILE ] || [[ " ${met[*]} " != *' FILE '* ]] || mistaken "unexpected argument '$word' found" "$(usage "$command")"
+                met+=("$waits") waits=
+                ;;
+        esac
+    done
+    [ -z "$waits" ] || mistaken "a value is required for '--$waits${values[$waits]}' but none was supplied" ''
+    [[ " ${met[*]} " == *' FILE '* ]] \
+        || mistaken $'the following required arguments were not provided:\n  <FILE>' "$(usage "$command" "${met[@]}" FILE)"
+}
+
+[ $# -gt 0 ] || [ "$name" = listing ] || no_command
+case $name-${1:-} in
+    listing-*)
+        if [ $# -ne 1 ]; then
+            cat "$help/listing.txt" >&2
+            exit 3
+        fi
+        ;;
+    *-check | *-drive | *-run) bad_words "$@" ;;
+    *-help) mistaken "unrecognized subcommand '$2'" 'ruu [COMMAND]' ;;
+    *) bad_command "$@" ;;
+esac

@@ -1,0 +1,296 @@
+#!/usr/bin/env bash
+# The scripts `ruu` and `prove`: help, mistakes and a missing kit are answered at once, from the texts of docs/help, which are those
+# of the programs; and how the work is told and foreseen, with a kit that proves nothing. With the word `renew` those texts are
+# written anew from the programs.
+. "$(dirname "$0")/common.bash"
+for program in ruu viewer driver listing; do
+  build run $program
+done
+
+told() { # text
+  local program=$PWD/crates/ruu/out/ruu
+  case $1 in
+    ruu) (exec -a ruu "$program" --help) ;;
+    version) (exec -a ruu "$program" --version) ;;
+    listing) (exec -a ruu crates/listing/out/listing --help) ;;
+    *) (exec -a ruu "$program" "$1" --help) ;;
+  esac
+}
+
+for text in ruu run check drive listing version; do
+  told $text > "$work/text" || fail "no help of $text"
+  [ "${1:-}" != renew ] || cp "$work/text" docs/help/$text.txt
+  cmp -s "$work/text" docs/help/$text.txt || { diff docs/help/$text.txt "$work/text"; fail "docs/help/$text.txt is not what the program prints: tests/script.sh renew"; }
+done
+echo 'the texts of docs/help are those of the programs'
+
+# a folder of the repository in which nothing is built, and one of commands without rt and python3
+fresh=$work/fresh bare=$work/bare
+mkdir -p "$fresh/benchmarks" "$fresh/docs" "$bare"
+cp -r ruu prove crates.txt HANDLES "$fresh"
+cp benchmarks/gate.txt "$fresh/benchmarks"
+cp -r docs/help "$fresh/docs"
+for crate in crates/*; do
+  mkdir -p "$fresh/$crate"
+  cp -r "$crate/src" "$fresh/$crate"
+done
+for it in bash cat cut dirname env find grep mktemp readlink rm sed sort touch; do
+  ln -s "$(command -v $it)" "$bare/$it"
+done
+
+# Sets `status` and what is written, of the script in that folder, where neither rt nor python3 is.
+answer() { # words
+  (cd "$work" && PATH=$bare "$fresh/ruu" "$@" < /dev/null > "$work/out" 2> "$work/err")
+  status=$?
+}
+
+is_answered() { # texts, words
+  local texts=$1
+  shift
+  answer "$@"
+  # shellcheck disable=SC2086
+  (cd docs/help && cat $texts) > "$work/wanted"
+  [ $status -eq 0 ] && cmp -s "$work/out" "$work/wanted" && [ ! -s "$work/err" ] || fail "ruu $*: status $status, not the texts $texts"
+}
+
+top='ruu.txt script.txt'
+for words in -h --help help '--unproved --help'; do
+  # shellcheck disable=SC2086
+  is_answered "$top" $words
+done
+is_answered version.txt -V
+is_answered version.txt --version
+for command in run check drive listing; do
+  is_answered $command.txt $command --help
+  is_answered $command.txt $command -h
+  is_answered $command.txt help $command
+  is_answered $command.txt $command nowhere.s --help
+  is_answered $command.txt --unproved $command --help
+done
+is_answered run.txt run nowhere.s --alone --chart --help
+echo 'help and the version are answered where nothing is built, without rt and python3'
+
+# a mistake: by the script where nothing is built, and by the program
+mistake() { # program, words
+  local program=$PWD/crates/$1/out/$1
+  shift
+  answer "$@"
+  [ $status -eq 3 ] && [ ! -s "$work/out" ] || fail "ruu $*: status $status"
+  cp "$work/err" "$work/script"
+  [ "${1:-}" != listing ] || shift
+  (exec -a ruu "$program" "$@") < /dev/null > "$work/out" 2> "$work/err"
+  status=$?
+  [ $status -eq 3 ] && [ ! -s "$work/out" ] || fail "the program, $*: status $status"
+  cmp -s "$work/err" "$work/script" || { diff "$work/err" "$work/script"; fail "ruu $*: the script says it otherwise than the program"; }
+}
+
+count=0
+while read -r program words; do
+  # shellcheck disable=SC2086
+  mistake $program $words
+  count=$((count + 1))
+done << 'END'
+ruu
+ruu rnu
+ruu foo
+ruu chek
+ruu runn examples/sum.s
+ruu hepl
+ruu drve examples/sum.s
+ruu help foo
+ruu --helpp
+ruu --versio
+ruu --foo
+ruu --alone run examples/sum.s
+ruu -x
+ruu -x run examples/sum.s
+ruu examples/sum.s
+ruu run
+ruu run --alone
+ruu run --units 3
+ruu run --foo
+ruu run --foo examples/sum.s
+ruu run examples/sum.s --foo
+ruu run examples/sum.s --foo=3
+ruu run examples/sum.s --alnoe
+ruu run --ruu-sise 8 examples/sum.s
+ruu run examples/sum.s --ruu-sise 8
+ruu run --units 3 examples/sum.s --alone --lsq-sise 4
+ruu run --alone --alon examples/sum.s
+ruu run examples/sum.s --helpp
+ruu run examples/sum.s -x
+ruu run examples/sum.s -xy
+ruu run examples/sum.s examples/double.s
+ruu run --alone examples/sum.s examples/double.s
+ruu run examples/sum.s --units
+ruu run examples/sum.s --units --alone
+ruu run examples/sum.s --alone --alone
+ruu run examples/sum.s --units 3 --units 4
+viewer check
+viewer check --foo
+viewer check examples/sum.s --foo
+viewer check examples/sum.s --alone
+viewer check examples/sum.s examples/double.s
+viewer run examples/sum.s --chart --foo
+viewer run examples/sum.s --chart --trace
+driver drive
+driver drive examples/sum.s --units 3
+driver drive examples/sum.s --first-tags 3
+driver drive examples/sum.s --quiet-promp
+listing listing
+listing listing examples/sum.s examples/double.s
+END
+mistake ruu ''
+mistake ruu run ''  ''
+mistake ruu run 'a b' 'c d'
+[ $count -gt 30 ] || fail "only $count mistakes"
+echo "$count mistakes are told where nothing is built, as the programs tell them"
+
+# in a tenth of a second: the least of five
+least() { # words
+  local times=() began
+  for _ in 1 2 3 4 5; do
+    began=$(date +%s%N)
+    answer "$@"
+    times+=($((($(date +%s%N) - began) / 1000)))
+  done
+  printf '%s\n' "${times[@]}" | sort -n | head -n 1
+}
+for words in --help --version rnu 'run --helpp' ''; do
+  # shellcheck disable=SC2086
+  took=$(least $words)
+  [ "$took" -lt 100000 ] || fail "ruu $words took $took microseconds"
+done
+echo 'each is answered in a tenth of a second'
+
+# without the kit: one line that names what is missing, and status 70
+lacks() { # what is missing, command
+  local missing=$1
+  shift
+  "$@" < /dev/null > "$work/out" 2> "$work/err"
+  status=$?
+  [ $status -eq 70 ] && [ ! -s "$work/out" ] || fail "without $missing: status $status"
+  [ "$(wc -l < "$work/err")" -eq 1 ] && grep -q "there is no $missing on the path.*'rt doc'" "$work/err" || fail "without $missing: another line"
+}
+
+python=$(python3 -c 'import sys; print(sys.executable)')
+mkdir "$work/with_python"
+cp -P "$bare"/* "$work/with_python"
+ln -s "$python" "$work/with_python/python3"
+for words in 'run nowhere.s' 'check nowhere.s' '--unproved run nowhere.s' prove; do
+  # shellcheck disable=SC2086
+  lacks python3 env PATH="$bare" "$fresh/ruu" $words
+  # shellcheck disable=SC2086
+  lacks rt env PATH="$work/with_python" "$fresh/ruu" $words
+done
+lacks rt env PATH="$work/with_python" "$fresh/prove" text
+echo 'a missing kit is named in one line'
+
+# a kit that proves nothing: what it is asked for goes to a file, and what is built says with which words it is run
+mkdir -p "$work/kit/bin" "$work/path"
+printf '#!/bin/sh\necho %s/kit/START-HERE.md\n' "$work" > "$work/path/rt"
+chmod +x "$work/path/rt"
+cat > "$work/kit/bin/rtlib.py" << 'END'
+import os
+class Crate:
+    def stamp(self):
+        return ""
+KEPT = []
+def main(*words):
+    name = os.path.basename(os.getcwd())
+    with open(os.environ["ASKED"], "a") as it:
+        print(name, *words, *KEPT, file=it)
+    if name == os.environ.get("UNPROVED"):
+        print("a goal is open")
+        return 1
+    made = f"out/{name}" if os.path.isfile("src/main.rt") else "out/rlib/stamp"
+    os.makedirs(os.path.dirname(made), exist_ok=True)
+    with open(made, "w") as it:
+        it.write('#!/bin/sh\necho "ran $*"\n')
+    os.chmod(made, 0o755)
+    return 0
+END
+export ASKED=$work/asked
+with_kit() { # command
+  PATH=$work/path:$PATH "$@" < /dev/null > "$work/out" 2> "$work/err"
+  status=$?
+}
+
+with_kit env UNPROVED=inorder "$fresh/ruu" run a.s
+[ $status -eq 70 ] && grep -qx 'a goal is open' "$work/err" && grep -qx 'prove: inorder is not proved; its log is above' "$work/err" \
+  || fail "a crate that is not proved: status $status"
+[ ! -e "$fresh/crates/inorder/out/rlib/stamp" ] || fail 'a crate that is not proved was kept'
+
+# how many crates the programs stand on
+count_of() { # programs
+  python3 - "$@" << 'END'
+import importlib.machinery, importlib.util, sys
+sys.dont_write_bytecode = True
+loader = importlib.machinery.SourceFileLoader("prove", "prove")
+prove = importlib.util.module_from_spec(importlib.util.spec_from_loader("prove", loader))
+loader.exec_module(prove)
+uses = prove.crates_of(".")
+print(len({it for name in sys.argv[1:] for it in [*prove.below(uses, name), name]}))
+END
+}
+
+# a log has a line for each crate, and a program is compiled by Rattle's own compiler, with one job
+find "$fresh/crates" -name out -prune -exec rm -r {} +
+: > "$ASKED"
+with_kit "$fresh/ruu" run a.s --alone
+[ $status -eq 0 ] && [ "$(cat "$work/out")" = 'ran run a.s --alone' ] || fail "a first run: status $status"
+number=$(count_of ruu)
+seq -f "proving %g of $number" "$number" > "$work/wanted"
+sed -n 's/^\(proving [0-9]* of [0-9]*\), [0-9]*:[0-9][0-9], \(about [0-9]* minutes\?\|less than a minute\) left: [a-z_]*$/\1/p' "$work/err" \
+  | cmp -s - "$work/wanted" || fail 'a first run: the log is not a line for each crate'
+[ "$(wc -l < "$work/err")" -eq $((number + 2)) ] || fail 'a first run: other lines in the log'
+grep -qx "prove: $number crates in 0:[0-9][0-9]" "$work/err" || fail 'a first run: no line at its end'
+grep -qx 'ruu run --jobs 1 --backend rattle -- --help' "$ASKED" || fail 'the program ruu is built otherwise'
+[ "$(grep -cE '^[a-z_]+ lib --jobs [1-4] --statements$' "$ASKED")" -eq $((number - 1)) ] || fail 'the libraries are built otherwise'
+with_kit "$fresh/ruu" run b.s
+[ $status -eq 0 ] && [ "$(cat "$work/out")" = 'ran run b.s' ] && [ ! -s "$work/err" ] || fail "a second run: status $status"
+
+# all programs at once, and then each starts
+with_kit "$fresh/ruu" prove
+more=$(($(count_of ruu viewer driver listing) - number))
+[ $status -eq 0 ] && [ "$(grep -c "^proving [0-9]* of $more," "$work/err")" -eq $more ] || fail "ruu prove: status $status"
+[ "$(tail -n 1 "$work/err")" = 'ruu: proved and built: ruu viewer driver listing' ] || fail 'ruu prove: no line at its end'
+for words in 'run a.s' 'check a.s' 'drive a.s' 'listing a.elf' 'run a.s --alone --chart'; do
+  # shellcheck disable=SC2086
+  with_kit "$fresh/ruu" $words
+  [ $status -eq 0 ] && [ "$(cat "$work/out")" = "ran ${words#listing }" ] && [ ! -s "$work/err" ] || fail "ruu $words after all were built"
+done
+echo "each of $((number + more)) crates is told of in a log, and all programs are built at once"
+
+# on a terminal: one line, which never wraps, however narrow that is
+for columns in 24 80; do
+  find "$fresh/crates" -name out -prune -exec rm -r {} +
+  PATH=$work/path:$PATH python3 - "$columns" "$fresh/ruu" run a.s > "$work/out" 2> "$work/err" << 'END' || fail "on a terminal of $columns columns"
+import fcntl, os, pty, re, struct, sys, termios
+columns, words = int(sys.argv[1]), sys.argv[2:]
+pid, terminal = pty.fork()
+if pid == 0:
+    fcntl.ioctl(2, termios.TIOCSWINSZ, struct.pack("HHHH", 24, columns, 0, 0))
+    os.environ["COLUMNS"] = "200"
+    os.execv(words[0], words)
+told = b""
+while True:
+    try:
+        more = os.read(terminal, 4096)
+    except OSError:
+        break
+    if not more:
+        break
+    told += more
+status = os.waitstatus_to_exitcode(os.waitpid(pid, 0)[1])
+lines = told.decode().split("\r\n")
+told = [[it for it in line.split("\r") if it.startswith("proving")] for line in lines]
+told = [it for it in told if it]
+if status or len(told) != 1 or len(told[0]) < 3 or max(map(len, told[0])) >= columns or lines[-2] != "ran run a.s":
+    print(status, *lines, sep="\n")
+    sys.exit(1)
+END
+done
+echo 'on a terminal the work is told in one line, which does not wrap'
+
+python3 tests/foreseen.py || fail 'the time that is left is told wrongly'
