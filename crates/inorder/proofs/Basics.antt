@@ -9,11 +9,6 @@ use Rattle.inorder.specs.Tenants.{Tenant, destination_of, on_path}
 use Rattle.inorder.specs.Unit.{at, last_writer, older, replaced, value_of, younger}
 use Rattle.lsq.specs.Bytes.{byte_of, joined, little_endian, little_endian_if_there}
 
--- a test, with its equation
-pub bool_cases : (b : Bool) → (b ≡ true) ⊎ (b ≡ false)
-bool_cases true = inl refl
-bool_cases false = inr refl
-
 pub eqb_self : (n : ℕ) → eqb n n ≡ true
 eqb_self n = eq-eqb n n refl
 

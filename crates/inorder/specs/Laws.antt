@@ -20,7 +20,7 @@ pub record IsRing (C : Sizes) (ts : List Tenant) : Type 0 where
   pub last : (p : ℕ) (t : Tenant) → at ts p ≡ Some t → t.standing ≡ Live →
       AllByRecursion (λ u. u.station ≢ t.station) (younger ts p)
 
--- So it is in the unit that these steps reach, if each was allowed
+-- The tenants let since the last renewal are such a ring in each unit that allowed steps reach
 abbrev pub StandsRight : Program → Sizes → List Taken → Type 0
 StandsRight P C history = AreAllowed P C history → IsRing C (recent (reached P C history))
 
@@ -30,7 +30,8 @@ Names ts =
     (p q : ℕ) (t u : Tenant) → at ts p ≡ Some t → at ts q ≡ Some u →
     t.station ≡ u.station → t.tag ≡ u.tag → p ≡ q
 
--- So it is in the unit that these steps reach, if each was allowed
+-- A station and a tag name one of the tenants let since the last renewal, in each unit that allowed
+-- steps reach
 abbrev pub NamesOne : Program → Sizes → List Taken → Type 0
 NamesOne P C history = AreAllowed P C history → Names (recent (reached P C history))
 

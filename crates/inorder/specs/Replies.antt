@@ -1,6 +1,6 @@
 -- When each reply is allowed, by the unit at its point. A reply that is not here names the step
 -- that was made.
-use Rattle.std.specs.Prelude.{◌≡◌, ◌≢◌, ℕ, ◌-◌, ◌^◌, ◌<◌, Bool, true, ◌&&◌, length, Some, None, if◌then◌else◌}
+use Rattle.std.specs.Prelude.{◌≡◌, ◌≢◌, ℕ, ◌-◌, ◌^◌, ◌<◌, true, ◌&&◌, length, Some, None, if◌then◌else◌}
 use Rattle.std.specs.List.{AllByRecursion}
 use Rattle.instructions.specs.declared.op.Half.{Half}
 use Rattle.instructions.specs.Instruction.{is_access, kind}
@@ -10,7 +10,7 @@ use Rattle.inorder.specs.declared.history.Source.{Source}
 use Rattle.inorder.specs.declared.history.Source.TheVariants.{First, Second}
 use Rattle.inorder.specs.Steps.{CanRetire, IsNoRetiredStop}
 use Rattle.inorder.specs.Tenants.{IsNotLive, IsThere, Linked, Live, Miss, Open, Retired, Squashed, Stopped, Tenant, is_live, kind_of, missing, needs, operand, operand_value}
-use Rattle.inorder.specs.Unit.{Sizes, UpdateUnit, at, front_pc, how_many, next_tag, older, recent, value_of}
+use Rattle.inorder.specs.Unit.{Sizes, UpdateUnit, at, front_pc, how_many, next_tag, older, recent}
 
 -- No tenant gets this tag, so that the tag behind each tenant's has its bits too
 abbrev pub last_tag : ℕ
@@ -52,16 +52,6 @@ IsSpent C U = next_tag C (recent U) ≡ last_tag
 -- Source k has its value
 abbrev pub IsDelivered : UpdateUnit → ℕ → Source → Type 0
 IsDelivered U p k = Has U p (λ t. IsThere (operand k t).value)
-
--- Source k is linked, and its creator has made nothing
-pub record AwaitsCreator (U : UpdateUnit) (k : Source) (t : Tenant) : Type 0 where
-  pub in_time : Bool
-  pub way : (operand k t).way ≡ Linked in_time
-  pub unmade : value_of U.tenants (operand k t).creator ≡ None
-
--- Source k of the tenant at position p waits for its creator
-abbrev pub IsLinkedSource : UpdateUnit → ℕ → Source → Type 0
-IsLinkedSource U p k = Has U p (AwaitsCreator U k)
 
 -- Source k of this tenant was asked for in time, before its creator had made anything
 abbrev pub IsAskedInTime : UpdateUnit → ℕ → Source → Type 0

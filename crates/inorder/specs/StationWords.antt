@@ -130,7 +130,8 @@ pub record WordsMove (P : Program) (C : Sizes) (U : UpdateUnit) (by : ℕ) : Typ
   pub kept : (p : ℕ) (act : Act) (s : ℕ) → KeepsStations act → Allowed P C U by (On p act) →
       station_word C (recent (applied P C U by (On p act))) s ≡ station_word C (recent U) s
 
--- Both are so behind these steps, if each was allowed
+-- In each unit that allowed steps reach, the words show the tenants let since the last renewal, and
+-- each step moves them
 pub record StationsFollow (P : Program) (C : Sizes) (history : List Taken) (by : ℕ) : Type 0 where
   pub shows : AreAllowed P C history → WordsShow C (recent (reached P C history))
   pub moves : AreAllowed P C history → WordsMove P C (reached P C history) by

@@ -34,8 +34,8 @@ pub fn one_legal_history()
     ensures calls { (p : Program) (c : Sizes) → TellsOn p c }
 {}
 
-/// At most as many tenants are live as there are stations. Each tenant of the path has the station
-/// of its place on the path, and a live one is the last of its station.
+/// Of the tenants let since the last renewal at most as many are live as there are stations, each of
+/// the path has the station of its place on the path, and a live one is the last of its station.
 pub fn ring_is_right()
     ensures { (p : Program) (c : Sizes) (history : List Taken) → StandsRight p c history }
 {}
@@ -94,8 +94,8 @@ pub fn several_steps_lead_on()
     ensures on { (p : Program) (c : Sizes) (by : ℕ) → LeadOn p c by }
 {}
 
-/// A live tenant is what its station shows, a station that is not free shows one live tenant, and
-/// each step moves the words of the stations as stated.
+/// Of the tenants let since the last renewal a live one is what its station shows, a station that is
+/// not free shows one live tenant, and each step moves the words of the stations as stated.
 pub fn stations_follow()
     ensures { (p : Program) (c : Sizes) (history : List Taken) (by : ℕ) →
         StationsFollow p c history by }

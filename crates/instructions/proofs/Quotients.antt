@@ -1,17 +1,8 @@
 -- What quotients and remainders of whole numbers are, and both at the edges of a word, computed by the definitions.
-use Rattle.std.proofs.Common.{◌≡◌, ◌<◌, ℤ, ◌+ℤ◌, ◌*ℤ◌, int_div, int_rem, unsigned_abs, refl}
-use Rattle.std.proofs.lemmas.Int.{quot-rem, rem_below}
+use Rattle.std.proofs.Common.{◌≡◌, refl}
 use Rattle.instructions.specs.Operations.{signed}
 use Rattle.instructions.specs.Products.{word_of_half, product, quotient, remainder, signed_product, signed_quotient, signed_remainder}
 use Rattle.instructions.specs.declared.op.Half.TheVariants.{High, Low}
-
--- the remainder is the dividend less the quotient times the divisor
-pub remainder_is_left : (a b : ℤ) → int_div a b *ℤ b +ℤ int_rem a b ≡ a
-remainder_is_left = quot-rem
-
--- so the quotient is cut towards zero: less than the divisor is left, whatever the signs are
-pub remainder_is_small : (a b : ℤ) → 0 < unsigned_abs b → unsigned_abs (int_rem a b) < unsigned_abs b
-remainder_is_small = rem_below
 
 -- -7 by 2, 7 by -2, -7 by -2
 below_zero : (signed_quotient (signed 0xfffffff9) (signed 2) ≡ 0xfffffffd) × (signed_remainder (signed 0xfffffff9) (signed 2) ≡ 0xffffffff)

@@ -14,13 +14,12 @@ use Rattle.inorder.specs.Replies.{IsOpen}
 use Rattle.inorder.specs.StationWords.{live_word, station_word}
 use Rattle.inorder.specs.Tenants.{Busy, Fate, Open}
 use Rattle.inorder.specs.Unit.{Sizes, recent}
-use Rattle.ruu_words.specs.declared.place.Place.{Place}
 use Rattle.ruu_words.specs.declared.place.Place.TheVariants.{Station}
 use Rattle.ruu_words.specs.declared.rule.Role.TheVariants.{Worker}
 use Rattle.ruu_words.specs.declared.rule.View.{View}
 use Rattle.ruu_words.specs.Content.{IsStation}
 use Rattle.ruu_words.specs.Fields.{state_of, tag_of}
-use Rattle.ruu_words.specs.Kinds.{Claims, Finds, IsClosed, IsNamed, IsTenant, Looks, Peeks, Reads, Rechecks, adds_nothing}
+use Rattle.ruu_words.specs.Kinds.{Claims, Finds, IsClosed, IsNamed, IsTenant, Peeks, Rechecks, adds_nothing}
 use Rattle.ruu_words.specs.Views.{IsCaller}
 use Rattle.ruu_words.proofs.Building.{changes, looks, tells}
 use Rattle.ruu_words.specs.Plans.{Plan, Plans}
@@ -28,19 +27,6 @@ use Rattle.ruu_words.proofs.StationWords.{its_word, live_last, live_state, not_o
 use Rattle.ruu_words.proofs.Stays.{named_of, named_stays, ready_stays, tenant_stays, was_open_stays, with_fact}
 
 module _ (P : Program) (C : Sizes) where
-  pub look_plan : (id : ℕ) (v : View) (s : ℕ) → Plans P C id v (Station s) (λ n. n) (Looks P C s)
-  look_plan id v s between d legal same apart caller mine draft n small content = looks P C id (between ++ v.seen) d legal draft (Station s) n content (Looks P C s n)
-      (record { none = refl; word = content })
-
-  -- a silent look
-  pub silent_plan : (id : ℕ) (v : View) (x : Place) → Plans P C id v x (λ n. n) (λ _ h d events. events ≡ [])
-  silent_plan id v x between d legal same apart caller mine draft n small content = looks P C id (between ++ v.seen) d legal draft x n content (λ h d events. events ≡ []) refl
-
-  -- any word, as it is
-  pub read_plan : (id : ℕ) (v : View) (x : Place) → Plans P C id v x (λ n. n) (Reads P C x)
-  read_plan id v x between d legal same apart caller mine draft n small content = looks P C id (between ++ v.seen) d legal draft x n content (Reads P C x n)
-      (record { none = refl; draft = d; proper = draft; content = content })
-
   pub peek_plan : (id : ℕ) (v : View) (s : ℕ) → v.role ≡ Worker → Plans P C id v (Station s) (λ n. n) (Peeks P C s)
   peek_plan id v s role between d legal same apart caller mine draft n small content =
       let h : List Entry = between ++ v.seen in

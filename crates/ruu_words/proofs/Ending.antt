@@ -1,12 +1,10 @@
 -- The loads of a retirement, and its refusals.
-use Rattle.std.proofs.Common.{◌≡◌, ◌≢◌, ◌⊎◌, ℕ, ◌<◌, List, [], ◌++◌, Option, Some, None, refl, sym, ap, ◌∙◌, subst, inl, inr, ⊎_elim}
+use Rattle.std.proofs.Common.{◌≡◌, ◌≢◌, ◌⊎◌, ℕ, ◌<◌, List, [], ◌++◌, Option, Some, None, refl, sym, ◌∙◌, subst, inl, inr, ⊎_elim}
 use mathlib.Core.Logic.{dite}
 use native.Mathlib.Decide.{ℕ_discrete}
 use Rattle.std.specs.List.{AllByRecursion}
-use Rattle.instructions.specs.Instruction.{kind}
-use Rattle.instructions.specs.Programs.{Program, instr_of}
+use Rattle.instructions.specs.Programs.{Program}
 use Rattle.instructions.specs.declared.op.Kind.{Kind}
-use Rattle.instructions.specs.declared.op.Kind.TheVariants.{Loads}
 use Rattle.inorder.specs.declared.history.Entry.{Entry}
 use Rattle.inorder.specs.declared.history.Refusal.TheVariants.{Empty, NotDone, Over}
 use Rattle.inorder.specs.declared.history.Source.TheVariants.{Second}
@@ -82,22 +80,6 @@ module _ (P : Program) (C : Sizes) where
       let is_back : id ≡ back = subst (λ r. IsCaller r id) role caller in
       let now = unit_lasts P C IsOver (λ U by s a ok o. over_stays P C U by s a o) between v.seen legal over in
       tells P C id h d legal draft x n Over (is_back, now) content (Tells P C Over) (record { added = refl })
-
-  -- a load with its address cannot retire before the back has settled it
-  pub load_waits_plan : (id : ℕ) (v : View) (x : Place) (p s g index a : ℕ) → v.role ≡ Back → IsHead (unit_of P C v.seen) p (HasAddr s g index a) → kind (instr_of P index).op ≡ Loads
-      → Plans P C id v x (λ n. n) (λ _. Tells P C NotDone)
-  load_waits_plan id v x p s g index a role head is_load between d legal same apart caller mine draft n small content =
-      let h : List Entry = between ++ v.seen in
-      let is_back : id ≡ back = subst (λ r. IsCaller r id) role caller in
-      let i = back_stays P C (λ U. IsHead U p (HasAddr s g index a)) (λ U by st b may ok q. addr_head_stays P C U by st b may ok p s g index a q) between v.seen legal same
-      (subst (λ z. own z between ≡ []) is_back apart) head in
-      let t : Tenant = i.tenant in
-      let k : kind_of P t ≡ Loads = ap (λ z. kind (instr_of P z).op) i.fact.index_is ∙ is_load in
-      tells P C id h d legal draft x n NotDone (is_back, not_done h p t i.is i.live i.oldest i.goes_on (λ c. no_store (kind_of P t) t.second.value t.fate k i.fact.fate c)) content (Tells P C NotDone)
-      (record { added = refl })
-    where
-      no_store : (k : Kind) (b : Option ℕ) (f : Fate) → k ≡ Loads → f ≡ Addr a → CanRetire k b f → ⊥
-      no_store k b f e g c = let c' : CanRetire k b (Addr a) = subst (CanRetire k b) g c in let x = sym e ∙ c'.0 in cc x
 
   pub head_plan : (id : ℕ) (v : View) (s : ℕ) → v.role ≡ Back → head_station C (unit_of P C v.seen) ≡ s → GoesOn (unit_of P C v.seen) → Plans P C id v (Station s) (λ n. n) (Heads P C s)
   head_plan id v s role at_s goes_on between d legal same apart caller mine draft n small content =

@@ -1,6 +1,6 @@
 -- A step on one place that adds events of its caller, and may change the front's let in progress, keeps the rule.
-use Rattle.std.proofs.Common.{◌≡◌, ◌≢◌, ℕ, zero, suc, ◌<◌, List, [], ◌∷◌, ◌++◌, map, length, slice_index, slice_set, sym, refl, ap, ◌∙◌, subst, inl, inr, ⊎_elim, arith, length-set}
-use mathlib.Core.Option.{some, some-ne-none}
+use Rattle.std.proofs.Common.{◌≡◌, ◌≢◌, ℕ, List, [], ◌++◌, map, slice_index, slice_set, sym, refl, ap, ◌∙◌, subst, inl, inr, ⊎_elim, arith, length-set}
+use mathlib.Core.Option.{some}
 use lib.ListN.{get_elem?}
 use Rattle.atomic_table.specs.Table.{Allows, Me, State, Step, keeps, stepped}
 use Rattle.atomic_table.proofs.Lists.{at_set}
@@ -21,11 +21,6 @@ use Rattle.ruu_words.specs.Telling.{Tells}
 use Rattle.inorder.proofs.Histories.{own-append, own_none, own_of_other, renewals_more, starts_longer, starts_more, starts_same}
 use Rattle.ruu_words.proofs.Heirs.{own_number}
 use Rattle.ruu_words.proofs.Placing.{written}
-
-pub below_length : {A : Type 0} (l : List A) (j : ℕ) (a : A) → get_elem? l j ≡ some a → j < length l
-below_length [] j a e = absurd (some-ne-none a (sym e))
-below_length (x ∷ xs) zero a e = omega arith
-below_length (x ∷ xs) (suc j) a e = let h = below_length xs j a e in omega arith
 
 -- the view of a seat after its step
 abbrev pub stepped_view : View → List Entry → Draft → View

@@ -1,20 +1,19 @@
 -- The writes with which a tenant is squashed, mended or retired.
-use Rattle.std.proofs.Common.{◌≡◌, ℕ, suc, ◌^◌, ◌<◌, List, [], ◌++◌, Option, Some, None, refl, sym, ap, ◌∙◌, subst, inl, inr}
+use Rattle.std.proofs.Common.{◌≡◌, ℕ, suc, ◌^◌, ◌<◌, List, [], ◌++◌, Option, Some, refl, sym, ap, ◌∙◌, subst, inr}
 use Rattle.instructions.specs.Programs.{Program}
-use Rattle.inorder.specs.declared.history.Act.TheVariants.{Mend, Retire, Squash}
+use Rattle.inorder.specs.declared.history.Act.TheVariants.{Retire}
 use Rattle.inorder.specs.declared.history.Entry.{Entry}
 use Rattle.inorder.specs.declared.history.Event.TheVariants.{Does}
 use Rattle.inorder.specs.declared.history.Step.TheVariants.{On}
-use Rattle.inorder.specs.Callers.{CanLeave, CanMend, CanSquash}
+use Rattle.inorder.specs.Callers.{CanLeave}
 use Rattle.inorder.proofs.Recent.{live_is_recent}
-use Rattle.inorder.specs.History.{IsLegal, back, front, own, unit_of}
+use Rattle.inorder.specs.History.{IsLegal, back, own, unit_of}
 use Rattle.inorder.specs.StationWords.{IsFree, left_value, live_word, station_word, word_of}
 use Rattle.inorder.specs.Steps.{made_at_end, mended_as}
 use Rattle.inorder.specs.Tenants.{Addr, Busy, Done, Fate, Live, Miss, Open, Stopped, Tenant}
 use Rattle.inorder.specs.Unit.{Sizes, UpdateUnit, at, recent}
-use Rattle.inorder.proofs.Ends.{leave_stays, may_mend, may_retire, may_squash, mend_stays, squash_stays}
+use Rattle.inorder.proofs.Ends.{leave_stays, may_retire}
 use Rattle.ruu_words.specs.declared.place.Place.TheVariants.{Station}
-use Rattle.ruu_words.specs.declared.rule.Draft.TheVariants.{Nothing}
 use Rattle.ruu_words.specs.declared.rule.Role.TheVariants.{Back}
 use Rattle.ruu_words.specs.declared.rule.View.{View}
 use Rattle.ruu_words.specs.Content.{IsStation}
@@ -24,7 +23,7 @@ use Rattle.ruu_words.specs.Views.{IsCaller}
 use Rattle.ruu_words.proofs.Building.{changes}
 use Rattle.ruu_words.specs.Plans.{Plan, Plans}
 use Rattle.ruu_words.proofs.StationWords.{its_word, live_state, one_at, still_live}
-use Rattle.ruu_words.proofs.Stays.{back_stays, front_stays, named_stays}
+use Rattle.ruu_words.proofs.Stays.{back_stays, named_stays}
 
 pub mended_word : (t : Tenant) (k x n : ℕ) (f : Fate) → f ≡ Miss x → t.standing ≡ Live → IsStation (live_word t.tag (Done x)) n → IsStation (word_of k (Some (mended_as t f))) n
 mended_word t k x n f e live w = subst (λ f. IsStation (word_of k (Some (mended_as t f))) n) (sym e) (still_live t.standing k t.tag (Done x) t.made n live w)
@@ -45,40 +44,6 @@ module _ (P : Program) (C : Sizes) where
   found h legal p s n t is station_is live content =
       let w = its_word P C h legal p s n t is station_is live content in
       record { tenant = t; is = is; new = live_is_recent P C h legal p t is live; station_is = station_is; tag_is = sym (live_state t.tag n t.fate w).0; fact = w }
-
-  pub squash_plan : (id : ℕ) (v : View) (s g p new : ℕ) → id ≡ front → v.draft ≡ Nothing → IsNamed (unit_of P C v.seen) p s g → CanSquash (unit_of P C v.seen) p
-      → IsStation (record { tag = suc g; state = IsFree; value = None }) new → Plans P C id v (Station s) (λ _. new) (Writes P C (Does (On p Squash)) p s)
-  squash_plan id v s g p new is_front none named can word between d legal same apart caller mine draft n small content =
-      let h : List Entry = between ++ v.seen in
-      let U : UpdateUnit = unit_of P C h in
-      let i = named_stays P C p s g between v.seen legal same named in
-      let c = front_stays P C (λ U. CanSquash U p) (λ U by s b a ok q. squash_stays P C U by s b a ok p q) between v.seen legal (subst (λ z. own z between ≡ []) is_front apart) can in
-      let t : Tenant = c.tenant.tenant in
-      let one : i.tenant ≡ t = one_at P C h legal p i.tenant t i.is c.tenant.is in
-      let at_s : t.station ≡ s = ap (λ (x : Tenant). x.station) (sym one) ∙ i.station_is in
-      let tag : t.tag ≡ g = ap (λ (x : Tenant). x.tag) (sym one) ∙ i.tag_is in
-      subst (λ x. Plan P C id h d (Station x) new (Writes P C (Does (On p Squash)) p s n)) at_s
-      (changes P C id h d legal draft p Squash t tt (inl (sym (mine is_front) ∙ none)) is_front (record { tenant = t; is = c.tenant.is; may = may_squash U p c }) c.tenant.is new
-      (subst (λ z. IsStation (record { tag = suc z; state = IsFree; value = None }) new) (sym tag) word)
-      (Writes P C (Does (On p Squash)) p s n) (record { added = refl; found = found h legal p s n t c.tenant.is at_s c.tenant.fact content }))
-
-  pub mend_plan : (id : ℕ) (v : View) (s g p x new : ℕ) → id ≡ front → v.draft ≡ Nothing → IsNamed (unit_of P C v.seen) p s g → CanMend (unit_of P C v.seen) p x
-      → IsStation (live_word g (Done x)) new → Plans P C id v (Station s) (λ _. new) (Writes P C (Does (On p Mend)) p s)
-  mend_plan id v s g p x new is_front none named can word between d legal same apart caller mine draft n small content =
-      let h : List Entry = between ++ v.seen in
-      let U : UpdateUnit = unit_of P C h in
-      let i = named_stays P C p s g between v.seen legal same named in
-      let c = front_stays P C (λ U. CanMend U p x) (λ U by s b a ok q. mend_stays P C U by s b a ok p x q) between v.seen legal (subst (λ z. own z between ≡ []) is_front apart) can in
-      let t : Tenant = c.miss.tenant in
-      let one : i.tenant ≡ t = one_at P C h legal p i.tenant t i.is c.miss.is in
-      let at_s : t.station ≡ s = ap (λ (x : Tenant). x.station) (sym one) ∙ i.station_is in
-      let tag : t.tag ≡ g = ap (λ (x : Tenant). x.tag) (sym one) ∙ i.tag_is in
-      let fits : IsStation (live_word t.tag (Done x)) new = subst (λ (z : ℕ). IsStation (live_word z (Done x)) new) (sym tag) word in
-      subst (λ x. Plan P C id h d (Station x) new (Writes P C (Does (On p Mend)) p s n)) at_s
-      (changes P C id h d legal draft p Mend t tt (inl (sym (mine is_front) ∙ none)) is_front
-      (record { tenant = t; is = c.miss.is; may = may_mend U p x c }) c.miss.is new
-      (mended_word t (suc t.tag) x new t.fate c.miss.fact.fate c.miss.fact.live fits)
-      (Writes P C (Does (On p Mend)) p s n) (record { added = refl; found = found h legal p s n t c.miss.is at_s c.miss.fact.live content }))
 
   -- m is what is kept of a stop
   pub retire_plan : (id : ℕ) (v : View) (s g p m new : ℕ) (f : Fate) → v.role ≡ Back → m < 2 ^ 32 → IsNamed (unit_of P C v.seen) p s g → CanLeave P (unit_of P C v.seen) p f

@@ -92,10 +92,6 @@ opens P C h may ws start = record {
 pub opens_first : (c : Setup) (ws : List ℕ) → IsOpening c.program (sizes_of c) (opening_of c) → IsStart (sizes_of c) ws → Kept c (opening ws [] (first_view c))
 opens_first c ws may start = opens c.program (sizes_of c) (opening_of c) may ws start
 
--- no history, and that of a seat with a renewal behind it
-pub opens_with_none : (P : Program) (C : Sizes) → IsOpening P C []
-opens_with_none P C = record { legal = tt; may = record { none = tt; goes_on = tt }; begun = refl }
-
 pub goes_on_with : (P : Program) (C : Sizes) (h : List Entry) → IsLegal P C h → MayRenew (unit_of P C h) → IsOpening P C (renewed h)
 goes_on_with P C h legal may = record { legal = (legal, (refl, may)); may = record { none = may.none; goes_on = may.goes_on }; begun = refl }
 

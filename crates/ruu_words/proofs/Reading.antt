@@ -34,7 +34,7 @@ use Rattle.ruu_words.specs.declared.rule.Role.TheVariants.{Worker}
 use Rattle.ruu_words.specs.declared.rule.View.{View}
 use Rattle.ruu_words.specs.Content.{IsDraft, IsInfo, IsOperand, IsOperandOf, has_operand, info_unit, operand_unit, with_new}
 use Rattle.ruu_words.specs.Fields.{state_of, tag_of, word_value}
-use Rattle.ruu_words.specs.Kinds.{IsClosed, IsTenant, ReadsInfo, ReadsOperand, ReadsSource}
+use Rattle.ruu_words.specs.Kinds.{IsClosed, IsTenant, ReadsInfo, ReadsSource}
 use Rattle.ruu_words.specs.Views.{IsCaller}
 use Rattle.ruu_words.proofs.Building.{looks, tells}
 use Rattle.ruu_words.specs.Plans.{Plans}
@@ -184,17 +184,6 @@ module _ (P : Program) (C : Sizes) where
       let h : List Entry = between ++ v.seen in
       looks P C id h d legal draft (Info s) n content (ReadsInfo P C s n)
       (record { none = refl; its = λ p t is e live. subst (λ o. IsInfo o n) (ap (last_of (recent (info_unit P C (unit_of P C h) d))) (sym e) ∙ info_last P C h legal d draft p t is live) content })
-
-  pub operand_read_plan : (id : ℕ) (v : View) (s : ℕ) (k : Source) → Plans P C id v (Operand s k) (λ n. n) (ReadsOperand P C s k)
-  operand_read_plan id v s k between d legal same apart caller mine draft n small content =
-      let h : List Entry = between ++ v.seen in
-      looks P C id h d legal draft (Operand s k) n content (ReadsOperand P C s k n) (record {
-        none = refl;
-        says = record {
-          its = λ p t is new. its_operand P C h legal (recent (operand_unit P C (unit_of P C h) d k)) (among P C h legal d k) s k n content p t is new;
-          left = not_live P C h legal d draft s k n content;
-        };
-      })
 
   pub source_plan : (id : ℕ) (v : View) (s g p : ℕ) (k : Source) → v.role ≡ Worker → IsTenant (unit_of P C v.seen) p s g (IsNext P k) → WasOpen P C v.seen p →
       Plans P C id v (Operand s k) (λ n. n) (ReadsSource P C s g k)

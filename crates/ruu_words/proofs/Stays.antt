@@ -1,7 +1,6 @@
 -- What a caller has seen of a tenant stays true.
 use Rattle.std.proofs.Common.{◌≡◌, ◌≢◌, ℕ, ◌<◌, false, List, [], ◌++◌, map, Option, Some, None, refl, sym, ap, ◌∙◌, subst}
 use Rattle.std.specs.Prelude.{length, unwrap_or}
-use Rattle.std.proofs.lemmas.Option.{same_Some}
 use Rattle.instructions.specs.Instruction.{kind}
 use Rattle.instructions.specs.Operations.{outcome_of, outcome_by}
 use Rattle.instructions.specs.Programs.{Program, instr_of}
@@ -20,7 +19,7 @@ use Rattle.inorder.specs.Callers.{IsReady}
 use Rattle.inorder.specs.History.{IsLegal, IsTheirs, WasOpen, back, entry, front, own, renewals, unit_of}
 use Rattle.inorder.specs.Legal.{Allowed, applied}
 use Rattle.inorder.specs.OneHistory.{Adds}
-use Rattle.inorder.specs.Replies.{Has, IsOpen, last_tag}
+use Rattle.inorder.specs.Replies.{Has, last_tag}
 use Rattle.inorder.specs.Tenants.{Tenant, computed, kind_of, missing_of, operand_value}
 use Rattle.inorder.specs.Unit.{Sizes, UpdateUnit, at, is_old}
 use Rattle.inorder.proofs.Ends.{IsNotBacks}
@@ -158,22 +157,6 @@ module _ (P : Program) (C : Sizes) where
   -- its tag has its bits
   pub tag_small : (h : List Entry) → IsLegal P C h → (p s g : ℕ) → IsNamed (unit_of P C h) p s g → g < last_tag
   tag_small h legal p s g i = subst (λ z. z < last_tag) i.tag_is (are_small P C h legal p i.tenant i.is)
-
-  -- What a tenant was when it was open
-  pub record IsSince (u t : Tenant) : Type 0 where
-    pub opens : IsOpen t → IsOpen u
-    pub index : t.index ≡ u.index
-    pub predicted : t.predicted ≡ u.predicted
-
-  -- a tenant that is open was open before, with the same instruction: so an info word that was read in between is its own
-  pub opened_before : (p s g : ℕ) (more seen : List Entry) → IsLegal P C (more ++ seen) → renewals (more ++ seen) ≡ renewals seen → (i : IsNamed (unit_of P C seen) p s g) →
-      (j : IsTenant (unit_of P C (more ++ seen)) p s g IsOpen) → IsSince i.tenant j.tenant
-  opened_before p s g more seen legal same i j =
-      let k = tenant_stays p s g (IsSince i.tenant) goes_on more seen legal same (with_fact (IsSince i.tenant) i (record { opens = λ o. o; index = refl; predicted = refl })) in
-      subst (IsSince i.tenant) (same_Some k.tenant j.tenant (sym k.is ∙ j.is)) k.fact
-    where
-      goes_on : (by : ℕ) (step : Step) (t t' : Tenant) → Goes by step t t' → IsSince i.tenant t → IsSince i.tenant t'
-      goes_on by step t t' m f = record { opens = λ o. f.opens (m.opens o); index = m.index ∙ f.index; predicted = m.predicted ∙ f.predicted }
 
   pub was_open_stays : (more seen : List Entry) (p : ℕ) → WasOpen P C seen p → WasOpen P C (more ++ seen) p
   was_open_stays more seen p w = record { point = w.point; starts = starts_longer seen w.point more w.starts; opened = w.opened }

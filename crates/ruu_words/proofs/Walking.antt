@@ -3,23 +3,17 @@ use Rattle.std.proofs.Common.{◌≡◌, ◌≢◌, ◌⊎◌, ℕ, ◌<◌, tru
 use Rattle.std.proofs.lemmas.Option.{same_Some}
 use Rattle.instructions.specs.Programs.{Program}
 use Rattle.inorder.specs.declared.history.Entry.{Entry}
-use Rattle.inorder.specs.declared.history.Mark.TheVariants.{Walked}
 use Rattle.inorder.specs.declared.history.Source.{Source}
 use Rattle.inorder.specs.declared.history.Step.{Step}
 use Rattle.inorder.specs.Callers.{HasMade, IsServed}
-use Rattle.inorder.specs.History.{IsLegal, IsUnitOrBack, IsWalked, unit_of}
+use Rattle.inorder.specs.History.{IsLegal, IsWalked, unit_of}
 use Rattle.inorder.specs.Replies.{IsDelivered}
 use Rattle.inorder.specs.Tenants.{IsNotLive, IsThere, Linked, Live, Retired, Squashed, Standing, Tenant, operand}
 use Rattle.inorder.specs.Unit.{Sizes, UpdateUnit, at}
 use Rattle.inorder.proofs.Moves.{Goes}
-use Rattle.inorder.proofs.Serving.{AreLinked, are_inside, are_small, linked_stay, served_stays}
-use Rattle.ruu_words.specs.declared.place.Place.{Place}
-use Rattle.ruu_words.specs.declared.rule.View.{View}
+use Rattle.inorder.proofs.Serving.{AreLinked, are_inside, are_small, linked_stay}
 use Rattle.ruu_words.specs.Content.{IsLinkWord}
 use Rattle.ruu_words.specs.Fields.{consumer_of, pack_link, producer_of}
-use Rattle.ruu_words.specs.Kinds.{Walks}
-use Rattle.ruu_words.proofs.Building.{marks}
-use Rattle.ruu_words.specs.Plans.{Plans}
 
 -- a source that is served, or is of the tenant with this tag
 abbrev pub IsServedOr : Source → ℕ → Tenant → Type 0
@@ -89,11 +83,3 @@ module _ (P : Program) (C : Sizes) where
   -- so a walk is whole where each station has been served for both sources
   pub is_walked : (h : List Entry) → IsLegal P C h → (q : ℕ) → ((c : ℕ) (k : Source) → c < C.ring → IsServed (unit_of P C h) q c k) → IsWalked (unit_of P C h) q
   is_walked h legal q all p t k is from way = all t.station k (are_inside P C h legal p t is) p t is refl from way
-
-  -- the mark is added at a load of any word
-  pub walked_plan : (id : ℕ) (v : View) (x : Place) (q val : ℕ) → IsUnitOrBack id → HasMade (unit_of P C v.seen) q val → ((c : ℕ) (k : Source) → c < C.ring → IsServed (unit_of P C v.seen) q c k)
-      → Plans P C id v x (λ n. n) (λ _. Walks P C q)
-  walked_plan id v x q val who made all between d legal same apart caller mine draft n small content =
-      let h : List Entry = between ++ v.seen in
-      let now = is_walked h legal q (λ c k below. served_stays P C q val c k between v.seen legal made (all c k below)) in
-      marks P C id h d legal draft x n (Walked q) (who, now) content (Walks P C q) (record { added = refl })

@@ -23,7 +23,7 @@ use Rattle.inorder.specs.Unit.{Sizes, UpdateUnit, at, is_old, recent}
 use Rattle.ruu_words.specs.declared.place.Place.{Place}
 use Rattle.ruu_words.specs.declared.rule.Draft.{Draft}
 use Rattle.ruu_words.specs.declared.rule.Draft.TheVariants.{Nothing}
-use Rattle.ruu_words.specs.Content.{Content, IsDraft, IsInfoOf, IsLinkWord, IsOperandOf, IsStation}
+use Rattle.ruu_words.specs.Content.{Content, IsDraft, IsInfoOf, IsLinkWord, IsStation}
 use Rattle.ruu_words.specs.Fields.{state_of, tag_of, word_value}
 
 -- The tenant at p, let since the last renewal, of this station and tag, and what is true of it
@@ -98,15 +98,6 @@ IsEarly n = (n ≡ 1) ⊎ (n ≡ 2) ⊎ (n ≡ 5)
 abbrev pub IsLate : ℕ → Type 0
 IsLate n = (n ≡ 3) ⊎ (n ≡ 4) ⊎ (n ≡ 6)
 
--- An operand word with the tag of a tenant of the station let since the last renewal is that
--- tenant's, and with another tag than a tenant's that tenant is not live
-pub record SaysOperand (U : UpdateUnit) (s : ℕ) (k : Source) (n : ℕ) : Type 0 where
-  pub its : (p : ℕ) (t : Tenant) → at U.tenants p ≡ Some t → is_old U p ≡ false →
-      t.station ≡ s → t.tag ≡ tag_of n →
-      IsOperandOf (record { tag = t.tag; value = (operand k t).value }) n
-  pub left : (p : ℕ) (t : Tenant) → at U.tenants p ≡ Some t → t.station ≡ s → t.tag ≢ tag_of n →
-      t.standing ≢ Live
-
 module _ (P : Program) (C : Sizes) where
   -- Loads that add nothing
 
@@ -120,11 +111,6 @@ module _ (P : Program) (C : Sizes) where
     pub none : events ≡ []
     pub its : (p : ℕ) (t : Tenant) → at (unit_of P C h).tenants p ≡ Some t → t.station ≡ s →
         t.standing ≡ Live → IsInfoOf t n
-
-  pub record ReadsOperand (s : ℕ) (k : Source) (n : ℕ) (h : List Entry) (d : Draft)
-      (events : List Event) : Type 0 where
-    pub none : events ≡ []
-    pub says : SaysOperand (unit_of P C h) s k n
 
   pub record ReadsLink (p c : ℕ) (k : Source) (n : ℕ) (h : List Entry) (d : Draft)
       (events : List Event) : Type 0 where

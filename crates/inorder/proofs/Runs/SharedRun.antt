@@ -1,5 +1,5 @@
 -- Three instructions on two stations, with a front, a back and two units, as a legal history.
-use Rattle.std.proofs.Common.{◌≡◌, List, [], ◌∷◌, replicate, Some, refl, true}
+use Rattle.std.proofs.Common.{◌≡◌, List, [], ◌∷◌, replicate, Some, refl}
 use Rattle.instructions.specs.Operations.{checked_address, computed_by, jump_target, loaded}
 use Rattle.instructions.specs.Programs.{Program, instr_at}
 use Rattle.instructions.specs.declared.op.Op.TheVariants.{Addiu, Addu, Break}
@@ -13,7 +13,7 @@ use Rattle.inorder.specs.declared.history.Step.TheVariants.{Let, On}
 use Rattle.inorder.specs.declared.history.Supply.TheVariants.{From, Known}
 use Rattle.inorder.specs.Committed.{committed}
 use Rattle.inorder.specs.History.{IsLegal, back, front, unit_of}
-use Rattle.inorder.specs.Replies.{HasNoInstr, IsFull, IsLinkedSource}
+use Rattle.inorder.specs.Replies.{HasNoInstr, IsFull}
 use Rattle.inorder.specs.Runs.{after, stop}
 use Rattle.inorder.proofs.Runs.Decided.{given}
 use Rattle.inorder.proofs.Runs.DecidedHistory.{is_legal}
@@ -97,15 +97,10 @@ shared_stops : stop adds 2 ≡ Some BreakStop
 unfolding instr_at computed_by jump_target checked_address loaded
 shared_stops = refl
 
--- What the front may be told on the way: the ring is full, a source is linked to a tenant that has made
--- nothing, and behind the break there is no instruction
+-- What the front may be told on the way: the ring is full, and behind the break there is no instruction
 front_full : IsFull two_stations (unit_of adds two_stations asked)
 unfolding instr_at computed_by jump_target checked_address loaded
 front_full = refl
-
-front_linked : IsLinkedSource (unit_of adds two_stations asked) 1 Second
-unfolding instr_at computed_by jump_target checked_address loaded
-front_linked = record { tenant = _; is = refl; fact = record { in_time = true; way = refl; unmade = refl } }
 
 front_has_no_instr : HasNoInstr adds (unit_of adds two_stations relet)
 unfolding instr_at computed_by jump_target checked_address loaded

@@ -75,10 +75,6 @@ pub value_not : (r : Result ℕ Stop) (x : ℕ) → as_value r ≡ Next x → �
 value_not (Ok v) x h = cc
 value_not (Err c) x h = cc
 
-pub value_not_address : (r : Result ℕ Stop) (x : ℕ) → as_value r ≡ Address x → ⊥
-value_not_address (Ok v) x h = cc
-value_not_address (Err c) x h = cc
-
 pub address_not : (r : Result ℕ Stop) (x : ℕ) → as_address r ≡ Next x → ⊥
 address_not (Ok v) x h = cc
 address_not (Err c) x h = cc
