@@ -166,12 +166,6 @@ module _ {v w : TheCall} {t : Tenant} {station n : ℕ} (legal : IsLegalCall v) 
       (λ i. (sym seen i, sym about.station_is i)) took.grows.kind.content in
       is ∙ tag_found P C v.view.by t v.view.seen Nothing (let_place v) (new_tag v) n w.view looked.ready word
 
-below_ring : (n r : ℕ) → 0 < r → n % r < r
-below_ring n r pos = omega arith
-
-pub next_inside : (station r : ℕ) → station < r → (station + 1) % r < r
-next_inside station r small = below_ring (station + 1) r (omega arith)
-
 -- the station behind a let
 pub next_out : {v w : TheCall} {t : Tenant} → IsSameCall v w → IsLetNow t v.core (caller v) (caller w) → let_place w ≡ (let_place v + 1) % v.core.sizes.ring
 next_out {v} {w} {t} on out =

@@ -20,6 +20,8 @@ pub mod Writing
 pub mod Asking
 pub mod Holding
 pub mod Staying
+pub mod Paths
+pub mod Infos
 pub mod Squashing
 pub mod Jobs
 pub mod Splitting

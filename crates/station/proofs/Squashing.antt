@@ -47,7 +47,7 @@ use Rattle.station.proofs.Calls.{Of, of_one, only_looked}
 
 -- The path ends with the youngest live tenant
 
-abbrev IsOff : Tenant → Type 0
+abbrev pub IsOff : Tenant → Type 0
 IsOff y = on_path y ≡ false
 
 count_off : (ys zs : List Tenant) → AllByRecursion IsOff ys → how_many on_path (ys ++ zs) ≡ how_many on_path zs
@@ -55,7 +55,7 @@ count_off [] zs h = refl
 count_off (y ∷ ys) zs h = ap (λ b. cond b (suc (how_many on_path (ys ++ zs))) (how_many on_path (ys ++ zs))) h.0 ∙ count_off ys zs h.1
 
 -- behind a live tenant none has retired
-off_path : (P : Program) (t : Tenant) (ts ys : List Tenant) → t.standing ≡ Live → AllByRecursion IsNotLive ys → IsSound P (ys ++ t ∷ ts) → AllByRecursion IsOff ys
+pub off_path : (P : Program) (t : Tenant) (ts ys : List Tenant) → t.standing ≡ Live → AllByRecursion IsNotLive ys → IsSound P (ys ++ t ∷ ts) → AllByRecursion IsOff ys
 off_path P t ts [] live last s = tt
 off_path P t ts (y ∷ ys) live last s = (go y.standing refl, off_path P t ts ys live last.1 s.1)
   where
@@ -223,20 +223,20 @@ module _ (P : Program) (C : Sizes) where
         at_s ∙ (ap (λ n. n % C.ring) (sym counted) ∙ ap (λ h. next_station C (recent (U h))) (sym seen2))
 
 -- The youngest live tenant, whose station is the one before the next, as a look at that station finds it
-module _ {v w : TheCall} {next ring n : ℕ} (legal : IsLegalCall v) (by_is : v.view.by ≡ front) (ring_is : ring ≡ v.core.sizes.ring) (small : next < v.core.sizes.ring) (next_is : next ≡
+module _ {v w : TheCall} {next ring station n : ℕ} (station_is : station ≡ (next + ring - 1) % ring) (legal : IsLegalCall v) (by_is : v.view.by ≡ front) (ring_is : ring ≡ v.core.sizes.ring) (small : next < v.core.sizes.ring) (next_is : next ≡
     let_place v)
-    (may : SeesWrongPath v.core.program v.core.sizes v.view.seen) (took : TakesStep v w (λ P C. Sees P C v.view.by v.view (Station ((next + ring - 1) % ring)) n)) (tag : ℕ) (read : tag ≡
+    (may : SeesWrongPath v.core.program v.core.sizes v.view.seen) (took : TakesStep v w (λ P C. Sees P C v.view.by v.view (Station station) n)) (tag : ℕ) (read : tag ≡
     tag_of n) where
-  pub youngest_read : (tag < last_tag) × HasYoungest w.core.program w.core.sizes w.view.seen ((next + ring - 1) % ring) tag
+  pub youngest_read : (tag < last_tag) × HasYoungest w.core.program w.core.sizes w.view.seen station tag
   youngest_read =
       let P = v.core.program in
       let C = v.core.sizes in
       let old : List Entry = v.view.seen in
       let looked = only_looked by_is took in
       let h : List Entry = took.grows.between ++ old in
-      let station : ℕ = (next + ring - 1) % ring in
       let g : ℕ = may.can.tenant.tenant.tag in
-      let was : HasYoungest P C old station g = youngest_in P C old legal next ring ring_is (subst (λ m. next < m) (sym ring_is) small) next_is may in
+      let was : HasYoungest P C old station g = subst (λ s. HasYoungest P C old s g) (sym station_is)
+      (youngest_in P C old legal next ring ring_is (subst (λ m. next < m) (sym ring_is) small) next_is may) in
       let now : HasYoungest P C h station g = youngest_on P C station g took.grows.between old looked.legal looked.none was in
       let tag_is : tag ≡ g = read ∙ youngest_word P C h looked.legal station g n now took.grows.kind.content in (
         subst (λ z. z < last_tag) (sym tag_is) (tag_small P C old legal was.p station g was.named),

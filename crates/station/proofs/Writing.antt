@@ -189,9 +189,6 @@ module _ (P : Program) (C : Sizes) where
       let c : HasCarried P C by q o' mid new = subst (λ (z : ℕ × Outcome). HasCarried P C z.0 q z.1 mid new) (λ j. (is j, same j)) (carry q i) in
       (c.events, (c.carried, c.adds)))
 
-  pub walked_legal : (by id s g : ℕ) (act : Act) (old mid new : List Entry) → IsOut by s g act old mid → OfTenant P C mid s g (λ q. HasWalked P C id q mid new) → IsLegal P C new
-  walked_legal by id s g act old mid new out walk = (walk out.p out.named).adds.legal
-
   -- a value walks
   pub carries_walk : (by q x : ℕ) (old new : List Entry) → HasWalked P C by q old new → HasCarried P C by q (Value x) old new
   carries_walk by q x old new w = record { events = w.events; carried = w.walk; adds = w.adds }

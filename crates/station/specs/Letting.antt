@@ -20,7 +20,7 @@ use Rattle.station.specs.declared.answers.Supply.{Supply as Given}
 use Rattle.station.specs.declared.answers.Supply.TheVariants.{From as GivenFrom, Known as GivenKnown}
 use Rattle.station.specs.declared.answers.Tenant.{Tenant}
 
--- The source as the unit sees it: the tenant that a source comes from is its creator
+-- The source as the unit sees it, which looks for the creator itself: station and tag of `From` say nothing here
 abbrev pub supply_of : Given → Supply
 supply_of (GivenKnown v) = Known v
 supply_of (GivenFrom station tag) = From

@@ -18,4 +18,6 @@ pub mod Renewals
 pub mod Laws
 pub mod Quiet
 pub mod Following
+pub mod Paths
+pub mod Infos
 pub mod Finishing

@@ -39,7 +39,8 @@ pub struct Tenant {
     pub sources: (Supply, Supply),
 }
 
-/// A claimed tenant, with what its unit needs. `Core::finish` alone takes it.
+/// A claimed tenant, with what its unit needs. `Core::finish` takes it. A job is not `Drop`, so it is
+/// never lost by oversight: whoever keeps one as plain data names each of its fields.
 pub struct Job {
     pub station: usize,
     pub tag: u32,

@@ -14,6 +14,7 @@ use crate::cores::Core;
 use crate::seat::{FrontPart, FrontSeat};
 use crate::words::{open_word, operand_word, tag_in};
 use atomic_table::Seat;
+use inorder::wrapped;
 use ruu_words::rule::View;
 use ruu_words::{InfoWord, Place};
 
@@ -65,7 +66,7 @@ impl Core {
         let tag = call.dispatch(station, tenant);
         let Call { seat: left, .. } = call;
         let _left: &Seat<u8, View> = left;
-        seat.station = (station + 1) % ring;
+        seat.station = wrapped(station + 1, ring);
         tag
     }
 }

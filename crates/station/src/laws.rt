@@ -4,7 +4,9 @@ ghost use Rattle.inorder.specs.History.{IsLegal, own};
 ghost use Rattle.ruu_words.specs.Views.{IsCaller, IsHeir};
 ghost use Rattle.station.specs.Finishing.{ClaimedAreInFlight, JobsAreFinished, JobsStayInFlight};
 ghost use Rattle.station.specs.Following.{LetsAreAsked, MissesAreRecovered, MissesStaySeen, MissesStaySquashing, QuestionsLeaveOthers};
+ghost use Rattle.station.specs.Infos.{InfosElsewhere};
 ghost use Rattle.station.specs.Laws.{BacksStay, FrontsStay, JobsAreOfTheProgram, JobsEndAtARenewal, JobsStay, JobsStayClaiming, JobsStayFinishing, JobsStaySeen};
+ghost use Rattle.station.specs.Paths.{LetsLead, PathsStay, RenewalsGoOn};
 ghost use Rattle.station.specs.Renewals.{EmptyCoresMayBeRenewed, NoStopStays, NobodyStays};
 ghost use Rattle.station.specs.Quiet.{ClaimsGiveJobs, LetsAreOut, ReadyTenantsStay, SplitsShareNumbers, UnitsAreNumbered};
 
@@ -35,6 +37,29 @@ pub fn an_empty_core_may_be_renewed()
 pub fn mays_stay()
     ensures front { FrontsStay }
     ensures back { BacksStay }
+{}
+
+/// While the front adds nothing the path goes on at the same place, each register has the same creator,
+/// and what was made stays.
+pub fn a_path_stays()
+    ensures { PathsStay }
+{}
+
+/// Behind a let the path goes on at its predicted next pc, at the next station, as the half that comes
+/// then, and no other register has another creator.
+pub fn a_let_leads_on()
+    ensures { LetsLead }
+{}
+
+/// Behind a renewal the path goes on at the pc and half where the front had left it, at station 0 with
+/// the first tag. Each register has the creator that it had, and what was made stays.
+pub fn a_renewal_goes_on()
+    ensures { RenewalsGoOn }
+{}
+
+/// What `info` tells of a station where the next tenant does not go is the last tenant's.
+pub fn an_info_is_the_last_tenants()
+    ensures { InfosElsewhere }
 {}
 
 /// What a caller has seen is a legal history.

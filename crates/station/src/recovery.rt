@@ -11,6 +11,7 @@ use crate::cores::Core;
 use crate::seat::{FrontPart, FrontSeat};
 use crate::words::{done_word, left_word, tag_in, value_in};
 use atomic_table::Seat;
+use inorder::wrapped;
 use ruu_words::Place;
 use ruu_words::rule::View;
 
@@ -41,7 +42,7 @@ impl<'a> Call<'a, FrontPart> {
         ensures squashed { LeadsTo self.old self.new result.0 (SquashesAt result.0 result.1) }
     {
         let core = self.core;
-        let station = (next + core.ring - 1) % core.ring;
+        let station = wrapped(next + core.ring - 1, core.ring);
         let found = self.look(Place::Station(station));
         let tag = tag_in(found);
         let free = left_word(tag, 0);

@@ -12,6 +12,7 @@ use crate::seat::{BackPart, BackSeat};
 use crate::steps::{Access, Leaving};
 use crate::words::{has_value, left_word, stop_of, tag_in, value_in};
 use atomic_table::Seat;
+use inorder::wrapped;
 use instructions::Kind;
 use ruu_words::rule::View;
 use ruu_words::{InfoWord, StationState, StationWord};
@@ -152,7 +153,7 @@ impl<'a> Call<'a, BackPart> {
         }
     }
 
-    // The same, or a stop has retired.
+    // Retires the tenant at this station, if it can and no stop has retired.
     fn retire_from(&mut self, station: usize, over: bool) -> Retire
         requires place { station < self.old.core.sizes.ring }
         requires head { IsAtHead self.old.core.sizes (seen_unit self.old) station over }
@@ -167,7 +168,7 @@ impl<'a> Call<'a, BackPart> {
 }
 
 impl Core {
-    /// RetiresFrom the oldest live tenant, if it is done, a store with its address and data, or a stop.
+    /// Retires the oldest live tenant, if it is done, a store with its address and data, or a stop.
     /// This is commit, the in-order release from the head of Sohi's register update unit, or of the
     /// reorder buffer of Smith and Pleszkun.
     pub fn retire(&self, seat: &mut BackSeat) -> Retire
@@ -184,7 +185,7 @@ impl Core {
         let Call { seat: left, .. } = call;
         let _left: &Seat<u8, View> = left;
         if let Retire::Retired { last, .. } = answer {
-            seat.station = (station + 1) % self.ring;
+            seat.station = wrapped(station + 1, self.ring);
             seat.over = ends(last);
         }
         answer

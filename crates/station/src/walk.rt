@@ -63,7 +63,7 @@ impl<'a, P: Part> Call<'a, P> {
         woken
     }
 
-    /// The same where the outcome is a value; no other is carried.
+    /// Takes the outcome of a station's tenant to all who asked for it in time, if that is a value.
     pub(crate) fn carry(&mut self, from: (usize, u32), outcome: Outcome) -> u32
         requires writer { IsWriter P.role }
         requires legal { IsLegalCall self.old }

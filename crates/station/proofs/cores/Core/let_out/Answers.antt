@@ -8,7 +8,7 @@ use Rattle.station.specs.Answers.{MayLetNow}
 use Rattle.station.specs.Calls.{TheCall, let_place, caller}
 use Rattle.station.specs.Seats.{Caller, TheCore}
 use Rattle.station.proofs.Calls.{front_back, seated_in}
-use Rattle.station.proofs.LettingOut.{next_inside, next_out}
+use Rattle.station.proofs.LettingOut.{next_out}
 use Rattle.station.proofs.cores.Core.let_out.Goals as goal
 
 pub invariant_of-seat : goal.invariant_of-seat
@@ -24,9 +24,9 @@ invariant_of-seat c =
     let inside : station < v.core.sizes.ring = subst (λ (k : TheCore). station < k.sizes.ring) (sym core_is) was.inside in
     let here : station ≡ let_place v = was.knows.2 ∙ sym (ap let_place c.of-call.ensures) in
     front_back _ value _ _ _ c.args.seat.now core c.seat.view_is c.requires.core c.of-call.ensures done.same c.call.invariant c.call.view_is (search rules)
-    ((station + 1) % c.self.inside.ring) c.seat.inside.over
-    (subst (λ r. (station + 1) % r < v.core.sizes.ring) (sym ring) (next_inside station v.core.sizes.ring inside)) done.draft
-    ((λ i. (here i + 1) % ring i) ∙ sym (next_out done.same done.out))
+    c.wrapped-seat-inside.result c.seat.inside.over
+    (subst (λ r. c.wrapped-seat-inside.result < r) ring c.wrapped-seat-inside.ensures.small) done.draft
+    (c.wrapped-seat-inside.ensures.value ∙ ((λ i. (here i + 1) % ring i) ∙ sym (next_out done.same done.out)))
 
 pub dispatch-tag-requires-clause-small : goal.dispatch-tag-requires-clause-small
 dispatch-tag-requires-clause-small c =

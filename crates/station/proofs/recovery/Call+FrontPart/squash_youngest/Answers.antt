@@ -1,4 +1,4 @@
-use Rattle.std.proofs.Common.{◌≡◌, ℕ, ◌+◌, ◌-◌, ◌%◌, sym, ◌∙◌}
+use Rattle.std.proofs.Common.{◌≡◌, ℕ, ◌<◌, sym, subst, arith, ◌∙◌}
 use Rattle.inorder.specs.History.{unit_of}
 use Rattle.inorder.specs.Unit.{next_station, recent}
 use Rattle.ruu_words.specs.declared.place.Place.TheVariants.{Station}
@@ -7,10 +7,16 @@ use Rattle.station.proofs.Calls.{after, caller_at, joined, legal_at, ring_at, ta
 use Rattle.station.proofs.Squashing.{squashed_next, squashed_out, youngest_read}
 use Rattle.station.proofs.recovery.Call+FrontPart.squash_youngest.Goals as goal
 
+pub wrapped-station-requires : goal.wrapped-station-requires
+wrapped-station-requires c =
+    let ring_is = ring_at c.core.inside.table.shared.key c.core.invariant.ring_is c.core.view_is c.self.view_is in
+    let small : c.args.next < c.core.inside.ring = subst (λ n. c.args.next < n) (sym ring_is) c.requires.place in
+    omega (arith, small)
+
 pub left_word-free-requires : goal.left_word-free-requires
 left_word-free-requires c =
     let ring_is = ring_at c.core.inside.table.shared.key c.core.invariant.ring_is c.core.view_is c.self.view_is in
-    (youngest_read (legal_at c.self.invariant c.self.view_is) (caller_at c.self.invariant c.self.view_is) ring_is c.requires.place c.requires.next c.requires.may c.look-found.ensures
+    (youngest_read c.wrapped-station.ensures.value (legal_at c.self.invariant c.self.view_is) (caller_at c.self.invariant c.self.view_is) ring_is c.requires.place c.requires.next c.requires.may c.look-found.ensures
     c.tag_in-tag.result c.tag_in-tag.ensures.value).0
 
 pub squash_tenant-requires-clause-draft : goal.squash_tenant-requires-clause-draft
@@ -20,7 +26,7 @@ squash_tenant-requires-clause-draft c =
 pub squash_tenant-requires-clause-youngest : goal.squash_tenant-requires-clause-youngest
 squash_tenant-requires-clause-youngest c =
     let ring_is = ring_at c.core.inside.table.shared.key c.core.invariant.ring_is c.core.view_is c.self.view_is in
-    (youngest_read (legal_at c.self.invariant c.self.view_is) (caller_at c.self.invariant c.self.view_is) ring_is c.requires.place c.requires.next c.requires.may c.look-found.ensures
+    (youngest_read c.wrapped-station.ensures.value (legal_at c.self.invariant c.self.view_is) (caller_at c.self.invariant c.self.view_is) ring_is c.requires.place c.requires.next c.requires.may c.look-found.ensures
     c.tag_in-tag.result c.tag_in-tag.ensures.value).1
 
 pub returns-clause-squashed : goal.returns-clause-squashed
@@ -33,7 +39,7 @@ returns-clause-squashed c =
     let w = c.squash_tenant.new.self.view in
     let g1 = c.look-found.ensures.grows in
     let g2 = taken c.look-found.ensures.same c.squash_tenant.ensures in
-    let station : ℕ = (c.args.next + c.core.inside.ring - 1) % c.core.inside.ring in
+    let station : ℕ = c.wrapped-station.result in
     let kind = Sees P C v.view.by v.view (Station station) c.look-found.result in
     let on2 = joined c.look-found.ensures.same c.squash_tenant.ensures.same in
     record {
