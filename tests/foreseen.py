@@ -63,7 +63,7 @@ def told_in(world, names, is_kept):
     """What is told of the time in all, each with the time at which it is told; and the time in all."""
     prove.time, prove.Proof = world, Proof
     prove.processors, prove.free_memory = lambda: LANES, lambda: 22_000_000_000
-    prove.others, prove.has_kept = lambda: world.load, lambda _: False
+    prove.crowding, prove.has_kept = lambda lanes: (lanes + world.load) / LANES, lambda _: False
     uses, wanted, told = prove.crates_of(prove.ROOT), [], []
     for name in names or uses:
         wanted += [it for it in [*prove.below(uses, name), name] if it not in wanted]
