@@ -41,7 +41,7 @@ class Proof:
 
     def __init__(self, _uses, name, jobs, world, is_kept):
         by_chance = random.Random(name).uniform(1 / world.spread, world.spread)
-        cost = prove.whole(name, is_kept) * world.slow * by_chance
+        cost = prove.whole(name, prove.is_program(name), is_kept, False) * world.slow * by_chance
         alone = min(cost, world.beginning * world.slow)
         self.world, self.rest = world, alone + (cost - alone) * (1 + world.further * (jobs - 1)) / jobs
         self.use = 1 + (jobs - 1) * (1 - alone / self.rest)

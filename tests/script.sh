@@ -28,7 +28,7 @@ echo 'the texts of docs/help are those of the programs'
 fresh=$work/fresh bare=$work/bare
 mkdir -p "$fresh/benchmarks" "$fresh/docs" "$bare"
 cp -r ruu prove crates.txt HANDLES "$fresh"
-cp benchmarks/gate.txt "$fresh/benchmarks"
+cp benchmarks/gate.txt benchmarks/plan.py "$fresh/benchmarks"
 cp -r docs/help "$fresh/docs"
 for crate in crates/*; do
   mkdir -p "$fresh/$crate"
