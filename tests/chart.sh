@@ -1,14 +1,37 @@
 #!/usr/bin/env bash
-# Runs of the one-thread unit whose turns are told, by `--chart` and `--trace`, which the program viewer makes: of each
-# example the report is that of `--alone`, and the chart behind it is drawn anew from the log, which says of each turn who
-# was let, went on and left. Then what goes wrong: devices that fail, files that do not open, a log over the listing, want
-# of memory. And a run of 100,000 instructions is told in the memory of one of 100.
+# Runs of the one-thread unit whose turns are told, by `--chart` and `--trace`, which the program viewer makes: of some
+# listings chart and log stand beside them, counted by hand; of each example the report is that of `--alone`, and the chart
+# behind it is drawn anew from the log, which says of each turn who was let, went on and left. Then what goes wrong:
+# devices that fail, files that do not open, a log over the listing, want of memory. And a run of 100,000 instructions is
+# told in the memory of one of 100.
 . "$(dirname "$0")/common.bash"
 build_refuse
 build run ruu
 build run viewer
 ruu=crates/ruu/out/ruu
 viewer=crates/viewer/out/viewer
+
+# The options that the first line of a listing names.
+options_of() { # listing
+  local first
+  read -r first < "$1"
+  options=()
+  [[ $first != '# ruu run FILE '* ]] || read -r -a options <<< "${first#'# ruu run FILE '}"
+}
+
+count=0
+for chart in examples/*.chart examples/rows/*.chart; do
+  of=${chart%.chart}
+  options_of "$of.s"
+  "$viewer" run "$of.s" --alone --chart --trace "$work/log" "${options[@]}" > "$work/out" 2> "$work/err"
+  [ $? -eq "$(status_of "$of.report")" ] && [ ! -s "$work/err" ] || fail "$of.s: another status, or a line"
+  cat "$of.report" "$chart" > "$work/told"
+  cmp -s "$work/told" "$work/out" || { diff "$work/told" "$work/out"; fail "$chart is drawn otherwise"; }
+  [ ! -e "$of.kanata" ] || cmp -s "$of.kanata" "$work/log" || { diff "$of.kanata" "$work/log"; fail "$of.kanata is told otherwise"; }
+  count=$((count + 1))
+done
+[ $count -ge 7 ] || fail "only $count charts"
+echo "$count charts, and the logs beside them, are as they were counted by hand"
 
 # Draws each tenant of a log, and compares the lines with those of the chart. The log and its pictures are described in
 # crates/charts/specs.

@@ -1,11 +1,12 @@
 #!/usr/bin/env bash
 # Reads the listings of tests/listings/check with `ruu check`, which is the program viewer, from the file and from standard
-# input: what is written is what stands beside each, with status 0 or 2. Then files that do not open, a writer that takes
-# nothing, and want of memory.
+# input: what is written is what stands beside each, with status 0 or 2. Of a fault each run writes the first line of that
+# and nothing else. Then files that do not open, a writer that takes nothing, and want of memory.
 . "$(dirname "$0")/common.bash"
 build_refuse
 build run ruu
 build run viewer
+build run alone
 ruu=crates/ruu/out/ruu
 viewer=crates/viewer/out/viewer
 
@@ -13,6 +14,21 @@ is_told() { # name, what is told, status, standard error
   [ "$status" -eq "$3" ] || fail "$1: status $status, and not $3"
   cmp -s "$work/out" "$2" || { diff "$2" "$work/out"; fail "$1 is told otherwise"; }
   [ "$(cat "$work/err")" = "$4" ] || fail "$1: another line on standard error"
+}
+
+# Each run of a listing with a fault writes its line alone: on threads, on one, before any limit, and by `alone`.
+names() { # listing, line
+  local options
+  printf '%s\n' "$2" > "$work/line"
+  for options in '' '--units 1' '--units 4' --alone '--alone --units 4' '--limit 0'; do
+    # shellcheck disable=SC2086
+    "$ruu" run "$1" $options > "$work/out" 2> "$work/err"
+    status=$?
+    is_told "a run of $1 $options" "$work/line" 2 ''
+  done
+  crates/alone/out/alone < "$1" > "$work/out" 2> "$work/err"
+  status=$?
+  is_told "$1 by alone" "$work/line" 2 ''
 }
 
 count=0
@@ -26,11 +42,7 @@ for listing in tests/listings/check/*.s; do
   "$viewer" check - < "$listing" > "$work/out" 2> "$work/err"
   status=$?
   is_told "$listing as standard input" "$told" $wanted ''
-  # the line of the fault is that of a run
-  if [ $wanted -eq 2 ]; then
-    "$ruu" run "$listing" > "$work/out" 2> "$work/err"
-    [ $? -eq 2 ] && [ "$(cat "$work/out")" = "$(head -n 1 "$told")" ] || fail "$listing: a run names another fault"
-  fi
+  [ $wanted -ne 2 ] || names "$listing" "$(head -n 1 "$told")"
   count=$((count + 1))
 done
 [ $count -gt 10 ] || fail "only $count listings"

@@ -1,80 +1,82 @@
-//! Runs each listing of the examples, and tells where it does not go as the report beside it says.
+//! Runs each listing of the examples and of the worked rows in each form, and tells where one does not go as the report
+//! beside it says.
 #![tactic(auto)]
 
-use command::{asked, go};
-use devices::Counted;
+mod example;
+mod forms;
+mod slow;
+
+use example::Example;
+use forms::{FORMS, HELD, from_bytes_to_bytes, in_order, is_named_twice, run};
 use pool::Open;
-use std::alloc::Global;
-use std::fs;
-use std::io::{self, ErrorKind};
+use slow::Slow;
+use std::io;
 use std::sync::Wait;
 use std::thread::Threads;
 
-/// Options that change no report.
-const OPTIONS: [&[&str]; 8] = [
-    &["--alone"],
-    &["--units", "1"],
-    &["--units", "4", "--turns", "4294967295"],
-    &["--bpred", "nottaken", "--alone"],
-    &["--bpred", "taken", "--units", "1"],
-    &["--ruu-size", "2"],
-    &["--ruu-size", "32", "--lsq-size", "32", "--units", "64"],
-    &["--ruu-size", "8", "--lsq-size", "2", "--alone"],
-];
+/// The folders of listings, and how the names of their listings begin.
+const FOLDERS: [(&str, &str); 2] = [(".", ""), ("rows", "rows/")];
 
 fn main(rt: HostRuntime) -> io::Result<()> {
-    let mut names = names(&rt)?;
-    names.sort()?;
-    for name in &names {
-        let listing = read(&rt, name.as_str(), "s")?;
-        let report = read(&rt, name.as_str(), "report")?;
-        let (status, text) = run(&rt, rt.alloc(), &[], listing.as_slice())?;
-        println!(rt; "{name}: status {status}")?;
-        if text != report {
-            println!(rt; "{name}: another report")?;
-        }
-        for options in OPTIONS {
-            let (other, text) = run(&rt, rt.alloc(), options, listing.as_slice())?;
-            if other != status || text != report {
-                println!(rt; "{name}: another report with {options:?}")?;
-            }
+    for (folder, begin) in FOLDERS {
+        let mut names = example::names(&rt, folder, begin)?;
+        names.sort()?;
+        for name in &names {
+            let example = Example::read(&rt, name.as_str())?;
+            let options = example.options(rt.alloc())?;
+            tell(&rt, &rt, &example, options.as_slice())?;
         }
     }
     Ok(())
 }
 
-// The names of the listings, without what stands behind the dot.
-fn names(rt: &HostRuntime) -> io::Result<Vec<String>> {
-    let mut names = Vec::new(rt.alloc());
-    for entry in fs::read_dir(rt, ".")? {
-        let entry = entry?;
-        if let Some(name) = entry.file_name().strip_suffix(".s") {
-            names.push(name.to_string(rt.alloc())?)?;
+// Tells the status of a listing under the options that it names, and where its report is another one.
+fn tell<T: Threads + Wait + Sync>(
+    rt: &HostRuntime,
+    wait: &T,
+    example: &Example,
+    options: &[&str],
+) -> io::Result<()> {
+    let name = example.name.as_str();
+    let listing = example.listing.as_slice();
+    let plain = run(wait, rt.alloc(), options, &[], listing, &Open)?;
+    let status = plain.status;
+    println!(rt; "{name}: status {status}")?;
+    if !plain.is(status, example) {
+        println!(rt; "{name}: another report")?;
+    }
+    if !from_bytes_to_bytes(rt.alloc(), options, listing)?.is(status, example) {
+        println!(rt; "{name}: another report from bytes to bytes")?;
+    }
+    if in_order(rt.alloc(), options, listing)? != example.report {
+        println!(rt; "{name}: another report in order")?;
+    }
+    tell_forms(rt, wait, example, options, status)
+}
+
+// Tells in which of the further forms a listing has another status or report.
+fn tell_forms<T: Threads + Wait + Sync>(
+    rt: &HostRuntime,
+    wait: &T,
+    example: &Example,
+    options: &[&str],
+    status: u8,
+) -> io::Result<()> {
+    let name = example.name.as_str();
+    let listing = example.listing.as_slice();
+    for form in FORMS {
+        if !is_named_twice(options, form)
+            && !run(wait, rt.alloc(), options, form, listing, &Open)?.is(status, example)
+        {
+            println!(rt; "{name}: another report with {form:?}")?;
         }
     }
-    Ok(names)
-}
-
-fn read(rt: &HostRuntime, name: &str, kind: &str) -> io::Result<Vec<u8>> {
-    let path = format!(in rt.alloc(); "{name}.{kind}")?;
-    fs::read(rt, path.as_str())
-}
-
-// The exit status of a listing's run with these options, and what is written.
-fn run<T: Threads + Wait + Sync>(
-    wait: &T,
-    alloc: Global,
-    options: &[&str],
-    listing: &[u8],
-) -> io::Result<(u8, Vec<u8>)> {
-    let mut words = Vec::new(alloc);
-    words.extend_from_slice(&["ruu", "run", "listing"])?;
-    words.extend_from_slice(options)?;
-    let Ok(asked) = asked(alloc, words.as_slice()) else {
-        return Err(io::Error::from(ErrorKind::InvalidInput));
-    };
-    let mut text = Counted::new(Vec::new(alloc));
-    let reader = Counted::new(listing);
-    let went = go(wait, alloc, &asked, Some(reader), &mut text, &Open);
-    Ok((went.status, text.into_inner()))
+    for form in HELD {
+        if !is_named_twice(options, form)
+            && !run(wait, rt.alloc(), options, form, listing, &Slow::new())?.is(status, example)
+        {
+            println!(rt; "{name}: another report with {form:?}, of units that are held")?;
+        }
+    }
+    Ok(())
 }

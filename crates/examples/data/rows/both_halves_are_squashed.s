@@ -1,0 +1,4 @@
+# ruu run FILE --bpred nottaken --ruu-size 4
+beq $0,$0,E
+mult $0,$0
+E: break

@@ -1,0 +1,3 @@
+jal F
+break
+F: jr $ra

@@ -1,0 +1,3 @@
+addiu $1,$0,9
+divu $1,$0
+break

@@ -1,0 +1,3 @@
+# ruu run FILE --limit 3
+A: B:
+j A

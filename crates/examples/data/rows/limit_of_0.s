@@ -1,0 +1,2 @@
+# ruu run FILE --limit 0
+break

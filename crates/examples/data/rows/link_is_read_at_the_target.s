@@ -1,0 +1,3 @@
+jal F
+F: nor $1,$31,$0
+break

@@ -1,0 +1,2 @@
+LW $t0 , ( $sp )
+break

@@ -1,0 +1,4 @@
+addiu $1,$0,3
+L: addiu $1,$1,-1
+bne $1,$0,L
+break

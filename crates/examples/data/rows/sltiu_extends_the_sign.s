@@ -1,0 +1,2 @@
+sltiu $1,$0,-1
+break

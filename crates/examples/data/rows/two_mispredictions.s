@@ -1,0 +1,5 @@
+# ruu run FILE --bpred nottaken --ruu-size 2
+addiu $1,$0,3
+L: addiu $1,$1,-1
+bne $1,$0,L
+break
