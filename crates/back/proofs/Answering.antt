@@ -1,14 +1,13 @@
 -- The answer to a load, at the end of the search.
-use Rattle.std.proofs.Common.{◌≡◌, ◌⊎◌, ℕ, ◌<◌, true, List, [], ◌∷◌, length, Option, Some, None, refl, sym, ap, ◌∙◌, subst, inl, inr, ⊎_elim, arith}
+use Rattle.std.proofs.Common.{◌≡◌, ◌⊎◌, ℕ, ◌<◌, List, [], length, Option, Some, None, refl, sym, ap, ◌∙◌, subst, inl, inr, ⊎_elim, arith}
 use Rattle.std.specs.Prelude.{slice_index}
 use Rattle.instructions.specs.Instruction.{width}
 use Rattle.instructions.specs.Operations.{loaded}
 use Rattle.instructions.specs.Programs.{Program}
 use Rattle.lsq.specs.Bytes.{little_endian}
-use Rattle.lsq.specs.declared.answer.Answer.TheVariants.{Forward}
 use Rattle.lsq.specs.declared.entry.Entry.{Entry as QueueEntry}
 use Rattle.lsq.specs.Entries.{bytes}
-use Rattle.lsq.specs.LoadRule.{answer, forwarded, overlaps, taken_from}
+use Rattle.lsq.specs.LoadRule.{taken_from}
 use Rattle.inorder.specs.declared.history.Entry.{Entry}
 use Rattle.inorder.specs.declared.history.Source.TheVariants.{Second}
 use Rattle.inorder.specs.Callers.{CanLoad, head_station}
@@ -16,7 +15,7 @@ use Rattle.inorder.specs.Committed.{committed}
 use Rattle.inorder.specs.History.{back, unit_of, renewals}
 use Rattle.inorder.specs.OneHistory.{Adds}
 use Rattle.inorder.specs.Replies.{Has, IsStale}
-use Rattle.inorder.specs.Tenants.{Live, Tenant, instr, operand}
+use Rattle.inorder.specs.Tenants.{Live, Tenant, operand}
 use Rattle.inorder.specs.Unit.{Sizes, UpdateUnit, at}
 use Rattle.inorder.proofs.Commits.{by_others}
 use Rattle.inorder.proofs.Heads.{head_stays}
@@ -27,13 +26,13 @@ use Rattle.ruu_words.specs.Content.{value_field}
 use Rattle.ruu_words.proofs.Stays.{back_stays}
 use Rattle.station.specs.Looking.{ShowsOperand, source_state}
 use Rattle.station.specs.declared.answers.SourceState.{SourceState}
-use Rattle.back.specs.Port.{AtStation, HasFound, HasMet, HasUnknown, IsAskedInOrder, IsBlockedAt, IsLoadOf, station_behind, content_in, load_entry}
+use Rattle.back.specs.Port.{AtStation, HasFound, HasMet, HasUnknown, IsAskedInOrder, IsBlockedAt, IsLoadOf, station_behind, content_in}
 use Rattle.back.specs.declared.port.Load.{Load}
 use Rattle.back.proofs.OwnEntries.{added_legal, added_own}
-use Rattle.back.proofs.PortRule.{by_none, by_store, by_unknown, by_waiting, met, x}
+use Rattle.back.proofs.PortRule.{by_none, by_store, by_unknown, by_waiting, x}
 use Rattle.back.proofs.PortStays.{asked_stays, length_grows}
 use Rattle.back.proofs.UnitKept.{no_retire, not_retire}
-use Rattle.back.proofs.Searching.{found_stays, met_says}
+use Rattle.back.proofs.Searching.{found_stays}
 use Rattle.back.proofs.Ranks.{InRing, in_ring}
 
 -- What an operand shows
@@ -46,14 +45,6 @@ pub shows_content : (U : UpdateUnit) (station tag : ℕ) (state : SourceState) (
     → ((q : ℕ) (t : Tenant) → at U.tenants q ≡ Some t → t.station ≡ station → t.standing ≡ Live → ShowsOperand (Some (record { tag = t.tag; value = (operand Second t).value })) tag state value)
     → (n : ℕ) → AtStation U n station (λ u. u.second.value ≡ content_in state value)
 shows_content U station tag state value its n q u l is live st = let s = its q u is st live in sym (content_shown u.second.value state value s.1 s.2)
-
-forwards : (o : Option ℕ) (raw : ℕ) → forwarded 0 o ≡ Forward raw → o ≡ Some raw
-forwards None raw e = absurd (cc e)
-forwards (Some y) raw e = ap Some (cc e)
-
-forwards_not : (o : Option ℕ) → ((raw : ℕ) → forwarded 0 o ≡ Forward raw → ⊥) → o ≡ None
-forwards_not None h = refl
-forwards_not (Some y) h = absurd (h y refl)
 
 module _ (P : Program) (C : Sizes) (old new : List Entry) (a : Adds P C back old new []) where
   -- the head and what was committed stay
@@ -109,36 +100,26 @@ module _ (P : Program) (C : Sizes) (old new : List Entry) (a : Adds P C back old
     module _ (s : ℕ) (e : QueueEntry) (h : HasMet P U n head C.ring 0 place l.address (width l.op) s e) (content : Option ℕ)
         (shows : AtStation U n (station_behind head C.ring s) (λ u. u.second.value ≡ content)) where
       module _ (it : Has U p (IsLoadOf P (station_behind head C.ring place) l)) where
-        -- what the store gives, by its data
-        taken_is : answer (record e { content = content } ∷ load_entry l ∷ []) 1 ≡ forwarded 0 (taken_from e.address (bytes e.width) content l.address (width l.op))
-        taken_is =
-            let m = met P C U ok ring n head place head_now inside small p below l it s e h in
-            met_says e l content (ap (λ (y : QueueEntry). y.store) m.entry) m.base (ap (λ (y : QueueEntry). y.address) m.entry) (subst_width m.meets)
-          where
-            subst_width : overlaps l.address (width (instr P it.tenant).op) e ≡ true → overlaps l.address (width l.op) e ≡ true
-            subst_width = subst (λ o. overlaps l.address (width o) e ≡ true) it.fact.op_is
-
         small_q : (q : ℕ) → q < p → q < n
         small_q q lt = let b = below in omega (arith, lt, b)
 
-        pub forwards_it : (raw : ℕ) → answer (record e { content = content } ∷ load_entry l ∷ []) 1 ≡ Forward raw → CanLoad P U p l.address (loaded l.op raw)
+        pub forwards_it : (raw : ℕ) → taken_from e.address (bytes e.width) content l.address (width l.op) ≡ Some raw → CanLoad P U p l.address (loaded l.op raw)
         forwards_it raw ans =
             let o = x P C U ok ring n head place head_now inside small p below l it s e h in
             by_store P C U ok ring n head place head_now inside small p below l it s e h raw
-            (λ u is live st. ap (λ d. taken_from e.address (bytes e.width) d l.address (width l.op)) (shows o.q u (small_q o.q o.before_it) is live st) ∙ forwards _ raw (sym taken_is ∙ ans))
+            (λ u is live st. ap (λ d. taken_from e.address (bytes e.width) d l.address (width l.op)) (shows o.q u (small_q o.q o.before_it) is live st) ∙ ans)
 
-        pub waits_for_it : ((raw : ℕ) → answer (record e { content = content } ∷ load_entry l ∷ []) 1 ≡ Forward raw → ⊥) → IsBlockedAt P U p (station_behind head C.ring s)
-        waits_for_it never =
+        pub waits_for_it : taken_from e.address (bytes e.width) content l.address (width l.op) ≡ None → IsBlockedAt P U p (station_behind head C.ring s)
+        waits_for_it none =
             let o = x P C U ok ring n head place head_now inside small p below l it s e h in
             by_waiting P C U ok ring n head place head_now inside small p below l it s e h
-            (λ u is live st. ap (λ d. taken_from e.address (bytes e.width) d l.address (width l.op)) (shows o.q u (small_q o.q o.before_it) is live st) ∙
-            forwards_not _ (λ raw f. never raw (taken_is ∙ f)))
+            (λ u is live st. ap (λ d. taken_from e.address (bytes e.width) d l.address (width l.op)) (shows o.q u (small_q o.q o.before_it) is live st) ∙ none)
 
-      pub forward_answers : (raw : ℕ) → answer (record e { content = content } ∷ load_entry l ∷ []) 1 ≡ Forward raw → CanLoad P U p l.address (loaded l.op raw) ⊎ IsStale U p
+      pub forward_answers : (raw : ℕ) → taken_from e.address (bytes e.width) content l.address (width l.op) ≡ Some raw → CanLoad P U p l.address (loaded l.op raw) ⊎ IsStale U p
       forward_answers raw ans = ⊎_elim (λ it. inl (forwards_it it raw ans)) (λ g. inr g) now
 
-      pub waiting_answers : ((raw : ℕ) → answer (record e { content = content } ∷ load_entry l ∷ []) 1 ≡ Forward raw → ⊥) → IsBlockedAt P U p (station_behind head C.ring s) ⊎ IsStale U p
-      waiting_answers never = ⊎_elim (λ it. inl (waits_for_it it never)) (λ g. inr g) now
+      pub waiting_answers : taken_from e.address (bytes e.width) content l.address (width l.op) ≡ None → IsBlockedAt P U p (station_behind head C.ring s) ⊎ IsStale U p
+      waiting_answers none = ⊎_elim (λ it. inl (waits_for_it it none)) (λ g. inr g) now
 
 -- what was found stays so, while the data is looked at
 pub found_later : (P : Program) (C : Sizes) (old mid new : List Entry) → Adds P C back old mid [] → Adds P C back mid new [] → (head ring k place a w : ℕ) (f : ℕ × QueueEntry)

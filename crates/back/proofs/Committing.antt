@@ -56,9 +56,6 @@ module _ (P : Program) (t : Tenant) (n : ℕ) (s : State) (pc : t.pc ≡ s.pc) (
       → state_at (write s.registers (destination_of P t) v) m x (suc s.count) ≡ state_at (write s.registers (destination_of P t) w) m' y (suc s.count)
   built v w m m' x y ev em ex = λ i. state_at (ev i) (em i) (ex i) (suc s.count)
 
-  abbrev Done_as : ℕ → Type 0
-  Done_as v = with_tenant P gone s ≡ with_done (instr P t) t.half v s
-
   same_write : (v w : ℕ) → v ≡ w → write s.registers (destination_of P t) v ≡ write s.registers (destination_of P t) w
   same_write v w e = ap (write s.registers (destination_of P t)) e
 

@@ -4,7 +4,6 @@ use Rattle.std.specs.Prelude.{slice_get}
 use Rattle.instructions.specs.Instruction.{width}
 use Rattle.instructions.specs.Programs.{Program}
 use Rattle.instructions.specs.declared.op.Kind.TheVariants.{Loads}
-use Rattle.lsq.specs.declared.answer.Answer.{Answer}
 use Rattle.lsq.specs.declared.answer.Answer.TheVariants.{Blocked, Forward, Memory}
 use Rattle.lsq.specs.declared.entry.Entry.{Entry}
 use Rattle.lsq.specs.Entries.{bytes}
@@ -106,9 +105,6 @@ module _ (P : Program) (us : List Tenant) (p : ℕ) (t : Tenant) (a : ℕ) (ok :
 
   abbrev w : ℕ
   w = width (instr P t).op
-
-  abbrev Answer_is : Answer → Type 0
-  Answer_is x = answer (queue_of P us) (place_of P us p) ≡ x
 
   over_is : answer (queue_of P us) (place_of P us p) ≡ answer_over (queue_of P before) a w
   over_is = answers P us p t a ok is live ek ef

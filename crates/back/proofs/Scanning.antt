@@ -9,12 +9,12 @@ use Rattle.instructions.specs.Instruction.{kind}
 use Rattle.instructions.specs.Programs.{Program, instr_of}
 use Rattle.inorder.specs.declared.history.Entry.{Entry}
 use Rattle.inorder.specs.declared.history.Event.{Event}
-use Rattle.inorder.specs.History.{IsLegal, StartsWith, back, unit_of}
+use Rattle.inorder.specs.History.{StartsWith, back, unit_of}
 use Rattle.inorder.specs.OneHistory.{Adds}
 use Rattle.inorder.specs.Replies.{Has}
 use Rattle.inorder.specs.Tenants.{Live, Retired, Squashed, Standing, Tenant}
 use Rattle.inorder.specs.Unit.{Sizes}
-use Rattle.inorder.proofs.Histories.{adds_on, starts_same}
+use Rattle.inorder.proofs.Histories.{adds_on}
 use Rattle.station.specs.Moments.{WasOnce}
 use Rattle.back.specs.Loads.{Blocks, IsWaitingLoad, WasBlocked, WasNotWaiting}
 use Rattle.back.specs.Port.{station_behind}
@@ -154,13 +154,3 @@ module _ (P : Program) (C : Sizes) (old cur new : List Entry) (head ring k k' : 
       where
         keep : IsFirstBlocked P C old new head ring k b.0 b.1 → IsFirstBlocked P C old new head ring k' b.0 b.1
         keep f = record { place = f.place; bound = let l = f.bound in omega (arith, l, next); load_is = f.load_is; p = f.p; when = f.when; before = f.before }
-
--- nothing was looked at yet
-pub nothing_yet : (P : Program) (C : Sizes) (old : List Entry) → IsLegal P C old → (head ring k : ℕ) → k ≡ 0 → Scanned P C back old old head ring k None
-nothing_yet P C old legal head ring k zero = record {
-  late = [];
-  are_late = tt;
-  adds = record { begins = starts_same old; legal = legal; one_table = refl; mine = refl };
-  each = λ j lt q h. absurd (omega (arith, lt, zero));
-  first = λ j lt q h. absurd (omega (arith, lt, zero));
-}

@@ -1,76 +1,28 @@
--- What the rule says of one store and a load, and the search among the older stores.
-use Rattle.std.proofs.Common.{◌≡◌, ◌⊎◌, ℕ, ◌+◌, ◌<◌, ◌≤◌, Bool, true, false, cond, ◌&&◌, List, [], ◌∷◌, length, Option, Some, None, refl, sym, ap, ◌∙◌, subst, inl, inr, ⊎_elim, arith, true≢false}
+-- What a load waits for, store by store, and the search among the older stores.
+use Rattle.std.proofs.Common.{◌≡◌, ◌⊎◌, ℕ, ◌+◌, ◌<◌, ◌≤◌, Bool, true, false, ◌&&◌, List, [], length, Option, Some, None, refl, sym, ap, ◌∙◌, subst, inl, inr, ⊎_elim, arith, true≢false}
 use Rattle.std.proofs.lemmas.Bool.{cases_lt}
 use Rattle.std.specs.Prelude.{IfNone, IfSome, is_none, is_some, not}
+use Rattle.std.specs.Option.{option_or}
 use Rattle.instructions.specs.Instruction.{width}
 use Rattle.instructions.specs.Programs.{Program}
 use Rattle.instructions.specs.declared.op.Kind.TheVariants.{Stores}
 use Rattle.instructions.specs.declared.stop.Outcome.{Outcome}
-use Rattle.lsq.specs.declared.answer.Answer.{Answer}
-use Rattle.lsq.specs.declared.answer.Answer.TheVariants.{Blocked, Forward, Memory}
 use Rattle.lsq.specs.declared.entry.Entry.{Entry as QueueEntry}
 use Rattle.lsq.specs.Entries.{bytes}
-use Rattle.lsq.specs.LoadRule.{answer, answer_over, by_lacking, by_overlap, forwarded, lacks_address, meets, overlaps, taken_from}
+use Rattle.lsq.specs.LoadRule.{lacks_address, meets, overlaps}
 use Rattle.inorder.specs.declared.history.Entry.{Entry}
 use Rattle.inorder.specs.History.{back, unit_of}
 use Rattle.inorder.specs.OneHistory.{Adds}
 use Rattle.inorder.specs.Loads.{address_by, entry_of, is_store}
 use Rattle.inorder.specs.Tenants.{Addr, Busy, Done, Fate, Miss, Open, Stopped, Tenant, computed, kind_of}
 use Rattle.inorder.specs.Unit.{Sizes, UpdateUnit}
-use Rattle.inorder.proofs.QueueBytes.{same_width, store_is}
+use Rattle.inorder.proofs.QueueBytes.{store_is}
 use Rattle.inorder.proofs.Pairs.{and_left}
-use Rattle.back.specs.Port.{AtStation, HasFound, HasMet, HasUnknown, IsEntryOf, IsKnown, IsMet, DoesNotWaitFor, Lacks, shown_address, station_behind, load_entry}
+use Rattle.back.specs.Port.{AtStation, HasFound, HasMet, HasUnknown, IsEntryOf, IsKnown, IsMet, DoesNotWaitFor, Lacks, shown_address, station_behind}
 use Rattle.back.specs.declared.port.Load.{Load}
 use Rattle.back.proofs.PortStays.{known_lasts, length_grows, met_lasts, passed_lasts, station_stays}
 
 -- One store
-
-abbrev pub answer_of : Bool → Bool → Option ℕ → Answer
-answer_of true meets raw = Blocked 0
-answer_of false true raw = forwarded 0 raw
-answer_of false false raw = Memory
-
-over_one : (e : QueueEntry) (a w : ℕ) → answer_over (e ∷ []) a w ≡ answer_of (lacks_address e) (overlaps a w e) (taken_from e.address (bytes e.width) e.content a w)
-over_one e a w = go (lacks_address e) (overlaps a w e) refl
-  where
-    overlapping : (c : Bool) → by_overlap (cond c (Some (0, e)) None) a w ≡ answer_of false c (taken_from e.address (bytes e.width) e.content a w)
-    overlapping true = refl
-    overlapping false = refl
-
-    go : (b c : Bool) → overlaps a w e ≡ c → by_lacking (cond b (Some (0, e)) None) (e ∷ []) a w ≡ answer_of b c (taken_from e.address (bytes e.width) e.content a w)
-    go true c h = refl
-    go false c h = ap (λ x. by_overlap (cond x (Some (0, e)) None) a w) h ∙ overlapping c
-
-says_memory : (b c : Bool) (raw : Option ℕ) → answer_of b c raw ≡ Memory → (b ≡ false) × (c ≡ false)
-says_memory true c raw e = absurd (cc e)
-says_memory false true None e = absurd (cc e)
-says_memory false true (Some x) e = absurd (cc e)
-says_memory false false raw e = (refl, refl)
-
--- it lacks its address, or overlaps and has not all the bytes
-pub data Blocks (b c : Bool) (raw : Option ℕ) : Type 0 where
-  Lacking : b ≡ true → Blocks b c raw
-  Overlapping : b ≡ false → c ≡ true → raw ≡ None → Blocks b c raw
-
-says_blocked : (b c : Bool) (raw : Option ℕ) (i : ℕ) → answer_of b c raw ≡ Blocked i → Blocks b c raw
-says_blocked true c raw i e = Lacking refl
-says_blocked false true None i e = Overlapping refl refl refl
-says_blocked false true (Some x) i e = absurd (cc e)
-says_blocked false false raw i e = absurd (cc e)
-
-says_forward : (b c : Bool) (raw : Option ℕ) (r : ℕ) → answer_of b c raw ≡ Forward r → (b ≡ false) × (c ≡ true) × (raw ≡ Some r)
-says_forward true c raw r e = absurd (cc e)
-says_forward false true None r e = absurd (cc e)
-says_forward false true (Some x) r e = (refl, refl, ap Some (cc e))
-says_forward false false raw r e = absurd (cc e)
-
-none_taken : (o : Option ℕ) (stored a w : ℕ) → taken_from o stored None a w ≡ None
-none_taken None stored a w = refl
-none_taken (Some b) stored a w = refl
-
-and_false : (b : Bool) → (b && false) ≡ false
-and_false true = refl
-and_false false = refl
 
 by_stores : (f : Fate) (o : Outcome) → address_by Stores f o ≡ shown_address f
 by_stores Open o = refl
@@ -95,26 +47,6 @@ module _ (e : QueueEntry) (l : Load) where
   abbrev w : ℕ
   w = width l.op
 
-  abbrev raw_of : Option ℕ
-  raw_of = taken_from e.address (bytes e.width) e.content a w
-
-  pub one_is : answer (e ∷ load_entry l ∷ []) 1 ≡ answer_of (lacks_address e) (overlaps a w e) raw_of
-  one_is = ap (answer_over (e ∷ []) a) (same_width l.op) ∙ over_one e a w
-
-  pub no_forward : e.content ≡ None → (r : ℕ) → answer (e ∷ load_entry l ∷ []) 1 ≡ Forward r → ⊥
-  no_forward c r h =
-      let f = says_forward (lacks_address e) (overlaps a w e) raw_of r (sym one_is ∙ h) in
-      let none = sym f.2 ∙ (ap (λ d. taken_from e.address (bytes e.width) d a w) c ∙ none_taken e.address (bytes e.width) a w) in absurd (cc none)
-
-  -- what blocks is a store
-  blocks_store : Blocks (lacks_address e) (overlaps a w e) raw_of → e.store ≡ true
-  blocks_store (Lacking b) = and_left e.store (is_none e.address) b
-  blocks_store (Overlapping b c r) = and_left e.store (meets e.address (bytes e.width) a w) c
-
-  blocks_over : (b : ℕ) → e.address ≡ Some b → Blocks (lacks_address e) (overlaps a w e) raw_of → overlaps a w e ≡ true
-  blocks_over b ad (Lacking h) = let no = sym h ∙ (ap (λ o. e.store && is_none o) ad ∙ and_false e.store) in absurd (true≢false no)
-  blocks_over b ad (Overlapping h c r) = c
-
   -- Of the tenant that the entry is of
   module _ (P : Program) (u : Tenant) (i : IsEntryOf P e u) where
     address_same : e.store ≡ true → (entry_of P u).address ≡ e.address
@@ -128,59 +60,46 @@ module _ (e : QueueEntry) (l : Load) where
     known_by : (b : ℕ) → e.address ≡ Some b → IsKnown P u
     known_by b ad = inr (b, address_back u.fate b (sym i.address ∙ ad))
 
-    pub passed_of : answer (e ∷ load_entry l ∷ []) 1 ≡ Memory → DoesNotWaitFor P a w u
-    passed_of h =
-        let m = says_memory (lacks_address e) (overlaps a w e) raw_of (sym one_is ∙ h) in
-        go e.store refl e.address refl m.0 m.1
+    -- its address, if it does not lack one
+    has_address : e.store ≡ true → lacks_address e ≡ false → (b : ℕ) × (e.address ≡ Some b)
+    has_address st has = go e.address refl
       where
-        go : (b : Bool) → e.store ≡ b → (o : Option ℕ) → e.address ≡ o → lacks_address e ≡ false → overlaps a w e ≡ false → DoesNotWaitFor P a w u
-        go false st o ad lacks over =
-            let no : is_store (kind_of P u) ≡ false = sym i.store ∙ st in
-            record { known = inl no; apart = ap (λ z. z && meets (entry_of P u).address (bytes (entry_of P u).width) a w) no }
-        go true st None ad lacks over = let x : true ≡ false = sym (λ j. (st j) && is_none (ad j)) ∙ lacks in absurd (true≢false x)
-        go true st (Some b) ad lacks over = record { known = known_by b ad; apart = overlaps_same st ∙ over }
+        go : (o : Option ℕ) → e.address ≡ o → (b : ℕ) × (e.address ≡ Some b)
+        go None ad = let x : true ≡ false = sym (λ j. (st j) && is_none (ad j)) ∙ has in absurd (true≢false x)
+        go (Some b) ad = (b, ad)
 
-    pub lacks_of : (k : ℕ) → answer (e ∷ load_entry l ∷ []) 1 ≡ Blocked k → e.address ≡ None → Lacks P u
-    lacks_of k h ad =
-        let st = blocks_store (says_blocked (lacks_address e) (overlaps a w e) raw_of k (sym one_is ∙ h)) in
-        λ j. (sym i.store ∙ st) j && is_none ((address_same st ∙ ad) j)
+    pub known_of : lacks_address e ≡ false → IsKnown P u
+    known_of has = go e.store refl
+      where
+        go : (b : Bool) → e.store ≡ b → IsKnown P u
+        go false st = inl (sym i.store ∙ st)
+        go true st = let a = has_address st has in known_by a.0 a.1
 
-    pub met_of : (k b : ℕ) → answer (e ∷ load_entry l ∷ []) 1 ≡ Blocked k → e.address ≡ Some b → IsMet P a w e u
-    met_of k b h ad =
-        let blocks = says_blocked (lacks_address e) (overlaps a w e) raw_of k (sym one_is ∙ h) in
-        let st = blocks_store blocks in
+    pub passed_of : lacks_address e ≡ false → overlaps a w e ≡ false → DoesNotWaitFor P a w u
+    passed_of has over = go e.store refl
+      where
+        go : (b : Bool) → e.store ≡ b → DoesNotWaitFor P a w u
+        go false st =
+            let none : is_store (kind_of P u) ≡ false = sym i.store ∙ st in
+            record { known = inl none; apart = ap (λ z. z && meets (entry_of P u).address (bytes (entry_of P u).width) a w) none }
+        go true st = record { known = known_of has; apart = overlaps_same st ∙ over }
+
+    pub lacks_of : lacks_address e ≡ true → Lacks P u
+    lacks_of lacks =
+        let st = and_left e.store (is_none e.address) lacks in
+        (λ j. (sym i.store j) && is_none (address_same st j)) ∙ lacks
+
+    pub met_of : lacks_address e ≡ false → overlaps a w e ≡ true → IsMet P a w e u
+    met_of has over =
+        let st = and_left e.store (meets e.address (bytes e.width) a w) over in
+        let x = has_address st has in
         record {
-          base = b;
+          base = x.0;
           store = sym i.store ∙ st;
-          fate = address_back u.fate b (sym i.address ∙ ad);
-          entry = λ j. record { store = st j; width = i.width j; address = ad j; content = i.content j };
-          meets = blocks_over b ad blocks;
+          fate = address_back u.fate x.0 (sym i.address ∙ x.1);
+          entry = λ j. record { store = st j; width = i.width j; address = x.1 j; content = i.content j };
+          meets = over;
         }
-
-    pub known_of : (b : ℕ) → e.address ≡ Some b → IsKnown P u
-    known_of b ad = known_by b ad
-
--- A store with its data
-
-pub met_says : (e : QueueEntry) (l : Load) (content : Option ℕ) → e.store ≡ true → (b : ℕ) → e.address ≡ Some b → overlaps l.address (width l.op) e ≡ true
-    → answer (record e { content = content } ∷ load_entry l ∷ []) 1 ≡ forwarded 0 (taken_from e.address (bytes e.width) content l.address (width l.op))
-met_says e l content st b ad over =
-    one_is (record e { content = content }) l
-    ∙ (λ j. answer_of (lacking j) (over j) (taken_from e.address (bytes e.width) content l.address (width l.op)))
-  where
-    lacking : lacks_address e ≡ false
-    lacking = ap (λ o. e.store && is_none o) ad ∙ and_false e.store
-
--- nothing blocks: it is passed
-passes : (b c : Bool) (raw : Option ℕ) → raw ≡ None → ((i : ℕ) → answer_of b c raw ≡ Blocked i → ⊥) → answer_of b c raw ≡ Memory
-passes true c raw e n = absurd (n 0 refl)
-passes false true raw e n = absurd (n 0 (ap (forwarded 0) e))
-passes false false raw e n = refl
-
-pub memory_else : (e : QueueEntry) (l : Load) → e.content ≡ None → ((i : ℕ) → answer (e ∷ load_entry l ∷ []) 1 ≡ Blocked i → ⊥) → answer (e ∷ load_entry l ∷ []) 1 ≡ Memory
-memory_else e l c n =
-    let none = ap (λ d. taken_from e.address (bytes e.width) d l.address (width l.op)) c ∙ none_taken e.address (bytes e.width) l.address (width l.op) in
-    one_is e l ∙ passes (lacks_address e) (overlaps l.address (width l.op) e) (taken_from e.address (bytes e.width) e.content l.address (width l.op)) none (λ i h. n i (one_is e l ∙ h))
 
 -- The search
 
@@ -275,19 +194,20 @@ module _ (P : Program) (C : Sizes) (old mid new : List Entry) (before : Adds P C
   below : k < place
   below = omega (arith, next, small)
 
-  pub step_unknown : (o : Option (ℕ × QueueEntry)) → Found_at k' mid o → (i : ℕ) → answer (e ∷ load_entry l ∷ []) 1 ≡ Blocked i → e.address ≡ None → HasUnknown P (unit_of P C new) n head ring place k
-  step_unknown o h i ans none = unknown P (unit_of P C new) n head ring k k' place l.address (width l.op) next o below (stayed o h) (at_k (Lacks P) (λ u x. lacks_of e l P u x i ans none))
+  pub step_unknown : (o : Option (ℕ × QueueEntry)) → Found_at k' mid o → lacks_address e ≡ true → HasUnknown P (unit_of P C new) n head ring place k
+  step_unknown o h lacks = unknown P (unit_of P C new) n head ring k k' place l.address (width l.op) next o below (stayed o h) (at_k (Lacks P) (λ u x. lacks_of e l P u x lacks))
 
-  pub step_met : Found_at k' mid None → (i b : ℕ) → answer (e ∷ load_entry l ∷ []) 1 ≡ Blocked i → e.address ≡ Some b → HasMet P (unit_of P C new) n head ring k place l.address (width l.op) k e
-  step_met h i b ans ad = first_met P (unit_of P C new) n head ring k k' place l.address (width l.op) next e below (stayed None h)
-      (at_k (IsMet P l.address (width l.op) e) (λ u x. met_of e l P u x i b ans ad))
+  pub step_met : (o : Option (ℕ × QueueEntry)) → Found_at k' mid o → lacks_address e ≡ false → overlaps l.address (width l.op) e ≡ true → Found_at k new (option_or o (Some (k, e)))
+  step_met None h has over = first_met P (unit_of P C new) n head ring k k' place l.address (width l.op) next e below (stayed None h)
+      (at_k (IsMet P l.address (width l.op) e) (λ u x. met_of e l P u x has over))
+  step_met (Some f) h has over =
+      some_more P (unit_of P C new) n head ring k k' place l.address (width l.op) next f.0 f.1 (stayed (Some f) h) (at_k (IsKnown P) (λ u x. known_of e l P u x has))
 
-  pub step_known : (f : ℕ × QueueEntry) → Found_at k' mid (Some f) → (b : ℕ) → e.address ≡ Some b → Found_at k new (Some f)
-  step_known f h b ad = some_more P (unit_of P C new) n head ring k k' place l.address (width l.op) next f.0 f.1 (stayed (Some f) h) (at_k (IsKnown P) (λ u x. known_of e l P u x b ad))
-
-  pub step_memory : (o : Option (ℕ × QueueEntry)) → Found_at k' mid o → ((u : Tenant) → IsEntryOf P e u → DoesNotWaitFor P l.address (width l.op) u) → Found_at k new o
-  step_memory None h f = none_more P (unit_of P C new) n head ring k k' place l.address (width l.op) next (stayed None h) (at_k (DoesNotWaitFor P l.address (width l.op)) f)
-  step_memory (Some x) h f = some_more P (unit_of P C new) n head ring k k' place l.address (width l.op) next x.0 x.1 (stayed (Some x) h) (at_k (IsKnown P) (λ u i. (f u i).known))
+  pub step_memory : (o : Option (ℕ × QueueEntry)) → Found_at k' mid o → lacks_address e ≡ false → overlaps l.address (width l.op) e ≡ false → Found_at k new o
+  step_memory None h has over = none_more P (unit_of P C new) n head ring k k' place l.address (width l.op) next (stayed None h)
+      (at_k (DoesNotWaitFor P l.address (width l.op)) (λ u x. passed_of e l P u x has over))
+  step_memory (Some f) h has over =
+      some_more P (unit_of P C new) n head ring k k' place l.address (width l.op) next f.0 f.1 (stayed (Some f) h) (at_k (IsKnown P) (λ u x. known_of e l P u x has))
 
 -- options
 pub is_nothing : {X : Type 0} → (o : Option X) (b : Bool) → is_some o ≡ not b → b ≡ true → o ≡ None

@@ -40,10 +40,6 @@ shown_address _ = None
 abbrev pub seen_as : Instr → StationState → ℕ → QueueEntry
 seen_as i state value = access_entry i.op (address_in state value) None
 
--- The entry of a load
-abbrev pub load_entry : Load → QueueEntry
-load_entry l = record { store = false; width = access_width l.op; address = Some l.address; content = None }
-
 -- The k-th station behind the head's
 abbrev pub station_behind : ℕ → ℕ → ℕ → ℕ
 station_behind head ring k = (head + k) % ring

@@ -9,10 +9,10 @@ ghost use Rattle.back.specs.Backs.{SeesMore, committed_in, unit_in};
 ghost use Rattle.back.specs.Trials.{NobodyWaits, ThisWaits, TriedAnswers, load_of_index};
 ghost use Rattle.back.specs.Port.{Ceases, IsEntryThere, LoadIsInside, MayAnswer, MayBlock, Remains, SearchFinds, SearchMisses};
 
-use crate::entries::{address, ask, content, entry, entry_of};
-use inorder::{Committed, wrapped};
+use crate::entries::{address, content, entry};
+use inorder::{Committed, access_width, wrapped};
 use instructions::{Kind, Op, Program, loaded};
-use lsq::{Answer, Entry};
+use lsq::{Entry, lacks_address, overlaps, taken_from};
 use station::{BackSeat, Core, Settle, Source};
 
 /// A load with its address.
@@ -75,19 +75,17 @@ fn search(
     ensures err { IfErr result (SearchMisses core.now seat.old.seen seat.new.seen head at) }
 {
     let ring = core.ring();
-    let asked = entry_of(load);
+    let width = access_width(load.op);
     let mut found = None;
     let mut k = at;
     while k > 0 {
         k -= 1;
         let store = look(core, seat, wrapped(head + k, ring));
-        if let Answer::Blocked(_) = ask(store, asked) {
-            if store.address.is_none() {
-                return Err(k);
-            }
-            if found.is_none() {
-                found = Some((k, store));
-            }
+        if lacks_address(&store) {
+            return Err(k);
+        }
+        if overlaps(&store, load.address, width) {
+            found = found.or(Some((k, store)));
         }
     }
     Ok(found)
@@ -128,10 +126,11 @@ fn answer(
     };
     let data = core.operand(seat, wrapped(head + k, ring), Source::Second);
     let content = content(data.state, data.value);
-    match ask(Entry { content, ..store }, entry_of(load)) {
-        Answer::Forward(raw) => Ok(loaded(load.op, raw)),
-        _ => Err(k),
-    }
+    let store = Entry { content, ..store };
+    let Some(raw) = taken_from(&store, load.address, access_width(load.op)) else {
+        return Err(k);
+    };
+    Ok(loaded(load.op, raw))
 }
 
 // The load of an instruction, if it is one.

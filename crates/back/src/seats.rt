@@ -57,6 +57,7 @@ impl<J: Naming> Back<J> {
         ensures history { SeesMore core.now self.old.by self.old.seen self.new.seen }
         ensures told { StartsWith self.new.seen other.old.seen }
         ensures other_kept { IsSameSeat other.old other.new }
+        ensures other_heirs { other.new.heirs ≡ other.old.heirs }
         ensures other_woken { other.new.woken ≡ other.old.woken }
         ensures other_history { SeesMore core.now other.old.by other.old.seen other.new.seen }
         ensures other_told { StartsWith other.new.seen self.new.seen }

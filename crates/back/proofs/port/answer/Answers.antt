@@ -1,15 +1,17 @@
-use Rattle.std.proofs.Common.{◌≡◌, ◌⊎◌, ◌+◌, ◌%◌, [], ◌∷◌, length, refl, sym, ap, ◌∙◌, subst}
+use Rattle.std.proofs.Common.{◌≡◌, ◌⊎◌, ◌+◌, ◌%◌, [], length, refl, sym, ap, ◌∙◌, subst}
 use Rattle.std.specs.Prelude.{slice_index}
 use Rattle.instructions.specs.Instruction.{width}
 use Rattle.instructions.specs.Operations.{loaded}
 use Rattle.lsq.specs.Bytes.{little_endian}
-use Rattle.lsq.specs.LoadRule.{answer}
+use Rattle.lsq.specs.Entries.{bytes}
+use Rattle.lsq.specs.LoadRule.{taken_from}
 use Rattle.inorder.specs.Callers.{CanLoad}
 use Rattle.inorder.specs.Committed.{committed}
 use Rattle.inorder.specs.History.{back}
 use Rattle.inorder.specs.OneHistory.{Adds}
 use Rattle.inorder.specs.Machine.{State}
 use Rattle.inorder.specs.Replies.{IsStale}
+use Rattle.inorder.proofs.QueueBytes.{same_width}
 use Rattle.back.specs.Backs.{unit_in}
 use Rattle.back.specs.Port.{AtStation, HasFound, content_in}
 use Rattle.back.proofs.Answering.{committed_same, forward_answers, none_answers, shows_content, unknown_answers, waiting_answers}
@@ -40,14 +42,14 @@ returns-in_default-clause-ok c p asked =
     (λ i. little_endian (slice_index (memory i)) l.address (sym c.width.ensures.value i)) ∙ sym c.number_at-raw.ensures in
     subst (λ v. CanLoad d.program (unit_in d new.seen) p l.address v ⊎ IsStale (unit_in d new.seen) p) (ap (loaded l.op) read ∙ sym c.loaded.ensures) r
 
-pub returns-in-Forward-clause-history : goal.returns-in-Forward-clause-history
-returns-in-Forward-clause-history c =
+pub returns-clause-history : goal.returns-clause-history
+returns-clause-history c =
     let d = c.args.core.now in
     two_looks d.program d.sizes c.args.seat.now.by c.search.new.seat.by c.args.seat.now.seen c.search.new.seat.seen c.operand-data.new.seat.seen c.search.ensures.kept.by c.search.ensures.history
     c.operand-data.ensures.history
 
-pub returns-in-Forward-clause-ok : goal.returns-in-Forward-clause-ok
-returns-in-Forward-clause-ok c p asked =
+pub returns-clause-ok : goal.returns-clause-ok
+returns-clause-ok c p asked =
     let d = c.args.core.now in
     let l = c.args.load.now in
     let old = c.args.seat.now in
@@ -65,13 +67,14 @@ returns-in-Forward-clause-ok c p asked =
     let station : c.wrapped.result ≡ (c.args.head + k) % d.sizes.ring = c.wrapped.ensures.value ∙ ap (λ r. (c.args.head + k) % r) c.ring-ring.ensures.value in
     let shown = shows_content (unit_in d new.seen) c.wrapped.result word.tag word.state word.value c.operand-data.ensures.reply.its n in
     let shows = subst (λ s. AtStation (unit_in d new.seen) n s (λ u. u.second.value ≡ content_in word.state word.value)) station shown in
-    let says = (λ i. answer (record e { content = sym c.content-content.ensures i } ∷ sym c.entry_of.ensures i ∷ []) 1) ∙ sym c.ask.ensures in
-    subst (λ v. CanLoad d.program (unit_in d new.seen) p l.address v ⊎ IsStale (unit_in d new.seen) p) (sym c.loaded-in-Forward.ensures)
+    let says : c.taken_from.result ≡ taken_from e.address (bytes e.width) (content_in word.state word.value) l.address (width l.op) = c.taken_from.ensures
+    ∙ (λ i. taken_from e.address (bytes e.width) (c.content-content.ensures i) l.address ((ap bytes c.access_width.ensures ∙ same_width l.op) i)) in
+    subst (λ v. CanLoad d.program (unit_in d new.seen) p l.address v ⊎ IsStale (unit_in d new.seen) p) (sym c.loaded-2.ensures)
     (forward_answers d.program d.sizes old.seen new.seen whole c.args.head c.args.at c.requires.head_is c.requires.head c.requires.at p l asked k e still (content_in word.state word.value) shows
-    c.in-Forward.raw (says ∙ c.in-Forward.is))
+    c.in-Some-taken_from.raw (sym says ∙ c.in-Some-taken_from.is))
 
-pub returns-in_default-ask : goal.returns-in_default-ask
-returns-in_default-ask c =
+pub returns-in_default-taken_from : goal.returns-in_default-taken_from
+returns-in_default-taken_from c =
     let d = c.args.core.now in
     let l = c.args.load.now in
     let old = c.args.seat.now in
@@ -89,7 +92,8 @@ returns-in_default-ask c =
     let station : c.wrapped.result ≡ (c.args.head + k) % d.sizes.ring = c.wrapped.ensures.value ∙ ap (λ r. (c.args.head + k) % r) c.ring-ring.ensures.value in
     let shown = shows_content (unit_in d new.seen) c.wrapped.result word.tag word.state word.value c.operand-data.ensures.reply.its n in
     let shows = subst (λ s. AtStation (unit_in d new.seen) n s (λ u. u.second.value ≡ content_in word.state word.value)) station shown in
-    let says = (λ i. answer (record e { content = sym c.content-content.ensures i } ∷ sym c.entry_of.ensures i ∷ []) 1) ∙ sym c.ask.ensures in
+    let says : c.taken_from.result ≡ taken_from e.address (bytes e.width) (content_in word.state word.value) l.address (width l.op) = c.taken_from.ensures
+    ∙ (λ i. taken_from e.address (bytes e.width) (c.content-content.ensures i) l.address ((ap bytes c.access_width.ensures ∙ same_width l.op) i)) in
     record {
       kept = same_on old mid new c.search.ensures.kept c.operand-data.ensures.kept;
       woken = c.operand-data.ensures.woken ∙ c.search.ensures.woken;
@@ -97,5 +101,5 @@ returns-in_default-ask c =
       bound = found.bound;
       ok = tt;
       err = λ p asked. waiting_answers d.program d.sizes old.seen new.seen whole c.args.head c.args.at c.requires.head_is c.requires.head c.requires.at p l asked k e still
-          (content_in word.state word.value) shows (λ raw h. c.in_default-ask.not-Forward raw (sym says ∙ h));
+          (content_in word.state word.value) shows (sym says ∙ c.in_default-taken_from.is);
     }
