@@ -1,6 +1,6 @@
 -- The create vector, found among what the front keeps.
 use Rattle.std.proofs.Common.{◌≡◌, ◌≢◌, ◌⊎◌, ℕ, zero, suc, ◌-◌, ◌<◌, Bool, true, false, cond, ◌&&◌, eqb, List, [], ◌∷◌, ◌++◌, length, take, Option, Some, None, refl, sym, ap, ◌∙◌, subst, inl, inr}
-use Rattle.std.proofs.Common.{⊎_elim, arith, eq-eqb, ne_eqb}
+use Rattle.std.proofs.Common.{⊎_elim, arith}
 use Rattle.std.proofs.lemmas.Bool.{le-leb}
 use Rattle.std.specs.List.{AllByRecursion}
 use Rattle.std.specs.Prelude.{slice_get}
@@ -138,27 +138,3 @@ one_back r xs j h = let same : suc (j - 1) ≡ j = omega arith in sym (ap (λ k.
 pub written : (r : ℕ) → r ≢ 0 → r < 34 → can_be_written r ≡ true
 written zero n l = absurd (n refl)
 written (suc r) n l = le-leb (suc (suc r)) 34 (omega (arith, l))
-
-pub creator_by : (xs : List Record) (r : ℕ) → r ≢ 0 → r < 34 → creator_in xs r ≡ newest None xs r
-creator_by xs r n l = ap (λ b. cond b (newest None xs r) None) (written r n l)
-
-pub creator_found : (xs : List Record) (j r : ℕ) (x : Record) → r ≢ 0 → r < 34 → 0 < j → newest None xs r ≡ newest None (take j xs) r → slice_get xs (j - 1) ≡ Some x → x.destination ≡ r →
-    Some x ≡ creator_in xs r
-creator_found xs j r x n l h same e d =
-    sym
-    (creator_by xs r n l
-    ∙ (same
-    ∙ (one_back r xs j h
-    ∙ (ap (after_record (newest None (take (j - 1) xs) r) r) e
-    ∙ ap (λ b. cond b (Some x) (newest None (take (j - 1) xs) r)) (eq-eqb x.destination r d)))))
-
-pub creator_passed : (xs : List Record) (j r : ℕ) (x : Record) → 0 < j → newest None xs r ≡ newest None (take j xs) r → slice_get xs (j - 1) ≡ Some x → x.destination ≢ r →
-    newest None xs r ≡ newest None (take (j - 1) xs) r
-creator_passed xs j r x h same e d =
-    same
-    ∙ (one_back r xs j h
-    ∙ (ap (after_record (newest None (take (j - 1) xs) r) r) e
-    ∙ ap (λ b. cond b (Some x) (newest None (take (j - 1) xs) r)) (ne_eqb x.destination r d)))
-
-pub creator_nowhere : (xs : List Record) (j r : ℕ) → 0 < j → newest None xs r ≡ newest None (take j xs) r → slice_get xs (j - 1) ≡ None → newest None xs r ≡ newest None (take (j - 1) xs) r
-creator_nowhere xs j r h same e = same ∙ (one_back r xs j h ∙ ap (after_record (newest None (take (j - 1) xs) r) r) e)

@@ -34,12 +34,6 @@ use Rattle.front.proofs.Places.{kept_new}
 
 -- Lists
 
-pub take_whole : (xs : List Record) (n : ℕ) → length xs ≡ n → take n xs ≡ xs
-take_whole [] zero e = refl
-take_whole [] (suc n) e = refl
-take_whole (x ∷ xs) zero e = absurd (omega arith)
-take_whole (x ∷ xs) (suc n) e = ap (λ z. x ∷ z) (take_whole xs n (omega arith))
-
 pub take_fewer : (xs : List Record) (y : Record) (n : ℕ) → n ≤ length xs → take n (xs ++ y ∷ []) ≡ take n xs
 take_fewer [] y zero h = refl
 take_fewer [] y (suc n) h = absurd (omega arith)

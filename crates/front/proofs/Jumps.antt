@@ -1,5 +1,5 @@
 -- Who can be a miss: only a jump.
-use Rattle.std.proofs.Common.{◌≡◌, ◌≢◌, ℕ, Bool, true, length, ap, sym, ◌∙◌, refl}
+use Rattle.std.proofs.Common.{◌≡◌, ◌≢◌, ℕ, Bool, true, false, length, ap, sym, ◌∙◌, refl}
 use Rattle.std.specs.Prelude.{Result, Ok, Err, not, ◌&&◌, ◌||◌, ◌==◌}
 use Rattle.instructions.specs.Instruction.{destination_by, is_access, target_of}
 use Rattle.instructions.specs.Operations.{as_address, as_value, outcome_by}
@@ -9,7 +9,8 @@ use Rattle.instructions.specs.declared.op.Kind.TheVariants.{Computes, Jumps, Lin
 use Rattle.instructions.specs.declared.stop.Outcome.{Outcome}
 use Rattle.instructions.specs.declared.stop.Outcome.TheVariants.{Next}
 use Rattle.instructions.specs.declared.stop.Stop.{Stop}
-use Rattle.inorder.specs.Tenants.{Tenant, computed, instr, kind_of, operand_value}
+use Rattle.inorder.specs.Tenants.{Tenant, computed, instr, is_first, kind_of, operand_value}
+use Rattle.inorder.proofs.Pairs.{first_half_computes}
 use Rattle.front.specs.Recoveries.{may_miss}
 use Rattle.front.specs.Trail.{is_link, record_of}
 
@@ -37,3 +38,11 @@ only_jumps P t x e = go (kind_of P t) refl
     go Computes q = absurd (value_not _ x (sym (ap (comes_to P t) q) ∙ e))
     go Loads q = absurd (address_not _ x (sym (ap (comes_to P t) q) ∙ e))
     go Stores q = absurd (address_not _ x (sym (ap (comes_to P t) q) ∙ e))
+
+-- nor is it the first of two halves
+pub no_first_half : (P : Program) (t : Tenant) (x : ℕ) → computed P t ≡ Next x → is_first P t ≡ false
+no_first_half P t x e = go (is_first P t) refl
+  where
+    go : (b : Bool) → is_first P t ≡ b → is_first P t ≡ false
+    go true q = absurd (value_not _ x (sym (ap (comes_to P t) (first_half_computes (instr P t).op t.half q)) ∙ e))
+    go false q = q

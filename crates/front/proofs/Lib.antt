@@ -29,6 +29,8 @@ pub mod Moments
 pub mod Looked
 pub mod Popping
 pub mod Recovered
+pub mod LeftBehind
+pub mod Unchanged
 pub mod FirstMiss
 pub mod Tables
 pub mod Supplied

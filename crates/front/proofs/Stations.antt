@@ -1,6 +1,6 @@
 -- The last tenants of stations, and whether all stations are in use.
-use Rattle.std.proofs.Common.{◌≡◌, ◌≢◌, ◌⊎◌, ℕ, suc, ◌+◌, ◌<◌, ◌≤◌, Bool, true, false, cond, eqb, eqb-true, List, [], ◌∷◌, ◌++◌, length, Option, Some, None, refl, sym, ap, ◌∙◌, subst}
-use Rattle.std.proofs.Common.{⊎_elim, arith, true≢false, eq-eqb}
+use Rattle.std.proofs.Common.{◌≡◌, ◌≢◌, ◌⊎◌, ℕ, suc, ◌+◌, ◌<◌, ◌≤◌, true, false, List, [], ◌∷◌, ◌++◌, length, Option, Some, None, refl, sym, ap, ◌∙◌, subst}
+use Rattle.std.proofs.Common.{⊎_elim, arith, true≢false}
 use Rattle.std.proofs.lemmas.Bool.{cases_lt}
 use Rattle.std.specs.List.{AllByRecursion}
 use Rattle.std.proofs.lemmas.Option.{same_Some}
@@ -14,9 +14,8 @@ use Rattle.inorder.specs.StationWords.{IsFree, StationWord, last_of, left_value,
 use Rattle.inorder.specs.Steps.{new_tenant}
 use Rattle.inorder.specs.Tenants.{Live, Retired, Squashed, Standing, Tenant, is_live, on_path, stands_live, stands_on_path}
 use Rattle.inorder.specs.Unit.{Sizes, UpdateUnit, at, how_many, is_old, next_station, next_tag, recent}
-use Rattle.inorder.proofs.Creators.{at_cases}
 use Rattle.inorder.proofs.Histories.{unit_sound}
-use Rattle.inorder.proofs.Positions.{all_at, at_below, at_more, at_new}
+use Rattle.inorder.proofs.Positions.{all_at}
 use Rattle.inorder.proofs.Stations.{IsElsewhere, all_elsewhere, fewer_newest, settling, settling_newest}
 use Rattle.ruu_words.specs.declared.station.StationState.{StationState}
 use Rattle.ruu_words.specs.declared.station.StationState.TheVariants.{Free}
@@ -45,32 +44,6 @@ pub record LastSpot (us : List Tenant) (s : ℕ) (t : Tenant) : Type 0 where
   pub is : at us p ≡ Some t
   pub place : t.station ≡ s
   pub last : (q : ℕ) (u : Tenant) → p < q → at us q ≡ Some u → u.station ≢ s
-
-pub last_spot : (us : List Tenant) (s : ℕ) (t : Tenant) → last_of us s ≡ Some t → LastSpot us s t
-last_spot [] s t e = absurd (cc e)
-last_spot (u ∷ us) s t e = go (eqb u.station s) refl (last_spot us s t)
-  where
-    go : (b : Bool) → eqb u.station s ≡ b → (last_of us s ≡ Some t → LastSpot us s t) → LastSpot (u ∷ us) s t
-    go true f more =
-        let is : Some u ≡ Some t = ap (λ b. cond b (Some u) (last_of us s)) (sym f) ∙ e in
-        let same : u ≡ t = cc is in
-        record {
-          p = length us;
-          is = at_new u us ∙ is;
-          place = ap (λ (z : Tenant). z.station) (sym same) ∙ eqb-true u.station s f;
-          last = λ q v lt there. let b = at_below (u ∷ us) q v there in absurd (omega arith);
-        }
-    go false f more =
-        let l = more (ap (λ b. cond b (Some u) (last_of us s)) (sym f) ∙ e) in
-        record {
-          p = l.p;
-          is = at_more u us l.p t l.is;
-          place = l.place;
-          last = λ q v lt there. ⊎_elim
-              (λ old. l.last q v lt old)
-              (λ (n : (q ≡ length us) × (u ≡ v)). λ same. true≢false (sym (eq-eqb u.station s (ap (λ (z : Tenant). z.station) n.1 ∙ same)) ∙ f))
-              (at_cases u us q v there);
-        }
 
 live_on_path : (t : Tenant) → is_live t ≡ true → on_path t ≡ true
 live_on_path t h = go t.standing refl

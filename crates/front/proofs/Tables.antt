@@ -243,9 +243,6 @@ module _ (P : Program) (C : Sizes) (U : UpdateUnit) (by p : ℕ) (act : Act) (a 
 -- Steps of others, and questions
 
 module _ (P : Program) (C : Sizes) (told : ℕ) (T : Table) where
-  abbrev pub TableIs : UpdateUnit → Type 0
-  TableIs U = HasTable P U told T
-
   pub table_quiet : (U : UpdateUnit) (by : ℕ) (s : Step) → IsQuiet s → Allowed P C U by s → IsSound P U.tenants → HasTable P U told T → HasTable P (applied P C U by s) told T
   table_quiet U by (Let i pr f g) b a ok k = absurd b
   table_quiet U by Renew b a ok k = absurd b

@@ -10,7 +10,9 @@ pub mod Training
 pub mod Turns
 pub mod Questions
 pub mod Recoveries
+pub mod Mended
 pub mod Rests
 pub mod Folding
 pub mod Fronts
 pub mod Stills
+pub mod Behind

@@ -18,16 +18,16 @@ pub enum Turn {
 /// Who creates a register.
 #[derive(Clone, Copy, Debug, PartialEq, Eq)]
 pub enum Made {
-    /// The tenant of this station and tag, whose station was not let again.
+    /// The tenant of this station and tag. Its station was not let again, and the front has not rested since.
     Made { station: usize, tag: u32 },
-    /// Nobody, or a tenant whose station was let again: its value.
+    /// The register's value: it has no creator, or that one's station was let again, or the front has rested since.
     Base(u32),
 }
 
 /// What a rest answers.
 #[derive(Clone, Copy, Debug, PartialEq, Eq)]
 pub enum Rest {
-    /// No tenant is in flight: what the last ones left is kept apart from them.
+    /// No tenant is in flight: all results are in the base registers.
     Idle,
     /// Some tenant is in flight.
     Live,

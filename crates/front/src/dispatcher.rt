@@ -23,8 +23,8 @@ use station::{Core, FrontSeat, Part, SeatOf, Seen, StationState, what_is_seen_is
 use std::marker::Model;
 
 /// The front of a core: it alone lets tenants, and squashes and mends. Its predictor is asked for the next pc of a
-/// conditional branch, `jr` or `jalr` when that is let, and told how such an instruction went on when its station is
-/// let again, if it has retired.
+/// conditional branch, `jr` or `jalr` when that is let, and told how such an instruction went on, if it has retired,
+/// when its station is let again or the front rests.
 #[derive(Drop)]
 pub struct Front<'a, P: Predictor + Drop> {
     pub(crate) seat: FrontSeat,
@@ -94,6 +94,7 @@ impl<'a, P: Predictor + Drop> Front<'a, P> {
         ensures history { AddsNothing core.now seat.seen result.seen }
         ensures predictor { result.predictor ≡ predictor }
         ensures told { result.told ≡ 0 }
+        ensures touched { result.touched ≡ 0 }
     {
         what_is_seen_is_legal(&seat);
         let base = Base::new(&seat);
@@ -222,6 +223,8 @@ impl<'a, P: Predictor + Drop> Front<'a, P> {
         ensures told_kept { self.new.told ≡ self.old.told }
         ensures rested { self.new.rested ≡ self.old.rested }
         ensures other_kept { IsSameSeat other.old other.new }
+        ensures other_heirs { other.new.heirs ≡ other.old.heirs }
+        ensures other_woken { other.new.woken ≡ other.old.woken }
         ensures other_history { Adds core.now.program core.now.sizes
             other.old.by other.old.seen other.new.seen [] }
         ensures other_told { StartsWith other.new.seen self.new.seen }

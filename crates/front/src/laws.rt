@@ -1,4 +1,7 @@
-//! What holds of a front between two cores. The function is a law: it does nothing, and its contract is proved.
+//! What holds of a front behind its calls, and between two cores. Each function is a law: it does nothing, and its
+//! contract is proved.
+ghost use Rattle.front.specs.Behind.{RegistersStay};
+ghost use Rattle.front.specs.Mended.{RecoveriesLeave};
 ghost use Rattle.front.specs.Stills.{RefusedFrontsEnter, RenewedFrontsEnter};
 
 /// A front that has left its core, and gave its seat to a renewal of it, enters with the seat that comes back: the
@@ -6,4 +9,15 @@ ghost use Rattle.front.specs.Stills.{RefusedFrontsEnter, RenewedFrontsEnter};
 pub fn a_front_enters_behind_a_renewal()
     ensures renewed { RenewedFrontsEnter }
     ensures refused { RefusedFrontsEnter }
+{}
+
+/// Behind a recovery the path goes on where the miss was mended to, with a whole instruction, and each register is
+/// created by whom it was among the tenants up to the miss.
+pub fn a_recovery_keeps_the_older()
+    ensures { RecoveriesLeave }
+{}
+
+/// A value that `creator` tells of a register is the one that it tells behind a renewal.
+pub fn registers_stay_behind_a_renewal()
+    ensures { RegistersStay }
 {}

@@ -17,5 +17,7 @@ mod training;
 
 pub use answers::{Made, Recovery, Rest, Turn};
 pub use dispatcher::Front;
-pub use laws::a_front_enters_behind_a_renewal;
+pub use laws::{
+    a_front_enters_behind_a_renewal, a_recovery_keeps_the_older, registers_stay_behind_a_renewal,
+};
 pub use still::FrontStill;

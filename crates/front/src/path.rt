@@ -1,6 +1,7 @@
 //! What the front knows of the path. Who writes a register is read from records and entries in this module
 //! alone, and all that a turn or a recovery reads or writes of them for that is counted.
 ghost use Rattle.std.specs.Prelude.{◌≡◌, ◌<◌, ◌≤◌, ◌++◌, ◌∷◌, [], length, IfNone, IfSome};
+ghost use Rattle.std.specs.List.{AllByRecursion};
 ghost use Rattle.front.specs.CreateTable.{IsEntered, IsTouched};
 ghost use Rattle.front.specs.Path.{GoesOnWith, Released, Releases, made_of as made_of_record, next_half, station_of_next, pc_behind, record_for};
 
@@ -73,12 +74,13 @@ impl Path {
     pub fn next_station(&self, ring: usize) -> usize
         requires least { 2 ≤ ring }
         requires most { ring ≤ 32 }
+        requires inside { AllByRecursion (λ x. x.station < ring) self.now.records }
         ensures value { result ≡ station_of_next ring self.now.base self.now.records }
         ensures small { result < ring }
     {
         match self.records.last() {
             None => self.base.station % ring,
-            Some(record) => wrapped(record.station % ring + 1, ring),
+            Some(record) => wrapped(record.station + 1, ring),
         }
     }
 
@@ -115,6 +117,7 @@ impl Path {
     pub fn keep_front(&mut self, ring: usize)
         requires least { 2 ≤ ring }
         requires most { ring ≤ 32 }
+        requires inside { AllByRecursion (λ x. x.station < ring) self.old.records }
         ensures records { self.new.records ≡ self.old.records }
         ensures base { GoesOnWith ring self.old self.new.base }
     {

@@ -1,11 +1,21 @@
 -- Why nothing is let, or what is.
-use Rattle.std.proofs.Common.{◌≡◌, [], Some, None, sym, ap, ◌∙◌, subst}
+use Rattle.std.proofs.Common.{◌≡◌, ◌<◌, [], Some, None, sym, ap, ◌∙◌, subst, arith}
+use Rattle.std.specs.List.{AllByRecursion}
 use Rattle.instructions.specs.Programs.{instr_at}
 use Rattle.inorder.specs.History.{front}
 use Rattle.inorder.specs.OneHistory.{Adds}
 use Rattle.inorder.proofs.Histories.{adds_on}
 use Rattle.front.proofs.Looked.{can_fetch, full_now, knows_now, no_instr_now, queue_full_now, spent_now}
+use Rattle.front.proofs.Named.{small_stations}
 use Rattle.front.proofs.fetch.fetch.Goals as goal
+
+pub next_station-station-requires-clause-inside : goal.next_station-station-requires-clause-inside
+next_station-station-requires-clause-inside c =
+    let P = c.args.core.now.program in
+    let C = c.args.core.now.sizes in
+    let records = c.args.path.now.records in
+    subst (λ n. AllByRecursion (λ x. x.station < n) records) (sym c.ring.ensures.value)
+    (small_stations P C c.args.seat.now.seen c.requires.legal records c.args.path.now.base _ c.requires.knows (omega (arith, c.ring.ensures.value, c.ring.ensures.least)))
 
 pub returns-in_default : goal.returns-in_default
 returns-in_default c =

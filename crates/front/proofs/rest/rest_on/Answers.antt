@@ -1,5 +1,6 @@
 -- A rest.
 use Rattle.std.proofs.Common.{◌≡◌, ◌<◌, ◌-◌, [], length, refl, sym, ap, ◌∙◌, subst, arith}
+use Rattle.std.specs.List.{AllByRecursion}
 use Rattle.inorder.specs.History.{front, unit_of}
 use Rattle.inorder.specs.OneHistory.{Adds}
 use Rattle.inorder.proofs.Histories.{adds_on, unit_sound}
@@ -32,6 +33,16 @@ look-seen-requires-clause-station g c =
     let base = c.args.path.now.base in
     all_get (λ x. x.station < C.ring) records (small_stations P C c.args.seat.now.seen c.requires.legal records base (IsFolded U (rested_at base)) c.requires.knows
     (omega (arith, c.ring-ring.ensures.value, c.ring-ring.ensures.least))) (length records - 1) c.in-Some.youngest (sym c.last.ensures ∙ c.in-Some.is)
+
+pub keep_front-requires-clause-inside : goal.keep_front-requires-clause-inside
+keep_front-requires-clause-inside g c =
+    let P = c.args.core.now.program in
+    let C = c.args.core.now.sizes in
+    let U = unit_of P C c.args.seat.now.seen in
+    let records = c.args.path.now.records in
+    let base = c.args.path.now.base in
+    subst (λ n. AllByRecursion (λ x. x.station < n) records) (sym c.ring-ring.ensures.value)
+    (small_stations P C c.args.seat.now.seen c.requires.legal records base (IsFolded U (rested_at base)) c.requires.knows (omega (arith, c.ring-ring.ensures.value, c.ring-ring.ensures.least)))
 
 pub returns-in_default-state : goal.returns-in_default-state
 returns-in_default-state g c =

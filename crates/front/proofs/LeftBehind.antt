@@ -1,0 +1,298 @@
+-- What a recovery leaves of the path: the tenants up to the miss, which goes on where it was mended to.
+use Rattle.std.proofs.Common.{◌≡◌, ◌≢◌, ℕ, suc, ◌+◌, ◌<◌, ◌≤◌, Bool, true, false, cond, ◌&&◌, eqb, List, [], ◌∷◌, ◌++◌, map, length, Some, None, refl, sym, ap, ◌∙◌, subst, ⊎_elim, arith, append_assoc, length-append, eq-eqb, ne_eqb}
+use mathlib.Core.Logic.{dite}
+use native.Mathlib.Decide.{ℕ_discrete}
+use Rattle.std.proofs.lemmas.Bool.{cases_lt}
+use Rattle.std.proofs.lemmas.Option.{same_Some}
+use Rattle.std.specs.List.{AllByRecursion}
+use Rattle.instructions.specs.Programs.{Program}
+use Rattle.instructions.specs.declared.op.Half.TheVariants.{Low}
+use Rattle.inorder.specs.declared.history.Act.{Act}
+use Rattle.inorder.specs.declared.history.Act.TheVariants.{Claim, Deliver, Finish, Link, Load, Mend, Retire, Squash}
+use Rattle.inorder.specs.declared.history.Entry.{Entry}
+use Rattle.inorder.specs.declared.history.Event.{Event}
+use Rattle.inorder.specs.declared.history.Event.TheVariants.{Does, Marks, Refuses}
+use Rattle.inorder.specs.declared.history.Step.{Step}
+use Rattle.inorder.specs.declared.history.Step.TheVariants.{Let, On, Renew}
+use Rattle.inorder.specs.History.{IsLegal, MayAdd, entry, front, own, unit_of}
+use Rattle.inorder.specs.Legal.{Allowed, May, MayAct, applied, change_at, changed}
+use Rattle.inorder.specs.Replies.{Has}
+use Rattle.inorder.specs.Steps.{mended, mended_as, new_tenant, squashed}
+use Rattle.inorder.specs.Tenants.{Fate, IsNotLive, Live, Miss, Squashed, Tenant, destination_of, is_first, on_path, stands_on_path}
+use Rattle.inorder.specs.Unit.{Sizes, UpdateUnit, at, can_be_written, creator, front_half, front_pc, half_after, last_writer, older, younger}
+use Rattle.inorder.proofs.Basics.{eqb_less, split_at}
+use Rattle.inorder.proofs.Fated.{follows_from}
+use Rattle.inorder.proofs.Grows.{creator_grows, sound_mid}
+use Rattle.inorder.proofs.Histories.{legal_before, own-append, own_else, own_here, unit_lasts, unit_sound}
+use Rattle.inorder.proofs.Kept.{link_grows, parts}
+use Rattle.inorder.proofs.Letting.{besides_grows}
+use Rattle.inorder.proofs.Moves.{IsActed, IsLeft, at_changed, came, changed_goes, length_changed}
+use Rattle.inorder.proofs.Positions.{at_below, younger_at}
+use Rattle.inorder.proofs.QueuePlaces.{older_length}
+use Rattle.inorder.proofs.Sound.{IsSound, IsSoundAt}
+use Rattle.station.proofs.Paths.{path_more}
+use Rattle.station.proofs.Splitting.{cut_back, last_event}
+use Rattle.station.proofs.Squashing.{IsOff, off_path}
+use Rattle.front.specs.Mended.{RecoveriesLeave, up_to}
+use Rattle.front.specs.Recoveries.{squash_event}
+use Rattle.front.proofs.Jumps.{no_first_half}
+
+-- The tenants up to a position
+
+up_to_is : (us : List Tenant) (p : ℕ) (t : Tenant) → at us p ≡ Some t → up_to us p ≡ t ∷ older us p
+up_to_is [] p t h = absurd (cc)
+up_to_is (u ∷ us) p t h = go (eqb p (length us)) refl (up_to_is us p t)
+  where
+    go : (b : Bool) → eqb p (length us) ≡ b → (at us p ≡ Some t → up_to us p ≡ t ∷ older us p) → up_to (u ∷ us) p ≡ t ∷ older (u ∷ us) p
+    go true e more = let same : u ≡ t = cc (rw e at h) in rw e (ap (λ x. x ∷ us) same)
+    go false e more = rw e (more (rw e at h))
+
+-- one that is younger than these is not among them
+up_to_before : (ys ts : List Tenant) (p : ℕ) (z : Tenant) → p < length ts → up_to (ys ++ z ∷ ts) p ≡ up_to ts p
+up_to_before [] ts p z less = ap (λ b. cond b (z ∷ ts) (up_to ts p)) (eqb_less p (length ts) less)
+up_to_before (y ∷ ys) ts p z less =
+    let n = length-append ys (z ∷ ts) in
+    ap (λ b. cond b (y ∷ (ys ++ z ∷ ts)) (up_to (ys ++ z ∷ ts) p)) (eqb_less p (length (ys ++ z ∷ ts)) (omega (arith, n, less)))
+    ∙ up_to_before ys ts p z less
+
+-- another is, wherever these end
+record EndsSo (ys ts : List Tenant) (p : ℕ) : Type 0 where
+  pub front : List Tenant
+  pub is : (z : Tenant) → up_to (ys ++ z ∷ ts) p ≡ front ++ z ∷ ts
+
+up_to_behind : (ys ts : List Tenant) (p : ℕ) → length ts ≤ p → p ≤ length ys + length ts → EndsSo ys ts p
+up_to_behind [] ts p least most = record { front = []; is = λ z. ap (λ b. cond b (z ∷ ts) (up_to ts p)) (eq-eqb p (length ts) (omega (arith, least, most))) }
+up_to_behind (y ∷ ys) ts p least most = dite (ℕ_discrete p (length ys + suc (length ts)))
+    (λ e. record {
+      front = y ∷ ys;
+      is = λ z. ap (λ b. cond b (y ∷ (ys ++ z ∷ ts)) (up_to (ys ++ z ∷ ts) p)) (eq-eqb p (length (ys ++ z ∷ ts)) (wide z e));
+    })
+    (λ ne. let m = up_to_behind ys ts p least (omega (arith, most, ne)) in record {
+      front = m.front;
+      is = λ z. ap (λ b. cond b (y ∷ (ys ++ z ∷ ts)) (up_to (ys ++ z ∷ ts) p)) (ne_eqb p (length (ys ++ z ∷ ts)) (λ e. ne (narrow z e)))
+          ∙ m.is z;
+    })
+  where
+    wide : (z : Tenant) → p ≡ length ys + suc (length ts) → p ≡ length (ys ++ z ∷ ts)
+    wide z e = let n = length-append ys (z ∷ ts) in omega (arith, n, e)
+
+    narrow : (z : Tenant) → p ≡ length (ys ++ z ∷ ts) → p ≡ length ys + suc (length ts)
+    narrow z e = let n = length-append ys (z ∷ ts) in omega (arith, n, e)
+
+-- Their creators stay, as long as the last of them is live
+
+stays_on_path : (P : Program) (by : ℕ) (act : Act) (ys : List Tenant) (t : Tenant) (ts : List Tenant) → act ≢ Squash → May P by act ys t ts → IsSoundAt P ts t →
+    on_path (changed P by act t ts) ≡ on_path t
+stays_on_path P by (Link k) ys t ts other m ok = (link_grows P ts t k).path
+stays_on_path P by (Deliver k) ys t ts other m ok = (besides_grows P by (Deliver k) ys t ts tt m ok).path
+stays_on_path P by Claim ys t ts other m ok = (besides_grows P by Claim ys t ts tt m ok).path
+stays_on_path P by Finish ys t ts other m ok = (besides_grows P by Finish ys t ts tt m ok).path
+stays_on_path P by Load ys t ts other m ok = (besides_grows P by Load ys t ts tt m ok).path
+stays_on_path P by (Retire n) ys t ts other m ok = (besides_grows P by (Retire n) ys t ts tt m ok).path
+stays_on_path P by Squash ys t ts other m ok = absurd (other refl)
+stays_on_path P by Mend ys t ts other m ok = ap (λ (f : Fate). on_path (mended_as t f)) m.fate
+
+abbrev IsLiveAt : UpdateUnit → ℕ → Type 0
+IsLiveAt V p = Has V p (λ t. t.standing ≡ Live)
+
+module _ (P : Program) (C : Sizes) (p : ℕ) where
+  -- none up to a live tenant is squashed, since the youngest is
+  none_squashed : (V : UpdateUnit) (by q : ℕ) → MayAct P V.tenants by q Squash → q ≤ p → IsLiveAt V p → IsLiveAt (applied P C V by (On q Squash)) p → ⊥
+  none_squashed V by q a le was now =
+      let ts = V.tenants in
+      ⊎_elim
+      (λ (z : IsActed P ts by q Squash a.tenant p was.tenant).
+      let same : squashed a.tenant ≡ now.tenant = same_Some (squashed a.tenant) now.tenant (sym z.now ∙ now.is) in
+      let other : Squashed ≡ Live = ap (λ (t : Tenant). t.standing) same ∙ now.fact in absurd (cc other))
+      (λ (z : IsLeft P ts by q Squash p was.tenant).
+      let ne : p ≢ q = z.position in
+      younger_at IsNotLive ts q a.may.youngest p was.tenant (omega (arith, le, ne)) was.is was.fact)
+      (at_changed P ts by q Squash a.tenant a.is p was.tenant was.is)
+
+  creators_under : (V : UpdateUnit) (by q : ℕ) (act : Act) → MayAct P V.tenants by q act → IsSound P V.tenants → IsLiveAt V p → IsLiveAt (applied P C V by (On q act)) p → (r : ℕ) →
+      creator P (up_to (applied P C V by (On q act)).tenants p) r ≡ creator P (up_to V.tenants p) r
+  creators_under V by q act a ok was now r =
+      let us = V.tenants in
+      let t = a.tenant in
+      let ts = older us q in
+      let ys = younger us q in
+      let t' = changed P by act t ts in
+      let split : us ≡ ys ++ t ∷ ts = split_at us q t a.is in
+      let put : change_at P us by q act (at us q) ≡ ys ++ t' ∷ ts = parts P us by q act t a.is in
+      let long : length ts ≡ q = older_length us q t a.is in
+      let parted = length-append ys (t ∷ ts) in
+      let all = ap (λ (z : List Tenant). length z) split in
+      let own = sound_mid P t ts ys (subst (IsSound P) split ok) in
+      let move = changed_goes P by q act ys t ts a.may own in
+      ap (λ (z : List Tenant). creator P (up_to z p) r) put
+      ∙ (⊎_elim
+      (λ less. ap (λ (z : List Tenant). creator P z r) (up_to_before ys ts p t' (omega (arith, less, long)) ∙ sym (up_to_before ys ts p t (omega (arith, less, long)))))
+      (λ le.
+      let below = at_below us p was.tenant was.is in
+      let e = up_to_behind ys ts p (omega (arith, le, long)) (omega (arith, below, all, parted)) in
+      let other : act ≢ Squash = λ is. none_squashed V by q (subst (MayAct P us by q) is a) le was (subst (λ (z : Act). IsLiveAt (applied P C V by (On q z)) p) is now) in
+      ap (λ (z : List Tenant). creator P z r) (e.is t')
+      ∙ (creator_grows P t t' ts e.front r move.index move.half (stays_on_path P by act ys t ts other a.may own)
+      ∙ ap (λ (z : List Tenant). creator P z r) (sym (e.is t))))
+      (cases_lt p q)
+      ∙ ap (λ (z : List Tenant). creator P (up_to z p) r) (sym split))
+
+  -- the tenants up to p are those that the unit had
+  record StillSo (U V : UpdateUnit) (r : ℕ) : Type 0 where
+    pub there : p < length V.tenants
+    pub creator_is : IsLiveAt V p → creator P (up_to V.tenants p) r ≡ creator P (up_to U.tenants p) r
+
+  still_so : (U V : UpdateUnit) (r by : ℕ) (s : Step) → Allowed P C V by s → IsSound P V.tenants → StillSo U V r → StillSo U (applied P C V by s) r
+  still_so U V r by (Let index predicted first second) a ok k =
+      let n = new_tenant P C V index predicted first second in
+      let more = eqb_less p (length V.tenants) k.there in
+      record {
+        there = let l = k.there in omega (arith, l);
+        creator_is = λ h. ap (λ b. creator P (cond b (n ∷ V.tenants) (up_to V.tenants p)) r) more
+            ∙ k.creator_is (record { tenant = h.tenant; is = sym (ap (λ b. cond b (Some n) (at V.tenants p)) more) ∙ h.is; fact = h.fact });
+      }
+  still_so U V r by Renew a ok k = record {
+    there = k.there;
+    creator_is = λ h. k.creator_is (record { tenant = h.tenant; is = h.is; fact = h.fact });
+  }
+  still_so U V r by (On q act) a ok k = record {
+    there = subst (λ n. p < n) (sym (length_changed P V.tenants by q act a.tenant a.is)) k.there;
+    creator_is = λ h.
+        let b = came P C V by q act a ok p h.tenant h.is in
+        let was : IsLiveAt V p = record { tenant = b.tenant; is = b.is; fact = b.goes.live h.fact } in
+        creators_under V by q act a ok was h r ∙ k.creator_is was;
+  }
+
+  same_up_to : (more old : List Entry) → IsLegal P C (more ++ old) → p < length (unit_of P C old).tenants → IsLiveAt (unit_of P C (more ++ old)) p → (r : ℕ) →
+      creator P (up_to (unit_of P C (more ++ old)).tenants p) r ≡ creator P (up_to (unit_of P C old).tenants p) r
+  same_up_to more old legal there live r =
+      let U : UpdateUnit = unit_of P C old in
+      (unit_lasts P C (λ (V : UpdateUnit). StillSo U V r) (λ V by s a ok k. still_so U V r by s a ok k) more old legal (record { there = there; creator_is = λ h. refl })).creator_is live
+
+-- The front alone lets: where it has let nobody, nobody was let
+
+abbrev IsNoLet : Event → Type 0
+IsNoLet (Does (Let index predicted first second)) = ⊥
+IsNoLet _ = Unit {0}
+
+module _ (P : Program) (C : Sizes) where
+  same_width : (h : List Entry) (by : ℕ) (x : Event) → MayAdd P C h by x → IsNoLet x → length (unit_of P C (entry by x ∷ h)).tenants ≡ length (unit_of P C h).tenants
+  same_width h by (Does (Let index predicted first second)) may other = absurd other
+  same_width h by (Does Renew) may other = refl
+  same_width h by (Does (On p act)) may other = length_changed P (unit_of P C h).tenants by p act may.1.tenant may.1.is
+  same_width h by (Refuses r) may other = refl
+  same_width h by (Marks k) may other = refl
+
+  others_let_none : (h : List Entry) (by : ℕ) (x : Event) → MayAdd P C h by x → by ≢ front → IsNoLet x
+  others_let_none h by (Does (Let index predicted first second)) may ne = absurd (ne may.0.0)
+  others_let_none h by (Does Renew) may ne = tt
+  others_let_none h by (Does (On p act)) may ne = tt
+  others_let_none h by (Refuses r) may ne = tt
+  others_let_none h by (Marks k) may ne = tt
+
+  nobody_let : (more old : List Entry) (es : List Event) → IsLegal P C (more ++ old) → own front more ≡ map (entry front) es → AllByRecursion IsNoLet es →
+      length (unit_of P C (more ++ old)).tenants ≡ length (unit_of P C old).tenants
+  nobody_let [] old es legal mine other = refl
+  nobody_let (e ∷ more) old es legal mine other = dite (ℕ_discrete e.by front)
+      (λ is. its es (sym (own_here front e more is) ∙ mine) other (λ xs m o. nobody_let more old xs legal.0 m o))
+      (λ ne. same_width (more ++ old) e.by e.event legal.1 (others_let_none (more ++ old) e.by e.event legal.1 ne)
+      ∙ nobody_let more old es legal.0 (sym (own_else front e more ne) ∙ mine) other)
+    where
+      nothing : {X : Type 0} (a : Entry) (us : List Entry) → a ∷ us ≡ [] → X
+      nothing a us q = absurd (cc q)
+
+      first : (a b : Entry) (us vs : List Entry) → a ∷ us ≡ b ∷ vs → a ≡ b
+      first a b us vs q = cc q
+
+      others : (a b : Entry) (us vs : List Entry) → a ∷ us ≡ b ∷ vs → us ≡ vs
+      others a b us vs q = cc q
+
+      its : (es : List Event) → e ∷ own front more ≡ map (entry front) es → AllByRecursion IsNoLet es →
+          ((xs : List Event) → own front more ≡ map (entry front) xs → AllByRecursion IsNoLet xs → length (unit_of P C (more ++ old)).tenants ≡ length (unit_of P C old).tenants) →
+          length (unit_of P C (e ∷ (more ++ old))).tenants ≡ length (unit_of P C old).tenants
+      its [] f other before = nothing e (own front more) f
+      its (x ∷ xs) f other before =
+          let same : e ≡ entry front x = first e (entry front x) (own front more) (map (entry front) xs) f in
+          let rest : own front more ≡ map (entry front) xs = others e (entry front x) (own front more) (map (entry front) xs) f in
+          same_width (more ++ old) e.by e.event legal.1 (subst IsNoLet (sym (ap (λ (z : Entry). z.event) same)) other.0) ∙ before xs rest other.1
+
+  squashes_let_none : (ps : List ℕ) → AllByRecursion IsNoLet (map squash_event ps)
+  squashes_let_none [] = tt
+  squashes_let_none (p ∷ ps) = (tt, squashes_let_none ps)
+
+-- A path that ends with a tenant behind which all have left it
+
+pc_off : (ys zs : List Tenant) → AllByRecursion IsOff ys → front_pc (ys ++ zs) ≡ front_pc zs
+pc_off [] zs h = refl
+pc_off (y ∷ ys) zs h = ap (λ b. cond b y.next (front_pc (ys ++ zs))) h.0 ∙ pc_off ys zs h.1
+
+half_off : (P : Program) (ys zs : List Tenant) → AllByRecursion IsOff ys → front_half P (ys ++ zs) ≡ front_half P zs
+half_off P [] zs h = refl
+half_off P (y ∷ ys) zs h = ap (λ b. cond b (half_after (is_first P y)) (front_half P (ys ++ zs))) h.0 ∙ half_off P ys zs h.1
+
+writer_off : (P : Program) (ys zs : List Tenant) (r : ℕ) → AllByRecursion IsOff ys → last_writer P (ys ++ zs) r ≡ last_writer P zs r
+writer_off P [] zs r h = refl
+writer_off P (y ∷ ys) zs r h =
+    ap (λ b. cond (b && eqb (destination_of P y) r) (Some (length (ys ++ zs))) (last_writer P (ys ++ zs) r)) h.0 ∙ writer_off P ys zs r h.1
+
+creator_off : (P : Program) (ys zs : List Tenant) (r : ℕ) → AllByRecursion IsOff ys → creator P (ys ++ zs) r ≡ creator P zs r
+creator_off P ys zs r h = ap (λ c. cond (can_be_written r) c None) (writer_off P ys zs r h)
+
+-- A mend, and what was before and behind it
+pub recoveries_leave : RecoveriesLeave
+recoveries_leave P C old new station squashed m =
+    let p = m.p in
+    let l = last_event P C front old new (Does (On p Mend)) (map squash_event m.squashes) m.adds in
+    let here : IsLegal P C (entry front (Does (On p Mend)) ∷ l.point) = legal_before P C l.after (entry front (Does (On p Mend)) ∷ l.point) l.legal in
+    let W : UpdateUnit = unit_of P C l.point in
+    let us = W.tenants in
+    let a : MayAct P us front p Mend = here.1.1 in
+    let t = a.tenant in
+    let ts = older us p in
+    let ys = younger us p in
+    let x = a.may.x in
+    let ok : IsSound P us = unit_sound P C l.point here.0 in
+    let split : us ≡ ys ++ t ∷ ts = split_at us p t a.is in
+    let stands = sound_mid P t ts ys (subst (IsSound P) split ok) in
+    let off : AllByRecursion IsOff ys = off_path P t ts ys a.may.live a.may.youngest (subst (IsSound P) split ok) in
+    let t' = mended t in
+    let V : UpdateUnit = unit_of P C (entry front (Does (On p Mend)) ∷ l.point) in
+    let put : V.tenants ≡ ys ++ t' ∷ ts = parts P us front p Mend t a.is in
+    let made_is : mended_as t t.fate ≡ mended_as t (Miss x) = ap (mended_as t) a.may.fate in
+    let path' : on_path t' ≡ on_path t = ap (λ (z : Tenant). on_path z) made_is in
+    let on : on_path t' ≡ true = path' ∙ ap stands_on_path a.may.live in
+    let computes = (follows_from P ts t stands.own).fate.miss x a.may.fate in
+    let whole : is_first P t' ≡ false = ap (λ (z : Tenant). is_first P z) made_is ∙ no_first_half P t x computes in
+    let pc : front_pc V.tenants ≡ x =
+    ap (λ (z : List Tenant). front_pc z) put
+    ∙ (pc_off ys (t' ∷ ts) off
+    ∙ (ap (λ b. cond b t'.next (front_pc ts)) on ∙ ap (λ (z : Tenant). z.next) made_is)) in
+    let half : front_half P V.tenants ≡ Low =
+    ap (λ (z : List Tenant). front_half P z) put
+    ∙ (half_off P ys (t' ∷ ts) off
+    ∙ (ap (λ b. cond b (half_after (is_first P t')) (front_half P ts)) on ∙ ap half_after whole)) in
+    let live : IsLiveAt W p = record { tenant = t; is = a.is; fact = a.may.live } in
+    let after = path_more P C l.after (entry front (Does (On p Mend)) ∷ l.point) l.legal l.none in
+    let more = l.before.begins.more in
+    let is : l.point ≡ more ++ old = l.before.begins.is in
+    let es = map squash_event m.squashes in
+    let mine : own front more ++ own front old ≡ map (entry front) es ++ own front old = sym (own-append front more old) ∙ (ap (own front) (sym is) ∙ l.before.mine) in
+    let wide = nobody_let P C more old es (subst (IsLegal P C) is here.0) (cut_back (own front more) (map (entry front) es) (own front old) mine) (squashes_let_none P C m.squashes) in
+    record {
+      next = x;
+      point = l.point;
+      since = l.before.begins;
+      until = record { more = l.after ++ entry front (Does (On p Mend)) ∷ []; is = l.is ∙ sym (append_assoc l.after (entry front (Does (On p Mend)) ∷ []) l.point) };
+      miss = record { tenant = t; is = a.is; fact = record { live = a.may.live; fate = a.may.fate } };
+      pc = ap (λ (h : List Entry). front_pc (unit_of P C h).tenants) l.is ∙ (after.pc ∙ pc);
+      half = ap (λ (h : List Entry). front_half P (unit_of P C h).tenants) l.is ∙ (after.half ∙ half);
+      creators = λ r.
+          ap (λ (h : List Entry). creator P (unit_of P C h).tenants r) l.is
+          ∙ (after.creators r
+          ∙ (ap (λ (z : List Tenant). creator P z r) put
+          ∙ (creator_off P ys (t' ∷ ts) r off
+          ∙ (creator_grows P t t' ts [] r (ap (λ (z : Tenant). z.index) made_is) (ap (λ (z : Tenant). z.half) made_is) path'
+          ∙ (ap (λ (z : List Tenant). creator P z r) (sym (up_to_is us p t a.is))
+          ∙ (ap (λ (h : List Entry). creator P (up_to (unit_of P C h).tenants p) r) is
+          ∙ same_up_to P C p more old (subst (IsLegal P C) is here.0) (subst (λ n. p < n) (ap (λ (h : List Entry). length (unit_of P C h).tenants) is ∙ wide) (at_below us p t a.is)) (subst (λ (h : List Entry). IsLiveAt (unit_of P C h) p) is live) r))))));
+    }
