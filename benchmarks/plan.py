@@ -13,7 +13,7 @@ UNKNOWN = 60
 # A program is built twice in the gate. To keep a proof costs more, in the crates above too, which load it; where one was kept before,
 # only what has changed is proved. A check begins with so many seconds of one processor, and each further job has a share more to do.
 PROGRAM, KEEPING, KEPT = 0.55, 1.3, 0.25
-BEGINNING, FURTHER = 12, 0.17
+BEGINNING, FURTHER = 20, 0.17
 
 # What a proof takes at most with one job, and each further job.
 MEMORY, MORE = 1_600_000_000, 900_000_000
@@ -137,9 +137,15 @@ class Plan:
             begun.append(name)
         return begun
 
-    def rate(self):
-        """How fast each crate is, where it would be as planned with enough processors for all."""
-        return min(1, self.lanes / max(sum(it.use() for it in self.running.values()), 1))
+    def rates(self):
+        """How fast each crate is, where it would be as planned with enough processors for all. They have like shares of the processors,
+        whatever their jobs, since each is at work in a session of its own; what one leaves of its share is for the others."""
+        free, rates = self.lanes, {}
+        for name, it in sorted(self.running.items(), key=lambda it: it[1].use()):
+            has = min(it.use(), free / (len(self.running) - len(rates)))
+            rates[name] = has / it.use()
+            free -= has
+        return rates
 
     def foreseen(self):
         """How many seconds it takes from now on, if all goes as planned."""
@@ -147,9 +153,10 @@ class Plan:
         plan.waiting, plan.running = [*self.waiting], {name: copy.copy(it) for name, it in self.running.items()}
         while plan.waiting or plan.running:
             plan.start()
-            first = min(it.rest for it in plan.running.values())
-            seconds += first / plan.rate()
-            for it in plan.running.values():
-                it.rest -= first
+            rates = plan.rates()
+            first = min(it.rest / rates[name] for name, it in plan.running.items())
+            seconds += first
+            for name, it in plan.running.items():
+                it.rest -= first * rates[name]
             plan.running = {name: it for name, it in plan.running.items() if it.rest > 0.001}
         return seconds
