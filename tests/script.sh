@@ -133,6 +133,8 @@ viewer check examples/sum.s --alone
 viewer check examples/sum.s examples/double.s
 viewer run examples/sum.s --chart --foo
 viewer run examples/sum.s --chart --trace
+viewer run examples/sum.s --chart
+viewer run --trace sum.log examples/sum.s
 driver drive
 driver drive examples/sum.s --units 3
 driver drive examples/sum.s --first-tags 3

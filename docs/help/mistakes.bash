@@ -1,6 +1,7 @@
 # Tells a mistake in the words of a command before anything is built for it, as the programs tell it (tests/script.sh compares
 # them), and ends the script with status 3. A mistake that shows only in a program, as a number out of its range, is not told here.
 # The script `ruu` reads this file, after it has chosen a program. The options of a command are those of its help in this folder.
+# shellcheck disable=SC2154
 
 # Sets `alike` to how alike two words are, in millionths: the measure of Jaro, by which `clap` finds what was meant.
 jaro() { # word, word
@@ -155,6 +156,8 @@ bad_words() { # command, words
     [ -z "$waits" ] || mistaken "a value is required for '--$waits${values[$waits]}' but none was supplied" ''
     [[ " ${met[*]} " == *' FILE '* ]] \
         || mistaken $'the following required arguments were not provided:\n  <FILE>' "$(usage "$command" "${met[@]}" FILE)"
+    [[ " ${met[*]} " != *@( chart | trace )* || " ${met[*]} " == *' alone '* ]] \
+        || mistaken '--chart and --trace need --alone' '' 'ruu run --help'
 }
 
 [ $# -gt 0 ] || [ "$name" = listing ] || no_command
