@@ -1,5 +1,5 @@
 -- Some that meet the seat that has seen all, one after another.
-use Rattle.std.proofs.Common.{List, Option, refl, ◌∙◌}
+use Rattle.std.proofs.Common.{List, Option, ◌∙◌}
 use Rattle.inorder.specs.History.{StartsWith}
 use Rattle.back.specs.Backs.{IsSameBack, TheBack}
 use Rattle.drive.specs.declared.parties.Party.{Party}
@@ -7,13 +7,7 @@ use Rattle.drive.specs.declared.parties.Party.TheVariants.{Back, Front, Unit}
 use Rattle.drive.specs.declared.units.Worker.{Worker}
 use Rattle.drive.specs.Sessions.{HasToldAll, TwoHaveMet, StaysAsSeen, TheSession, seen_by}
 use Rattle.drive.specs.Workers.{StaySeen, seen_at}
-use Rattle.drive.proofs.Histories.{starts_on, starts_same}
-
-pub same_units : (units : List (Option Worker)) → StaySeen units units
-same_units units = record { keeps = λ at. starts_same (seen_at units at); jobs = λ at. refl }
-
-pub same_back : (b : TheBack) → IsSameBack b b
-same_back b = record { core = refl; by = refl; ended = refl; shown = refl; state = refl }
+use Rattle.drive.proofs.Histories.{starts_on}
 
 module _ (old new : TheSession) where
   pub stays : StartsWith new.fronts old.fronts → StartsWith new.commits.seen old.commits.seen → StaySeen old.units new.units → IsSameBack old.commits new.commits → StaysAsSeen old new

@@ -11,7 +11,7 @@ use Rattle.back.specs.Backs.{TheBack, back_of, committed_in, back_state}
 use Rattle.back.specs.Stills.{TheStillBack, still_of}
 use Rattle.station.specs.Renewals.{IsNotRenewed, IsRenewed, Seats}
 use Rattle.station.specs.Seats.{Caller, TheCore}
-use Rattle.drive.specs.Renewals.{AreAt, HasBegunAgain, HasStayed}
+use Rattle.drive.specs.Renewals.{HasBegunAgain, HasStayed}
 
 -- How many tenants there are, by what a seat has seen
 abbrev pub tenants_in : Caller → ℕ
@@ -29,23 +29,9 @@ module _ (seat : Caller) (commits entered : TheBack) (still : TheStillBack) (lef
   is_state : back_state entered ≡ back_state commits
   is_state = same ∙ ap (λ (s : TheStillBack). committed_in s.core s.seen) left
 
-  is_core : entered.core ≡ seat.core
-  is_core = ap (λ (b : TheBack). b.core) enters
-
-  is_by : entered.by ≡ seat.by
-  is_by = ap (λ (b : TheBack). b.by) enters
-
 -- With another core
 module _ (core now : TheCore) (old new : Seats) (r : IsRenewed core old now new) (commits entered : TheBack) (still : TheStillBack) (left : still ≡ still_of commits)
     (enters : entered ≡ back_of new.back None still.shown) (same : back_state entered ≡ committed_in still.core still.seen) where
-  pub renewed_at : (front_core : TheCore) → front_core ≡ new.front.core → AreAt now new.unit front_core entered
-  renewed_at front_core is = record {
-    all_core = ap (λ (s : Caller). s.core) r.first.unit_is;
-    front_is = is ∙ ap (λ (s : Caller). s.core) r.first.front_is;
-    back_core = is_core new.back commits entered still left enters same ∙ ap (λ (s : Caller). s.core) r.first.back_is;
-    back_by = is_by new.back commits entered still left enters same ∙ ap (λ (s : Caller). s.by) r.first.back_is;
-  }
-
   pub begun : (told : ℕ) → told ≡ tenants_in new.front → HasBegunAgain core now old.unit.seen new.unit.seen commits entered told
   begun told is = record {
     kind = record { program = r.program; sizes = r.sizes };
@@ -62,15 +48,6 @@ module _ (core now : TheCore) (old new : Seats) (r : IsRenewed core old now new)
 -- With the old one
 module _ (core now : TheCore) (old new : Seats) (r : IsNotRenewed core old now new) (commits entered : TheBack) (still : TheStillBack) (left : still ≡ still_of commits)
     (enters : entered ≡ back_of new.back None still.shown) (same : back_state entered ≡ committed_in still.core still.seen) where
-  pub stayed_at : (front_core : TheCore) → front_core ≡ new.front.core → old.front.core ≡ core →
-      old.back.core ≡ core → old.unit.core ≡ core → old.back.by ≡ back → AreAt now new.unit front_core entered
-  stayed_at front_core is of_front of_back of_unit by = record {
-    all_core = r.met.unit.same.core ∙ (of_unit ∙ sym r.core_is);
-    front_is = is ∙ (r.met.front.same.core ∙ (of_front ∙ sym r.core_is));
-    back_core = is_core new.back commits entered still left enters same ∙ (r.met.back.same.core ∙ (of_back ∙ sym r.core_is));
-    back_by = is_by new.back commits entered still left enters same ∙ (r.met.back.same.by ∙ by);
-  }
-
   pub stayed : HasStayed core now old.unit.seen new.unit.seen commits entered
   stayed = record {
     core_is = r.core_is;
@@ -88,6 +65,3 @@ module _ (core now : TheCore) (seen new_seen : List Entry) (commits new_commits 
         (record { more = entry front (Does Renew) ∷ h.begins.more; is = ap (λ xs. entry front (Does Renew) ∷ xs) h.begins.is });
     legal = subst (λ (z : Program × Sizes). IsLegal z.0 z.1 new_seen) (λ i. (h.kind.program i, h.kind.sizes i)) legal;
   }
-
-  pub stayed_grows : HasStayed core now seen new_seen commits new_commits → GrowsLegally core seen new_seen
-  stayed_grows h = record { begins = h.begins; legal = subst (λ (z : TheCore). IsLegal z.program z.sizes new_seen) h.core_is legal }

@@ -3,19 +3,11 @@ use Rattle.std.proofs.Common.{◌≡◌, ◌<◌, ℕ, ◌+◌, suc, List, [], �
 use Rattle.std.specs.Io.BufRead.{DropsThrough, take_through}
 use Rattle.std.specs.Io.KnownBytes.{Appends}
 use Rattle.std.proofs.KnownBytes.{Appends-trans}
-use Rattle.std.proofs.lemmas.List.{append-nil}
 use Rattle.drive.specs.declared.script.Fault.{Fault}
 use Rattle.drive.specs.declared.script.Fault.TheVariants.{Write}
-use Rattle.drive.specs.Scripts.{AreTold, HasBroken, HasDriven, HasTold, LineIsCut, NothingWasLeft, LineIsTold, ReadsScript, line_of}
+use Rattle.drive.specs.Scripts.{AreTold, HasBroken, HasDriven, LineIsCut, NothingWasLeft, LineIsTold, ReadsScript, line_of}
 use Rattle.drive.specs.Sessions.{TheSession}
 use Rattle.drive.specs.Transcripts.{IsToldOfLine}
-
-appends_nothing : (known : Option (List ℕ)) → Appends known known []
-appends_nothing None = tt
-appends_nothing (Some xs) = sym (append-nil xs)
-
-pub none_told : (from : Option (List ℕ)) (s : TheSession) (out : Option (List ℕ)) → AreTold from from s s out out 0
-none_told from s out = record { chunks = []; count_is = refl; text = []; read = refl; told = (refl, refl); written = appends_nothing out }
 
 length_lines : (chunks : List (List ℕ)) → length (map line_of chunks) ≡ length chunks
 length_lines [] = refl
@@ -59,9 +51,6 @@ cut_short from to a b number out new chunk text bytes read told same part =
 pub on_err : {T Q : Type 0} (r : Result T Fault) → Q → IfErr r (λ fault. fault ≡ Write → Q)
 on_err (Ok x) q = tt
 on_err (Err fault) q = λ is. q
-
-pub some_told : (from mid : Option (List ℕ)) (a b : TheSession) (out more : Option (List ℕ)) (count : ℕ) → AreTold from mid a b out more count → HasTold from a out more
-some_told from mid a b out more count all = record { to = mid; new = b; count = count; all = all }
 
 pub broken : (from mid : Option (List ℕ)) (a b : TheSession) (out more new : Option (List ℕ)) (count : ℕ) →
     AreTold from mid a b out more count → LineIsCut mid b (count + 1) more new → HasBroken from a out new

@@ -1,7 +1,7 @@
 -- The units of a session, one of which is taken and put back.
-use Rattle.std.proofs.Common.{◌≡◌, ◌≢◌, ◌⊎◌, ◌<◌, ◌≤◌, ◌+◌, ⊎_elim, arith, ℕ, zero, suc, List, [], ◌∷◌, ◌++◌}
+use Rattle.std.proofs.Common.{◌≡◌, ◌≢◌, ◌⊎◌, ◌<◌, ◌+◌, ℕ, zero, suc, List, [], ◌∷◌, ◌++◌}
 use Rattle.std.proofs.Common.{Option, Some, None, length, get_or, set, inl, inr, refl, sym, ap, ◌∙◌, subst, get_or-set_same, get_or-set_other, length-set}
-use Rattle.std.proofs.lemmas.Bool.{cases_eq, cases_lt}
+use Rattle.std.proofs.lemmas.Bool.{cases_eq}
 use Rattle.std.proofs.lemmas.List.{append-nil, get_or_default}
 use Rattle.inorder.specs.declared.history.Entry.{Entry}
 use Rattle.inorder.specs.History.{StartsWith}
@@ -114,20 +114,3 @@ push_none [] zero e = refl
 push_none [] (suc k) e = refl
 push_none (x ∷ xs) zero e = e
 push_none (x ∷ xs) (suc k) e = push_none xs k e
-
--- Where all before one were forgotten, and it is forgotten
-pub forgot : (xs : List (Option Worker)) (at : ℕ) → at < length xs → ((k : ℕ) → k < at → worker_at xs k ≡ None) → (k : ℕ) → k < at + 1 → worker_at (set xs at None) k ≡ None
-forgot xs at within so_far k less = go (cases_eq k at)
-  where
-    go : (k ≡ at) ⊎ (k ≢ at) → worker_at (set xs at None) k ≡ None
-    go (inl e) = ap (λ n. get_or (set xs at None) n None) e ∙ get_or-set_same xs at None None within
-    go (inr ne) = get_or-set_other xs at k None None ne ∙ so_far k (omega (arith, less, ne))
-
-behind_all : (xs : List (Option Worker)) (k : ℕ) → length xs ≤ k → worker_at xs k ≡ None
-behind_all [] zero le = refl
-behind_all [] (suc k) le = refl
-behind_all (x ∷ xs) zero le = absurd (omega (arith, le))
-behind_all (x ∷ xs) (suc k) le = behind_all xs k (omega (arith, le))
-
-pub all_forgotten : (xs : List (Option Worker)) → ((k : ℕ) → k < length xs → worker_at xs k ≡ None) → HasNone xs
-all_forgotten xs f k = ⊎_elim (λ less. f k less) (λ le. behind_all xs k le) (cases_lt k (length xs))

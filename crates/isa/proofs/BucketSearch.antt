@@ -15,14 +15,6 @@ pub record IsOther (es : List Entry) (tags numbers : List ℕ) (name : List ℕ)
   pub taken : IsTaken tags k
   pub other : slice_index tags k ≡ hash_tag (hash_of name) → name_at es (slice_index numbers k) ≢ name
 
--- buckets of other names, and one more
-pub others_more : (es : List Entry) (tags numbers name : List ℕ) (first k : ℕ) → ((j : ℕ) → first ≤ j → j < k → IsOther es tags numbers name j)
-    → IsOther es tags numbers name k → (j : ℕ) → first ≤ j → j < k + 1 → IsOther es tags numbers name j
-others_more es tags numbers name first k others one j low lt = elim (cases_lt j k) [
-  | inl less ↦ others j low less
-  | inr le ↦ let same : k ≡ j = omega (arith, le, lt) in subst (IsOther es tags numbers name) same one
-]
-
 -- no entry has the name
 pub not_found : (es : List Entry) (name : List ℕ) → ((i : ℕ) → i < length es → name_at es i ≢ name) → found es name ≡ None
 not_found [] name h = refl
@@ -70,11 +62,6 @@ module _ (es : List Entry) (tags numbers : List ℕ) (crowded : BTreeMap (Bor (L
       | inl noted ↦ let le = noted_behind k others i noted is in absurd (omega (arith, end, le, noted.run.high))
       | inr crowd ↦ let bad : Some i ≡ None = sym crowd.is ∙ none in absurd cc
     ])
-
-  pub known_noted : (k : ℕ) → IsTaken tags k → name_at es (slice_index numbers k) ≡ name
-      → found es name ≡ Some (label_entry es (slice_index numbers k)).address
-  known_noted k taken is =
-      subst (λ (q : List ℕ). found es q ≡ Some (label_entry es (slice_index numbers k)).address) is (index.single _ (index.taken k taken))
 
   pub known_crowded : (i : ℕ) → crowded_at crowded name ≡ Some i → (i < length es) × (found es name ≡ Some (label_entry es i).address)
   known_crowded i is =

@@ -19,13 +19,6 @@ pub record BytesSoFar (old now : List ℕ) (rest all : List (List ℕ)) : Type 0
   pub grown : now ≡ old ++ bytes
   pub whole : after_bytes bytes (words rest) ≡ words all
 
-pub bytes_start : (old : List ℕ) (all : List (List ℕ)) → BytesSoFar old old all all
-bytes_start old all = record { bytes = []; grown = sym (append-nil old); whole = whole (words all) }
-  where
-    whole : (r : Result (List ℕ) FaultKind) → after_bytes [] r ≡ r
-    whole (Ok bytes) = refl
-    whole (Err e) = refl
-
 abbrev given : List ℕ → Result (List ℕ) FaultKind
 given bytes = Ok bytes
 

@@ -10,9 +10,6 @@ use Rattle.isa.specs.Held.{name_of, rows}
 
 -- ---- rows
 
-pub row_of : Instr → Target → ℕ × Parsed
-row_of i t = (t.line, record { instr = i; label = name_of t })
-
 pub rows_length : (is : List Instr) (ts : List Target) → length is ≡ length ts → length (rows is ts) ≡ length is
 rows_length [] ts e = refl
 rows_length (i ∷ is) [] e = absurd (omega (arith, e))
@@ -40,10 +37,6 @@ pub front_push : (front : List Instr) (i : Instr) (r : Result (List Instr) (ℕ 
     → with_front (front ++ i ∷ []) r ≡ with_front front (before_others (Ok i) r)
 front_push front i (Ok is) = ap given (append_assoc front (i ∷ []) is)
 front_push front i (Err f) = refl
-
-pub front_start : (r : Result (List Instr) (ℕ × FaultKind)) → with_front [] r ≡ r
-front_start (Ok is) = refl
-front_start (Err f) = refl
 
 module _ (pairs : List (List ℕ × ℕ)) (front code : List Instr) (ts : List Target) (n : ℕ) (all : Result (List Instr) (ℕ × FaultKind))
     (so_far : with_front front (resolved pairs (rows (drop n code) (drop n ts))) ≡ all) where

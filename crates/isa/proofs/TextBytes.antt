@@ -130,9 +130,6 @@ pub part_of : (xs : List ℕ) → IsPart xs → Of inner xs
 part_of [] h = absurd h
 part_of (x ∷ xs) h = h
 
-pub part_from : (x : ℕ) (xs : List ℕ) → Of inner (x ∷ xs) → IsPart (x ∷ xs)
-part_from x xs h = h
-
 pub part_starts : (xs : List ℕ) → IsPart xs → Starts xs
 part_starts [] h = absurd h
 part_starts (x ∷ xs) h = inner_no_blank x h.0

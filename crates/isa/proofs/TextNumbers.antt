@@ -168,9 +168,6 @@ signed_bytes n h = elim h [
       (refl, of_other digit signed_byte digit_signed _ (decimal_digits (below_zero n) (omega arith)))
 ]
 
-signed_inner : (b : ℕ) → signed_byte b ≡ true → inner b ≡ true
-signed_inner b h = grind (arith, nat_tests)
-
 pub signed_part : (n : ℕ) → IsSignedHalf n → IsPart (signed_text n)
 signed_part n h = elim h [
   | inl low ↦ rw (signed_positive n low) (decimal_part n (omega arith))

@@ -1,11 +1,8 @@
 -- The text of an instruction as it is written: its word, and each operand behind its separator.
-use Rattle.std.proofs.Common.{◌≡◌, ℕ, zero, suc, ◌+◌, ◌<◌, List, [], ◌∷◌, ◌++◌, length, get_or, take, map, false, sym, ap, append_assoc, append-nil, arith}
+use Rattle.std.proofs.Common.{◌≡◌, ℕ, zero, suc, ◌+◌, ◌<◌, List, [], ◌∷◌, ◌++◌, length, get_or, take, map, sym, ap, append_assoc, append-nil, arith}
 use Rattle.std.specs.List.{join_with_byte}
-use Rattle.instructions.specs.declared.instr.Instr.{Instr}
 use Rattle.isa.specs.declared.listing.form.Slot.{Slot}
-use Rattle.isa.specs.declared.listing.instr_text.Naming.{Naming}
-use Rattle.isa.specs.Wording.{operation_word, slots_of}
-use Rattle.isa.specs.InstrText.{operand_text, with_operands_text, separator, separated_text, is_nop, text_of}
+use Rattle.isa.specs.InstrText.{with_operands_text, separator, separated_text}
 
 -- ---- one operand more
 
@@ -30,7 +27,3 @@ joined at p (q ∷ qs) = ap (λ (t : List ℕ). p ++ 44 ∷ t) (joined (suc at) 
 written : (word : List ℕ) (ps : List (List ℕ)) → with_operands_text word ps ≡ word ++ separated_text 0 ps
 written word [] = sym (append-nil word)
 written word (p ∷ ps) = ap (λ (t : List ℕ). word ++ 32 ∷ t) (joined 0 p ps)
-
-pub text_written : (naming : Naming) (i : Instr) → is_nop i ≡ false
-    → text_of naming i ≡ operation_word i.op ++ separated_text 0 (map (λ s. operand_text naming s i) (slots_of i.op))
-text_written naming i other = rw other (written (operation_word i.op) (map (λ s. operand_text naming s i) (slots_of i.op)))
