@@ -1,5 +1,5 @@
 -- Where all seats of a core are in one hand, nobody else steps between their meetings.
-use Rattle.std.proofs.Common.{◌≡◌, ◌≢◌, ℕ, List, [], length, refl, sym, ap, ◌∙◌, subst, ⊎_elim, arith}
+use Rattle.std.proofs.Common.{◌≡◌, ◌≢◌, ℕ, List, length, refl, sym, ap, ◌∙◌, subst, ⊎_elim, arith}
 use mathlib.Core.Logic.{dite}
 use native.Mathlib.Decide.{ℕ_discrete}
 use Rattle.inorder.specs.declared.history.Entry.{Entry}
@@ -51,9 +51,10 @@ module _ (core : TheCore) (r s t z : Seats) (o : Caller) (all : AreAll core s) (
         let same = ap (λ l. length l) e in
         same_between n x y v on (starts_on y o.seen v to above) (omega arith)
 
-    none : (n : ℕ) (v : List Entry) → StartsWith v o.seen → own n v ≡ [] → own n y ≡ own n x
+    none : (n : ℕ) (v : List Entry) → StartsWith v o.seen → own n v ≡ own n core.opening → own n y ≡ own n x
     none n v above e =
-        let empty = ap (λ l. length l) e in
+        let few = at_least n core.opening x (starts_on core.opening s.one.seen x all.one_opened from) in
+        let same = ap (λ l. length l) e in
         same_between n x y v on (starts_on y o.seen v to above) (omega arith)
 
     by_front : own front y ≡ own front x

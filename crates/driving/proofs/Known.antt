@@ -12,7 +12,7 @@ use Rattle.station.specs.Seats.{Caller, TheCore}
 use Rattle.driving.specs.declared.seats.Seats.{Seats}
 use Rattle.driving.specs.Done.{GoesOnAlone, HaveDone}
 use Rattle.driving.specs.Hands.{AreAll, HaveMetTwice, HasHeardMore}
-use Rattle.driving.proofs.Histories.{own-append, same_between, starts_on, starts_same}
+use Rattle.driving.proofs.Histories.{at_least, own-append, same_between, starts_on, starts_same}
 use Rattle.inorder.proofs.Histories.{none_from, own_else, own_here}
 
 -- Histories
@@ -80,8 +80,9 @@ module _ (core : TheCore) (s t u : Seats) (all : AreAll core s) (met : HaveMetTw
       let e = ap (λ l. length l) (still v w x y mv a b d ne) in
       same_between v.by old seen y.seen on (starts_on seen m.one.seen y.seen known told) (omega arith)
 
-  nobody : (n : ℕ) (v : List Entry) → StartsWith v m.one.seen → own n v ≡ [] → own n seen ≡ own n old
+  nobody : (n : ℕ) (v : List Entry) → StartsWith v m.one.seen → own n v ≡ own n core.opening → own n seen ≡ own n old
   nobody n v told none =
+      let few = at_least n core.opening old done.opened in
       let e = ap (λ l. length l) none in
       same_between n old seen v on (starts_on seen m.one.seen v known told) (omega arith)
 
@@ -151,6 +152,7 @@ module _ (core : TheCore) (s t u : Seats) (all : AreAll core s) (met : HaveMetTw
 
   pub done_then : HaveDone core u seen
   done_then = record {
+    opened = starts_on core.opening old seen done.opened on;
     front = since s.front t.front m.front u.front move.front met.first.front met.second.front done.front met.second.to_front;
     back = since s.back t.back m.back u.back move.back met.first.back met.second.back done.back met.second.to_back;
     one = since s.one t.one m.one u.one move.one met.first.one met.second.one done.one met.second.one.adds.begins;

@@ -1,4 +1,5 @@
 pub mod Histories
+pub mod Same
 pub mod Gathered
 pub mod Made
 pub mod Alone

@@ -6,6 +6,7 @@ use Rattle.instructions.specs.Programs.{Program, address, instr_of}
 use Rattle.instructions.specs.Settings.{Settings}
 use Rattle.instructions.specs.declared.op.Half.TheVariants.{Low}
 use Rattle.inorder.specs.declared.history.Entry.{Entry}
+use Rattle.inorder.specs.History.{StartsWith}
 use Rattle.inorder.specs.OneHistory.{Adds}
 use Rattle.inorder.specs.Replies.{last_tag}
 use Rattle.inorder.specs.Unit.{Sizes}
@@ -28,6 +29,7 @@ second_of_two predicted tag = record { index = 1; half = Low; predicted = predic
 -- at a new core nothing was done
 pub nothing_done : (P : Program) (config : Settings) (core : TheCore) (s : Seats) → AreNew P config core s → HaveDone core s []
 nothing_done P config core s new = record {
+  opened = subst (λ h. StartsWith h core.opening) new.front_seen new.all.front_opened;
   front = none s.front.by s.front.seen new.front_seen;
   back = none s.back.by s.back.seen new.back_seen;
   one = none s.one.by s.one.seen new.one_seen;

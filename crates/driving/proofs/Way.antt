@@ -161,9 +161,10 @@ module _ (core : TheCore) where
               let few = at_least s.other.by s.other.seen before knows.other in
               same_between s.other.by before m.one.seen z.other.seen heard (starts_on m.one.seen o.seen z.other.seen on end.to_other) (omega arith)
 
-          none : (v : List Entry) → StartsWith v o.seen → own i v ≡ [] → own i m.one.seen ≡ own i before
+          none : (v : List Entry) → StartsWith v o.seen → own i v ≡ own i core.opening → own i m.one.seen ≡ own i before
           none v above e =
-              let empty = ap (λ l. length l) e in
+              let few = at_least i core.opening before all.front_opened in
+              let same = ap (λ l. length l) e in
               same_between i before m.one.seen v heard (starts_on m.one.seen o.seen v on above) (omega arith)
 
     -- the claim is a job, with the fields of this tenant

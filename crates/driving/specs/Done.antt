@@ -2,7 +2,7 @@
 use Rattle.std.specs.Prelude.{◌≡◌, ◌≢◌, ℕ, List, [], ◌∷◌}
 use Rattle.inorder.specs.declared.history.Entry.{Entry}
 use Rattle.inorder.specs.declared.history.Source.{Source}
-use Rattle.inorder.specs.History.{front, own, unit_of}
+use Rattle.inorder.specs.History.{StartsWith, front, own, unit_of}
 use Rattle.inorder.specs.OneHistory.{Adds}
 use Rattle.inorder.specs.Unit.{UpdateUnit, next_tag, recent}
 use Rattle.ruu_words.specs.Kinds.{IsTenant}
@@ -19,8 +19,10 @@ use Rattle.station.specs.Seats.{TheCore}
 use Rattle.station.specs.Writeback.{FinishAnswers}
 use Rattle.driving.specs.declared.seats.Seats.{Seats}
 
--- This is all that was done: each caller has seen it, and has done nothing since
+-- This is all that was done, behind that with which the core opened: each caller has seen it, and has
+-- done nothing since
 pub record HaveDone (core : TheCore) (s : Seats) (all : List Entry) : Type 0 where
+  pub opened : StartsWith all core.opening
   pub front : Adds core.program core.sizes s.front.by all s.front.seen []
   pub back : Adds core.program core.sizes s.back.by all s.back.seen []
   pub one : Adds core.program core.sizes s.one.by all s.one.seen []

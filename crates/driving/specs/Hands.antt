@@ -5,6 +5,7 @@ use Rattle.instructions.specs.Settings.{Settings}
 use Rattle.inorder.specs.History.{IsUnit, StartsWith, back, front, own}
 use Rattle.inorder.specs.OneHistory.{Adds}
 use Rattle.ruu_words.specs.Views.{IsHeir}
+use Rattle.station.specs.Paths.{IsTakenOver, unit_in}
 use Rattle.station.specs.Seats.{Caller, TheCore}
 use Rattle.driving.specs.declared.seats.Seats.{Seats}
 
@@ -13,9 +14,11 @@ abbrev pub IsUnits : Seats → ℕ → Type 0
 IsUnits s n =
     (n ≡ s.one.by) ⊎ ((n ≡ s.other.by) ⊎ (IsHeir s.one.heirs n ⊎ IsHeir s.other.heirs n))
 
--- They are of this core, which goes on from no other, the units are two, and there is no third
+-- They are of this core, the front and the first unit have seen with what it opened, the units are two,
+-- and there is no third
 pub record AreAll (core : TheCore) (s : Seats) : Type 0 where
-  pub opening : core.opening ≡ []
+  pub front_opened : StartsWith s.front.seen core.opening
+  pub one_opened : StartsWith s.one.seen core.opening
   pub front_core : s.front.core ≡ core
   pub back_core : s.back.core ≡ core
   pub one_core : s.one.core ≡ core
@@ -63,9 +66,9 @@ pub record HaveHeard (core : TheCore) (s t : Seats) : Type 0 where
   pub to_front : StartsWith t.front.seen s.one.seen
   pub to_back : StartsWith t.back.seen s.one.seen
   pub to_other : StartsWith t.other.seen s.one.seen
-  -- in all of it there is no entry of a unit that has no seat
-  pub no_more_of_one : (n : ℕ) → IsHeir t.one.heirs n → own n t.one.seen ≡ []
-  pub no_more_of_other : (n : ℕ) → IsHeir t.other.heirs n → own n t.other.seen ≡ []
+  -- in all of it there is no entry of a unit that has no seat, behind those with which the core opened
+  pub no_more_of_one : (n : ℕ) → IsHeir t.one.heirs n → own n t.one.seen ≡ own n core.opening
+  pub no_more_of_other : (n : ℕ) → IsHeir t.other.heirs n → own n t.other.seen ≡ own n core.opening
 
 -- They have met twice: what anybody knew after the first time, each knows after the second
 pub record HaveMetTwice (core : TheCore) (s u : Seats) : Type 0 where
@@ -73,3 +76,12 @@ pub record HaveMetTwice (core : TheCore) (s u : Seats) : Type 0 where
   pub all : AreAll core once
   pub first : HaveHeard core s once
   pub second : HaveHeard core once u
+
+-- They are the seats of a renewed core, which is for the program of the old one, and of its sizes. The
+-- path goes on where the front had left it, at station 0 with the first tag
+pub record AreRenewed (old : TheCore) (before : Seats) (core : TheCore) (s : Seats) : Type 0 where
+  pub program : core.program ≡ old.program
+  pub sizes : core.sizes ≡ old.sizes
+  pub all : AreAll core s
+  pub knows : KnowsUnits s
+  pub path : IsTakenOver old core (unit_in old before.front) (unit_in core s.front)

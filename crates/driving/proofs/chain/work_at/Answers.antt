@@ -3,6 +3,7 @@ use Rattle.instructions.specs.Operations.{outcome_of as outcome_of_half}
 use Rattle.instructions.specs.Programs.{Program, instr_of}
 use Rattle.station.specs.declared.answers.Claim.TheVariants.{Job as Claimed, NotOpen}
 use Rattle.station.specs.Writeback.{job_outcome}
+use Rattle.driving.specs.Done.{HoldsNext}
 use Rattle.driving.proofs.WorkedOut.{is_job, works_out}
 use Rattle.driving.proofs.chain.work_at.Goals as goal
 
@@ -50,3 +51,14 @@ returns-clause-done c =
     works_out core c.claim_next-answer.new.seats c.finish_next.new.seats c.args.seats.now.one.by c.requires.all.one_by c.args.station job
     c.outcome_of-outcome.result outcome all claimed c.in-Job.ensures.by
     c.finish_next.result (c.finish_next.ensures.done claimed.all claimed.done) c.a_ready_tenant_is_claimed.ensures
+
+pub finish_next-requires-clause-job : goal.finish_next-requires-clause-job
+finish_next-requires-clause-job c =
+    let core = c.args.core.now in
+    let ready = c.requires.ready in
+    let claimed = c.in-Job.ensures.done ready.all ready.done in
+    record {
+      all = claimed.all;
+      done = claimed.done;
+      fact = subst (λ n. HoldsNext core n c.in-Job.job claimed.all) (sym c.in-Job.ensures.by) claimed.reply.holds;
+    }

@@ -1,10 +1,12 @@
-use Rattle.std.proofs.Common.{◌≡◌, ◌<◌, length, sym, ap, ◌∙◌, subst}
+use Rattle.std.proofs.Common.{◌≡◌, ◌<◌, length, refl, sym, ap, ◌∙◌, subst}
 use Rattle.instructions.specs.Operations.{outcome_of as outcome_of_half}
 use Rattle.instructions.specs.Programs.{Program, instr_of}
 use Rattle.inorder.specs.History.{unit_of}
 use Rattle.inorder.specs.Unit.{front_pc}
 use Rattle.station.specs.declared.answers.Claim.TheVariants.{Job as Claimed, NotOpen}
 use Rattle.station.specs.Writeback.{job_outcome}
+use Rattle.driving.proofs.Begins.{claim_begins, finish_begins}
+use Rattle.driving.proofs.Same.{on, same_all, stays}
 use Rattle.driving.proofs.Way.{comes_to, finishes, has_its_fields, is_right, its_job}
 use Rattle.driving.proofs.drive.work.Goals as goal
 
@@ -74,3 +76,30 @@ returns-clause-worked c =
           c.gather-2.new.seats c.gather-2.ensures.met c.finish.new.seat c.finish.ensures.heirs c.finish.result c.finish.ensures.reply
           c.gather-in-Job.new.seats c.gather-in-Job.ensures.met tag c.outcome_of-outcome.result (fields.tag_is ∙ sym c.let_out-tag.ensures.reply) outcome done;
     }
+
+pub gather-requires : goal.gather-requires
+gather-requires c =
+    let s = c.args.seats.now in
+    same_all c.args.core.now s (record s { front = c.let_out-tag.new.seat }) c.requires.all
+    (on s.front c.let_out-tag.new.seat c.let_out-tag.ensures.kept c.let_out-tag.ensures.history.begins)
+    (stays s.back) (stays s.one) (stays s.other) refl refl
+
+pub gather-requires-2 : goal.gather-requires-2
+gather-requires-2 c =
+    let core = c.args.core.now in
+    let s = c.gather.new.seats in
+    let r = c.claim-answer in
+    same_all core s (record s { one = r.new.seat }) c.gather.ensures.all
+    (stays s.front) (stays s.back)
+    (on s.one r.new.seat r.ensures.kept (claim_begins core.program core.sizes s.one.by s.one.seen r.new.seat.seen c.args.station r.result r.ensures.reply))
+    (stays s.other) r.ensures.heirs refl
+
+pub gather-requires-in-Job : goal.gather-requires-in-Job
+gather-requires-in-Job c =
+    let core = c.args.core.now in
+    let s = c.gather-2.new.seats in
+    let r = c.finish in
+    same_all core s (record s { one = r.new.seat }) c.gather-2.ensures.all
+    (stays s.front) (stays s.back)
+    (on s.one r.new.seat r.ensures.kept (finish_begins core.program core.sizes s.one.by s.one.seen r.new.seat.seen c.in-Job.job r.result r.ensures.reply))
+    (stays s.other) r.ensures.heirs refl

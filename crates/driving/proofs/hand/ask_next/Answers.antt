@@ -1,8 +1,9 @@
-use Rattle.std.proofs.Common.{[], subst}
+use Rattle.std.proofs.Common.{[], subst, refl}
 use Rattle.inorder.specs.OneHistory.{Adds}
 use Rattle.station.specs.Asking.{AskAnswers}
 use Rattle.driving.specs.Done.{IsAskedNext}
 use Rattle.driving.proofs.Known.{front_goes_on}
+use Rattle.driving.proofs.Same.{on, same_all, stays}
 use Rattle.driving.proofs.hand.ask_next.Goals as goal
 
 pub ask-answer-requires-clause-may : goal.ask-answer-requires-clause-may
@@ -23,3 +24,10 @@ returns-clause-done c =
     let reply = subst (λ n. AskAnswers core.program core.sizes n s.front.seen f.seen c.args.station c.args.tag c.args.k c.args.from.0 c.args.from.1 answer) c.requires.all.front_by asks.reply in
     front_goes_on core s c.gather_twice.new.seats c.requires.all f asks.kept.by asks.reply.adds.begins c.gather_twice.ensures.met
     (IsAskedNext core c.args.station c.args.tag c.args.k c.args.from answer) reply
+
+pub gather_twice-requires : goal.gather_twice-requires
+gather_twice-requires c =
+    let s = c.args.seats.now in
+    let f = c.ask-answer.new.seat in
+    same_all c.args.core.now s (record s { front = f }) c.requires.all (on s.front f c.ask-answer.ensures.kept c.ask-answer.ensures.reply.adds.begins)
+    (stays s.back) (stays s.one) (stays s.other) refl refl

@@ -1,6 +1,8 @@
+use Rattle.std.proofs.Common.{refl}
 use Rattle.driving.specs.Done.{IsClaimedNext}
 use Rattle.driving.proofs.Known.{unit_goes_on}
 use Rattle.driving.proofs.Begins.{claim_begins}
+use Rattle.driving.proofs.Same.{on, same_all, stays}
 use Rattle.driving.proofs.hand.claim_next.Goals as goal
 
 pub returns-clause-done : goal.returns-clause-done
@@ -12,3 +14,12 @@ returns-clause-done c =
     let begins = claim_begins core.program core.sizes s.one.by s.one.seen o.seen c.args.station c.claim-answer.result claim.reply in
     unit_goes_on core s c.gather_twice.new.seats c.requires.all o claim.kept.by claim.heirs begins c.gather_twice.ensures.met
     (IsClaimedNext core s.one.by c.args.station c.claim-answer.result) claim.reply
+
+pub gather_twice-requires : goal.gather_twice-requires
+gather_twice-requires c =
+    let core = c.args.core.now in
+    let s = c.args.seats.now in
+    let r = c.claim-answer in
+    same_all core s (record s { one = r.new.seat }) c.requires.all (stays s.front) (stays s.back)
+    (on s.one r.new.seat r.ensures.kept (claim_begins core.program core.sizes s.one.by s.one.seen r.new.seat.seen c.args.station r.result r.ensures.reply))
+    (stays s.other) r.ensures.heirs refl

@@ -1,6 +1,8 @@
+use Rattle.std.proofs.Common.{refl}
 use Rattle.driving.specs.Done.{IsFinishedNext}
 use Rattle.driving.proofs.Known.{unit_goes_on}
 use Rattle.driving.proofs.Begins.{finish_begins}
+use Rattle.driving.proofs.Same.{on, same_all, stays}
 use Rattle.driving.proofs.hand.finish_next.Goals as goal
 
 pub returns-clause-done : goal.returns-clause-done
@@ -12,3 +14,12 @@ returns-clause-done c =
     let begins = finish_begins core.program core.sizes s.one.by s.one.seen o.seen c.args.job c.finish-answer.result finish.reply in
     unit_goes_on core s c.gather_twice.new.seats c.requires.all o finish.kept.by finish.heirs begins c.gather_twice.ensures.met
     (IsFinishedNext core s.one.by c.args.job c.finish-answer.result) finish.reply
+
+pub gather_twice-requires : goal.gather_twice-requires
+gather_twice-requires c =
+    let core = c.args.core.now in
+    let s = c.args.seats.now in
+    let r = c.finish-answer in
+    same_all core s (record s { one = r.new.seat }) c.requires.all (stays s.front) (stays s.back)
+    (on s.one r.new.seat r.ensures.kept (finish_begins core.program core.sizes s.one.by s.one.seen r.new.seat.seen c.args.job r.result r.ensures.reply))
+    (stays s.other) r.ensures.heirs refl

@@ -1,8 +1,9 @@
-use Rattle.std.proofs.Common.{[], ◌∷◌, subst}
+use Rattle.std.proofs.Common.{[], ◌∷◌, subst, refl}
 use Rattle.inorder.specs.OneHistory.{Adds}
 use Rattle.station.specs.Letting.{let_of}
 use Rattle.driving.specs.Done.{IsLetNext}
 use Rattle.driving.proofs.Known.{front_goes_on}
+use Rattle.driving.proofs.Same.{on, same_all, stays}
 use Rattle.driving.proofs.hand.let_next.Goals as goal
 
 pub let_out-tag-requires-clause-may : goal.let_out-tag-requires-clause-may
@@ -22,3 +23,10 @@ returns-clause-done c =
     let adds = subst (λ n. Adds core.program core.sizes n s.front.seen f.seen (let_of c.args.tenant ∷ [])) c.requires.all.front_by lets.history in
     front_goes_on core s c.gather_twice.new.seats c.requires.all f lets.kept.by lets.history.begins c.gather_twice.ensures.met
     (IsLetNext core c.args.tenant c.let_out-tag.result) (record { adds = adds; tag_is = lets.reply })
+
+pub gather_twice-requires : goal.gather_twice-requires
+gather_twice-requires c =
+    let s = c.args.seats.now in
+    let f = c.let_out-tag.new.seat in
+    same_all c.args.core.now s (record s { front = f }) c.requires.all (on s.front f c.let_out-tag.ensures.kept c.let_out-tag.ensures.history.begins)
+    (stays s.back) (stays s.one) (stays s.other) refl refl

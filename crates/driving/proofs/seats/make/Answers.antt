@@ -1,5 +1,6 @@
-use Rattle.std.proofs.Common.{◌≡◌, sym, ap, ◌∙◌, subst, arith}
-use Rattle.inorder.specs.History.{IsUnit, own}
+use Rattle.std.proofs.Common.{◌≡◌, List, [], sym, ap, ◌∙◌, subst, arith}
+use Rattle.inorder.specs.declared.history.Entry.{Entry}
+use Rattle.inorder.specs.History.{IsUnit, StartsWith, own}
 use Rattle.ruu_words.specs.declared.rule.Heirs.{Heirs}
 use Rattle.ruu_words.specs.Views.{half, other_half}
 use Rattle.station.specs.Making.{first_unit, other_units}
@@ -7,6 +8,9 @@ use Rattle.station.specs.Seats.{Caller}
 use Rattle.driving.specs.declared.seats.Seats.{Seats}
 use Rattle.driving.proofs.Made.{no_third}
 use Rattle.driving.proofs.seats.make.Goals as goal
+
+opened : {h o : List Entry} → h ≡ [] → o ≡ [] → StartsWith h o
+opened e f = record { more = []; is = e ∙ sym f }
 
 pub returns : goal.returns
 returns c =
@@ -23,7 +27,8 @@ returns c =
       program = m.program;
       sizes = m.sizes;
       all = record {
-        opening = m.opening;
+        front_opened = opened m.front_is.seen m.opening;
+        one_opened = opened (ap (λ (v : Caller). v.seen) s.first ∙ m.unit_is.seen) m.opening;
         front_core = m.front_is.core_is;
         back_core = m.back_is.core_is;
         one_core = ap (λ (v : Caller). v.core) s.first ∙ m.unit_is.core_is;

@@ -1,0 +1,49 @@
+-- The same seats, of which some have seen more.
+use Rattle.std.proofs.Common.{◌≡◌, ◌⊎◌, refl, sym, ◌∙◌, subst, inl, inr, ⊎_elim}
+use Rattle.inorder.specs.History.{IsUnit, StartsWith}
+use Rattle.ruu_words.specs.declared.rule.Heirs.{Heirs}
+use Rattle.ruu_words.specs.Views.{IsHeir}
+use Rattle.station.specs.Seats.{Caller, IsSameSeat, TheCore}
+use Rattle.driving.specs.declared.seats.Seats.{Seats}
+use Rattle.driving.specs.Hands.{AreAll}
+use Rattle.driving.proofs.Histories.{starts_on, starts_same}
+
+pub record GoesOn (v w : Caller) : Type 0 where
+  pub core : w.core ≡ v.core
+  pub by : w.by ≡ v.by
+  pub begins : StartsWith w.seen v.seen
+
+pub on : (v w : Caller) → IsSameSeat v w → StartsWith w.seen v.seen → GoesOn v w
+on v w same begins = record { core = same.core; by = same.by; begins = begins }
+
+pub stays : (v : Caller) → GoesOn v v
+stays v = record { core = refl; by = refl; begins = starts_same v.seen }
+
+pub then : (u v w : Caller) → GoesOn u v → GoesOn v w → GoesOn u w
+then u v w a b = record { core = b.core ∙ a.core; by = b.by ∙ a.by; begins = starts_on u.seen v.seen w.seen a.begins b.begins }
+
+pub same_all : (core : TheCore) (s t : Seats) → AreAll core s → GoesOn s.front t.front → GoesOn s.back t.back → GoesOn s.one t.one → GoesOn s.other t.other
+    → t.one.heirs ≡ s.one.heirs → t.other.heirs ≡ s.other.heirs → AreAll core t
+same_all core s t all f b o e one other = record {
+  front_opened = starts_on core.opening s.front.seen t.front.seen all.front_opened f.begins;
+  one_opened = starts_on core.opening s.one.seen t.one.seen all.one_opened o.begins;
+  front_core = f.core ∙ all.front_core;
+  back_core = b.core ∙ all.back_core;
+  one_core = o.core ∙ all.one_core;
+  other_core = e.core ∙ all.other_core;
+  front_by = f.by ∙ all.front_by;
+  back_by = b.by ∙ all.back_by;
+  one_by = subst IsUnit (sym o.by) all.one_by;
+  other_by = subst IsUnit (sym e.by) all.other_by;
+  two = λ z. all.two (sym e.by ∙ (z ∙ o.by));
+  no_third = λ n unit. ⊎_elim
+      (λ z. inl (z ∙ sym o.by))
+      (λ rest. inr (⊎_elim
+      (λ z. inl (z ∙ sym e.by))
+      (λ heirs. inr (⊎_elim
+      (λ h. inl (subst (λ (k : Heirs). IsHeir k n) (sym one) h))
+      (λ h. inr (subst (λ (k : Heirs). IsHeir k n) (sym other) h))
+      heirs))
+      rest))
+      (all.no_third n unit);
+}
