@@ -1,5 +1,5 @@
--- The same seats, of which some have seen more.
-use Rattle.std.proofs.Common.{◌≡◌, ◌⊎◌, refl, sym, ◌∙◌, subst, inl, inr, ⊎_elim}
+-- Seats in one hand, of which some have seen more.
+use Rattle.std.proofs.Common.{◌≡◌, refl, sym, ◌∙◌, subst, inl, inr, ⊎_elim}
 use Rattle.inorder.specs.History.{IsUnit, StartsWith}
 use Rattle.ruu_words.specs.declared.rule.Heirs.{Heirs}
 use Rattle.ruu_words.specs.Views.{IsHeir}

@@ -14,8 +14,8 @@ abbrev pub IsUnits : Seats → ℕ → Type 0
 IsUnits s n =
     (n ≡ s.one.by) ⊎ ((n ≡ s.other.by) ⊎ (IsHeir s.one.heirs n ⊎ IsHeir s.other.heirs n))
 
--- They are of this core, the front and the first unit have seen with what it opened, the units are two,
--- and there is no third
+-- They are of this core, whose opening the front and the first unit have seen; the units are two, and
+-- there is no third
 pub record AreAll (core : TheCore) (s : Seats) : Type 0 where
   pub front_opened : StartsWith s.front.seen core.opening
   pub one_opened : StartsWith s.one.seen core.opening
