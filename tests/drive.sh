@@ -88,10 +88,10 @@ done
 echo 'each program names the one that answers what it does not'
 
 # each allocation is refused in turn: the refusal is named behind a beginning of the answers, or a snapshot was not
-# shown, or all is told as before
-for name in relet snapshot; do
+# shown or the core not renewed, or all is told as before
+for name in relet snapshot renewed renewed_twice; do
   words_of "examples/drive/$name.txt"
-  n=0 refused=0
+  n=0 refused=0 kept=0
   while :; do
     n=$((n + 1))
     run_under "examples/drive/$name.txt" REFUSED=$n "$ruu" drive "${words[@]}"
@@ -103,9 +103,15 @@ for name in relet snapshot; do
       refused=$((refused + 1))
     elif ! grep -qx Memory "$work/out"; then
       [ "$status" -eq 0 ] && cmp -s "$work/out" "examples/drive/$name.told" || fail "$name, allocation $n refused: status $status"
+    elif [ $name = renewed_twice ]; then
+      # all have gone on at the old core, which the other renewal replaces
+      [ "$status" -eq 0 ] && sed 's/^Memory$/Renewed/' "$work/out" | cmp -s - "examples/drive/$name.told" \
+        || fail "$name, allocation $n refused: the answers behind a refused renewal differ"
+      kept=$((kept + 1))
     fi
   done
   [ $refused -gt 0 ] || fail "$name: no refusal was told of, of $((n - 1))"
+  [ $name != renewed_twice ] || [ $kept -gt 1 ] || fail "$name: $kept refused renewals"
   echo "$name: each of $((n - 1)) allocations was refused in turn, $refused told"
 done
 

@@ -1,6 +1,7 @@
 #!/usr/bin/env bash
 # Each stored executable gives its stored listing, byte for byte, and each listing its stored report, on one thread and
-# on several. A file that is none, and one that is not there, are refused.
+# on several. A file that is none, and one that is not there, are refused; so are small executables that are made here,
+# each with its reason, and others that are made here give their listings.
 . "$(dirname "$0")/common.bash"
 build run listing
 build run ruu
@@ -32,3 +33,4 @@ refused 2 'no ELF file' examples/c/primes.c
 refused 5 'No such file' "$work/none.elf"
 refused 3 'Usage'
 echo "what is refused: cut, no ELF file, not there, no FILE"
+python3 tests/executables.py "$work/made.elf" || fail 'an executable that is made here'

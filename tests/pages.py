@@ -187,6 +187,27 @@ def check_places(page):
     return count
 
 
+def check_rows(page):
+    """Each home of a row is a file, has what stands in parentheses behind it, and beside it what it is compared with."""
+    rows = re.findall(r"^\| (?!row \|)([^|]+) \| (`.*`\)?) \|$", prose(page), re.M)
+    for row, homes in rows:
+        for at, names in re.findall(r"`([^`]+/[^`]+)`(?: \(((?:`[^`]+`(?:, )?)+)\))?", homes):
+            beside = re.sub(r"^(examples/drive/.*)\.txt$|^(tests/listings/check/.*)\.s$", r"\1\2.told", at)
+            if not os.path.isfile(at) or not os.path.isfile(beside):
+                wrong(page, f"no file {beside if os.path.isfile(at) else at}")
+                continue
+            with open(at, encoding="utf-8") as it:
+                text = it.read()
+            for name in re.findall(r"`([^`]+)`", names):
+                if (f"fn {name}(" if at.endswith(".rt") else name) not in text:
+                    wrong(page, f"no {name} in {at}")
+    with open(page, encoding="utf-8") as it:
+        lines = [line for line in it if line.startswith("| ") and line.strip() != "| row | where it is run |"]
+    if len(rows) != len(lines):
+        wrong(page, f"{len(lines) - len(rows)} rows have no home that is a file")
+    return len(rows)
+
+
 def forms():
     """The forms of the page on listings, each with operands that it allows, and with a number past its range."""
     with open("docs/LISTING.md", encoding="utf-8") as it:
@@ -268,6 +289,8 @@ def main():
                 ran += check_forms(room)
             if page == "docs/DECISIONS.md":
                 looked += check_places(page)
+            if page == "docs/ROWS.md":
+                looked += check_rows(page)
         looked += check_links(page) + check_spans(page, known) + check_rooms(page, names)
     check_kit()
     check_picture()

@@ -1,7 +1,7 @@
 #!/usr/bin/env bash
-# Refuses each allocation of tests of single calls in turn, until none is left to refuse: a core, a renewal, a commit
-# side, a snapshot that is shown, a run that is told, and one on threads that renews. What is refused is tried again in
-# these tests, so that each run has to end well, and to hold no block at its end.
+# Refuses each allocation of tests of whole runs in turn, until none is left to refuse: a run that is told, and one on
+# threads that renews. What is refused is tried again in these tests, so that each run has to end well, and to hold no
+# block at its end. (A core, a renewal, a commit side and a snapshot that is shown are refused memory by tests/drive.sh.)
 . "$(dirname "$0")/common.bash"
 build_refuse
 
@@ -17,9 +17,6 @@ while read -r crate name; do
   [ $n -gt 1 ] || fail "$crate, $name: no allocation was refused"
   echo "$crate, $name: each of $((n - 1)) allocations was refused in turn"
 done <<'END_OF_TESTS'
-rows want_of_memory::a_core_that_is_refused_memory_is_made_at_the_next_try
-rows want_of_memory::a_renewal_that_is_refused_memory_is_made_at_the_next_try
-rows snapshots_of_commits::what_is_refused_memory_is_done_at_the_next_try
 runs told::memory::a_run_that_is_refused_memory_is_told_at_the_next_try
 runs threads::renewals::a_run_that_is_refused_memory_renews_at_the_next_try
 END_OF_TESTS

@@ -1,0 +1,1 @@
+# No instruction at all.

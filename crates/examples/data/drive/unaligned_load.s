@@ -1,0 +1,2 @@
+# A load from an address that its width does not divide.
+        lw    $1,2($0)

@@ -1,0 +1,15 @@
+//! An instruction as text that no listing has.
+use crate::same::same;
+use instructions::{Instr, Op, Reg};
+use isa::{InstrText, Naming};
+use std::test::Fail;
+
+#[test]
+fn registers_that_a_listing_cannot_name_have_their_numbers(rt: HostRuntime) -> Result<(), Fail> {
+    let instr = Instr::new(Op::Addu, Reg::LO, Reg::HI, Reg::ZERO, 0);
+    let naming = Naming::Names;
+    let text = InstrText { naming, instr };
+    let text = format!(in rt.alloc(); "{text}")?;
+    same(&rt, &text.as_str(), &"addu $32,$33,$zero");
+    Ok(())
+}
