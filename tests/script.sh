@@ -145,6 +145,11 @@ END
 mistake ruu ''
 mistake ruu run ''  ''
 mistake ruu run 'a b' 'c d'
+for words in 'prove ruu' '--unproved prove'; do
+  # shellcheck disable=SC2086
+  answer $words
+  [ $status -eq 3 ] && [ "$(cat "$work/err")" = "error: 'prove' stands alone" ] || fail "ruu $words: status $status"
+done
 [ $count -gt 30 ] || fail "only $count mistakes"
 echo "$count mistakes are told where nothing is built, as the programs tell them"
 
