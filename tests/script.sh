@@ -139,6 +139,24 @@ driver drive
 driver drive examples/sum.s --units 3
 driver drive examples/sum.s --first-tags 3
 driver drive examples/sum.s --quiet-promp
+ruu run examples/sum.s --units 0
+ruu run examples/sum.s --units 65 --limit x
+ruu run examples/sum.s --units 3.0
+ruu run examples/sum.s --lsq-size=33
+ruu run examples/sum.s --turns 0
+ruu run examples/sum.s --limit 4294967296
+ruu run examples/sum.s --limit 99999999999999999999999
+ruu run examples/sum.s --bpred often
+ruu run examples/sum.s --bpred or
+ruu run examples/sum.s --ruu-size 7
+ruu run examples/sum.s --ruu-size foo
+ruu run examples/sum.s --ruu-size 18446744073709551616
+viewer run examples/sum.s --trace examples/sum.s --alone
+viewer run examples/sum.s --chart --ruu-size 3
+driver drive -
+driver drive examples/sum.s --first-tag 268435455
+driver drive examples/sum.s --ruu-size 3
+driver drive examples/sum.s --ruu-size 33
 listing listing
 listing listing examples/sum.s examples/double.s
 END
@@ -150,8 +168,17 @@ for words in 'prove ruu' '--unproved prove'; do
   answer $words
   [ $status -eq 3 ] && [ "$(cat "$work/err")" = "error: 'prove' stands alone" ] || fail "ruu $words: status $status"
 done
-[ $count -gt 30 ] || fail "only $count mistakes"
+[ $count -gt 60 ] || fail "only $count mistakes"
 echo "$count mistakes are told where nothing is built, as the programs tell them"
+
+# words without a mistake: then the kit is looked for
+for words in 'run -' 'run a.s --units 64 --lsq-size 2 --turns 4294967295 --limit +0' 'run -- -a' 'run a.s --bpred=taken --ruu-size 032' \
+  'run a.s --alone --chart --trace b.log --progress' 'check -' 'drive a.s --first-tag 268435454 --ruu-size 2 --quiet-prompt' 'listing a.elf'; do
+  # shellcheck disable=SC2086
+  answer $words
+  [ $status -eq 70 ] || fail "ruu $words: status $status"
+done
+echo 'nothing else is a mistake'
 
 # in a tenth of a second: the least of five
 least() { # words

@@ -1,6 +1,6 @@
 # Tells a mistake in the words of a command before anything is built for it, as the programs tell it (tests/script.sh compares
-# them), and ends the script with status 3. A mistake that shows only in a program, as a number out of its range, is not told here.
-# The script `ruu` reads this file, after it has chosen a program. The options of a command are those of its help in this folder.
+# them), and ends the script with status 3. The script `ruu` reads this file, after it has chosen a program. The options of a
+# command, and what they take, are those of its help in this folder.
 # shellcheck disable=SC2154
 
 # Sets `alike` to how alike two words are, in millionths: the measure of Jaro, by which `clap` finds what was meant.
@@ -45,14 +45,15 @@ mistaken() { # what is wrong, the usage or nothing, how the help is had
     exit 3
 }
 
-# Sets `names` and `values` of the options of a command.
+# Sets `names`, `values` and `takes` of the options of a command: what stands for the value, as ` <N>`, and what values there are.
 read_options() { # command
-    local name value
+    local name value text
     names=(help) values=([help]='')
-    while IFS=' ' read -r name value; do
+    while IFS=$'\t' read -r name value text; do
         names+=("$name")
-        values[$name]=${value:+ $value}
-    done < <(sed -nE 's/^ +--([a-z-]+)( <[A-Z]+>)?.*/\1\2/p' "$help/$1.txt")
+        values[$name]=${value%-} takes[$name]=
+        [[ $text != *': '* ]] || takes[$name]=${text#*: }
+    done < <(sed -nE 's/^ +--([a-z-]+)( <[A-Z]+>)? +([^[]*[^[ ])?.*/\1\t\2-\t\3/p' "$help/$1.txt")
 }
 
 # Prints the usage of a command with these of its options, or with the word OPTIONS.
@@ -68,8 +69,8 @@ usage() { # command, options and FILE that were met
 
 # An option before the command, which has none there but --help and --version; it may be one of the command behind it.
 bad_first_option() { # its name, the words behind it
-    local found names word tip=
-    local -A values
+    local found names word
+    local -A values takes
     find_alike "$1" help version
     [ ${#found[@]} -eq 0 ] \
         || mistaken "unexpected argument '--$1' found"$'\n\n'"  tip: a similar argument exists: '--${found[-1]}'" "ruu --${found[-1]}"
@@ -123,10 +124,62 @@ bad_option() { # command, its name, options and FILE that were met
     mistaken "unexpected argument '--$2' found"$'\n\n'"  tip: $tip" "$(usage "$1" "${met[@]}")"
 }
 
+# Whether a value is a number of this range, of which neither end has more than 20 digits.
+is_within() { # value, least, most
+    local value=${1#+} least most=00000000000000000000$3
+    [[ $value =~ ^[0-9]+$ ]] || return 1
+    value=${value#"${value%%[!0]*}"} least=00000000000000000000$2
+    [ ${#value} -le 20 ] || return 1
+    value=00000000000000000000$value
+    [[ ! ${value: -20} < ${least: -20} && ! ${value: -20} > ${most: -20} ]]
+}
+
+# Whether a value is one of those named, as in `2, 4 or 8`.
+is_listed() { # value, names
+    local it list=${2//,/}
+    for it in ${list/ or / }; do
+        [ "$it" != "$1" ] || return 0
+    done
+    return 1
+}
+
+# The values of the options in `given`: a number out of its range, a word that is none of the list. Those of the ring are looked at last.
+bad_values() { # command
+    local name least most
+    [[ $1 != drive || ${given[FILE]} != - ]] || refused drive 'the commands come from standard input, and FILE cannot be -'
+    for name in "${names[@]}"; do
+        [[ $name != ruu-size && -n ${given[$name]+given} ]] || continue
+        if [[ ${takes[$name]} =~ ^([0-9]+)\ to\ ([0-9]+) ]]; then
+            least=${BASH_REMATCH[1]} most=${BASH_REMATCH[2]}
+            is_within "${given[$name]}" "$least" "$most" || refused "$1" "--$name takes a number from $least to $most"
+        elif [[ ${takes[$name]} =~ ^([a-z0-9]+, )*[a-z0-9]+\ or\ [a-z0-9]+$ ]]; then
+            is_listed "${given[$name]}" "${takes[$name]}" || refused "$1" "--$name takes ${takes[$name]}"
+        fi
+    done
+    [[ ! -v given[chart] && ! -v given[trace] ]] || [[ -v given[alone] ]] || refused run '--chart and --trace need --alone'
+    [[ ! -v given[trace] || ${given[trace]} != "${given[FILE]}" ]] || refused run '--trace names the file of the listing'
+    [[ ! -v given[ruu-size] ]] || bad_ring "$1" "${given[ruu-size]}"
+}
+
+# A ring of stations that there is not.
+bad_ring() { # command, value
+    local least=2 most=32
+    [ "$1" = drive ] || least=0 most=18446744073709551615
+    is_within "$2" $least $most || refused "$1" "--ruu-size takes a number from $least to $most"
+    ! is_listed $((10#${2#+})) "${takes[ruu-size]}" || return 0
+    [ "$1" = run ] || refused drive "--ruu-size takes ${takes[ruu-size]}"
+    echo "ruu: ruu-size must be ${takes[ruu-size]}" >&2
+    exit 3
+}
+
+refused() { # command, what is wrong
+    mistaken "$2" '' "ruu $1 --help"
+}
+
 # The words of a command in turn: an option that it has not, one with a value too many, too few or twice, a word too many, no FILE.
 bad_words() { # command, words
     local command=$1 word name waits='' ends=false met=() names
-    local -A values
+    local -A values takes given
     read_options "$command"
     for word in "${@:2}"; do
         name=${word#--} name=${name%%=*}
@@ -142,22 +195,21 @@ bad_words() { # command, words
                 elif [[ -z ${values[$name]} && $word == *=* ]]; then
                     mistaken "unexpected value '${word#*=}' for '--$name' found; no more were expected" "$(usage "$command" "${met[@]}" "$name")"
                 else
-                    met+=("$name")
+                    met+=("$name") given[$name]=${word#*=}
                 fi
                 ;;
             false-?*) mistaken "unexpected argument '${word:0:2}' found"$'\n\n'"  tip: to pass '${word:0:2}' as a value, use '-- ${word:0:2}'" "$(usage "$command")" ;;
             *)
                 [ -n "$waits" ] || waits=FILE
                 [ "$waits" != FILE ] || [[ " ${met[*]} " != *' FILE '* ]] || mistaken "unexpected argument '$word' found" "$(usage "$command")"
-                met+=("$waits") waits=
+                met+=("$waits") given[$waits]=$word waits=
                 ;;
         esac
     done
     [ -z "$waits" ] || mistaken "a value is required for '--$waits${values[$waits]}' but none was supplied" ''
     [[ " ${met[*]} " == *' FILE '* ]] \
         || mistaken $'the following required arguments were not provided:\n  <FILE>' "$(usage "$command" "${met[@]}" FILE)"
-    [[ " ${met[*]} " != *@( chart | trace )* || " ${met[*]} " == *' alone '* ]] \
-        || mistaken '--chart and --trace need --alone' '' 'ruu run --help'
+    bad_values "$command"
 }
 
 [ $# -gt 0 ] || [ "$name" = listing ] || no_command
