@@ -49,4 +49,8 @@ refused() { # the word, input, output
 refused read examples "$work/out"
 [ ! -s "$work/out" ] || fail 'something was written for what was not read'
 refused write examples/sum.s /dev/full
+"$alone" <&- > "$work/out" 2> "$work/err"
+[ $? -eq 5 ] && [ "$(cat "$work/err")" = 'ruu: read' ] && [ ! -s "$work/out" ] || fail 'a closed standard input'
+"$alone" < examples/sum.s >&- 2> "$work/err"
+[ $? -eq 5 ] && [ "$(cat "$work/err")" = 'ruu: write' ] || fail 'a closed standard output'
 echo "alone: $(wc -w <<< "$statuses") listings with their statuses and reports, and 5 where it cannot read or write"

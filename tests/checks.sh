@@ -7,6 +7,8 @@ build_refuse
 build run ruu
 build run viewer
 build run alone
+build run driver
+build run listing
 ruu=crates/ruu/out/ruu
 viewer=crates/viewer/out/viewer
 
@@ -58,6 +60,18 @@ is_told 'a folder' "$work/none" 5 'ruu: read'
 status=$?
 : > "$work/out"
 is_told 'a full device' "$work/none" 5 'ruu: write'
+"$viewer" check examples/sum.s >&- 2> "$work/err"
+status=$?
+is_told 'a closed standard output' "$work/none" 5 'ruu: write'
+"$viewer" check - <&- > "$work/out" 2> "$work/err"
+status=$?
+is_told 'a closed standard input' "$work/none" 5 'ruu: read'
+"$ruu" run examples/sum.s >&- 2> "$work/err"
+status=$?
+[ $status -eq 5 ] && [ "$(tail -n 1 "$work/err")" = 'ruu: write' ] || fail "a run to a closed standard output: status $status"
+"$ruu" run - --alone <&- > "$work/out" 2> "$work/err"
+status=$?
+is_told 'a run of a closed standard input' "$work/none" 5 'ruu: read'
 echo "$count listings are told as they should be, from files and from standard input"
 
 # each allocation of a check is refused in turn: the refusal is named and nothing is written, or all is told as before
@@ -76,6 +90,23 @@ for name in good bad_register; do
   [ $refused -gt 0 ] || fail "$name: no refusal was told of, of $((n - 1))"
   echo "$name: each of $((n - 1)) allocations was refused in turn, $refused told"
 done
+
+# each word has its help and the version
+"$ruu" --version > "$work/version" || fail 'ruu --version'
+for words in 'ruu run' 'viewer run' 'viewer check' 'driver drive' listing; do
+  read -r program word <<< "$words"
+  # shellcheck disable=SC2086
+  for option in --version -V; do
+    "crates/$program/out/$program" $word $option > "$work/out" 2> "$work/err" || fail "$words $option: status $?"
+    cmp -s "$work/out" "$work/version" && [ ! -s "$work/err" ] || fail "$words $option is told otherwise"
+  done
+  # shellcheck disable=SC2086
+  for option in --help -h; do
+    "crates/$program/out/$program" $word $option > "$work/out" 2> "$work/err" || fail "$words $option: status $?"
+    grep -q '^Usage: ruu ' "$work/out" && [ ! -s "$work/err" ] || fail "$words $option is told otherwise"
+  done
+done
+echo 'each word tells its help and the version'
 
 # a run from standard input is that of the file
 for listing in examples/*.s; do

@@ -264,6 +264,19 @@ def check_map():
             wrong("docs/MAP.md", f"{name} calls {' '.join(it for it in deps if it in uses)}")
 
 
+def check_edits():
+    """An edit that has to be refused changes code: one of a definition or a proof shows nothing of a body."""
+    count = 0
+    for crate in crates():
+        room = f"crates/{crate}/must-fail"
+        for name in os.listdir(room) if os.path.isdir(room) else []:
+            count += 1
+            with open(f"{room}/{name}", encoding="utf-8") as it:
+                if not it.readline().startswith("file: src/"):
+                    wrong("docs/CONTRIBUTING.md", f"{crate}/must-fail/{name} changes no code")
+    return count
+
+
 def check_picture():
     drawn = subprocess.run([sys.executable, "docs/picture.py"], capture_output=True, text=True, check=False).stdout
     with open("docs/unit.svg", encoding="utf-8") as it:
@@ -295,6 +308,7 @@ def main():
     check_kit()
     check_picture()
     check_map()
+    looked += check_edits()
     for it in found:
         print(it)
     if ran < 60 or looked < 40:

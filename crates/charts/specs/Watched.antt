@@ -1,15 +1,20 @@
 -- A run, turn by turn, and what is said of it.
-use Rattle.std.specs.Prelude.{⊤, ◌≡◌, ◌≤◌, length, ℕ, List, [], ◌∷◌, ◌++◌, take, Option}
+use Rattle.std.specs.Prelude.{⊤, ◌≡◌, ◌≤◌, ◌<◌, length, ℕ, List, [], ◌∷◌, ◌++◌, take, Option}
 use Rattle.std.specs.Io.KnownBytes.{Appends}
 use Rattle.devices.specs.Counted.{Gives, raised}
 use Rattle.devices.specs.declared.counted.Counted.{Counted}
 use Rattle.instructions.specs.Programs.{Program}
 use Rattle.instructions.specs.Settings.{Settings}
+use Rattle.instructions.specs.declared.end.Ending.{Ending}
+use Rattle.instructions.specs.declared.end.Ending.TheVariants.{Stop as ByStop, Limit as ByLimit}
 use Rattle.instructions.specs.declared.instr.Instr.{Instr}
+use Rattle.instructions.specs.declared.stop.Stop.{Stop}
 use Rattle.inorder.specs.Committed.{committed}
 use Rattle.inorder.specs.Machine.{State}
 use Rattle.inorder.specs.Unit.{Sizes, UpdateUnit, empty_unit}
 use Rattle.unit.specs.declared.bench.Turn.{Turn}
+use Rattle.unit.specs.declared.bench.Turn.TheVariants.{Over}
+use Rattle.unit.specs.Changes.{run_from}
 use Rattle.unit.specs.StandsFor.{StandsFor, sizes}
 use Rattle.unit.specs.Turns.{BenchFields, Does, Trains}
 use Rattle.unit.specs.Window.{window}
@@ -35,6 +40,30 @@ unit_behind (t ∷ ts) = t.unit
 abbrev pub AreTurns : Program → Sizes → List Passed → Type 0
 AreTurns P C [] = ⊤
 AreTurns P C (t ∷ ts) = AreTurns P C ts × Does P C (unit_behind ts) t.unit t.answer
+
+-- How many instructions are counted behind these turns
+abbrev pub count_behind : Program → List Passed → ℕ
+count_behind P ts = (committed P (unit_behind ts).tenants).count
+
+-- The last of these turns says that the unit has ended with this code
+abbrev pub HasEnded : List Passed → Stop → Type 0
+HasEnded [] code = ⊥
+HasEnded (t ∷ ts) code = t.answer ≡ Over code
+
+-- A further turn is due: the unit has not ended, and the count is below the limit
+pub record IsDue (P : Program) (limit : ℕ) (ts : List Passed) : Type 0 where
+  pub going : (code : Stop) → HasEnded ts code → ⊥
+  pub below : count_behind P ts < limit
+
+-- Each of these turns was due behind those before it
+abbrev pub AreDue : Program → (limit : ℕ) → List Passed → Type 0
+AreDue P limit [] = ⊤
+AreDue P limit (t ∷ ts) = AreDue P limit ts × IsDue P limit ts
+
+-- Behind these turns none is due: the unit has ended so, or its count is the limit
+abbrev pub IsOver : Program → (limit : ℕ) → List Passed → Ending → Type 0
+IsOver P limit ts (ByStop code) = HasEnded ts code
+IsOver P limit ts ByLimit = count_behind P ts ≡ limit
 
 -- What is kept of the tenants behind these turns
 abbrev pub kept_behind : Program → List Passed → SoFar
@@ -69,27 +98,43 @@ module _ {S : Type 0} (Predicts : S → ℕ → Instr → ℕ → S → Type 0) 
       × Trains Predicts Learns P (unit_behind ts) t.unit t.answer before last
 
   -- The bench stands for the unit behind some turns, and these were told
-  pub record Stood (f : Format) (P : Program) (C : Sizes) (b : BenchFields S) (k : SoFar) (first : S)
-      (start now : Option (List ℕ)) : Type 0 where
+  pub record Stood (f : Format) (P : Program) (C : Sizes) (limit : ℕ) (b : BenchFields S) (k : SoFar)
+      (first : S) (start now : Option (List ℕ)) : Type 0 where
     pub program : b.pipeline.program.now ≡ P
     pub sizes : sizes b.pipeline ≡ C
     pub turns : List Passed
     pub are : AreTurns P C turns
+    pub due : AreDue P limit turns
     pub guessed : HasGuessed P first turns b.predictor
     pub reached : IsReached P C (unit_behind turns)
     pub stands : StandsFor b.pipeline (unit_behind turns)
     pub kept : k ≡ kept_behind P turns
     pub says : Appends start now (told f P turns)
 
-  -- A run was told from its first turn to its last one: legal turns by the guesses of this predictor, which lead
-  -- to the state with which the run ends
-  pub record IsTold (f : Format) (P : Program) (C : Sizes) (first : S) (end : State)
+  -- Its unit has not ended, and its count is no more than the limit
+  pub record GoesOn (f : Format) (P : Program) (C : Sizes) (limit : ℕ) (b : BenchFields S) (k : SoFar)
+      (first : S) (start now : Option (List ℕ)) : Type 0 where
+    pub stood : Stood f P C limit b k first start now
+    pub going : (code : Stop) → HasEnded stood.turns code → ⊥
+    pub within : b.pipeline.committed.count ≤ limit
+
+  -- All turns of its run were told
+  pub record IsThrough (f : Format) (P : Program) (C : Sizes) (limit : ℕ) (b : BenchFields S) (k : SoFar)
+      (first : S) (start now : Option (List ℕ)) : Type 0 where
+    pub stood : Stood f P C limit b k first start now
+    pub over : IsOver P limit stood.turns (run_from b.pipeline limit).0
+
+  -- A run up to a limit was told from its first turn to its last one: legal turns by the guesses of this
+  -- predictor, each of which was due, until none was. They lead to how and where the run ends
+  pub record IsTold (f : Format) (P : Program) (C : Sizes) (limit : ℕ) (first : S) (end : Ending × State)
       (before after : Option (List ℕ)) : Type 0 where
     pub turns : List Passed
     pub are : AreTurns P C turns
+    pub due : AreDue P limit turns
+    pub over : IsOver P limit turns end.0
     pub last : S
     pub guessed : HasGuessed P first turns last
-    pub ends : committed P (unit_behind turns).tenants ≡ end
+    pub ends : committed P (unit_behind turns).tenants ≡ end.1
     pub says : Appends before after (text f P turns)
 
   -- Only a beginning was told of legal turns by its guesses

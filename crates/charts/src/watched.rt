@@ -58,11 +58,11 @@ pub fn watch<P: Predictor + Drop, W: Write>(
     writer: &mut Counted<W>,
 ) -> Result<End, Fault>
     requires { failures_of writer.old < 2 ^ 64 - 1 }
-    // The run ends as the in-order machine does, and what was written is told of its legal turns,
-    // which are those of this predictor's guesses.
+    // The run ends as the in-order machine does, and what was written is told of all its turns, which
+    // are legal ones by this predictor's guesses.
     ensures end { IfOk result (λ end. end_state end ≡ end_of program.now config.now.limit) }
     ensures told { IfOk result (λ end. IsTold P.Predicts P.Learns format program.now
-        (sizes_by config.now) predictor (end_state end).1
+        (sizes_by config.now) config.now.limit predictor (end_state end)
         (known_by W.contents writer.old) (known_by W.contents writer.new)) }
     ensures quiet { OnOk result (failures_of writer.new ≡ failures_of writer.old) }
     // What was written before a fault is a beginning of what is told of legal turns.

@@ -9,7 +9,7 @@ ghost use Rattle.charts.specs.Events.{events};
 ghost use Rattle.charts.specs.Rows.{kept, listed, next_kept};
 ghost use Rattle.devices.specs.Counted.{raised as raised_of};
 ghost use Rattle.charts.specs.Telling.{first_text, last_text, turn_text};
-ghost use Rattle.charts.specs.Watched.{GivesUpTo, IsBegun, Stood};
+ghost use Rattle.charts.specs.Watched.{GivesUpTo, GoesOn, IsBegun, IsThrough};
 
 use crate::books::{Books, raised};
 use crate::drawing::push_live;
@@ -204,10 +204,10 @@ pub(crate) fn tell_turns<P: Predictor + Drop, W: Write>(
     writer: &mut Counted<W>,
 ) -> Result<(), Fault>
     requires { failures_of writer.old < 2 ^ 64 - 1 }
-    ensures stood { OnOk result ((Q : Program) (C : Sizes) (first : P) (start : Option (List ℕ)) →
-        Stood P.Predicts P.Learns format Q C bench.old (kept books.old) first start
+    ensures through { OnOk result ((Q : Program) (C : Sizes) (first : P) (start : Option (List ℕ)) →
+        GoesOn P.Predicts P.Learns format Q C limit bench.old (kept books.old) first start
         (known_by W.contents writer.old) →
-        Stood P.Predicts P.Learns format Q C bench.new (kept books.new) first start
+        IsThrough P.Predicts P.Learns format Q C limit bench.new (kept books.new) first start
         (known_by W.contents writer.new)) }
     ensures ends { OnOk result
         (run_from bench.new.pipeline limit ≡ run_from bench.old.pipeline limit) }
@@ -219,12 +219,12 @@ pub(crate) fn tell_turns<P: Predictor + Drop, W: Write>(
     ensures quiet_memory { IfErr result (λ fault. fault ≡ Fault.Memory →
         failures_of writer.new ≡ failures_of writer.old) }
     ensures begun { OnErr result ((Q : Program) (C : Sizes) (first : P) (start : Option (List ℕ)) →
-        Stood P.Predicts P.Learns format Q C bench.old (kept books.old) first start
+        GoesOn P.Predicts P.Learns format Q C limit bench.old (kept books.old) first start
         (known_by W.contents writer.old) →
         IsBegun P.Predicts P.Learns format Q C first start (known_by W.contents writer.new)) }
 {
     'turns: while bench.count() < limit {
-        let answer = bench.turn();
+        if bench.live() == 0 && 0 < bench.count() { return Ok(()); } let answer = bench.turn();
         tell_turn(alloc, bench, books, format, answer, writer)?;
         if let Turn::Over(_) = answer {
             return Ok(());

@@ -1,6 +1,6 @@
 -- What is told of a listing that is read and not run.
-use Rattle.std.specs.Prelude.{◌≡◌, ◌≤◌, ◌+◌, ◌-◌, ◌==◌, ℕ, zero, suc, Bool, true, false}
-use Rattle.std.specs.Prelude.{List, [], ◌∷◌, ◌++◌, length, map, take, replicate, codes, decimal}
+use Rattle.std.specs.Prelude.{◌≡◌, ◌≤◌, ◌+◌, ℕ, zero, suc, Bool, true, false}
+use Rattle.std.specs.Prelude.{List, [], ◌∷◌, ◌++◌, length, map, codes, decimal}
 use Rattle.std.specs.Prelude.{Option, Some, None, Result, Ok, Err, slice_get, if◌then◌else◌}
 use Rattle.std.specs.Borrow.{Bor}
 use Rattle.std.specs.List.{before_first}
@@ -16,6 +16,7 @@ use Rattle.isa.specs.Listing.{Lines, labels}
 use Rattle.instructions.specs.Programs.{Program}
 use Rattle.isa.specs.Report.{fault_line, newline}
 use Rattle.checks.specs.Forms.{known_forms}
+use Rattle.checks.specs.Quotes.{quote}
 use Rattle.checks.specs.declared.parts.Part.{Part}
 
 -- ---- a good listing
@@ -46,18 +47,6 @@ IsPartOf line part = (part.from ≤ part.to) × (part.to ≤ length line)
 abbrev pub LiesIn : (outer inner : Part) → Type 0
 LiesIn outer inner =
     (outer.from ≤ inner.from) × ((inner.from ≤ inner.to) × (inner.to ≤ outer.to))
-
--- what stands in the line of the mark under a byte before the mark: a tab stays one
-abbrev pub under : ℕ → ℕ
-under b = if b == 9 then 9 else 32
-
--- a mark under a part of a line
-abbrev pub underline : List ℕ → Part → List ℕ
-underline line part = map under (take part.from line) ++ replicate (part.to - part.from) 94
-
--- the line, and below it the mark
-abbrev pub quote : List ℕ → Part → List ℕ
-quote line part = line ++ (newline ++ (underline line part ++ newline))
 
 -- what the language wants where this fault is
 abbrev pub sentence : FaultKind → List ℕ

@@ -2,11 +2,12 @@
 ghost use Rattle.std.specs.Prelude.{◌≤◌, IfOk};
 ghost use Rattle.checks.specs.Checks.{IsPartOf, LiesIn};
 
+use super::forms::form_of;
 use super::parts::{Part, code, find, labels, operands, statement, trimmed, word};
 use super::registers::is_register;
 use isa::FaultKind;
 use std::alloc::{AllocError, Global};
-use text::{begins_number, is_plain_text, number_in};
+use text::{is_plain_text, number_in};
 
 // Where the first operand of some ends: at its comma, or at their end.
 fn end_of_first(line: &[u8], operands: Part) -> usize
@@ -20,7 +21,7 @@ fn end_of_first(line: &[u8], operands: Part) -> usize
     }
 }
 
-// The operand in which a label is due, which is the last one.
+// The last operand, in which a label is due, or most numbers.
 fn last_operand(line: &[u8], operands: Part) -> Part
     requires { IsPartOf line.now operands }
     ensures { LiesIn operands result }
@@ -33,8 +34,16 @@ fn last_operand(line: &[u8], operands: Part) -> Part
     trimmed(line, Part { from, to })
 }
 
-// Where a number is due in an operand: before its parenthesis, if it has one.
-fn number_in_operand(line: &[u8], operand: Part) -> Part
+// Whether the word's last operand is an offset with a register, as its form says.
+fn has_offset(word: &[u8]) -> bool {
+    match form_of(word) {
+        Some(form) => form.as_bytes().contains(&b'('),
+        None => false,
+    }
+}
+
+// The offset of an operand `offset(register)`: what stands before its first parenthesis.
+fn offset_in(line: &[u8], operand: Part) -> Part
     requires { IsPartOf line.now operand }
     ensures { LiesIn operand result }
 {
@@ -46,36 +55,37 @@ fn number_in_operand(line: &[u8], operand: Part) -> Part
     trimmed(line, front)
 }
 
-// Where a register is due in an operand: behind its parenthesis, if it has one.
-fn register_in_operand(line: &[u8], operand: Part) -> Part
+// The register of an operand `offset(register)`: what stands behind its first parenthesis, without the
+// last byte, which is the other one.
+fn register_in(line: &[u8], operand: Part) -> Part
     requires { IsPartOf line.now operand }
     ensures { LiesIn operand result }
 {
     let Some(open) = find(line, operand, b'(') else {
         return operand;
     };
-    if line[operand.from] == b'$' {
-        return operand;
-    }
-    let behind = Part {
-        from: open + 1,
-        to: operand.to,
-    };
-    let to = find(line, behind, b')').unwrap_or(behind.to);
-    trimmed(line, Part { from: open + 1, to })
+    let from = open + 1;
+    let to = from.max(operand.to - 1);
+    trimmed(line, Part { from, to })
 }
 
-// The first operand with a text that begins as a register and is none.
-fn bad_register(alloc: Global, line: &[u8], operands: Part) -> Result<Part, AllocError>
-    requires { IsPartOf line.now operands }
+// The first operand, or in it the register of an offset, that begins as a register and is none.
+fn bad_register(alloc: Global, line: &[u8], word: Part, operands: Part) -> Result<Part, AllocError>
+    requires word { IsPartOf line.now word }
+    requires operands { IsPartOf line.now operands }
     ensures { IfOk result (LiesIn operands) }
 {
+    let has_offset = has_offset(&line[word.from..word.to]);
     let to = operands.to;
     let mut from = operands.from;
     while from < to {
         let end = end_of_first(line, Part { from, to });
         let operand = trimmed(line, Part { from, to: end });
-        let found = register_in_operand(line, operand);
+        let found = if has_offset && end == to {
+            register_in(line, operand)
+        } else {
+            operand
+        };
         let text = &line[found.from..found.to];
         if text.starts_with(b"$") && !is_register(alloc, text)? {
             return Ok(found);
@@ -85,28 +95,41 @@ fn bad_register(alloc: Global, line: &[u8], operands: Part) -> Result<Part, Allo
     Ok(operands)
 }
 
-// The first operand that begins as a number and is out of the range of `.word`, or not of another
-// word's: no other word has two numbers.
-fn bad_number(line: &[u8], word: Part, operands: Part) -> Part
-    requires word { IsPartOf line.now word }
-    requires operands { IsPartOf line.now operands }
+// The first operand of `.word` that is no number in its range.
+fn bad_data(line: &[u8], operands: Part) -> Part
+    requires { IsPartOf line.now operands }
     ensures { LiesIn operands result }
 {
-    let is_data = line[word.from..word.to].eq_ignore_ascii_case(b".word");
     let to = operands.to;
     let mut from = operands.from;
     while from < to {
         let end = end_of_first(line, Part { from, to });
         let operand = trimmed(line, Part { from, to: end });
-        let found = number_in_operand(line, operand);
-        let text = &line[found.from..found.to];
-        let is_good = is_data && number_in(text, 0x8000_0000, 0xffff_ffff).is_some();
-        if begins_number(text) && !is_good {
-            return found;
+        if number_in(&line[operand.from..operand.to], 0x8000_0000, 0xffff_ffff).is_none() {
+            return operand;
         }
         from = end + 1;
     }
     operands
+}
+
+// The operand that is no number in its range. But for `.word` a form has one number at most, which is
+// its last operand or the offset in it.
+fn bad_number(line: &[u8], word: Part, operands: Part) -> Part
+    requires word { IsPartOf line.now word }
+    requires operands { IsPartOf line.now operands }
+    ensures { LiesIn operands result }
+{
+    let text = &line[word.from..word.to];
+    if text.eq_ignore_ascii_case(b".word") {
+        return bad_data(line, operands);
+    }
+    let operand = last_operand(line, operands);
+    if has_offset(text) {
+        offset_in(line, operand)
+    } else {
+        operand
+    }
 }
 
 // The first byte that may not stand before a comment.
@@ -138,7 +161,7 @@ pub(crate) fn part_at_fault(alloc: Global, line: &[u8], kind: FaultKind) -> Resu
         FaultKind::DoubleLabel => Ok(labels(line, code)),
         FaultKind::UnknownOp => Ok(word),
         FaultKind::BadOperands => Ok(operands),
-        FaultKind::BadRegister => bad_register(alloc, line, operands),
+        FaultKind::BadRegister => bad_register(alloc, line, word, operands),
         FaultKind::BadNumber => Ok(bad_number(line, word, operands)),
         FaultKind::UnknownLabel => Ok(last_operand(line, operands)),
         FaultKind::TooLong | FaultKind::Memory => Ok(statement),

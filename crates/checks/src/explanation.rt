@@ -1,13 +1,13 @@
 //! What is told of a fault.
-ghost use Rattle.std.specs.Prelude.{◌≡◌, ◌++◌, IfOk, OnOk, Some};
+ghost use Rattle.std.specs.Prelude.{◌≡◌, ◌++◌, IfOk, OnOk, None, Some};
 ghost use Rattle.std.specs.Option.{option_map};
-ghost use Rattle.checks.specs.Checks.{IsExplained, IsExplanationBehind, IsPartOf};
-ghost use Rattle.checks.specs.Checks.{form_note, form_sentence, has_form, quote, sentence, underline};
+ghost use Rattle.checks.specs.Checks.{IsExplained, IsExplanationBehind};
+ghost use Rattle.checks.specs.Checks.{form_note, form_sentence, has_form, sentence};
 
 use super::blame::part_at_fault;
 use super::forms::form_of;
 use super::lines::{line_at, word_in};
-use super::parts::Part;
+use super::quoting::push_quote;
 use isa::{FaultKind, TextFault, fault_text};
 use std::alloc::{AllocError, Global};
 
@@ -48,30 +48,6 @@ fn has_form(kind: FaultKind) -> bool
     )
 }
 
-// The mark: it stands under the part, also behind tabs.
-fn push_mark(text: &mut Vec<u8>, line: &[u8], part: Part) -> Result<(), AllocError>
-    requires { IsPartOf line.now part }
-    ensures { OnOk result (text.new.items ≡ text.old.items ++ underline line.now part) }
-{
-    for byte in &line[..part.from] {
-        text.push(if *byte == b'\t' { b'\t' } else { b' ' })?;
-    }
-    let end = text.len() + (part.to - part.from);
-    text.resize(end, b'^')?;
-    Ok(())
-}
-
-fn push_quote(text: &mut Vec<u8>, line: &[u8], part: Part) -> Result<(), AllocError>
-    requires { IsPartOf line.now part }
-    ensures { OnOk result (text.new.items ≡ text.old.items ++ quote line.now part) }
-{
-    text.extend_from_slice(line)?;
-    text.push(b'\n')?;
-    push_mark(text, line, part)?;
-    text.push(b'\n')?;
-    Ok(())
-}
-
 fn push_form_of(text: &mut Vec<u8>, form: &str) -> Result<(), AllocError>
     ensures { OnOk result (text.new.items
         ≡ text.old.items ++ form_sentence (Some form.now)) }
@@ -96,6 +72,32 @@ fn push_form(text: &mut Vec<u8>, kind: FaultKind, line: &[u8]) -> Result<(), All
     }
 }
 
+// The line of the listing with its mark, and what is wanted there.
+fn push_place(
+    alloc: Global,
+    text: &mut Vec<u8>,
+    kind: FaultKind,
+    line: &[u8],
+) -> Result<(), AllocError>
+    ensures { OnOk result (IsExplanationBehind kind (Some line.now) text.old.items text.new.items) }
+{
+    let part = part_at_fault(alloc, line, kind)?;
+    push_quote(text, line, part)?;
+    text.extend_from_slice(sentence(kind).as_bytes())?;
+    push_form(text, kind, line)?;
+    text.push(b'\n')?;
+    Ok(())
+}
+
+// What is wanted, where there is no line.
+fn push_wish(text: &mut Vec<u8>, kind: FaultKind) -> Result<(), AllocError>
+    ensures { OnOk result (IsExplanationBehind kind None text.old.items text.new.items) }
+{
+    text.extend_from_slice(sentence(kind).as_bytes())?;
+    text.push(b'\n')?;
+    Ok(())
+}
+
 // What stands behind the line of the report.
 fn push_explanation(
     alloc: Global,
@@ -106,16 +108,10 @@ fn push_explanation(
     ensures { OnOk result (IsExplanationBehind kind (option_map (λ t. t.now) line.entry)
         text.old.items text.new.items) }
 {
-    if let Some(line) = line {
-        let part = part_at_fault(alloc, line, kind)?;
-        push_quote(text, line, part)?;
-        text.extend_from_slice(sentence(kind).as_bytes())?;
-        push_form(text, kind, line)?;
-    } else {
-        text.extend_from_slice(sentence(kind).as_bytes())?;
+    match line {
+        Some(line) => push_place(alloc, text, kind, line),
+        None => push_wish(text, kind),
     }
-    text.push(b'\n')?;
-    Ok(())
 }
 
 /// The line that a report has for a fault, the line of the listing with a mark under the part that

@@ -7,6 +7,7 @@ mod explanation;
 mod forms;
 mod lines;
 mod parts;
+mod quoting;
 mod registers;
 mod summary;
 

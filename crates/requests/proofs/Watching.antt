@@ -3,7 +3,7 @@ use Rattle.std.proofs.Common.{◌≡◌, ◌∙◌, sym, ap, subst, Bool, true, 
 use Rattle.std.proofs.lemmas.Bool.{false≢true}
 use Rattle.clap.specs.Words.{Row, Text, first_of}
 use Rattle.requests.specs.Values.{is_true}
-use Rattle.requests.specs.Watches.{IsNoWatch, IsOther, is_allowed, is_other}
+use Rattle.requests.specs.Watches.{IsNoWatch, IsOther, is_allowed, is_file, is_other}
 
 -- what the rows ask for is allowed as the values are
 pub same_allowed : (rows : List Row) (chart : Bool) (log : Option Text) (alone allowed : Bool)
@@ -20,6 +20,11 @@ pub not_alone : (rows : List Row) (chart : Bool) (log : Option Text) (alone allo
     → alone ≡ is_true (first_of (codes "alone") rows) → allowed ≡ is_allowed chart log alone → allowed ≡ false → IsNoWatch rows
 not_alone rows chart log alone allowed c l a is not watch held =
     false≢true (sym not ∙ same_allowed rows chart log alone allowed c l a is ∙ held.alone)
+
+-- the log of the rows is no file
+pub no_file : (rows : List Row) (log : Option Text) (taken : Bool) → log ≡ first_of (codes "trace") rows → taken ≡ is_file log
+    → taken ≡ false → IsNoWatch rows
+no_file rows log taken l is not watch held = false≢true (sym not ∙ is ∙ ap is_file l ∙ held.names_file)
 
 -- the file that the rows name, and the other one
 other_of : (named asked : Option Text) (file : Text) (log : Option Text) → named ≡ Some file → log ≡ asked

@@ -34,22 +34,22 @@ abbrev pub viewed : App → App
 viewed app = with_rule (with_rule (with_rule (with_rule app
     (flag_rule (codes "alone"))) (flag_rule (codes "progress"))) (flag_rule (codes "chart"))) (option_rule (codes "trace"))
 
+-- with a version
+abbrev pub with_version : App → App
+with_version = on_top (λ s. record s { has_version = true })
+
 -- `ruu run`
 abbrev pub run : App
-run = viewed (bounded (sized (new_app (codes "run"))))
+run = viewed (bounded (sized (with_version (new_app (codes "run")))))
 
 -- `ruu check`
 abbrev pub check : App
-check = with_rule (new_app (codes "check")) file_rule
+check = with_rule (with_version (new_app (codes "check"))) file_rule
 
 -- `ruu drive`
 abbrev pub drive : App
-drive = with_rule (with_rule (with_rule (sized (new_app (codes "drive")))
+drive = with_rule (with_rule (with_rule (sized (with_version (new_app (codes "drive"))))
     (option_rule (codes "bpred"))) (option_rule (codes "first-tag"))) (flag_rule (codes "quiet-prompt"))
-
--- `ruu`, which has a version
-abbrev pub with_version : App → App
-with_version = on_top (λ s. record s { has_version = true })
 
 -- `ruu`, with its three commands
 abbrev pub tool : App

@@ -18,19 +18,25 @@ abbrev pub is_other : (file : Text) → (log : Option Text) → Bool
 is_other file None = true
 is_other file (Some log) = not (bytes_eq log file)
 
+-- the log goes to a file, and `-` names none
+abbrev pub is_file : (log : Option Text) → Bool
+is_file None = true
+is_file (Some log) = not (bytes_eq log (codes "-"))
+
 -- the same of the rows, which name a file
 abbrev pub IsOther : (file log : Option Text) → Type 0
 IsOther None log = ⊥
 IsOther (Some file) log = is_other file log ≡ true
 
--- the chart and the log are those that the rows ask for: of the one-thread unit alone, and into another file
--- than that of the listing
+-- the chart and the log are those that the rows ask for: of the one-thread unit alone, and into a file that is
+-- not that of the listing
 pub record IsWatch (rows : List Row) (watch : Watch) : Type 0 where
   pub chart : watch.chart ≡ is_true (first_of (codes "chart") rows)
   pub log : text_behind watch.log ≡ first_of (codes "trace") rows
   pub alone :
       is_allowed (is_true (first_of (codes "chart") rows)) (first_of (codes "trace") rows)
       (is_true (first_of (codes "alone") rows)) ≡ true
+  pub names_file : is_file (first_of (codes "trace") rows) ≡ true
   pub other : IsOther (first_of (codes "FILE") rows) (first_of (codes "trace") rows)
 
 -- the rows ask for what cannot be told

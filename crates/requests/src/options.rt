@@ -94,7 +94,7 @@ const ABOUT: &str =
     './ruu listing FILE' writes the listing of an executable.";
 
 /// The version, and on a line of its own the kit by which it is proved.
-const VERSION: &str = "0.1.0\nrattle-kit-13f logic dac8208d650f15bf";
+pub(crate) const VERSION: &str = "0.1.0\nrattle-kit-13f logic dac8208d650f15bf";
 
 const RUN: &str = "Runs a listing of MIPS I instructions and writes a report of how it ended";
 
@@ -151,12 +151,12 @@ The commands are explained in docs/TEACHING.md.
 Exit status: 0 all commands were answered, 2 a fault in the listing, 3 a mistake on the
 command line, 5 no memory, or a file could not be opened, read or written.";
 
-// A command with what it is for and what stands below its options.
+// A command with what it is for, the version, and what stands below its options.
 fn headed<'a>(alloc: Global, name: &'a str, about: &'a str, notes: &'a str) -> Command<'a>
-    ensures { IsCommand (new_app name.now) result }
+    ensures { IsCommand (with_version (new_app name.now)) result }
 {
     let command = Command::new(alloc, name);
-    command.about(about).after_help(notes)
+    command.version(VERSION).about(about).after_help(notes)
 }
 
 fn with_option<'a>(

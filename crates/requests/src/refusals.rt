@@ -3,15 +3,20 @@ ghost use Rattle.clap.specs.Words.{kind_of};
 ghost use Rattle.requests.specs.Request.{IsRefusalOf, IsUsage};
 
 use crate::NoRun;
+use crate::options::VERSION;
 use clap::Error;
 use clap::error::ErrorKind;
 use std::alloc::Global;
 
-/// What an error of `clap`'s becomes.
+/// What an error of `clap`'s becomes. Each command has the version of the program.
 pub(crate) fn refused(alloc: Global, error: &Error) -> NoRun
     ensures { IsRefusalOf (kind_of error.now) result }
 {
-    let Ok(text) = format!(in alloc; "{error}") else {
+    let told = match error.kind() {
+        ErrorKind::DisplayVersion => format!(in alloc; "ruu {VERSION}\n"),
+        _ => format!(in alloc; "{error}"),
+    };
+    let Ok(text) = told else {
         return NoRun::Memory;
     };
     match error.kind() {

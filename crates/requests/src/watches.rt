@@ -3,7 +3,7 @@ ghost use Rattle.std.specs.Prelude.{◌≡◌, IfOk, IfErr, Some, codes};
 ghost use Rattle.clap.specs.Words.{found_of, rows_of};
 ghost use Rattle.requests.specs.Request.{IsUsage};
 ghost use Rattle.requests.specs.Values.{is_true, text_behind, value_in};
-ghost use Rattle.requests.specs.Watches.{IsNoWatch, IsWatch, is_allowed, is_other};
+ghost use Rattle.requests.specs.Watches.{IsNoWatch, IsWatch, is_allowed, is_file, is_other};
 
 use crate::refusals::usage;
 use crate::values::is_true;
@@ -28,6 +28,16 @@ fn is_other(file: &str, log: Option<&str>) -> bool
     }
 }
 
+// The log goes to a file, and `-` names none.
+fn is_file(log: Option<&str>) -> bool
+    ensures { result ≡ is_file (text_behind log.entry) }
+{
+    match log {
+        None => true,
+        Some(log) => log != "-",
+    }
+}
+
 /// The chart and the log that the matches ask for, of the run of a listing in this file.
 pub(crate) fn watch<'a>(
     alloc: Global,
@@ -48,6 +58,9 @@ pub(crate) fn watch<'a>(
     }
     if !is_other(file, log) {
         return Err(usage(alloc, "run", "--trace names the file of the listing"));
+    }
+    if !is_file(log) {
+        return Err(usage(alloc, "run", "--trace takes a file"));
     }
     Ok(Watch { chart, log })
 }

@@ -30,7 +30,7 @@ outputs text log = record { text = text; log = log }
 pub record HasToldWhole (f : Format) (asked : Asked) (P : Program) (before after : Option (List ℕ)) : Type 0 where
   pub first : Chosen
   pub chosen : IsChosen asked.predictor first
-  pub told : IsTold PredictsAs LearnsAs f P (sizes_by asked.config) first (end_of P asked.config.limit).1 before after
+  pub told : IsTold PredictsAs LearnsAs f P (sizes_by asked.config) asked.config.limit first (end_of P asked.config.limit) before after
 
 -- only a beginning of that
 pub record HasBegun (f : Format) (asked : Asked) (P : Program) (before after : Option (List ℕ)) : Type 0 where

@@ -2,7 +2,8 @@ use Rattle.std.proofs.Common.{◌∙◌, sym, ap, codes}
 use Rattle.clap.specs.Words.{found_of, rows_of}
 use Rattle.clap.proofs.WalkLemmas.{first_value-rows}
 use Rattle.requests.specs.Values.{is_true}
-use Rattle.requests.proofs.Watching.{is_another, not_alone, not_another, same_allowed}
+use Rattle.requests.specs.Watches.{is_file}
+use Rattle.requests.proofs.Watching.{is_another, no_file, not_alone, not_another, same_allowed}
 use Rattle.requests.proofs.watches.watch.Goals as goal
 
 pub returns-then-not-is_allowed-clause-err : goal.returns-then-not-is_allowed-clause-err
@@ -11,6 +12,12 @@ returns-then-not-is_allowed-clause-err c =
     not_alone (rows_of found) c.is_true-chart.result _ c.args.alone c.is_allowed.result
     (c.is_true-chart.ensures ∙ ap is_true (c.get_str.ensures ∙ first_value-rows found (codes "chart")))
     (c.get_str-log.ensures ∙ first_value-rows found (codes "trace")) c.requires.alone c.is_allowed.ensures c.if-not-is_allowed.true
+
+pub returns-then-not-is_file-clause-err : goal.returns-then-not-is_file-clause-err
+returns-then-not-is_file-clause-err c =
+    let found = found_of c.args.matches.now in
+    no_file (rows_of found) _ c.is_file.result (c.get_str-log.ensures ∙ first_value-rows found (codes "trace")) c.is_file.ensures
+    c.if-not-is_file.true
 
 pub returns-then-not-is_other-clause-err : goal.returns-then-not-is_other-clause-err
 returns-then-not-is_other-clause-err c =
@@ -28,5 +35,6 @@ returns-clause-ok c =
       log = log;
       alone = sym (same_allowed (rows_of found) c.is_true-chart.result _ c.args.alone c.is_allowed.result chart log c.requires.alone c.is_allowed.ensures)
           ∙ c.if-not-is_allowed.false;
+      names_file = sym (ap is_file log) ∙ sym c.is_file.ensures ∙ c.if-not-is_file.false;
       other = is_another (rows_of found) c.args.file.now _ c.is_other.result c.requires.file log c.is_other.ensures c.if-not-is_other.false;
     }

@@ -1,0 +1,66 @@
+-- A line of a listing as it is quoted: without harm to a terminal, cut where it is long, and a mark below a part of it.
+use Rattle.std.specs.Prelude.{ℕ, ◌+◌, ◌-◌, ◌/◌, ◌%◌, ◌==◌, min, Bool, nat_lt, List, [], ◌∷◌, ◌++◌, length, codes, slice_range, flat_map, if◌then◌else◌}
+use Rattle.text.specs.Name.{is_plain}
+use Rattle.isa.specs.Report.{newline}
+use Rattle.checks.specs.declared.parts.Part.{Part}
+use Rattle.checks.specs.declared.quoting.Layer.{Layer}
+use Rattle.checks.specs.declared.quoting.Layer.TheVariants.{Line, Blank, Mark}
+
+-- a hexadecimal digit
+abbrev pub digit : ℕ → ℕ
+digit n = if nat_lt n 10 then 48 + n else 87 + n
+
+-- a byte by its number
+abbrev pub number : ℕ → List ℕ
+number b = codes "\\x" ++ (digit (b / 16) ∷ digit (b % 16) ∷ [])
+
+-- a byte as it is shown: a tab and what can be printed as it is, any other one by its number
+abbrev pub shown : ℕ → List ℕ
+shown b = if is_plain b then b ∷ [] else number b
+
+-- what stands below it before the mark: a tab stays one
+abbrev pub blank : ℕ → List ℕ
+blank b = if b == 9 then 9 ∷ [] else (if is_plain b then codes " " else codes "    ")
+
+-- what stands below it in the mark
+abbrev pub mark : ℕ → List ℕ
+mark b = if is_plain b then codes "^" else codes "^^^^"
+
+-- a byte on the line, and below it
+abbrev pub written : Layer → ℕ → List ℕ
+written Line b = shown b
+written Blank b = blank b
+written Mark b = mark b
+
+-- the bytes of a line that are shown: all of at most 200, and else 200, of which 100 stand before the byte at which
+-- the part begins, where there are as many
+abbrev pub cut : List ℕ → (at : ℕ) → Part
+cut line at =
+    record {
+      from = min (at - 100) (length line - 200);
+      to = min (length line) (min (at - 100) (length line - 200) + 200);
+    }
+
+-- three of a character, where something is left out
+abbrev pub three_if : Bool → (character : ℕ) → List ℕ
+three_if left_out c = if left_out then c ∷ c ∷ c ∷ [] else []
+
+-- these bytes of a line, with dots for what is left out
+abbrev pub quoted : List ℕ → Part → List ℕ
+quoted line kept =
+    three_if (nat_lt 0 kept.from) 46
+    ++ (flat_map (written Line) (slice_range line kept.from kept.to)
+    ++ three_if (nat_lt kept.to (length line)) 46)
+
+-- the mark below a part, as far as that is shown
+abbrev pub underline : List ℕ → (kept part : Part) → List ℕ
+underline line kept part =
+    three_if (nat_lt 0 kept.from) 32
+    ++ (flat_map (written Blank) (slice_range line kept.from part.from)
+    ++ flat_map (written Mark) (slice_range line part.from (min part.to kept.to)))
+
+-- the line, and below it the mark
+unfoldable pub quote : List ℕ → Part → List ℕ
+quote line part =
+    quoted line (cut line part.from)
+    ++ (newline ++ (underline line (cut line part.from) part ++ newline))

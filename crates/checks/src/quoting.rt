@@ -1,0 +1,131 @@
+//! A line of a listing as it is quoted, with a mark below a part of it.
+ghost use Rattle.std.specs.Prelude.{◌≡◌, ◌≤◌, ◌<◌, ◌++◌, OnOk, flat_map, length};
+ghost use Rattle.text.specs.Name.{is_plain};
+ghost use Rattle.checks.specs.Checks.{IsPartOf};
+ghost use Rattle.checks.specs.Quotes.{cut, digit, number, quote, quoted, three_if, underline, written};
+
+use super::parts::Part;
+use std::alloc::AllocError;
+
+/// How many bytes of a line are shown at most.
+const MOST_SHOWN: usize = 200;
+
+// What is written for a byte: the byte, or what stands below it before the mark, or in the mark.
+#[derive(Clone, Copy)]
+pub(crate) enum Layer {
+    Line,
+    Blank,
+    Mark,
+}
+
+// A tab, or what can be printed.
+fn is_plain(byte: u8) -> bool
+    ensures { result ≡ is_plain byte }
+{
+    byte == b'\t' || (0x20 <= byte && byte <= 0x7e)
+}
+
+fn digit(n: u8) -> u8
+    requires { n < 16 }
+    ensures { result ≡ digit n }
+{
+    if n < 10 { b'0' + n } else { b'a' - 10 + n }
+}
+
+// A byte that cannot be printed, by its number.
+fn push_number(text: &mut Vec<u8>, byte: u8) -> Result<(), AllocError>
+    ensures { OnOk result (text.new.items ≡ text.old.items ++ number byte) }
+{
+    text.extend_from_slice(b"\\x")?;
+    text.push(digit(byte / 16))?;
+    text.push(digit(byte % 16))?;
+    Ok(())
+}
+
+// What a byte has on a layer.
+fn push_byte(text: &mut Vec<u8>, layer: Layer, byte: u8) -> Result<(), AllocError>
+    ensures { OnOk result (text.new.items ≡ text.old.items ++ written layer byte) }
+{
+    let plain = is_plain(byte);
+    match layer {
+        Layer::Line if plain => text.push(byte)?,
+        Layer::Line => push_number(text, byte)?,
+        Layer::Blank if byte == b'\t' => text.push(byte)?,
+        Layer::Blank if plain => text.push(b' ')?,
+        Layer::Blank => text.extend_from_slice(b"    ")?,
+        Layer::Mark if plain => text.push(b'^')?,
+        Layer::Mark => text.extend_from_slice(b"^^^^")?,
+    }
+    Ok(())
+}
+
+fn push_bytes(text: &mut Vec<u8>, layer: Layer, bytes: &[u8]) -> Result<(), AllocError>
+    ensures { OnOk result (text.new.items ≡ text.old.items ++ flat_map (written layer) bytes.now) }
+{
+    for byte in bytes {
+        push_byte(text, layer, *byte)?;
+    }
+    Ok(())
+}
+
+// Three of a character, where something is left out.
+fn push_three(text: &mut Vec<u8>, left_out: bool, character: u8) -> Result<(), AllocError>
+    ensures { OnOk result (text.new.items ≡ text.old.items ++ three_if left_out character) }
+{
+    if left_out {
+        let end = text.len() + 3;
+        text.resize(end, character)?;
+    }
+    Ok(())
+}
+
+// The bytes of a line that are shown, where the part that is marked begins at this one.
+fn cut(line: &[u8], at: usize) -> Part
+    requires { at ≤ length line.now }
+    ensures shown { result ≡ cut line.now at }
+    ensures inside { IsPartOf line.now result }
+    ensures before { result.from ≤ at }
+    ensures behind { at ≤ result.to }
+{
+    let last = line.len().saturating_sub(MOST_SHOWN);
+    let from = at.saturating_sub(MOST_SHOWN / 2).min(last);
+    let to = line.len().min(from + MOST_SHOWN);
+    Part { from, to }
+}
+
+fn push_line(text: &mut Vec<u8>, line: &[u8], kept: Part) -> Result<(), AllocError>
+    requires { IsPartOf line.now kept }
+    ensures { OnOk result (text.new.items ≡ text.old.items ++ quoted line.now kept) }
+{
+    push_three(text, 0 < kept.from, b'.')?;
+    push_bytes(text, Layer::Line, &line[kept.from..kept.to])?;
+    push_three(text, kept.to < line.len(), b'.')?;
+    Ok(())
+}
+
+fn push_mark(text: &mut Vec<u8>, line: &[u8], kept: Part, part: Part) -> Result<(), AllocError>
+    requires kept { IsPartOf line.now kept }
+    requires part { IsPartOf line.now part }
+    requires before { kept.from ≤ part.from }
+    requires behind { part.from ≤ kept.to }
+    ensures { OnOk result (text.new.items ≡ text.old.items ++ underline line.now kept part) }
+{
+    push_three(text, 0 < kept.from, b' ')?;
+    push_bytes(text, Layer::Blank, &line[kept.from..part.from])?;
+    push_bytes(text, Layer::Mark, &line[part.from..part.to.min(kept.to)])?;
+    Ok(())
+}
+
+/// The line, and below it a mark under the part.
+#[tactic(auto, unfolding(crate::specs::Quotes::quote))]
+pub(crate) fn push_quote(text: &mut Vec<u8>, line: &[u8], part: Part) -> Result<(), AllocError>
+    requires { IsPartOf line.now part }
+    ensures { OnOk result (text.new.items ≡ text.old.items ++ quote line.now part) }
+{
+    let kept = cut(line, part.from);
+    push_line(text, line, kept)?;
+    text.push(b'\n')?;
+    push_mark(text, line, kept, part)?;
+    text.push(b'\n')?;
+    Ok(())
+}
