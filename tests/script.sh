@@ -222,7 +222,17 @@ echo 'a missing kit is named in one line'
 
 # a kit that proves nothing: what it is asked for goes to a file, and what is built says with which words it is run
 mkdir -p "$work/kit/bin" "$work/path"
-printf '#!/bin/sh\necho %s/kit/START-HERE.md\n' "$work" > "$work/path/rt"
+cat > "$work/path/rt" << END
+#!/bin/sh
+case \$1 in
+  doc) echo $work/kit/START-HERE.md ;;
+  try)
+    echo "\${PWD##*/} \$*" >> "\$ASKED"
+    echo a report
+    printf 'races: none\nsaid by the program\nchecked: ended status=4\n' >&2
+    ;;
+esac
+END
 chmod +x "$work/path/rt"
 cat > "$work/kit/bin/rtlib.py" << 'END'
 import os
@@ -254,6 +264,26 @@ with_kit env UNPROVED=inorder "$fresh/ruu" run a.s
 [ $status -eq 70 ] && grep -qx 'a goal is open' "$work/err" && grep -qx 'prove: inorder is not proved; its log is above' "$work/err" \
   || fail "a crate that is not proved: status $status"
 [ ! -e "$fresh/crates/inorder/out/rlib/stamp" ] || fail 'a crate that is not proved was kept'
+
+# a first look: from the program's folder, with the places of files, and with what the program says and its status
+unproved() { # what the kit is asked for, words
+  local asked=$1
+  shift
+  : > "$ASKED"
+  (cd "$work" && PATH=$work/path:$PATH "$fresh/ruu" --unproved "$@" < /dev/null > "$work/out" 2> "$work/err")
+  status=$?
+  [ $status -eq 4 ] && [ "$(cat "$work/out")" = 'a report' ] || fail "ruu --unproved $*: status $status"
+  [[ $(head -n 1 "$work/err") == 'ruu: a first look: '* ]] && [ "$(tail -n +2 "$work/err")" = 'said by the program' ] || fail "ruu --unproved $*: another text"
+  [ "$(cat "$ASKED")" = "$asked" ] || { cat "$ASKED"; fail "ruu --unproved $*: the kit is asked for something else"; }
+}
+touch "$work/a.s"
+unproved "ruu try -- run $work/a.s --units 3" run a.s --units 3
+unproved 'ruu try -- run nowhere.s' run nowhere.s
+unproved "viewer try -- run $work/a.s --alone --trace=$work/b.log" run a.s --alone --trace=b.log
+unproved "viewer try -- run --alone --trace $work/b.log $work/a.s" run --alone --trace b.log a.s
+unproved "driver try -- drive $work/a.s" drive a.s
+unproved "listing try -- $work/a.s" listing a.s
+echo 'a first look is built without a proof, and says so'
 
 # how many crates the programs stand on
 count_of() { # programs
