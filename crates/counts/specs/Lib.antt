@@ -1,3 +1,4 @@
+pub mod Known
 pub mod Reads
 pub mod Rule
 pub mod Seats

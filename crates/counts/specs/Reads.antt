@@ -1,30 +1,22 @@
 -- What is read of a total.
-use Rattle.std.specs.Prelude.{⊤, ◌≡◌, ℕ, ◌*◌, ◌^◌, slice_index}
-use Rattle.atomic_table.specs.Table.{State}
-use mathlib.Core.Option.{some}
-use lib.ListN.{get_elem?}
+use Rattle.std.specs.Prelude.{◌≡◌, ℕ, ◌%◌, ◌^◌, List}
+use Rattle.counts.specs.declared.shares.Addition.{Addition}
 use Rattle.counts.specs.declared.shares.Shares.{Shares}
 use Rattle.counts.specs.declared.tally.Total.{Total}
-use Rattle.counts.specs.Rule.{Summed}
+use Rattle.counts.specs.Known.{IsWithin, total_at}
 use Rattle.counts.specs.Shares.{share}
 use Rattle.counts.specs.Totals.{position_of}
 
--- At a moment at which the rule held and some seat had these shares, the total at a position was n
-pub record IsTotalAt (v : Shares) (at n : ℕ) : Type 0 where
-  pub moment : State ⊤ Shares
-  pub sums : Summed moment
-  pub id : ℕ
-  pub here : get_elem? moment.views id ≡ some v
-  pub total : n ≡ slice_index moment.words (8 * at)
+-- At a moment of the call this many was added to a total, modulo 2^64
+pub record WasTotal (old new : List Addition) (total : Total) (n : ℕ) : Type 0 where
+  pub moment : List Addition
+  pub within : IsWithin old new moment
+  pub sum : n ≡ total_at (position_of total) moment % 2 ^ 64
 
--- The same by the total
-abbrev pub IsTotal : Shares → Total → ℕ → Type 0
-IsTotal v total n = IsTotalAt v (position_of total) n
-
--- All parts of a total
+-- All parts of the total at a position
 abbrev pub HoldsAllAt : ℕ → Shares → Type 0
 HoldsAllAt at v = (share at v).parts ≡ 2 ^ (share at v).halvings
 
--- The same by the total
+-- All parts of this total
 abbrev pub HoldsAll : Total → Shares → Type 0
 HoldsAll total v = HoldsAllAt (position_of total) v

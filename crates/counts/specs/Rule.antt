@@ -1,10 +1,14 @@
--- The rule: at every moment each total is the sum of the seats' shares modulo 2^64.
-use Rattle.std.specs.Prelude.{⊤, ◌≡◌, ℕ, ◌-◌, ◌*◌, ◌%◌, ◌^◌, ◌<◌, ◌≤◌, List, length, slice_index, sum_by}
+-- The rule: at every moment each total is the sum of the seats' shares modulo 2^64, and the sum of the additions of one
+-- history, of which each seat has seen a beginning.
+use Rattle.std.specs.Prelude.{⊤, ◌≡◌, ℕ, ◌-◌, ◌*◌, ◌%◌, ◌^◌, ◌<◌, ◌≤◌, List, length, map, slice_index, sum_by}
 use Rattle.atomic_table.specs.Table.{State}
 use mathlib.Core.Option.{some}
 use lib.ListN.{get_elem?}
+use Rattle.counts.specs.declared.shares.Addition.{Addition}
+use Rattle.counts.specs.declared.shares.Known.{Known}
 use Rattle.counts.specs.declared.shares.Share.{Share}
 use Rattle.counts.specs.declared.shares.Shares.{Shares}
+use Rattle.counts.specs.Known.{StartsWith, total_at}
 use Rattle.counts.specs.Shares.{share}
 use Rattle.counts.specs.Totals.{total_count}
 
@@ -25,3 +29,27 @@ pub record Summed (s : State ⊤ Shares) : Type 0 where
   pub sum : (at : ℕ) → at < total_count → slice_index s.words (8 * at) ≡ sum_by (λ v. (share at v).added) s.views % 2 ^ 64
   pub whole : (at : ℕ) → at < total_count → HasAllParts at s.views
   pub idle : (at : ℕ) → at < total_count → (id : ℕ) (v : Shares) → get_elem? s.views id ≡ some v → (share at v).parts ≡ 0 → (share at v).added ≡ 0
+
+-- The words, and the shares that the seats hold, without what they have seen
+abbrev pub shares_of : State ⊤ Known → State ⊤ Shares
+shares_of s = record { words = s.words; homes = s.homes; views = map (λ v. v.shares) s.views }
+
+-- Some seat has seen all of it
+pub record HasSeenAll (history : List Addition) (views : List Known) : Type 0 where
+  pub id : ℕ
+  pub v : Known
+  pub here : get_elem? views id ≡ some v
+  pub all : v.seen ≡ history
+
+-- The rule, for a history of additions: it adds up to the shares, each seat has seen a beginning of it, and one has
+-- seen all of it
+pub record IsKept (history : List Addition) (s : State ⊤ Known) : Type 0 where
+  pub sums : Summed (shares_of s)
+  pub told : (at : ℕ) → at < total_count → total_at at history ≡ sum_by (λ v. (share at v).added) (shares_of s).views
+  pub seen : (id : ℕ) (v : Known) → get_elem? s.views id ≡ some v → StartsWith history v.seen
+  pub whole : HasSeenAll history s.views
+
+-- The rule: there is one history for which this is so
+pub record Kept (s : State ⊤ Known) : Type 0 where
+  pub history : List Addition
+  pub kept : IsKept history s

@@ -8,6 +8,6 @@ mod tally;
 mod totals;
 
 pub use seats::{CountSeat, WorkerSeat};
-pub use shares::{Share, Shares};
+pub use shares::{Addition, Known, Share, Shares};
 pub use tally::{Tally, Total};
 pub use totals::Counts;

@@ -1,12 +1,12 @@
 //! Seats.
-use crate::shares::Shares;
+use crate::shares::Known;
 use atomic_table::Seat;
 use std::marker::Model;
 
 /// The right to add to each total. It has no bytes.
 #[derive(Drop)]
 pub struct CountSeat {
-    pub(crate) seat: Seat<(), Shares>,
+    pub(crate) seat: Seat<(), Known>,
 }
 
 impl Model for CountSeat {
@@ -14,7 +14,11 @@ impl Model for CountSeat {
 
     ghost Value = { Counter };
 
-    ghost view = { λ s. record { of = s.seat.table_id; shares = s.seat.me.0 } };
+    ghost view = { λ s. record {
+      of = s.seat.table_id;
+      shares = s.seat.me.0.shares;
+      seen = s.seat.me.0.seen;
+    } };
 
     ghost invariant = { λ s. HasParts s.seat.me };
 }
@@ -22,7 +26,7 @@ impl Model for CountSeat {
 /// The right to add to each total but the retirements and the renewals. It has no bytes.
 #[derive(Drop)]
 pub struct WorkerSeat {
-    pub(crate) seat: Seat<(), Shares>,
+    pub(crate) seat: Seat<(), Known>,
 }
 
 impl Model for WorkerSeat {
@@ -30,7 +34,11 @@ impl Model for WorkerSeat {
 
     ghost Value = { Counter };
 
-    ghost view = { λ s. record { of = s.seat.table_id; shares = s.seat.me.0 } };
+    ghost view = { λ s. record {
+      of = s.seat.table_id;
+      shares = s.seat.me.0.shares;
+      seen = s.seat.me.0.seen;
+    } };
 
     ghost invariant = { λ s. HasOtherParts s.seat.me };
 }

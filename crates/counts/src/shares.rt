@@ -1,37 +1,51 @@
-//! What a seat has added to the totals and holds of them, the rule that ties it to the words, and what
-//! each step does to it.
+//! What a seat has added to the totals, holds of them and has seen, the rule that ties it to the words,
+//! and what each step does to it.
 use atomic_table::{Join, Play, Split, TableRule};
 use std::collections::LinkedList;
 
 /// What a seat has added to one total, and the part of that total that it holds: so many of the parts
-/// that there are when the whole is halved so often. It is in the proof alone.
+/// that there are when the whole is halved so often. Shares are in the proof alone.
 pub struct Share {
     pub added: u64,
     pub parts: u64,
     pub halvings: u64,
 }
 
-/// A seat's share of each total. It is in the proof alone.
+/// A seat's share of each total, in the proof alone.
 pub struct Shares {
     pub of: LinkedList<Share>,
 }
 
-/// The rule: each total is the sum of the shares.
+/// An addition of `k` to the total at a position. Additions are in the proof alone.
+pub struct Addition {
+    pub at: u64,
+    pub k: u64,
+}
+
+/// What a seat knows: its shares, and the additions of all seats that it has seen, the last one first.
+/// This is in the proof alone.
+pub struct Known {
+    pub shares: Shares,
+    pub seen: LinkedList<Addition>,
+}
+
+/// The rule: each total is the sum of the shares, and of the additions of one history, of which each
+/// seat has seen a beginning.
 pub struct Sums;
 
-impl TableRule<(), Shares, ()> for Sums {
-    ghost use Rattle.counts.specs.Rule.{Summed};
-    ghost use Rattle.counts.specs.Shares.{all_parts};
+impl TableRule<(), Known, ()> for Sums {
+    ghost use Rattle.counts.specs.Rule.{Kept};
+    ghost use Rattle.counts.specs.Known.{all_known};
 
-    ghost holds = { λ _. Summed };
+    ghost holds = { λ _. Kept };
 
-    ghost first = { λ _. all_parts };
+    ghost first = { λ _. all_known };
 }
 
 /// An addition to a total.
 pub(crate) struct Add;
 
-impl Play<(), Shares> for Add {
+impl Play<(), Known> for Add {
     ghost use Rattle.counts.specs.Steps.{AddsTo};
 
     ghost then = { AddsTo };
@@ -40,7 +54,7 @@ impl Play<(), Shares> for Add {
 /// A look at a total.
 pub(crate) struct Look;
 
-impl Play<(), Shares> for Look {
+impl Play<(), Known> for Look {
     ghost use Rattle.counts.specs.Steps.{Looks};
 
     ghost then = { Looks };
@@ -49,32 +63,34 @@ impl Play<(), Shares> for Look {
 /// Both halves add to each total.
 pub(crate) struct Halving;
 
-impl Split<Shares> for Halving {
+impl Split<Known> for Halving {
+    ghost use Rattle.counts.specs.Known.{with_shares};
     ghost use Rattle.counts.specs.Shares.{first_half, second_half};
 
-    ghost left = { first_half };
+    ghost left = { λ v. with_shares first_half v };
 
-    ghost right = { second_half };
+    ghost right = { λ v. with_shares second_half v };
 }
 
 /// The first half keeps all of the retirements and of the renewals.
 pub(crate) struct Hiring;
 
-impl Split<Shares> for Hiring {
+impl Split<Known> for Hiring {
+    ghost use Rattle.counts.specs.Known.{with_shares};
     ghost use Rattle.counts.specs.Shares.{with_kept, without_kept};
 
-    ghost left = { with_kept };
+    ghost left = { λ v. with_shares with_kept v };
 
-    ghost right = { without_kept };
+    ghost right = { λ v. with_shares without_kept v };
 }
 
 /// One has what two had.
 pub(crate) struct Joining;
 
-impl Join<Shares> for Joining {
-    ghost use Rattle.counts.specs.Shares.{merged, no_parts};
+impl Join<Known> for Joining {
+    ghost use Rattle.counts.specs.Known.{both_known, nothing_known};
 
-    ghost both = { merged };
+    ghost both = { both_known };
 
-    ghost spent = { no_parts };
+    ghost spent = { nothing_known };
 }

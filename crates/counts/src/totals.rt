@@ -1,12 +1,13 @@
 //! The totals, and every call on them.
-ghost use Rattle.std.specs.Prelude.{◌≡◌, ◌%◌, ◌^◌, ◌<◌, IfOk, false};
-ghost use Rattle.counts.specs.Reads.{HoldsAll, IsTotal};
+ghost use Rattle.std.specs.Prelude.{◌≡◌, ◌%◌, ◌^◌, ◌<◌, IfOk, [], false};
+ghost use Rattle.counts.specs.Known.{HasAdded, StartsWith, longer, total_at};
+ghost use Rattle.counts.specs.Reads.{HoldsAll, WasTotal};
 ghost use Rattle.counts.specs.Shares.{all_parts, first_half, merged, added_to, second_half};
 ghost use Rattle.counts.specs.Shares.{is_kept, share_of, with_kept, without_kept};
 ghost use Rattle.counts.specs.Totals.{position_of, tallied};
 
 use crate::seats::{CountSeat, WorkerSeat};
-use crate::shares::{Add, Halving, Hiring, Joining, Look, Shares, Sums};
+use crate::shares::{Add, Halving, Hiring, Joining, Known, Look, Sums};
 use crate::tally::{Tally, Total};
 use atomic_table::{Seat, Table};
 use instructions::Memory;
@@ -19,7 +20,7 @@ const WORDS: usize = 80;
 /// The totals. Contracts see which they are.
 #[derive(Drop)]
 pub struct Counts {
-    table: Table<(), Shares, (), Sums, Global>,
+    table: Table<(), Known, (), Sums, Global>,
 }
 
 impl Model for Counts {
@@ -37,28 +38,41 @@ impl Model for Counts {
 impl Counts {
     /// Totals of 0, and a seat that holds all parts of each.
     pub fn make(alloc: Global) -> Result<(Counts, CountSeat), Memory>
-        ensures { IfOk result (λ t. t.1 ≡ record { of = t.0; shares = all_parts }) }
+        ensures { IfOk result (λ made.
+            made.1 ≡ record { of = made.0; shares = all_parts; seen = [] }) }
     {
         let (table, seat) = Table::of_words(alloc, &[0; WORDS], &())?;
         Ok((Counts { table }, CountSeat { seat }))
     }
 
     /// Two seats, each with half of the parts. The first has what this one has added, and the second
-    /// has added nothing.
+    /// has added nothing. Both have seen what this one has.
     pub fn split(&self, mut seat: CountSeat) -> (CountSeat, CountSeat)
         requires seat { seat.of ≡ self.now }
-        ensures first { result.0 ≡ record { of = self.now; shares = first_half seat.shares } }
-        ensures second { result.1 ≡ record { of = self.now; shares = second_half seat.shares } }
+        ensures first { result.0 ≡ record {
+          of = self.now;
+          shares = first_half seat.shares;
+          seen = seat.seen;
+        } }
+        ensures second { result.1 ≡ record {
+          of = self.now;
+          shares = second_half seat.shares;
+          seen = seat.seen;
+        } }
     {
         let second = self.table.shared.split_seat::<Halving>(&mut seat.seat);
         (seat, CountSeat { seat: second })
     }
 
-    /// One seat with the shares and the parts of two.
+    /// One seat with the shares and the parts of two, which has seen what either has.
     pub fn join(&self, mut seat: CountSeat, other: CountSeat) -> CountSeat
         requires seat { seat.of ≡ self.now }
         requires other { other.of ≡ self.now }
-        ensures { result ≡ record { of = self.now; shares = merged seat.shares other.shares } }
+        ensures { result ≡ record {
+          of = self.now;
+          shares = merged seat.shares other.shares;
+          seen = longer seat.seen other.seen;
+        } }
     {
         let CountSeat { seat: other } = other;
         self.table
@@ -70,16 +84,20 @@ impl Counts {
     /// Adds to a total, and so to the seat's own share of it.
     pub fn add(&self, seat: &mut CountSeat, total: Total, k: u64)
         requires seat { seat.old.of ≡ self.now }
-        ensures { seat.new ≡ record { of = self.now; shares = added_to total k seat.old.shares } }
+        ensures of { seat.new.of ≡ self.now }
+        ensures shares { seat.new.shares ≡ added_to total k seat.old.shares }
+        ensures seen { HasAdded total k seat.old.seen seat.new.seen }
     {
         self.raise(&mut seat.seat, total, k);
     }
 
-    /// Each total, at a moment of its own within the call.
+    /// Each total, at a moment of its own within the call: what was added to it until then, by all seats.
     pub fn read(&self, seat: &mut CountSeat) -> Tally
         requires seat { seat.old.of ≡ self.now }
-        ensures kept { seat.new ≡ seat.old }
-        ensures totals { (total : Total) → IsTotal seat.old.shares total (tallied result total) }
+        ensures of { seat.new.of ≡ self.now }
+        ensures shares { seat.new.shares ≡ seat.old.shares }
+        ensures totals { (total : Total) →
+            WasTotal seat.old.seen seat.new.seen total (tallied result total) }
         ensures exact { (total : Total) → HoldsAll total seat.old.shares →
             tallied result total ≡ (share_of total seat.old.shares).added % 2 ^ 64 }
     {
@@ -90,8 +108,16 @@ impl Counts {
     /// its part of the retirements and of the renewals, and half of its other parts.
     pub fn split_worker(&self, mut seat: CountSeat) -> (CountSeat, WorkerSeat)
         requires seat { seat.of ≡ self.now }
-        ensures first { result.0 ≡ record { of = self.now; shares = with_kept seat.shares } }
-        ensures second { result.1 ≡ record { of = self.now; shares = without_kept seat.shares } }
+        ensures first { result.0 ≡ record {
+          of = self.now;
+          shares = with_kept seat.shares;
+          seen = seat.seen;
+        } }
+        ensures second { result.1 ≡ record {
+          of = self.now;
+          shares = without_kept seat.shares;
+          seen = seat.seen;
+        } }
     {
         let second = self.table.shared.split_seat::<Hiring>(&mut seat.seat);
         (seat, WorkerSeat { seat: second })
@@ -100,8 +126,16 @@ impl Counts {
     /// The seats of two workers, as `split` gives them.
     pub fn split_workers(&self, mut seat: WorkerSeat) -> (WorkerSeat, WorkerSeat)
         requires seat { seat.of ≡ self.now }
-        ensures first { result.0 ≡ record { of = self.now; shares = first_half seat.shares } }
-        ensures second { result.1 ≡ record { of = self.now; shares = second_half seat.shares } }
+        ensures first { result.0 ≡ record {
+          of = self.now;
+          shares = first_half seat.shares;
+          seen = seat.seen;
+        } }
+        ensures second { result.1 ≡ record {
+          of = self.now;
+          shares = second_half seat.shares;
+          seen = seat.seen;
+        } }
     {
         let other = self.table.shared.split_seat::<Halving>(&mut seat.seat);
         (seat, WorkerSeat { seat: other })
@@ -111,43 +145,51 @@ impl Counts {
     pub fn add_work(&self, seat: &mut WorkerSeat, total: Total, k: u64)
         requires seat { seat.old.of ≡ self.now }
         requires other { is_kept (position_of total) ≡ false }
-        ensures { seat.new ≡ record { of = self.now; shares = added_to total k seat.old.shares } }
+        ensures of { seat.new.of ≡ self.now }
+        ensures shares { seat.new.shares ≡ added_to total k seat.old.shares }
+        ensures seen { HasAdded total k seat.old.seen seat.new.seen }
     {
         self.raise(&mut seat.seat, total, k);
     }
 
     // One addition to a word.
-    fn raise(&self, seat: &mut Seat<(), Shares>, total: Total, k: u64)
+    fn raise(&self, seat: &mut Seat<(), Known>, total: Total, k: u64)
         requires seat { seat.old.table_id ≡ self.now }
-        requires part { 0 < (share_of total seat.old.me.0).parts }
+        requires part { 0 < (share_of total seat.old.me.0.shares).parts }
         ensures of { seat.new.table_id ≡ seat.old.table_id }
-        ensures added_to { seat.new.me ≡ (added_to total k seat.old.me.0, seat.old.me.1) }
+        ensures slots { seat.new.me.1 ≡ seat.old.me.1 }
+        ensures shares { seat.new.me.0.shares ≡ added_to total k seat.old.me.0.shares }
+        ensures seen { HasAdded total k seat.old.me.0.seen seat.new.me.0.seen }
     {
         let word = total.word();
         self.table.shared.fetch_add::<Add>(seat, word, k);
     }
 
     // One look at a word.
-    fn total(&self, seat: &mut Seat<(), Shares>, total: Total) -> u64
+    fn total(&self, seat: &mut Seat<(), Known>, total: Total) -> u64
         requires seat { seat.old.table_id ≡ self.now }
         ensures of { seat.new.table_id ≡ seat.old.table_id }
-        ensures kept { seat.new.me ≡ seat.old.me }
-        ensures total { IsTotal seat.old.me.0 total result }
-        ensures exact { HoldsAll total seat.old.me.0 →
-            result ≡ (share_of total seat.old.me.0).added % 2 ^ 64 }
+        ensures slots { seat.new.me.1 ≡ seat.old.me.1 }
+        ensures shares { seat.new.me.0.shares ≡ seat.old.me.0.shares }
+        ensures seen { StartsWith seat.new.me.0.seen seat.old.me.0.seen }
+        ensures total { result ≡ total_at (position_of total) seat.new.me.0.seen % 2 ^ 64 }
+        ensures exact { HoldsAll total seat.old.me.0.shares →
+            result ≡ (share_of total seat.old.me.0.shares).added % 2 ^ 64 }
     {
         let word = total.word();
         self.table.shared.load::<Look>(seat, word)
     }
 
     // A look at each word.
-    fn all(&self, seat: &mut Seat<(), Shares>) -> Tally
+    fn all(&self, seat: &mut Seat<(), Known>) -> Tally
         requires seat { seat.old.table_id ≡ self.now }
         ensures of { seat.new.table_id ≡ seat.old.table_id }
-        ensures kept { seat.new.me ≡ seat.old.me }
-        ensures totals { (total : Total) → IsTotal seat.old.me.0 total (tallied result total) }
-        ensures exact { (total : Total) → HoldsAll total seat.old.me.0 →
-            tallied result total ≡ (share_of total seat.old.me.0).added % 2 ^ 64 }
+        ensures slots { seat.new.me.1 ≡ seat.old.me.1 }
+        ensures shares { seat.new.me.0.shares ≡ seat.old.me.0.shares }
+        ensures totals { (total : Total) →
+            WasTotal seat.old.me.0.seen seat.new.me.0.seen total (tallied result total) }
+        ensures exact { (total : Total) → HoldsAll total seat.old.me.0.shares →
+            tallied result total ≡ (share_of total seat.old.me.0.shares).added % 2 ^ 64 }
     {
         Tally {
             lets: self.total(seat, Total::Lets),

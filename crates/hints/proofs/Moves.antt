@@ -10,7 +10,7 @@ use lib.ListN.{get_elem?}
 use Rattle.crossbeam_queue.specs.Fifo.{Admits, Learns, Pops, Pushes}
 use Rattle.crossbeam_queue.proofs.Lists.{at_set}
 use Rattle.hints.specs.declared.hands.Hand.{Hand}
-use Rattle.hints.specs.Hinted.{Hinted, IsMoment, ThreadKnows, Move, by_thread, hand, hints_of, putting, taking}
+use Rattle.hints.specs.Hinted.{Hinted, ThreadKnows, Move, by_thread, hand, hints_of, putting, taking}
 
 abbrev keep : Bool → ℕ → List ℕ → List ℕ
 keep b x xs = cond b (x ∷ xs) xs
@@ -121,6 +121,6 @@ takes n t v x items views h at =
       (h.stations 0 x (omega arith), refl),
     )
 
--- what is learned of the queue
-pub learns : (n t : ℕ) (v : Hand) → Learns (Hinted n) t v (IsMoment n v)
-learns n t v items views h at = record { views = views; rule = h; thread = t; here = at }
+-- of a full or an empty queue nothing is kept
+pub learns : (n t : ℕ) (v : Hand) → Learns (Hinted n) t v (λ _. Unit {0})
+learns n t v items views h at = tt

@@ -1,10 +1,8 @@
--- What a queue of hints holds, and what each thread has put and taken.
-use Rattle.std.specs.Prelude.{◌≡◌, ℕ, ◌<◌, ◌≤◌, ◌==◌, Option, List, [], ◌∷◌, ◌++◌, length, map, All, if◌then◌else◌}
+-- What a queue of hints holds, and what each thread has put and taken, offered and asked for.
+use Rattle.std.specs.Prelude.{◌≡◌, ℕ, ◌+◌, ◌%◌, ◌^◌, ◌<◌, ◌≤◌, ◌==◌, List, [], ◌∷◌, ◌++◌, length, map, All, if◌then◌else◌}
 use mathlib.Core.Option.{some}
 use lib.ListN.{get_elem?}
 use Rattle.atomic_table.specs.Seated.{TableId}
-use Rattle.crossbeam_queue.specs.Fifo.{Held}
-use Rattle.crossbeam_queue.specs.Passes.{Pass}
 use Rattle.hints.specs.declared.hands.Hand.{Hand}
 
 -- A queue of hints: which one, and how many stations there are
@@ -12,14 +10,35 @@ pub record TheHints : Type 0 where
   pub id : TableId
   pub ring : ℕ
 
--- It is a thread's end of this queue
-pub record IsEndOf (hints : TheHints) (p : Pass ℕ Hand) : Type 0 where
-  pub same : p.table_id ≡ hints.id
-  pub slots : p.me.1 ≡ []
+-- A thread's end of a queue: of which one, what it has put and taken, and how often it has offered a hint and asked for
+-- one, modulo 2^64
+pub record TheHinter : Type 0 where
+  pub of : TableId
+  pub hand : Hand
+  pub offered : ℕ
+  pub asked : ℕ
+
+-- A thread's end of this queue
+abbrev pub IsEndOf : TheHints → TheHinter → Type 0
+IsEndOf hints hinter = hinter.of ≡ hints.id
 
 -- What was put and what was taken, the last one last
 abbrev pub hand : List ℕ → List ℕ → Hand
 hand put taken = record { put = put; taken = taken }
+
+-- A new thread's end of this queue
+abbrev pub fresh : TheHints → TheHinter
+fresh hints = record { of = hints.id; hand = hand [] []; offered = 0; asked = 0 }
+
+-- A hint was offered once, and none was asked for
+pub record HasOffered (old new : TheHinter) : Type 0 where
+  pub once : new.offered ≡ (old.offered + 1) % 2 ^ 64
+  pub asked : new.asked ≡ old.asked
+
+-- A hint was asked for once, and none was offered
+pub record HasAsked (old new : TheHinter) : Type 0 where
+  pub once : new.asked ≡ (old.asked + 1) % 2 ^ 64
+  pub offered : new.offered ≡ old.offered
 
 -- One more put
 abbrev pub putting : ℕ → Hand → Hand
@@ -58,14 +77,3 @@ pub record Hinted (ring : ℕ) (items : List ℕ) (views : List Hand) : Type 0 w
   pub stations : All (λ x. x < ring) items
   pub knows : (thread : ℕ) (v : Hand) → get_elem? views thread ≡ some v → ThreadKnows puts takes thread v
   pub nobody_else : (thread : ℕ) → length views ≤ thread → ThreadKnows puts takes thread (hand [] [])
-
--- At a moment at which the rule held and a thread had put and taken this, the queue held these hints
-pub record IsMoment (ring : ℕ) (v : Hand) (items : List ℕ) : Type 0 where
-  pub views : List Hand
-  pub rule : Hinted ring items views
-  pub thread : ℕ
-  pub here : get_elem? views thread ≡ some v
-
--- At such a moment of the call the queue held n hints
-abbrev pub HasHeld : (ring : ℕ) → Hand → ℕ → Type 0
-HasHeld ring v n = Held n (IsMoment ring v)

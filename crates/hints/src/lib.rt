@@ -3,7 +3,9 @@
 #![tactic(auto)]
 
 mod hands;
+mod hinter;
 mod queue;
 
-pub use hands::{Hand, Hinter, Ring};
+pub use hands::{Hand, Ring};
+pub use hinter::Hinter;
 pub use queue::Hints;

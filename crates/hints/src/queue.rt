@@ -1,9 +1,9 @@
 //! The queue, and every call on it.
-ghost use Rattle.std.specs.Prelude.{◌≡◌, ◌<◌, ◌≤◌, ◌*◌, [], IfNone, IfOk, IfSome, IsFalse, IsTrue};
-ghost use Rattle.crossbeam_queue.specs.Passes.{view};
-ghost use Rattle.hints.specs.Hinted.{HasHeld, IsEndOf, hand, putting, taking};
+ghost use Rattle.std.specs.Prelude.{◌≡◌, ◌<◌, ◌≤◌, IfNone, IfOk, IfSome, IsFalse, IsTrue};
+ghost use Rattle.hints.specs.Hinted.{HasAsked, HasOffered, IsEndOf, fresh, putting, taking};
 
-use crate::hands::{Below, Hand, Hinter, Puts, Ring, Takes};
+use crate::hands::{Below, Hand, Puts, Ring, Takes};
+use crate::hinter::Hinter;
 use crossbeam_queue::RuledArrayQueue;
 use std::alloc::{AllocError, Global};
 use std::marker::Model;
@@ -43,10 +43,13 @@ impl<J: Ring> Hints<J> {
 
     /// A new thread's end: it has put and taken nothing.
     pub fn hinter(&self) -> Hinter
-        ensures of { IsEndOf self.now result }
-        ensures fresh { view result ≡ hand [] [] }
+        ensures { result ≡ fresh self.now }
     {
-        self.queue.pass()
+        Hinter {
+            pass: self.queue.pass(),
+            offered: 0,
+            asked: 0,
+        }
     }
 
     /// Puts a hint behind all others. False where it is dropped: the queue was full.
@@ -54,13 +57,13 @@ impl<J: Ring> Hints<J> {
         requires of { IsEndOf self.now hinter.old }
         requires station { station < self.now.ring }
         ensures of { IsEndOf self.now hinter.new }
-        ensures put { IsTrue result → view hinter.new ≡ putting station (view hinter.old) }
-        ensures dropped { IsFalse result → view hinter.new ≡ view hinter.old }
-        ensures full { IsFalse result →
-            HasHeld self.now.ring (view hinter.old) (2 * self.now.ring) }
+        ensures put { IsTrue result → hinter.new.hand ≡ putting station hinter.old.hand }
+        ensures dropped { IsFalse result → hinter.new.hand ≡ hinter.old.hand }
+        ensures offered { HasOffered hinter.old hinter.new }
     {
+        hinter.offered = hinter.offered.wrapping_add(1);
         self.queue
-            .push_as::<Puts<J>, R>(wait, hinter, station)
+            .push_as::<Puts<J>, R>(wait, &mut hinter.pass, station)
             .is_ok()
     }
 
@@ -71,17 +74,19 @@ impl<J: Ring> Hints<J> {
         ensures of { IsEndOf self.now hinter.new }
         ensures station { IfSome result (λ station. station < self.now.ring) }
         ensures taken { IfSome result (λ station.
-            view hinter.new ≡ taking station (view hinter.old)) }
-        ensures kept { IfNone result (view hinter.new ≡ view hinter.old) }
-        ensures empty { IfNone result (HasHeld self.now.ring (view hinter.old) 0) }
+            hinter.new.hand ≡ taking station hinter.old.hand) }
+        ensures kept { IfNone result (hinter.new.hand ≡ hinter.old.hand) }
+        ensures asked { HasAsked hinter.old hinter.new }
     {
-        let oldest = self.queue.try_pop_as::<Takes<J>>(hinter);
+        hinter.asked = hinter.asked.wrapping_add(1);
+        let pass = &mut hinter.pass;
+        let oldest = self.queue.try_pop_as::<Takes<J>>(pass);
         if oldest.is_some() {
             return oldest;
         }
-        if self.queue.is_empty_as::<Takes<J>>(hinter) {
+        if self.queue.is_empty_as::<Takes<J>>(pass) {
             return None;
         }
-        self.queue.pop_as::<Takes<J>, R>(wait, hinter)
+        self.queue.pop_as::<Takes<J>, R>(wait, pass)
     }
 }

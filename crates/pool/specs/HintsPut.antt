@@ -1,39 +1,88 @@
 -- What is hinted to the units, and where a unit looks for work.
-use Rattle.std.specs.Prelude.{◌≡◌, ◌⊎◌, ℕ, ◌+◌, ◌*◌, ◌<◌, ◌%◌, List, ◌++◌, All, Contains}
-use Rattle.crossbeam_queue.specs.Passes.{view}
-use Rattle.hints.specs.declared.hands.Hand.{Hand}
-use Rattle.hints.specs.Hinted.{HasHeld, IsEndOf, TheHints, hand, taking}
+use Rattle.std.specs.Prelude.{⊤, ◌≡◌, ◌⊎◌, ℕ, Bool, true, false, zero, suc, ◌+◌, ◌<◌, ◌≤◌, ◌%◌, ◌^◌, List, [], ◌∷◌, ◌++◌, All}
+use Rattle.std.specs.Int.{bit_at}
+use Rattle.front.specs.Turns.{LetsOut}
+use Rattle.hints.specs.Hinted.{HasOffered, IsEndOf, TheHinter, TheHints, hand, putting, taking}
+use Rattle.inorder.specs.declared.history.Entry.{Entry}
+use Rattle.pool.specs.declared.dispatch.Stepped.{Stepped}
+use Rattle.pool.specs.declared.dispatch.Stepped.TheVariants.{Worked}
 use Rattle.pool.specs.declared.search.Candidate.{Candidate}
 use Rattle.pool.specs.declared.search.Candidate.TheVariants.{Hinted, Next}
 use Rattle.pool.specs.declared.search.Search.{Search}
+use Rattle.station.specs.declared.answers.Finish.{Finish}
+use Rattle.station.specs.declared.answers.Finish.TheVariants.{Finished, Stale}
+use Rattle.station.specs.Seats.{TheCore}
 use Rattle.station.specs.Waking.{IsSet}
 
--- The queue held as many hints as it takes, at a moment of the call
-pub record WasFull (ring : ℕ) : Type 0 where
-  pub v : Hand
-  pub held : HasHeld ring v (2 * ring)
+-- How many of the bits below `below` are set
+abbrev pub set_below : (woken below : ℕ) → ℕ
+set_below woken zero = 0
+set_below woken (suc below) = set_below woken below + bit_at woken below
 
--- Of the stations below `below` whose bit is set, each was hinted or found the queue full, and no other was hinted
-pub record HasHinted (ring woken below : ℕ) (old new : Hand) : Type 0 where
+-- Each of these stations is at least `from`, and above the one before it
+abbrev pub Rises : (from : ℕ) → List ℕ → Type 0
+Rises from [] = ⊤
+Rises from (s ∷ ss) = (from ≤ s) × Rises (s + 1) ss
+
+-- Of the stations below `below` whose bit is set each was offered to the queue once, the lowest first; those that it
+-- took are hinted, and no other
+pub record HasHinted (woken below : ℕ) (old new : TheHinter) : Type 0 where
+  pub of : new.of ≡ old.of
   pub stations : List ℕ
   pub set : All (IsSet woken) stations
-  pub put : new ≡ hand (old.put ++ stations) old.taken
-  pub each : (s : ℕ) → s < below → IsSet woken s → Contains stations s ⊎ WasFull ring
+  pub rising : Rises 0 stations
+  pub inside : All (λ s. s < below) stations
+  pub put : new.hand ≡ hand (old.hand.put ++ stations) old.hand.taken
+  pub offered : new.offered % 2 ^ 64 ≡ (old.offered + set_below woken below) % 2 ^ 64
+  pub asked : new.asked ≡ old.asked
+
+-- This station was offered to the queue once, which took it or was full
+pub record HasHintedOne (station : ℕ) (old new : TheHinter) : Type 0 where
+  pub of : new.of ≡ old.of
+  pub put : (new.hand ≡ putting station old.hand) ⊎ (new.hand ≡ old.hand)
+  pub offered : HasOffered old new
+
+-- A unit that has finished a job hints whom its result woke; one that came too late hints nobody
+abbrev pub HintsWoken : (ring woken : ℕ) → Finish → TheHinter → TheHinter → Type 0
+HintsWoken ring woken Finished old new = HasHinted woken ring old new
+HintsWoken ring woken Stale old new = new ≡ old
+
+-- Where a load got its value, whom that woke is hinted, and else nobody is
+abbrev pub HintsLoaded : (ring woken : ℕ) → (loaded : Bool) → TheHinter → TheHinter → Type 0
+HintsLoaded ring woken true old new = HasHinted woken ring old new
+HintsLoaded ring woken false old new = new ≡ old
+
+-- A tenant was let, and its station was hinted
+pub record HasHintedLet (core : TheCore) (seen_old seen_new : List Entry) (old new : TheHinter) : Type 0 where
+  pub station : ℕ
+  pub tag : ℕ
+  pub pc : ℕ
+  pub predicted : ℕ
+  pub lets : LetsOut core.program core.sizes seen_old seen_new station tag pc predicted
+  pub hinted : HasHintedOne station old new
+
+-- The station of what was let is hinted, and where nothing was let none is
+abbrev pub HintsLet : TheCore → (seen_old seen_new : List Entry) → Stepped → TheHinter → TheHinter → Type 0
+HintsLet core seen_old seen_new Worked old new = HasHintedLet core seen_old seen_new old new
+HintsLet core seen_old seen_new _ old new = new ≡ old
 
 -- The station at which a unit looks
 abbrev pub candidate_station : Candidate → ℕ
 candidate_station (Hinted station) = station
 candidate_station (Next station) = station
 
--- It is a hint that was taken; or there was none, and it is the next one in ring order
+-- A hint that was taken; or no hint was taken, and it is the next station in ring order
 abbrev pub LooksAt : (ring : ℕ) → Search → Search → Candidate → Type 0
 LooksAt ring old new (Hinted station) =
-    (view new.hinter ≡ taking station (view old.hinter)) × (new.next ≡ old.next)
+    (new.hinter.hand ≡ taking station old.hinter.hand) × (new.next ≡ old.next)
 LooksAt ring old new (Next station) =
-    HasHeld ring (view old.hinter) 0 × (station ≡ old.next) × (new.next ≡ (old.next + 1) % ring)
-    × (view new.hinter ≡ view old.hinter)
+    (station ≡ old.next) × (new.next ≡ (old.next + 1) % ring) × (new.hinter.hand ≡ old.hinter.hand)
 
--- It is of this queue, and goes on from a station of its ring
+-- One hint was asked for, whether there was one or not
+abbrev pub AsksOnce : Search → Search → Type 0
+AsksOnce old new = new.hinter.asked ≡ (old.hinter.asked + 1) % 2 ^ 64
+
+-- The search is in this queue, and goes on from a station of its ring
 pub record Searches (hints : TheHints) (search : Search) : Type 0 where
   pub of : IsEndOf hints search.hinter
   pub next : search.next < hints.ring

@@ -1,7 +1,7 @@
 //! What a unit thread does.
 ghost use Rattle.std.specs.Prelude.{◌≡◌, ◌<◌, ◌≤◌};
 ghost use Rattle.inorder.specs.History.{IsLegal};
-ghost use Rattle.pool.specs.HintsPut.{candidate_station};
+ghost use Rattle.pool.specs.HintsPut.{AsksOnce, HintsWoken, candidate_station};
 ghost use Rattle.pool.specs.Units.{Works};
 ghost use Rattle.station.specs.Claiming.{ClaimAnswers, Holds};
 ghost use Rattle.station.specs.Seats.{IsSameSeat};
@@ -114,6 +114,7 @@ fn count_claim<K: Bounds + Ring, G, R>(
 )
     requires { Works crew.now.core.now crew.now.floor.now.counts crew.now.floor.now.hints unit.old }
     ensures seat { unit.new.seat ≡ unit.old.seat }
+    ensures search { unit.new.search ≡ unit.old.search }
     ensures works { Works crew.now.core.now crew.now.floor.now.counts
         crew.now.floor.now.hints unit.new }
 {
@@ -131,17 +132,25 @@ fn count_claim<K: Bounds + Ring, G, R>(
 }
 
 // Finishes a job, counts that, and hints whom its result woke.
-fn finish<K: Bounds + Ring, G, R: Wait>(crew: &Crew<'_, K, G, R>, unit: &mut Unit, job: Job)
+fn finish<K: Bounds + Ring, G, R: Wait>(
+    crew: &Crew<'_, K, G, R>,
+    unit: &mut Unit,
+    job: Job,
+) -> Finish
     requires works { Works crew.now.core.now crew.now.floor.now.counts
         crew.now.floor.now.hints unit.old }
     requires job { Holds crew.now.core.now.program crew.now.core.now.sizes
         unit.old.seat.by unit.old.seat.seen job }
     requires legal { IsLegal crew.now.core.now.program crew.now.core.now.sizes unit.old.seat.seen }
-    ensures { Works crew.now.core.now crew.now.floor.now.counts crew.now.floor.now.hints unit.new }
+    ensures works { Works crew.now.core.now crew.now.floor.now.counts
+        crew.now.floor.now.hints unit.new }
+    ensures hinted { HintsWoken crew.now.core.now.sizes.ring unit.new.seat.woken result
+        unit.old.search.hinter unit.new.search.hinter }
+    ensures asks { unit.new.search.hinter.asked ≡ unit.old.search.hinter.asked }
 {
     if let Finish::Stale = compute(crew.core, &mut unit.seat, job) {
         unit.count.count(&crew.floor.counts, Total::Stale, 1);
-        return;
+        return Finish::Stale;
     }
     unit.count.count(&crew.floor.counts, Total::Finishes, 1);
     let woken = unit.seat.woken();
@@ -152,6 +161,7 @@ fn finish<K: Bounds + Ring, G, R: Wait>(crew: &Crew<'_, K, G, R>, unit: &mut Uni
         crew.core.ring(),
         woken,
     );
+    Finish::Finished
 }
 
 // One turn, and as many more as the gate holds the unit: claims one station, and finishes the job that it gets.
@@ -164,6 +174,7 @@ fn turn<K: Bounds + Ring, G: Gate, R: Wait>(
     requires { Works crew.now.core.now crew.now.floor.now.counts crew.now.floor.now.hints unit.old }
     ensures works { Works crew.now.core.now crew.now.floor.now.counts
         crew.now.floor.now.hints unit.new }
+    ensures asks { AsksOnce unit.old.search unit.new.search }
     ensures left { result ≤ left }
 {
     let candidate = unit
@@ -181,7 +192,7 @@ fn turn<K: Bounds + Ring, G: Gate, R: Wait>(
     };
     count_claim(crew, unit, candidate);
     let left = wait_at(crew, unit.number, candidate.station() as u32, left);
-    finish(crew, unit, job);
+    let _finished = finish(crew, unit, job);
     left
 }
 

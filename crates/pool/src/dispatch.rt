@@ -2,6 +2,7 @@
 ghost use Rattle.std.specs.Prelude.{◌≡◌, ◌<◌, IfSome, true};
 ghost use Rattle.front.specs.Fronts.{TurnsTo};
 ghost use Rattle.hints.specs.Hinted.{IsEndOf};
+ghost use Rattle.pool.specs.HintsPut.{HintsLet};
 ghost use Rattle.pool.specs.Terms.{Begins, GivesBack};
 ghost use Rattle.pool.specs.declared.dispatch.Stepped.TheVariants.{Rested};
 
@@ -42,13 +43,15 @@ fn let_next<K: Bounds + Ring, P: Predictor + Drop, G, R: Wait>(
     ensures core { front.new.core ≡ crew.now.core.now }
     ensures count { count.new.seat.of ≡ crew.now.floor.now.counts }
     ensures hinter { IsEndOf crew.now.floor.now.hints hinter.new }
+    ensures hinted { HintsLet crew.now.core.now front.old.seen front.new.seen result
+        hinter.old hinter.new }
     ensures rested { result ≡ Rested → front.new.rested ≡ true }
 {
     let _ring = crew.core.ring();
     match front.turn(crew.core) {
         Turn::Let { station, .. } => {
             count.count(&crew.floor.counts, Total::Lets, 1);
-            crew.floor.hints.push(crew.wait, hinter, station as u32);
+            let _is_put = crew.floor.hints.push(crew.wait, hinter, station as u32);
             Stepped::Worked
         }
         Turn::Spent => match front.rest(crew.core) {

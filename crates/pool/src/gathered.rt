@@ -3,6 +3,7 @@
 ghost use Rattle.std.specs.Prelude.{◌≡◌, false};
 ghost use Rattle.counts.specs.Shares.{is_kept};
 ghost use Rattle.counts.specs.Totals.{position_of};
+ghost use Rattle.pool.specs.Gathering.{CountsMore, CountsNoMore, HasGatheredNothing};
 
 use counts::{Counts, Total, WorkerSeat};
 
@@ -27,7 +28,8 @@ pub(crate) struct Gathered {
 impl Gathered {
     /// Nothing was counted yet.
     pub(crate) fn new(seat: WorkerSeat) -> Gathered
-        ensures { result.seat ≡ seat }
+        ensures seat { result.seat ≡ seat }
+        ensures nothing { HasGatheredNothing result }
     {
         Gathered {
             seat,
@@ -46,7 +48,23 @@ impl Gathered {
     pub(crate) fn count(&mut self, counts: &Counts, total: Total, k: u64)
         requires seat { self.old.seat.of ≡ counts.now }
         requires other { is_kept (position_of total) ≡ false }
-        ensures { self.new.seat.of ≡ counts.now }
+        ensures of { self.new.seat.of ≡ counts.now }
+        ensures counted { CountsMore total k self.old self.new }
+    {
+        self.gather(counts, total, k);
+        if self.left == 0 {
+            self.add(counts);
+        } else {
+            self.left -= 1;
+        }
+    }
+
+    // Gathers, or adds what is not gathered.
+    fn gather(&mut self, counts: &Counts, total: Total, k: u64)
+        requires seat { self.old.seat.of ≡ counts.now }
+        requires other { is_kept (position_of total) ≡ false }
+        ensures of { self.new.seat.of ≡ counts.now }
+        ensures counted { CountsMore total k self.old self.new }
     {
         match total {
             Total::Lets => self.lets = self.lets.wrapping_add(k),
@@ -60,17 +78,14 @@ impl Gathered {
                 counts.add_work(&mut self.seat, total, k);
             }
         }
-        if self.left == 0 {
-            self.add(counts);
-        } else {
-            self.left -= 1;
-        }
     }
 
     /// Adds what was gathered to the totals.
     pub(crate) fn add(&mut self, counts: &Counts)
         requires { self.old.seat.of ≡ counts.now }
-        ensures { self.new.seat.of ≡ counts.now }
+        ensures of { self.new.seat.of ≡ counts.now }
+        ensures counted { CountsNoMore self.old self.new }
+        ensures nothing { HasGatheredNothing self.new }
     {
         counts.add_work(&mut self.seat, Total::Lets, self.lets);
         counts.add_work(&mut self.seat, Total::Claims, self.claims);
@@ -84,7 +99,8 @@ impl Gathered {
 
     // All that was gathered is added.
     fn begin_again(&mut self)
-        ensures { self.new.seat ≡ self.old.seat }
+        ensures seat { self.new.seat ≡ self.old.seat }
+        ensures nothing { HasGatheredNothing self.new }
     {
         self.lets = 0;
         self.claims = 0;

@@ -1,6 +1,6 @@
 //! Tells units of stations at which there may be work.
-ghost use Rattle.std.specs.Prelude.{◌≡◌, ◌≢◌, ◌<◌, ◌≤◌, IsFalse, IsTrue};
-ghost use Rattle.crossbeam_queue.specs.Passes.{view};
+ghost use Rattle.std.specs.Int.{bit_at};
+ghost use Rattle.std.specs.Prelude.{◌≡◌, ◌<◌, ◌≤◌, IsFalse, IsTrue};
 ghost use Rattle.hints.specs.Hinted.{IsEndOf};
 ghost use Rattle.pool.specs.HintsPut.{HasHinted};
 ghost use Rattle.station.specs.Waking.{IsSet};
@@ -12,7 +12,7 @@ use std::sync::Wait;
 fn is_one_of(stations: u32, station: u32) -> bool
     requires { station < 32 }
     ensures set { IsTrue result → IsSet stations station }
-    ensures clear { IsFalse result → IsSet stations station → ⊥ }
+    ensures clear { IsFalse result → bit_at stations station ≡ 0 }
 {
     (stations >> station) & 1 == 1
 }
@@ -30,7 +30,7 @@ pub(crate) fn hint_each<K: Ring, R: Wait>(
     requires ring { ring ≡ hints.now.ring }
     requires most { ring ≤ 32 }
     ensures of { IsEndOf hints.now hinter.new }
-    ensures hinted { HasHinted ring stations ring (view hinter.old) (view hinter.new) }
+    ensures hinted { HasHinted stations ring hinter.old hinter.new }
 {
     for station in 0..ring as u32 {
         if is_one_of(stations, station) {

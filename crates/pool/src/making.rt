@@ -1,5 +1,5 @@
 //! What a run is made of, before a thread has begun.
-ghost use Rattle.std.specs.Prelude.{◌≡◌, IfOk};
+ghost use Rattle.std.specs.Prelude.{◌≡◌, [], IfOk};
 ghost use Rattle.back.specs.Backs.{HasRetiredNothing, IsNewBack};
 ghost use Rattle.counts.specs.Shares.{all_parts};
 ghost use Rattle.pool.specs.Making.{AreParts, IsFloor, RunIsMade};
@@ -96,7 +96,7 @@ pub(crate) fn make<J: Naming, K: Bounds + Ring, P: Predictor + Drop, R>(
     predictor: P,
 ) -> Result<Made<J, K, P>, Memory>
     requires counts { counts ≡ K.counts }
-    requires count { count ≡ record { of = counts; shares = all_parts } }
+    requires count { count ≡ record { of = counts; shares = all_parts; seen = [] } }
     requires program { task.now.program.now ≡ J.program }
     requires limit { task.now.config.now.limit ≡ K.limit }
     requires turns { task.now.config.now.turns ≡ K.turns }

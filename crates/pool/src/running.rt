@@ -1,5 +1,5 @@
 //! Runs a program in threads, and joins them.
-ghost use Rattle.std.specs.Prelude.{◌≡◌, IfOk};
+ghost use Rattle.std.specs.Prelude.{◌≡◌, [], IfOk};
 ghost use Rattle.counts.specs.Shares.{all_parts};
 ghost use Rattle.pool.specs.Making.{HasRun};
 ghost use Rattle.pool.specs.Runs.{IsLimit, LeavesTurns, TellsRenewals};
@@ -74,7 +74,7 @@ fn run_named<
     predictor: P,
 ) -> Result<RunInTurns, Memory>
     requires counts { counts ≡ K.counts }
-    requires count { count ≡ record { of = counts; shares = all_parts } }
+    requires count { count ≡ record { of = counts; shares = all_parts; seen = [] } }
     requires program { task.now.program.now ≡ J.program }
     requires limit { task.now.config.now.limit ≡ K.limit }
     requires turns { task.now.config.now.turns ≡ K.turns }

@@ -1,5 +1,5 @@
 //! Additions in threads.
-ghost use Rattle.std.specs.Prelude.{◌≡◌};
+ghost use Rattle.std.specs.Prelude.{◌≡◌, []};
 ghost use denote.Param.Send.{IsSync};
 ghost use Rattle.counts.specs.Shares.{all_parts, joined_of, plus, share_of};
 ghost use Rattle.counts.specs.declared.tally.Total.TheVariants.{Lets};
@@ -48,7 +48,7 @@ fn in_two<R: Threads + Sync>(rt: &R, counts: &Counts, one: CountSeat, other: Cou
 
 // Four threads add at once: what is read when they have ended.
 fn in_four<R: Threads + Sync>(rt: &R, counts: &Counts, seat: CountSeat) -> Tally
-    requires { seat ≡ record { of = counts.now; shares = all_parts } }
+    requires { seat ≡ record { of = counts.now; shares = all_parts; seen = [] } }
     ensures { result.lets ≡ 40000 }
 {
     let (left, right) = counts.split(seat);

@@ -3,6 +3,7 @@ ghost use Rattle.std.specs.Prelude.{◌≡◌, ◌≢◌, ◌+◌, ◌<◌, ◌�
 ghost use Rattle.back.specs.Backs.{IsSameBack, back_state};
 ghost use Rattle.hints.specs.Hinted.{IsEndOf};
 ghost use Rattle.pool.specs.Committing.{Because, IsReason, IsAtRest};
+ghost use Rattle.pool.specs.HintsPut.{HintsLoaded};
 ghost use Rattle.pool.specs.declared.commit.turning.Turned.TheVariants.{Over};
 ghost use Rattle.pool.specs.declared.commit.Why.{Why};
 
@@ -64,6 +65,8 @@ impl<J: Naming, K: Bounds + Ring> Committer<J, K> {
         ensures renewals { self.new.renewals ≡ self.old.renewals }
         ensures over { self.new.over ≡ self.old.over }
         ensures hinter { IsEndOf crew.now.floor.now.hints hinter.new }
+        ensures hinted { HintsLoaded crew.now.core.now.sizes.ring self.new.back.woken result
+            hinter.old hinter.new }
     {
         let Refresh::Loaded { .. } = self.back.refresh(crew.core) else {
             return false;

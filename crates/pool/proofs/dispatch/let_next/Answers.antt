@@ -7,7 +7,7 @@ overflow_cast-station g c =
     let below : c.in-Let.station < c.args.crew.now.core.now.sizes.ring = in_ring _ _ _ c.in-Let.ensures.reply.lets.station_is (omega (arith, c.ring-ring.ensures.least, c.ring-ring.ensures.value)) in
     omega (arith, below, c.ring-ring.ensures.most, c.ring-ring.ensures.value)
 
-pub push-requires-clause-station : goal.push-requires-clause-station
-push-requires-clause-station g c =
+pub push-is_put-requires-clause-station : goal.push-is_put-requires-clause-station
+push-is_put-requires-clause-station g c =
     let below : c.in-Let.station < c.args.crew.now.core.now.sizes.ring = in_ring _ _ _ c.in-Let.ensures.reply.lets.station_is (omega (arith, c.ring-ring.ensures.least, c.ring-ring.ensures.value)) in
     omega (arith, below, c.args.crew.now.ring)

@@ -1,8 +1,7 @@
-use Rattle.crossbeam_queue.specs.Passes.{view}
 use Rattle.hints.specs.Hinted.{IsEndOf}
 use Rattle.pool.specs.HintsPut.{HasHinted}
 use Rattle.pool.proofs.hinting.hint_each.Given as goal
 
 abbrev pub invariant-loop-station : goal.invariant-loop-station
 invariant-loop-station g l =
-    IsEndOf l.hints l.hinter × HasHinted l.ring l.stations l.station (view l.initial.hinter) (view l.hinter)
+    IsEndOf l.hints l.hinter × HasHinted l.stations l.station l.initial.hinter l.hinter
