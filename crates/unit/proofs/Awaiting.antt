@@ -1,7 +1,7 @@
 -- Where all live tenants have only to retire.
 use Rattle.std.proofs.Common.{◌≡◌, ◌<◌, ℕ, zero, suc, ◌+◌, ◌-◌, Bool, true, false, List, [], ◌∷◌, ◌++◌, length, take, Option, Some, None, refl, sym, ap, ◌∙◌, subst, ⊎_elim, arith, true≢false}
 use Rattle.circular_buffer.proofs.Places.{slice_get-some}
-use Rattle.std.specs.Prelude.{is_some, slice_get}
+use Rattle.std.specs.Prelude.{⊤, is_some, slice_get}
 use Rattle.instructions.specs.declared.op.Half.TheVariants.{Low}
 use Rattle.inorder.specs.Committed.{with_low}
 use Rattle.inorder.specs.Unit.{half_after}
@@ -89,3 +89,11 @@ ends_as W later next at w e place is =
 pub chosen_as : (r : Bool) (A B C : Type 0) → (A → C) → Chosen r A B → Chosen r C B
 chosen_as true A B C f x = f x
 chosen_as false A B C f x = x
+
+pub chosen_both : (r : Bool) (A B C : Type 0) → (A → C) → Chosen r A ⊤ → Chosen r ⊤ B → Chosen r C B
+chosen_both true A B C f x y = f x
+chosen_both false A B C f x y = y
+
+pub chosen_first : (r : Bool) (A B C : Type 0) → (A → C) → Chosen r A B → Chosen r C ⊤
+chosen_first true A B C f x = f x
+chosen_first false A B C f x = tt

@@ -35,3 +35,4 @@ pub mod StreamsFill
 pub mod StreamsIn
 pub mod StreamsLoads
 pub mod StreamsOut
+pub mod Mended

@@ -14,8 +14,9 @@ use Rattle.unit.specs.declared.steady.Streamed.{Streamed}
 use Rattle.unit.specs.declared.steady.Streamed.TheVariants.{Ends as StreamEnds, Full, Let}
 use Rattle.unit.specs.declared.steady.Upcoming.{Upcoming}
 use Rattle.unit.specs.declared.steady.Upcoming.TheVariants.{Ends, Fits, Waits}
-use Rattle.unit.specs.Changes.{NextOf}
+use Rattle.unit.specs.Changes.{NextOf, registers_of}
 use Rattle.unit.specs.Notes.{settled_by}
+use Rattle.unit.specs.Stages.{RecoversTo, RunsTo}
 use Rattle.unit.specs.StandsFor.{StandsForSome}
 use Rattle.unit.specs.Window.{next_in, source_in, station_after}
 
@@ -98,6 +99,19 @@ pub record EndsWith (W : List Station) (f : Fetched) (later : List Station) : Ty
   pub instr : station.instr ≡ f.instr
   pub half : station.half ≡ f.half
 
+-- The oldest station that can be claimed was finished, and as the oldest miss it was mended
+pub record ComesBack (b later : Pipeline) : Type 0 where
+  pub ran : List Station
+  pub runs : RunsTo (registers_of b) (length b.program.now.bytes) b.window ran
+  pub recovers : RecoversTo ran later.window
+
+-- One tenant more was let, and the next one finds behind those before it what it found
+pub record HasLet (b later : Pipeline) (f : Future) : Type 0 where
+  pub steady : IsSteady b f
+  pub next : Fetched
+  pub ends : EndsWith b.window next later.window
+  pub rest : later ≡ record b { window = later.window; leavers = later.leavers }
+
 -- What became of what came next: the unit is in its steady state, and more can be let or nothing can
 abbrev pub IsStreamed : Streamed → Pipeline → Pipeline → Future → Type 0
 IsStreamed Let b later f =
@@ -105,4 +119,4 @@ IsStreamed Let b later f =
 IsStreamed Full b later f =
     IsSteady later f × (length later.window ≤ later.ring) × NextOf later None ×
     (later.settled < length later.window)
-IsStreamed StreamEnds b later f = ⊤
+IsStreamed StreamEnds b later f = length b.window < length later.window → HasLet b later f

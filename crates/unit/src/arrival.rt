@@ -140,7 +140,7 @@ impl<'a> Pipeline<'a> {
             EndsWith (take at self.old.window) next self.new.window }
         ensures rest { self.new ≡ record self.old { window = self.new.window } }
         ensures follows { Chosen result (FollowsYoungest future.old (take at self.old.window)
-            self.new.window future.new) ⊤ }
+            self.new.window future.new) (future.new ≡ future.old) }
     {
         if !self.loads_youngest(at) {
             return false;
@@ -169,7 +169,8 @@ impl<'a> Pipeline<'a> {
         ensures rest { self.new ≡
             record self.old { window = self.new.window; leavers = self.new.leavers } }
         ensures follows { Chosen result
-            (FollowsYoungest future.old self.old.window self.new.window future.new) ⊤ }
+            (FollowsYoungest future.old self.old.window self.new.window future.new)
+            (future.new ≡ future.old) }
     {
         let at = self.window.len();
         if self.runs_next(predictor, future, next) {

@@ -86,7 +86,8 @@ impl Future {
     pub fn passes(&mut self, station: &Station) -> bool
         requires all { length self.old.values ≡ 34 }
         requires whole { is_first_half station.now.instr.op station.now.half ≡ false }
-        ensures { Chosen result (Follows self.old station.now self.new) ⊤ }
+        ensures follows { Chosen result (Follows self.old station.now self.new) ⊤ }
+        ensures same { Chosen result ⊤ (self.new ≡ self.old) }
     {
         has_ended(station) && self.goes_on(station.destination, station.made, station.next)
     }

@@ -12,7 +12,7 @@ pub loop-i-preserved : goal.loop-i-preserved
 loop-i-preserved c =
     let b = c.args.self.now in
     let is = sym c.peek.ensures ∙ ap option_copied c.in_ok-station.was in
-    let next = foresees_next c.loop-i.future c.passes.new.self b.committed.registers b.committed.pc c.loop-i.i b.window c.in_ok-station.station.now is c.if-not-passes.ensures
+    let next = foresees_next c.loop-i.future c.passes.new.self b.committed.registers b.committed.pc c.loop-i.i b.window c.in_ok-station.station.now is c.if-not-passes.ensures.follows
     c.loop-i.invariant.passed c.loop-i.invariant.foresees in
     record { passed = next.0; foresees = next.1 }
 

@@ -1,7 +1,7 @@
 use Rattle.std.proofs.Common.{sym, ap, ◌∙◌, take}
 use Rattle.std.specs.Prelude.{option_copied}
 use Rattle.unit.specs.Steady.{Follows, FollowsYoungest}
-use Rattle.unit.proofs.Awaiting.{chosen_as}
+use Rattle.unit.proofs.Awaiting.{chosen_both}
 use Rattle.unit.proofs.StreamsLoads.{loaded_follows, loaded_whole}
 use Rattle.unit.proofs.pipeline.Pipeline.loads_next.Goals as goal
 
@@ -15,6 +15,6 @@ returns-in-Some-clause-follows c =
     let W = c.args.self.now.window in
     let later = c.loads_youngest.new.self.window in
     let w = c.in-Some.station.now in
-    chosen_as c.passes.result (Follows c.args.future.now w c.passes.new.self) _ (FollowsYoungest c.args.future.now (take c.args.at W) later c.passes.new.self)
+    chosen_both c.passes.result (Follows c.args.future.now w c.passes.new.self) _ (FollowsYoungest c.args.future.now (take c.args.at W) later c.passes.new.self)
     (λ h. loaded_follows c.args.future.now c.passes.new.self W later c.args.at w c.requires.youngest (sym c.peek.ensures ∙ ap option_copied c.in-Some.is) h)
-    c.passes.ensures
+    c.passes.ensures.follows c.passes.ensures.same
