@@ -3,7 +3,7 @@ use Rattle.std.proofs.Common.{◌≡◌, ℕ, List, ◌∷◌, None, length, sym
 use Rattle.inorder.specs.declared.history.Entry.{Entry}
 use Rattle.inorder.specs.declared.history.Event.TheVariants.{Does}
 use Rattle.inorder.specs.declared.history.Step.TheVariants.{Renew}
-use Rattle.inorder.specs.History.{IsLegal, StartsWith, back, entry, front, unit_of}
+use Rattle.inorder.specs.History.{IsLegal, StartsWith, entry, front, unit_of}
 use Rattle.inorder.specs.Unit.{Sizes}
 use Rattle.instructions.specs.Programs.{Program}
 use Rattle.drive.specs.Moments.{GrowsLegally}
