@@ -1,7 +1,8 @@
 #!/usr/bin/env bash
-# Refuses each allocation of tests of whole runs in turn, until none is left to refuse: a run that is told, and one on
-# threads that renews. What is refused is tried again in these tests, so that each run has to end well, and to hold no
-# block at its end. (A core, a renewal, a commit side and a snapshot that is shown are refused memory by tests/drive.sh.)
+# Refuses each allocation of a test of whole runs in turn, until none is left to refuse: a run on threads that renews. What
+# is refused is tried again in this test, so that each run has to end well, and to hold no block at its end. (A core, a
+# renewal, a commit side, a snapshot that is shown and a run that is told are refused memory by tests/drive.sh and
+# tests/chart.sh.)
 . "$(dirname "$0")/common.bash"
 build_refuse
 
@@ -17,6 +18,5 @@ while read -r crate name; do
   [ $n -gt 1 ] || fail "$crate, $name: no allocation was refused"
   echo "$crate, $name: each of $((n - 1)) allocations was refused in turn"
 done <<'END_OF_TESTS'
-runs told::memory::a_run_that_is_refused_memory_is_told_at_the_next_try
-runs threads::renewals::a_run_that_is_refused_memory_renews_at_the_next_try
+tests_of_runs threads::renewals::a_run_that_is_refused_memory_renews_at_the_next_try
 END_OF_TESTS

@@ -1,0 +1,66 @@
+//! Devices that fail, under command lines.
+use crate::failing::{FailingReader, FailingWriter, LISTING, REPORT};
+use crate::same::{same, same_in};
+use command::{Line, Refusal, Went, asked, go};
+use devices::Counted;
+use pool::Open;
+use std::test::Fail;
+
+/// A listing with a fault, and its line of 25 bytes.
+const FAULTY: &[u8] = b"nop\nnop\nadd $1,$2\n";
+
+const FAULT: &[u8] = b"fault line 3 BadOperands\n";
+
+/// With threads, and without.
+const FORMS: [&[&str]; 3] = [
+    &["ruu", "run", "double.s"],
+    &["ruu", "run", "double.s", "--units", "4"],
+    &["ruu", "run", "double.s", "--alone"],
+];
+
+fn refused(refusal: Refusal) -> Went {
+    Went {
+        status: 5,
+        line: Line::Refused(refusal),
+    }
+}
+
+#[test]
+fn a_reader_that_fails_is_blamed_and_nothing_is_written(rt: HostRuntime) -> Result<(), Fail> {
+    for form in FORMS {
+        let Ok(asked) = asked(rt.alloc(), form) else {
+            return Err(Fail::new("there is no run"));
+        };
+        for most in 0..=LISTING.len() {
+            let reader = Counted::new(FailingReader { given: 0, most });
+            let mut writer = Counted::new(FailingWriter::new(rt.alloc(), 0, false));
+            let went = go(&rt, rt.alloc(), &asked, Some(reader), &mut writer, &Open);
+            same_in(&rt, &most, &went, &refused(Refusal::Read));
+            same(&rt, &writer.failures(), &0);
+            assert!(rt; writer.into_inner().taken.is_empty());
+        }
+    }
+    Ok(())
+}
+
+#[test]
+fn a_writer_that_fails_is_blamed_and_keeps_a_beginning(rt: HostRuntime) -> Result<(), Fail> {
+    for form in FORMS {
+        let Ok(asked) = asked(rt.alloc(), form) else {
+            return Err(Fail::new("there is no run"));
+        };
+        for (listing, text) in [(LISTING, REPORT), (FAULTY, FAULT)] {
+            for is_silent in [false, true] {
+                for room in 0..text.len() {
+                    let reader = Counted::new(listing);
+                    let mut writer = Counted::new(FailingWriter::new(rt.alloc(), room, is_silent));
+                    let went = go(&rt, rt.alloc(), &asked, Some(reader), &mut writer, &Open);
+                    same_in(&rt, &room, &went, &refused(Refusal::Write));
+                    same(&rt, &writer.failures(), &1);
+                    same(&rt, &writer.into_inner().taken.as_slice(), &&text[..room]);
+                }
+            }
+        }
+    }
+    Ok(())
+}

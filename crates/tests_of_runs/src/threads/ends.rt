@@ -1,0 +1,76 @@
+//! How runs end.
+use super::{Shape, plain, run_listing, run_listing_in_turns};
+use pool::{Gate, Open, Run, RunInTurns, Tally};
+use snapshots::Snap;
+use std::process::Abort;
+use std::test::*;
+
+const LISTING: &[u8] = b"addiu $1,$0,5\naddu $2,$1,$1\nbreak\n";
+
+const LOOP: &[u8] = b"ori $1,$0,300\nL: addiu $1,$1,-1\nbne $1,$0,L\nbreak\n";
+
+// Holds each unit for as long as it asks.
+#[derive(Drop)]
+struct Shut;
+
+impl Gate for Shut {
+    fn held(&self, _unit: u32, _station: u32) -> bool {
+        true
+    }
+
+    fn seen(&self, _place: u32, _snap: &Snap) {}
+
+    fn counted(&self, _tally: &Tally) {}
+}
+
+// The turns that are left tell a limit of instructions from one of turns.
+#[test]
+fn the_commit_thread_tells_the_turns_that_it_has_left(rt: HostRuntime) -> Result<(), Fail> {
+    for (limit, turns) in [
+        (2, 1_000_000_000),
+        (1_000_000, 3),
+        (1_000_000, 1_000_000_000),
+    ] {
+        let shape = Shape {
+            limit,
+            turns,
+            ..plain(2)
+        };
+        let RunInTurns {
+            run,
+            turns: rest,
+            ..
+        } = run_listing_in_turns(&rt, rt.alloc(), LOOP, &shape, &Open)?;
+        let left = rest.left() as u64;
+        match run {
+            Run::LimitReached(end, _) => {
+                assert!(rt; end.n == limit || left == 0);
+                assert!(rt; end.n + left <= turns);
+                assert!(rt; limit < 1_000_000 || turns == 3);
+            }
+            Run::Ended(end, _) => {
+                assert_eq!(rt; end.n, 601);
+                assert!(rt; end.n + left < turns);
+                assert!(rt; limit == 1_000_000);
+            }
+            Run::Refused(_) => return Err(Fail::from("refused")),
+        }
+    }
+    Ok(())
+}
+
+// Each unit finishes no more than the one that it was held at.
+#[test]
+fn units_that_are_always_held_use_up_their_turns(rt: HostRuntime) -> Result<(), Fail> {
+    let shape = Shape {
+        turns: 1_000,
+        ..plain(2)
+    };
+    let run = run_listing(&rt, rt.alloc(), LISTING, &shape, &Shut)?;
+    let Run::LimitReached(_, tally) = run else {
+        return Err(Fail::from("limit"));
+    };
+    assert!(rt; tally.claims <= 2);
+    assert!(rt; tally.finishes <= tally.claims);
+    Ok(())
+}
