@@ -19,9 +19,6 @@ BEGINNING, FURTHER = 20, 0.17
 MEMORY, MORE = 1_600_000_000, 900_000_000
 MOST_JOBS = 3
 
-# What has nearly as much behind it as the longest chain.
-NEARLY = 0.85
-
 
 @functools.lru_cache(maxsize=None)
 def costs():
@@ -119,19 +116,19 @@ class Plan:
         return longest
 
     def start(self):
-        """Begins what can begin, and returns it. What most waits for, or nearly most, has several jobs; the others have one, since each
-        further job at a check costs more in all. A program has one too: most of its check is to read."""
+        """Begins what can begin, and returns it. The crate that most waits for has about that share of the processors which what waits
+        for it has of all that is left. Each other crate has one job, since each further job at a check costs more in all; so has a
+        program, since most of its check is to read. There is one job more than there are processors."""
         chain, begun = self.chains(), []
-        ready = [it for it in self.waiting if not any(one in self.waiting or one in self.running for one in self.uses[it])]
-        longest = max((chain[it] for it in [*self.running, *ready]), default=0)
-        urgent = [it for it in ready if chain[it] >= NEARLY * longest]
-        for name in sorted(ready, key=lambda it: -chain[it]):
+        left = sum(self.cost[it] for it in self.waiting) + sum(it.left() for it in self.running.values())
+        while ready := [it for it in self.waiting if not any(one in self.waiting or one in self.running for one in self.uses[it])]:
+            name = max(ready, key=chain.get)
             room = self.memory - sum(it.memory() for it in self.running.values())
-            if self.running and (room < MEMORY or len(self.running) >= self.lanes):
+            if self.running and (room < MEMORY or sum(it.jobs for it in self.running.values()) > self.lanes):
                 break
-            has_more = name in urgent and name not in self.programs
-            share = self.lanes * self.cost[name] / sum(self.cost[it] for it in urgent) if has_more else 1
-            jobs = max(min(round(share), MOST_JOBS, 1 + int((room - MEMORY) / MORE)), 1)
+            leads = name not in self.programs and chain[name] >= max((chain[it] for it in self.running), default=0)
+            share = math.ceil(self.lanes * chain[name] / left - 0.2) if leads else 1
+            jobs = max(min(share, MOST_JOBS, 1 + int((room - MEMORY) / MORE)), 1)
             self.waiting.remove(name)
             self.running[name] = Share(self.cost[name], jobs)
             begun.append(name)
