@@ -17,7 +17,7 @@ fn shows(rt: &impl Abort, alloc: Global, words: &[&str], parts: &[&str]) {
 
 #[test]
 fn help_and_the_version_are_shown(rt: HostRuntime) {
-    let cases: [(&[&str], &[&str]); 9] = [
+    let cases: [(&[&str], &[&str]); 12] = [
         (&["ruu", "run", "--help"], &HELP),
         (&["ruu", "help", "run"], &HELP),
         (&["ruu", "--help"], &[]),
@@ -27,6 +27,9 @@ fn help_and_the_version_are_shown(rt: HostRuntime) {
         (&["ruu", "check", "--help"], &[]),
         (&["ruu", "--version"], &["ruu 0.1.0\nrattle-kit-"]),
         (&["ruu", "-V"], &["ruu 0.1.0\nrattle-kit-"]),
+        (&["ruu", "run", "--version"], &["ruu 0.1.0\nrattle-kit-"]),
+        (&["ruu", "check", "-V"], &["ruu 0.1.0\nrattle-kit-"]),
+        (&["ruu", "drive", "--version"], &["ruu 0.1.0\nrattle-kit-"]),
     ];
     for (words, parts) in cases {
         shows(&rt, rt.alloc(), words, parts);

@@ -19,7 +19,7 @@ const THREADS: &str = "error: --chart and --trace need --alone\n";
 const LISTING: &str = "error: --trace names the file of the listing\n";
 
 /// Words, and how their mistake begins and ends.
-const MISTAKES: [(&[&str], &str, &str); 28] = [
+const MISTAKES: [(&[&str], &str, &str); 27] = [
     (&[], "", ""),
     (&["ruu"], "", NONE),
     (&["ruu", "walk", "sum.s"], "", ""),
@@ -33,7 +33,6 @@ const MISTAKES: [(&[&str], &str, &str); 28] = [
     (&["ruu", "run", "sum.s", "--limit"], "", ""),
     (&["ruu", "run", "sum.s", "--units", "0"], "", RUN),
     (&["ruu", "run", "sum.s", "--bpred", "often"], "", RUN),
-    (&["ruu", "run", "--version"], "", ""),
     (&["ruu", "run", "sum.s", "--chart"], THREADS, RUN),
     (&["ruu", "run", "sum.s", "--trace", "sum.log"], THREADS, RUN),
     (
