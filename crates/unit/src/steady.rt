@@ -7,6 +7,7 @@
 ghost use Rattle.std.specs.Prelude.{⊤, ◌≡◌, ◌<◌, ◌≤◌, ◌-◌, ◌^◌, suc, false, length, take, slice_get, IfSome, Some, None};
 ghost use Rattle.instructions.specs.Instruction.{is_first_half};
 ghost use Rattle.unit.specs.Changes.{NextOf, RetiresOne, run_from, with_window};
+ghost use Rattle.unit.specs.Decoding.{IsDecoded};
 ghost use Rattle.unit.specs.Givers.{Chosen};
 ghost use Rattle.unit.specs.StandsFor.{StandsForSome};
 ghost use Rattle.unit.specs.declared.future.Future.{Future as Foreseen};
@@ -171,16 +172,20 @@ impl<'a> Pipeline<'a> {
         self.leaves_settled(oldest);
     }
 
-    // The tenant at `from` is the youngest, and nothing else can be let: so it is claimed next in the order of turns,
-    // and where it is a miss, it is mended before anything else is done.
+    // Where one tenant more was let, that is the youngest, at `from`, and nothing else can be let: so it is claimed next
+    // in the order of turns, and where it is a miss, it is mended before anything else is done.
     #[inline(always)]
-    fn is_alone(&self, from: usize) -> bool
-        requires { from ≤ length self.now.window }
+    fn is_alone(&self, before: usize, from: usize) -> bool
+        requires from { from ≤ length self.now.window }
+        requires code { IsDecoded self.now.code.items self.now.program.now }
+        ensures before { Chosen result (before ≡ from) ⊤ }
         ensures youngest { Chosen result (length self.now.window ≡ suc from) ⊤ }
-        ensures full { Chosen result (self.now.ring ≤ length self.now.window) ⊤ }
+        ensures full { Chosen result (NextOf self.now None) ⊤ }
     {
-        let len = self.window.len();
-        self.ring <= len && len == from + 1
+        match self.next() {
+            None => before == from && self.window.len() == from + 1,
+            Some(_) => false,
+        }
     }
 
     // Claims and finishes the oldest tenant that can be claimed, and mends it, if it is a miss.
@@ -188,7 +193,7 @@ impl<'a> Pipeline<'a> {
     fn comes_back(&mut self) -> bool
         requires unit { StandsForSome self.old }
         requires goes_on { self.old.over ≡ None }
-        requires full { self.old.ring ≤ length self.old.window }
+        requires full { NextOf self.old None }
         ensures unit { StandsForSome self.new }
         ensures rest { self.new ≡
             with_window self.old self.new.window self.new.missed self.new.settled }
@@ -226,7 +231,7 @@ impl<'a> Pipeline<'a> {
         requires unit { StandsForSome self.old }
         requires goes_on { self.old.over ≡ None }
         requires whole { self.old.low ≡ None }
-        requires full { self.old.ring ≤ length self.old.window }
+        requires full { NextOf self.old None }
         requires youngest { length self.old.window ≡ suc from }
         requires passed { AwaitRetirement (take from self.old.window) }
         requires foresees { Foresees future.old self.old.committed.registers
@@ -263,15 +268,20 @@ impl<'a> Pipeline<'a> {
         let mut future = future;
         let mut from = self.window.len();
         while self.committed.count() < limit {
+            let before = self.window.len();
             match self.streams_one(predictor, &mut future) {
                 Streamed::Let => {}
                 Streamed::Full => {
                     self.streams_out();
                     from = self.window.len();
                 }
-                Streamed::Ends if self.is_alone(from) => {
+                Streamed::Ends if self.is_alone(before, from) => {
                     if !self.mends(&mut future, from) || self.window.len() <= self.settled {
                         return 0;
+                    }
+                    if self.window.len() < self.ring {
+                        from = self.window.len();
+                        continue;
                     }
                     self.streams_out();
                     from = self.window.len();

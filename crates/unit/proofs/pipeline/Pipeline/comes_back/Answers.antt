@@ -1,6 +1,5 @@
 use Rattle.std.proofs.Common.{ap, ◌∙◌}
 use Rattle.unit.specs.Changes.{NoneRecovers, RecoversOldest}
-use Rattle.unit.specs.Stages.{NoRoom}
 use Rattle.unit.specs.Steady.{ComesBack}
 use Rattle.unit.proofs.Awaiting.{chosen_first}
 use Rattle.unit.proofs.EndTurns.{window_room}
@@ -11,13 +10,13 @@ use Rattle.unit.proofs.pipeline.Pipeline.comes_back.Goals as goal
 pub returns-then-not-runs-clause-unit : goal.returns-then-not-runs-clause-unit
 returns-then-not-runs-clause-unit c =
     let miss = c.requires.unit.noted.no_miss c.if-self.false in
-    let i = idle c.args.self.now c.runs.new.self c.requires.unit c.requires.goes_on miss (NoRoom c.requires.full) c.if-not-runs.ensures.window c.if-not-runs.ensures.same c.runs.ensures.rest c.runs.ensures.noted in
+    let i = idle c.args.self.now c.runs.new.self c.requires.unit c.requires.goes_on miss c.requires.full c.if-not-runs.ensures.window c.if-not-runs.ensures.same c.runs.ensures.rest c.runs.ensures.noted in
     i.unit
 
 pub recovers-requires-clause-room : goal.recovers-requires-clause-room
 recovers-requires-clause-room c =
     let miss = c.requires.unit.noted.no_miss c.if-self.false in
-    let ran = ran_shows c.args.self.now c.runs.new.self c.requires.unit c.requires.goes_on miss (NoRoom c.requires.full) c.if-not-runs.ensures.window c.runs.ensures.rest c.runs.ensures.noted in
+    let ran = ran_shows c.args.self.now c.runs.new.self c.requires.unit c.requires.goes_on miss c.requires.full c.if-not-runs.ensures.window c.runs.ensures.rest c.runs.ensures.noted in
     window_room c.runs.new.self ran.unit
 
 pub returns-clause-unit : goal.returns-clause-unit
@@ -25,7 +24,7 @@ returns-clause-unit c =
     let b = c.args.self.now in
     let mid = c.runs.new.self in
     let miss = c.requires.unit.noted.no_miss c.if-self.false in
-    let ran = ran_shows b mid c.requires.unit c.requires.goes_on miss (NoRoom c.requires.full) c.if-not-runs.ensures.window c.runs.ensures.rest c.runs.ensures.noted in
+    let ran = ran_shows b mid c.requires.unit c.requires.goes_on miss c.requires.full c.if-not-runs.ensures.window c.runs.ensures.rest c.runs.ensures.noted in
     recovered_unit c.recovers.result mid c.recovers.new.self ran.unit (ap (λ x. x.over) c.runs.ensures.rest ∙ c.requires.goes_on) c.recovers.ensures.window c.recovers.ensures.same
     c.recovers.ensures.rest c.recovers.ensures.noted
 

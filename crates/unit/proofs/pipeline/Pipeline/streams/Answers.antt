@@ -47,7 +47,7 @@ mends-requires-clause-passed g c =
     let b = c.loop-future.self in
     let mid = c.streams_one.new.self in
     let alone = c.if-is_alone.ensures in
-    let has = c.in-Ends.ensures.streamed (omega (arith, alone.full, c.streams_one.ensures.same.ring, c.loop-future.invariant.room)) in
+    let has = c.in-Ends.ensures.streamed (omega (arith, alone.youngest, alone.before, c.len-before.ensures.value)) in
     let left = left_open b mid c.streams_one.new.future c.loop-future.from has alone.youngest in
     left.passed
 
@@ -73,4 +73,25 @@ loop-future-preserved g c =
       ends = c.streams_out-in-Ends.ensures.retires.1 limit less ∙ run ∙ before.ends;
       from = omega (arith, c.len-from-in-Ends.ensures.value);
       stays = none_reopened later c.len-from-in-Ends.result c.len-from-in-Ends.ensures.value c.streams_out-in-Ends.ensures.unit;
+    }
+
+pub loop-future-preserved-then-len-self-2 : goal.loop-future-preserved-then-len-self-2
+loop-future-preserved-then-len-self-2 g c =
+    let b = c.loop-future.self in
+    let mid = c.mends.new.self in
+    let limit = c.args.limit in
+    let before = c.loop-future.invariant in
+    let same : mid.committed ≡ b.committed = ap (λ x. x.committed) c.mends.ensures.rest ∙ c.streams_one.ensures.committed in
+    let program : mid.program ≡ b.program = ap (λ x. x.program) c.mends.ensures.rest ∙ c.streams_one.ensures.same.program in
+    let run : run_from mid limit ≡ run_from b limit =
+    ap (λ s. end_from mid.program.now (limit - s.count) s) same ∙ ap (λ p. end_from p.now (limit - b.committed.count) b.committed) program in
+    record {
+      unit = c.mends.ensures.unit;
+      steady = c.if-not-mends.ensures.steady;
+      room = omega (arith, c.if-len-self-2.true, c.len-in-Ends.ensures.value);
+      program = program ∙ before.program;
+      more = omega (arith, ap (λ s. s.count) same, before.more);
+      ends = run ∙ before.ends;
+      from = omega (arith, c.len-from-then-len-self-2.ensures.value);
+      stays = none_reopened mid c.len-from-then-len-self-2.result c.len-from-then-len-self-2.ensures.value c.mends.ensures.unit;
     }
