@@ -148,6 +148,20 @@ cmp -s "$work/beside" "$work/charted" || fail 'a full log cuts the report or the
 status=$?
 says 'a full standard output' 5 'ruu: write'
 [ ! -s "$work/log" ] || fail 'a log without its report'
+"$viewer" run - --alone --chart --trace "$work/log" < $listing >&- 2> "$work/err"
+status=$?
+says 'a closed standard output' 5 'ruu: write'
+[ ! -s "$work/log" ] || fail 'the report is in the log'
+"$viewer" run - --alone --chart --trace "$work/log" <&- > "$work/out" 2> "$work/err"
+status=$?
+says 'a closed standard input' 5 'ruu: read'
+[ ! -s "$work/out" ] && [ ! -s "$work/log" ] || fail 'something was told of a closed standard input'
+"$viewer" run "$work/nowhere.s" --alone --trace "$work/log" 2>&- > "$work/out"
+status=$?
+: > "$work/err"
+says 'a listing that is not there, and a closed standard error' 5 ''
+"$viewer" run - --alone --chart --trace "$work/beside.log" < $listing 2>&- > "$work/out"
+[ $? -eq 0 ] && cmp -s "$work/out" "$work/beside" && cmp -s "$work/beside.log" "$work/again" || fail 'a closed standard error changes what is told'
 
 # files that do not open
 rm -f "$work/log"
@@ -178,6 +192,10 @@ done
 cmp -s "$work/own.s" $listing || fail 'the listing was overwritten'
 "$viewer" run - --alone --trace "$work/log" < $listing > "$work/out" 2> "$work/err" && cmp -s "$work/log" "$work/again" \
   || fail 'standard input has another log'
+
+# `-` is no file
+run $listing --alone --trace -
+[ $status -eq 3 ] && [ ! -e - ] && [ "$(head -n 1 "$work/err")" = 'error: --trace takes a file' ] || fail "--trace -: status $status"
 
 # without `--alone` they are mistakes
 for words in --chart "--trace $work/log" "--chart --units 1"; do

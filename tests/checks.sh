@@ -103,7 +103,7 @@ for words in 'ruu run' 'viewer run' 'viewer check' 'driver drive' listing; do
   # shellcheck disable=SC2086
   for option in --help -h; do
     "crates/$program/out/$program" $word $option > "$work/out" 2> "$work/err" || fail "$words $option: status $?"
-    grep -q '^Usage: ruu ' "$work/out" && [ ! -s "$work/err" ] || fail "$words $option is told otherwise"
+    grep -q '^Usage: ' "$work/out" && [ ! -s "$work/err" ] || fail "$words $option is told otherwise"
   done
 done
 echo 'each word tells its help and the version'

@@ -55,6 +55,13 @@ is_told 'a folder as the script' "$work/none" 5 'ruu: read'
 status=$?
 : > "$work/out"
 is_told 'a full device' "$work/none" 5 'ruu: write'
+"$ruu" drive examples/drive/relet.s <&- > "$work/out" 2> "$work/err"
+status=$?
+is_told 'a closed script' "$work/none" 5 'ruu: read'
+"$ruu" drive examples/drive/relet.s < "$script" >&- 2> "$work/err"
+status=$?
+: > "$work/out"
+is_told 'a closed standard output' "$work/none" 5 'ruu: write'
 printf 'turn\r\n\r\n\tlook 0 # a comment' > "$work/script"
 printf 'Let station 0 tag 1 pc 0x00400000\nSeen tag 1 state OPEN value 0x00000000\n' > "$work/told"
 drive "$work/script" examples/double.s

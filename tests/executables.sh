@@ -32,5 +32,21 @@ refused 2 'ends before what it names' "$work/cut.elf"
 refused 2 'no ELF file' examples/c/primes.c
 refused 5 'No such file' "$work/none.elf"
 refused 3 'Usage'
-echo "what is refused: cut, no ELF file, not there, no FILE"
+refused 3 'Usage' --bogus
+refused 3 'Usage' --
+refused 3 'Usage' "$work/none.elf" "$work/none.elf"
+refused 5 'No such file' -- --bogus
+echo "what is refused: cut, no ELF file, not there, no FILE, an option that is none"
+
+# standard input as the file, and streams that are closed
+listing=crates/listing/out/listing
+for words in - '-- -'; do
+  # shellcheck disable=SC2086
+  $listing $words < examples/c/primes.elf > "$work/listing" 2> "$work/err" && cmp "$work/listing" examples/c/primes.s || fail "listing $words: status $?"
+done
+$listing examples/c/primes.elf >&- 2> "$work/err"
+[ $? -eq 5 ] && grep -q 'cannot be written' "$work/err" || fail 'a closed standard output'
+$listing - <&- > "$work/listing" 2> "$work/err"
+[ $? -eq 5 ] && grep -q 'cannot be read' "$work/err" && [ ! -s "$work/listing" ] || fail 'a closed standard input'
+echo "listing: from standard input, and with streams that are closed"
 python3 tests/executables.py "$work/made.elf" || fail 'an executable that is made here'

@@ -224,9 +224,6 @@ pub(crate) fn tell_turns<P: Predictor + Drop, W: Write>(
         IsBegun P.Predicts P.Learns format Q C first start (known_by W.contents writer.new)) }
 {
     'turns: while bench.count() < limit {
-        if bench.live() == 0 && 0 < bench.count() {
-            return Ok(());
-        }
         let answer = bench.turn();
         tell_turn(alloc, bench, books, format, answer, writer)?;
         if let Turn::Over(_) = answer {

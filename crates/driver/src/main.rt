@@ -4,11 +4,15 @@
 mod driving;
 
 use by_hand::{Request, end, requested};
+use devices::ClosedStreams;
 use driving::drive;
 use requests::{of_another_program, refuse, words};
 use std::process::ExitCode;
 
 fn main(rt: HostRuntime) -> ExitCode {
+    let Ok(_closed) = ClosedStreams::taken(&rt) else {
+        return ExitCode::from(5);
+    };
     let words = match words(&rt) {
         Ok(words) => words,
         Err(no_run) => return refuse(&rt, &no_run),

@@ -10,22 +10,45 @@ mod no_listing;
 
 use conversion::Refusal;
 use converting::convert;
-use devices::{Counted, Unanswered};
+use devices::{ClosedStreams, Counted, Unanswered};
 use no_listing::NoListing;
 use std::env;
 use std::fs::File;
-use std::io::ErrorKind;
+use std::io::{ErrorKind, Read};
 use std::process::ExitCode;
 
 const USAGE: &str = "\
 Writes the listing of an ELF32 executable for little endian MIPS: docs/COMPILING.md tells how to
 make one.
 
-Usage: ruu listing FILE
+Usage: ruu listing FILE, where - is standard input
 
 Exit status: 0 the listing was written, 2 the file has none, 3 a mistake on the command line,
 5 no memory, or a file could not be opened, read or written.
 ";
+
+/// The version, and on a line of its own the kit by which it is proved: that of `ruu`.
+const VERSION: &str = "ruu 0.1.0\nrattle-kit-13f logic dac8208d650f15bf\n";
+
+// What the command line asks for.
+enum Request<'a> {
+    Help,
+    Version,
+    Listing(&'a str),
+}
+
+// What the words ask for, of which the first is the program's name. No file's name begins with a dash, but behind `--`.
+fn requested(words: &[String]) -> Option<Request<'_>> {
+    let word = words.get(1)?.as_str();
+    match (words.len(), word) {
+        (2, "-h" | "--help") => Some(Request::Help),
+        (2, "-V" | "--version") => Some(Request::Version),
+        (2, "-") => Some(Request::Listing(word)),
+        (2, _) if !word.starts_with('-') => Some(Request::Listing(word)),
+        (3, "--") => Some(Request::Listing(words.get(2)?.as_str())),
+        _ => None,
+    }
+}
 
 fn status(why: &Unanswered<NoListing>) -> u8
     ensures { result ≡ status_without_listing why.now }
@@ -54,14 +77,20 @@ fn refuse(rt: &HostRuntime, file: &str, why: &Unanswered<NoListing>) -> ExitCode
 }
 
 fn write_listing(rt: &HostRuntime, file: &str) -> ExitCode {
-    let executable = match File::open(rt, file) {
-        Ok(executable) => executable,
+    if file == "-" {
+        return write_listing_of(rt, file, rt.stdin());
+    }
+    match File::open(rt, file) {
+        Ok(executable) => write_listing_of(rt, file, executable),
         Err(reason) => {
             let _ = eprintln!(rt; "ruu: {file}: {reason}");
-            return ExitCode::from(5);
+            ExitCode::from(5)
         }
-    };
-    let mut reader = Counted::new(executable);
+    }
+}
+
+fn write_listing_of<R: Read + Drop>(rt: &HostRuntime, file: &str, input: R) -> ExitCode {
+    let mut reader = Counted::new(input);
     let mut writer = Counted::new(rt.stdout());
     match convert(rt.alloc(), &mut reader, &mut writer) {
         Ok(()) => ExitCode::from(0),
@@ -81,19 +110,26 @@ fn words(rt: &HostRuntime) -> Result<Vec<String>, u8> {
 }
 
 fn main(rt: HostRuntime) -> ExitCode {
+    let Ok(_closed) = ClosedStreams::taken(&rt) else {
+        return ExitCode::from(5);
+    };
     let words = match words(&rt) {
         Ok(words) => words,
         Err(status) => return ExitCode::from(status),
     };
-    if words.len() != 2 {
-        let _ = eprint!(rt; "{USAGE}");
-        return ExitCode::from(3);
-    }
-    match words[1].as_str() {
-        "-h" | "--help" => {
+    match requested(words.as_slice()) {
+        Some(Request::Help) => {
             let _ = print!(rt; "{USAGE}");
             ExitCode::from(0)
         }
-        file => write_listing(&rt, file),
+        Some(Request::Version) => {
+            let _ = print!(rt; "{VERSION}");
+            ExitCode::from(0)
+        }
+        Some(Request::Listing(file)) => write_listing(&rt, file),
+        None => {
+            let _ = eprint!(rt; "{USAGE}");
+            ExitCode::from(3)
+        }
     }
 }

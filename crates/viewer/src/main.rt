@@ -4,7 +4,7 @@
 
 mod watching;
 
-use devices::Counted;
+use devices::{ClosedStreams, Counted};
 use requests::{of_another_program, refuse, words};
 use std::fs::File;
 use std::io::Read;
@@ -13,6 +13,9 @@ use viewing::{Request, check, end, is_standard_input, requested};
 use watching::watch;
 
 fn main(rt: HostRuntime) -> ExitCode {
+    let Ok(_closed) = ClosedStreams::taken(&rt) else {
+        return ExitCode::from(5);
+    };
     let words = match words(&rt) {
         Ok(words) => words,
         Err(no_run) => return refuse(&rt, &no_run),
