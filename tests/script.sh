@@ -3,7 +3,7 @@
 # of the programs; and how the work is told and foreseen, with a kit that proves nothing. With the word `renew` those texts are
 # written anew from the programs.
 . "$(dirname "$0")/common.bash"
-for program in ruu viewer driver listing; do
+for program in ruu viewer driver listing commits; do
   build run $program
 done
 
@@ -13,11 +13,12 @@ told() { # text
     ruu) (exec -a ruu "$program" --help) ;;
     version) (exec -a ruu "$program" --version) ;;
     listing) (exec -a ruu crates/listing/out/listing --help) ;;
+    commits) (exec -a ruu crates/commits/out/commits commits --help) ;;
     *) (exec -a ruu "$program" "$1" --help) ;;
   esac
 }
 
-for text in ruu run check drive listing version; do
+for text in ruu run check drive listing commits version; do
   told $text > "$work/text" || fail "no help of $text"
   [ "${1:-}" != renew ] || cp "$work/text" docs/help/$text.txt
   cmp -s "$work/text" docs/help/$text.txt || { diff docs/help/$text.txt "$work/text"; fail "docs/help/$text.txt is not what the program prints: tests/script.sh renew"; }
@@ -60,7 +61,7 @@ for words in -h --help help '--unproved --help'; do
 done
 is_answered version.txt -V
 is_answered version.txt --version
-for command in run check drive listing; do
+for command in run check drive listing commits; do
   is_answered $command.txt $command --help
   is_answered $command.txt $command -h
   is_answered $command.txt help $command
@@ -315,10 +316,10 @@ with_kit "$fresh/ruu" run b.s
 
 # all programs at once, and then each starts
 with_kit "$fresh/ruu" prove
-more=$(($(count_of ruu viewer driver listing) - number))
+more=$(($(count_of ruu viewer driver listing commits) - number))
 [ $status -eq 0 ] && [ "$(grep -c "^proving [0-9]* of $more," "$work/err")" -eq $more ] || fail "ruu prove: status $status"
-[ "$(tail -n 1 "$work/err")" = 'ruu: proved and built: ruu viewer driver listing' ] || fail 'ruu prove: no line at its end'
-for words in 'run a.s' 'check a.s' 'drive a.s' 'listing a.elf' 'run a.s --alone --chart'; do
+[ "$(tail -n 1 "$work/err")" = 'ruu: proved and built: ruu viewer driver listing commits' ] || fail 'ruu prove: no line at its end'
+for words in 'run a.s' 'check a.s' 'drive a.s' 'listing a.elf' 'commits a.s' 'run a.s --alone --chart'; do
   # shellcheck disable=SC2086
   with_kit "$fresh/ruu" $words
   [ $status -eq 0 ] && [ "$(cat "$work/out")" = "ran ${words#listing }" ] && [ ! -s "$work/err" ] || fail "ruu $words after all were built"

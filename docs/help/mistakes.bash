@@ -220,6 +220,8 @@ case $name-${1:-} in
             exit 3
         fi
         ;;
+    # its words are those of a run
+    commits-*) bad_words run "${@:2}" ;;
     *-check | *-drive | *-run) bad_words "$@" ;;
     *-help) mistaken "unrecognized subcommand '$2'" 'ruu [COMMAND]' ;;
     *) bad_command "$@" ;;

@@ -3,7 +3,7 @@
 
 mod accesses;
 mod committed;
-mod data;
+pub mod data;
 mod guards;
 pub mod history;
 mod laws;

@@ -1,5 +1,8 @@
 #!/usr/bin/env bash
-# Compiles the files in C that are named, or the programs of this folder, to an executable beside each: compile.sh [FILE.c ..].
+# Compiles a program to an executable: ./compile.sh [-o NAME.elf] FILE.. makes one of all its files, in C (.c) or assembly (.s,
+# and .S behind the preprocessor), which may be anywhere; without -o it stands beside the first file, with its name. With no
+# file the programs of this folder are compiled, one after the other. Files in assembly alone that have a label `_start` or
+# `__start` begin there; others begin in start.S, which calls `main`.
 # It needs Debian's cross compiler: apt-get install gcc-mipsel-linux-gnu. Another one is named by CC=..
 set -eu
 here=$(dirname "$(readlink -f "${BASH_SOURCE[0]}")")
@@ -14,12 +17,50 @@ flags=(
   -fno-inline -fno-ipa-cp -fno-ipa-sra  # each function stays one, under its own name
   -fno-asynchronous-unwind-tables
 )
+cc=${CC:-mipsel-linux-gnu-gcc}
 work=$(mktemp -d)
 trap 'rm -rf "$work"' EXIT
-cc=${CC:-mipsel-linux-gnu-gcc}
-"$cc" "${flags[@]}" -c -o "$work/start.o" "$here/start.S"
-[ $# -gt 0 ] || set -- "$here"/*.c
-for source in "$@"; do
-  "$cc" "${flags[@]}" -c -o "$work/program.o" "$source"
-  "$cc" "${flags[@]}" -T "$here/link.ld" -Wl,-n,--build-id=none -o "${source%.c}.elf" "$work/start.o" "$work/program.o"
+
+# Compiles some files, and links them behind what they begin with.
+link() { # executable, files
+  local to=$1 objects=() file
+  shift
+  for file in "$@"; do
+    objects+=("$work/${#objects[@]}.o")
+    "$cc" "${flags[@]}" -c -o "${objects[-1]}" "$file"
+  done
+  begin "$@"
+  "$cc" "${flags[@]}" -T "$here/link.ld" -Wl,-n,--build-id=none,-e,"$entry" -o "$to" "$work/start.o" "${objects[@]}"
+}
+
+# Where a program begins: in start.S, which calls `main`, or the label of its own that is called in the place of that.
+begin() { # files
+  local file own=
+  for file in "$@"; do
+    [[ $file != *.c ]] || { own= && break; }
+    own=${own:-$(sed -nE 's/^[[:space:]]*(__?start)[[:space:]]*:.*/\1/p' "$file" | head -n 1)}
+  done
+  entry=_start
+  [ -z "$own" ] || entry=_begin
+  sed "s/_start/$entry/; s/jal     main/jal     ${own:-main}/" "$here/start.S" > "$work/start.S"
+  "$cc" "${flags[@]}" -c -o "$work/start.o" "$work/start.S"
+}
+
+to=
+if [ "${1:-}" = -o ]; then
+  to=${2:?a name behind -o}
+  shift 2
+fi
+if [ $# -eq 0 ]; then
+  for file in "$here"/*.c; do
+    link "${file%.c}.elf" "$file"
+  done
+  exit
+fi
+files=()
+for file in "$@"; do
+  # a name without its ending is that of a program of this folder
+  [[ $file == *.[csS] ]] || { [ -f "$here/$file.c" ] && file=$here/$file.c; } || { echo "compile.sh: $file: neither .c, .s nor .S" >&2; exit 1; }
+  files+=("$file")
 done
+link "${to:-${files[0]%.*}.elf}" "${files[@]}"

@@ -1,0 +1,4 @@
+mod LogKept
+mod Retirement
+mod Taken
+mod WordFound

@@ -1,0 +1,26 @@
+-- What is written for the bytes of a listing, and the status that goes with it.
+use Rattle.std.specs.Prelude.{⊤, ◌≡◌, ℕ, List, Option, Result}
+use Rattle.std.specs.Io.KnownBytes.{Appends}
+use Rattle.instructions.specs.Programs.{Program}
+use Rattle.isa.specs.declared.listing.fault.FaultKind.{FaultKind}
+use Rattle.bench.specs.Answer.{status_for}
+use Rattle.without_threads.specs.declared.went.Refusal.{Refusal}
+use Rattle.without_threads.specs.declared.went.Refusal.TheVariants.{Memory, Write}
+use Rattle.without_threads.specs.Went.{status_number}
+use Rattle.commit_log.specs.Logs.{text_for}
+
+-- the log was written whole, or the line of the fault of a listing, with the status of the run
+pub record IsLogged (limit : ℕ) (found : Result Program (ℕ × FaultKind)) (status : ℕ) (before after : Option (List ℕ)) : Type 0 where
+  pub status_is : status ≡ status_number (status_for limit found)
+  pub says : Appends before after (text_for limit found)
+
+-- how many calls of the writer have failed where a log was refused
+abbrev pub writer_failures : Refusal → ℕ
+writer_failures Write = 1
+writer_failures _ = 0
+
+-- what a log can be refused for once its program is there
+abbrev pub IsOfWriting : Refusal → Type 0
+IsOfWriting Memory = ⊤
+IsOfWriting Write = ⊤
+IsOfWriting _ = ⊥

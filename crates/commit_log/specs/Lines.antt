@@ -1,0 +1,94 @@
+-- The lines of the log, in the manner of the commit log of Spike, the simulator of RISC-V.
+use Rattle.std.specs.Prelude.{ℕ, ◌+◌, ◌-◌, ◌/◌, ◌%◌, ◌==◌, nat_lt, Bool, true, false, List, [], ◌∷◌, ◌++◌, length, Option, Some, None, codes, decimal, replicate, slice_index, if◌then◌else◌}
+use Rattle.instructions.specs.Endings.{stop_word}
+use Rattle.instructions.specs.Instruction.{destination, first_of, is_pair, kind, second_of, width}
+use Rattle.instructions.specs.Operations.{sum}
+use Rattle.instructions.specs.Registers.{hi, lo}
+use Rattle.instructions.specs.declared.instr.Instr.{Instr}
+use Rattle.instructions.specs.declared.op.Half.TheVariants.{Low}
+use Rattle.instructions.specs.declared.op.Kind.{Kind}
+use Rattle.instructions.specs.declared.op.Kind.TheVariants.{Stores}
+use Rattle.instructions.specs.declared.stop.Stop.{Stop}
+use Rattle.isa.specs.InstrText.{instr_text}
+use Rattle.isa.specs.Report.{hex_digit, hexadecimal, newline}
+use Rattle.commit_log.specs.Words.{word_of}
+
+-- ---- parts
+
+-- what every line begins with: the core, its mode and the pc
+abbrev pub head : ℕ → List ℕ
+head pc = codes "core   0: 3 " ++ (hexadecimal pc ++ codes " ")
+
+-- the word of an instruction, or as many dashes
+abbrev pub word_text : Option ℕ → List ℕ
+word_text None = codes "----------"
+word_text (Some word) = hexadecimal word
+
+-- a register in three columns: `x` and its number, `lo` or `hi`
+abbrev pub register_label : ℕ → List ℕ
+register_label r =
+    if r == lo then codes "lo "
+    else (if r == hi then codes "hi "
+    else (if nat_lt r 10 then codes "x" ++ (decimal r ++ codes " ") else codes "x" ++ decimal r))
+
+-- a register with what it holds
+abbrev pub register_text : ℕ → List ℕ → List ℕ
+register_text r registers = register_label r ++ (codes " " ++ hexadecimal (slice_index registers r))
+
+-- the two digits of the low byte of a number
+abbrev pub byte_text : ℕ → List ℕ
+byte_text v = hex_digit (v / 16 % 16) ∷ hex_digit (v % 16) ∷ []
+
+-- the low bytes of a number, as many as are stored, the highest first
+abbrev pub stored_text : (width : ℕ) → ℕ → List ℕ
+stored_text width v =
+    if width == 1 then codes "0x" ++ byte_text v
+    else (if width == 2 then codes "0x" ++ (byte_text (v / 256) ++ byte_text v)
+    else hexadecimal v)
+
+-- the address of a store, and the bytes that it writes
+abbrev pub memory_text : Instr → List ℕ → List ℕ
+memory_text i registers =
+    codes "mem "
+    ++ (hexadecimal (sum (slice_index registers (first_of i)) i.number)
+    ++ (codes " " ++ stored_text (width i.op) (slice_index registers (second_of i))))
+
+-- ---- what an instruction has changed
+
+-- what stands between a text of this length and what the instruction has changed: the latter begins in column 17 behind
+-- the begin of the text, or one column behind a longer text
+abbrev pub gap : ℕ → List ℕ
+gap length = replicate (1 + (16 - length)) 32
+
+-- the register that was written; nothing of register 0, which never changes
+abbrev pub change_of_register : (length r : ℕ) → List ℕ → List ℕ
+change_of_register length r registers =
+    if r == 0 then [] else gap length ++ register_text r registers
+
+-- by the kind of an instruction that writes at most one register
+abbrev pub change_by : Kind → (length : ℕ) → Instr → List ℕ → List ℕ
+change_by Stores length i registers = gap length ++ memory_text i registers
+change_by _ length i registers = change_of_register length (destination i Low) registers
+
+-- a multiplication or division has written LO and HI
+abbrev pub change_if : Bool → (length : ℕ) → Instr → List ℕ → List ℕ
+change_if true length i registers =
+    gap length ++ (register_text lo registers ++ (codes " " ++ register_text hi registers))
+change_if false length i registers = change_by (kind i.op) length i registers
+
+-- what an instruction with a text of this length has changed, by the registers behind it
+abbrev pub change_text : (length : ℕ) → Instr → List ℕ → List ℕ
+change_text length i registers = change_if (is_pair i.op) length i registers
+
+-- ---- lines
+
+-- the line of an instruction at pc, by the registers behind it
+abbrev pub commit_line : ℕ → Instr → List ℕ → List ℕ
+commit_line pc i registers =
+    head pc
+    ++ (codes "(" ++ (word_text (word_of pc i) ++ (codes ") "
+    ++ (instr_text i ++ (change_text (length (instr_text i)) i registers ++ newline)))))
+
+-- the line of a stop at pc
+abbrev pub stop_line : ℕ → Stop → List ℕ
+stop_line pc c = head pc ++ (codes "stop " ++ (stop_word c ++ newline))

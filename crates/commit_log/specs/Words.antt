@@ -1,0 +1,33 @@
+-- The machine word of an instruction, where MIPS I has one.
+use Rattle.std.specs.Prelude.{◌≡◌, ◌≢◌, ◌<◌, ℕ, ◌^◌, ◌==◌, ◌&&◌, Bool, false, nat_lt, Option, Some, None, if◌then◌else◌}
+use Rattle.instructions.specs.declared.instr.Instr.{Instr}
+use Rattle.machine_words.specs.Layouts.{has_layout, layout}
+use Rattle.machine_words.specs.Words.{decode, packed}
+
+-- two instructions are one: the same operation, by its opcode and what selects it, the same registers and number
+abbrev pub is_same : Instr → Instr → Bool
+is_same i j =
+    has_layout (layout j.op).opcode (layout j.op).select i.op
+    && ((i.target == j.target) && ((i.first == j.first) && ((i.second == j.second) && (i.number == j.number))))
+
+-- a word that was decoded says this instruction
+abbrev pub is_said : Instr → Option Instr → Bool
+is_said i None = false
+is_said i (Some j) = is_same j i
+
+-- this word of 32 bits says an instruction at pc
+abbrev pub says : ℕ → ℕ → Instr → Bool
+says pc word i = nat_lt word (2 ^ 32) && is_said i (decode pc word)
+
+-- the word of an instruction at pc: the only one that can say it, if that does
+unfoldable pub word_of : ℕ → Instr → Option ℕ
+word_of pc i = if says pc (packed pc i) i then Some (packed pc i) else None
+
+-- it is the word of 32 bits that says the instruction, and there is none where no word does
+pub record IsWordOf (pc : ℕ) (i : Instr) : Type 0 where
+  pub some : (word : ℕ) → word_of pc i ≡ Some word → (word < 2 ^ 32) × (decode pc word ≡ Some i)
+  pub none : word_of pc i ≡ None → (word : ℕ) → word < 2 ^ 32 → decode pc word ≢ Some i
+
+-- so it is of each instruction at each address
+abbrev pub AWordSaysItsInstruction : Type 0
+AWordSaysItsInstruction = (pc : ℕ) (i : Instr) → IsWordOf pc i

@@ -1,0 +1,140 @@
+//! From the bytes of a listing to the log of its commits.
+ghost use Rattle.std.specs.Prelude.{◌≡◌, ◌≢◌, ◌+◌, ◌-◌, ◌^◌, ◌<◌, IfErr, IfOk, IfSome, None, Ok, OnErr, OnOk};
+ghost use Rattle.isa.specs.Listing.{listing};
+ghost use Rattle.devices.specs.Counted.{failures_of, known_by};
+ghost use Rattle.without_threads.specs.Went.{HoldsOfInput, IsOfOneThread, refused, status_number};
+ghost use Rattle.without_threads.specs.declared.went.Line.TheVariants.{Nothing, Refused};
+ghost use Rattle.commit_log.specs.Answers.{IsLogged, IsOfWriting, writer_failures};
+ghost use Rattle.commit_log.specs.Logs.{text_for};
+ghost use Rattle.commit_log.specs.Retirements.{IsBegun};
+
+use crate::logging::log_run;
+use bench::{MOST_TAKEN, Status};
+use devices::{Counted, read_up_to, write_whole};
+use instructions::Program;
+use isa::{FaultKind, fault_text, parse};
+use requests::{Asked, choose};
+use std::alloc::Global;
+use std::io::{Read, Write};
+use without_threads::{Line, Refusal, Went, refused, written};
+
+/// Reads the listing, runs it on the one-thread unit and writes a line for each instruction that it commits, before the next
+/// one does. For a listing with a fault its line is written, and nothing else. There is no reader where the file did not
+/// open. A failed read or write is not tried again.
+pub fn log_commits<R: Read + Drop, W: Write>(
+    alloc: Global,
+    asked: &Asked<'_>,
+    reader: Option<Counted<R>>,
+    writer: &mut Counted<W>,
+) -> Went
+    requires reader_room { IfSome reader (λ r. failures_of r < 2 ^ 64 - 1) }
+    requires writer_room { failures_of writer.old < 2 ^ 64 - 1 }
+    // Without a reader nothing is run, and only then is opening blamed.
+    ensures open { reader ≡ None → result ≡ refused Refusal.Open }
+    ensures unopened { reader ≡ None → writer.new ≡ writer.old }
+    ensures opened { result.line ≡ Refused Refusal.Open → reader ≡ None }
+    // What was written whole is the log of the in-order machine's steps, for any predictor and sizes.
+    ensures answer { result.line ≡ Nothing → HoldsOfInput R.remaining reader (λ input.
+        IsLogged asked.now.config.limit (listing input) result.status
+        (known_by W.contents writer.old) (known_by W.contents writer.new)) }
+    ensures quiet { result.line ≡ Nothing → failures_of writer.new ≡ failures_of writer.old }
+    ensures line { IsOfOneThread result.line }
+    // A refusal has a status of its own.
+    ensures refused { (refusal : Refusal) → result.line ≡ Refused refusal →
+        result ≡ refused refusal }
+    // The writer is blamed for one failed call, and only then.
+    ensures write { (refusal : Refusal) → result.line ≡ Refused refusal →
+        failures_of writer.new ≡ failures_of writer.old + writer_failures refusal }
+    // What was written before a refusal is a beginning of the log; nothing, where reading failed.
+    ensures begun { (refusal : Refusal) → result.line ≡ Refused refusal →
+        HoldsOfInput R.remaining reader (λ input.
+        IsBegun (text_for asked.now.config.limit (listing input))
+        (known_by W.contents writer.old) (known_by W.contents writer.new)) }
+    ensures unread { result.line ≡ Refused Refusal.Read → writer.new ≡ writer.old }
+{
+    let Some(mut reader) = reader else {
+        return refused(Refusal::Open);
+    };
+    match logged(alloc, asked, &mut reader, writer) {
+        Ok(status) => written(status, Line::Nothing),
+        Err(refusal) => refused(refusal),
+    }
+}
+
+// The status, once all is written.
+fn logged<R: Read, W: Write>(
+    alloc: Global,
+    asked: &Asked<'_>,
+    reader: &mut Counted<R>,
+    writer: &mut Counted<W>,
+) -> Result<Status, Refusal>
+    requires reader_room { failures_of reader.old < 2 ^ 64 - 1 }
+    requires writer_room { failures_of writer.old < 2 ^ 64 - 1 }
+    ensures ok { IfOk result (λ status. IfSome (known_by R.remaining reader.old) (λ input.
+        IsLogged asked.now.config.limit (listing input) (status_number status)
+        (known_by W.contents writer.old) (known_by W.contents writer.new))) }
+    ensures quiet { OnOk result (failures_of writer.new ≡ failures_of writer.old) }
+    ensures err { IfErr result (λ refusal. IsOfOneThread (Refused refusal)) }
+    ensures opened { IfErr result (λ refusal. refusal ≢ Refusal.Open) }
+    ensures write { IfErr result (λ refusal.
+        failures_of writer.new ≡ failures_of writer.old + writer_failures refusal) }
+    ensures begun { IfErr result (λ refusal. IfSome (known_by R.remaining reader.old) (λ input.
+        IsBegun (text_for asked.now.config.limit (listing input))
+        (known_by W.contents writer.old) (known_by W.contents writer.new))) }
+    ensures unread { IfErr result (λ refusal. refusal ≡ Refusal.Read → writer.new ≡ writer.old) }
+{
+    let listing = read_up_to(alloc, reader, MOST_TAKEN)?;
+    told(alloc, asked, listing.as_slice(), writer)
+}
+
+// The same for the bytes of a listing.
+fn told<W: Write>(
+    alloc: Global,
+    asked: &Asked<'_>,
+    bytes: &[u8],
+    writer: &mut Counted<W>,
+) -> Result<Status, Refusal>
+    requires { failures_of writer.old < 2 ^ 64 - 1 }
+    ensures ok { IfOk result (λ status.
+        IsLogged asked.now.config.limit (listing bytes.now) (status_number status)
+        (known_by W.contents writer.old) (known_by W.contents writer.new)) }
+    ensures quiet { OnOk result (failures_of writer.new ≡ failures_of writer.old) }
+    ensures err { IfErr result (λ refusal. IsOfWriting refusal) }
+    ensures write { IfErr result (λ refusal.
+        failures_of writer.new ≡ failures_of writer.old + writer_failures refusal) }
+    ensures begun { OnErr result (IsBegun (text_for asked.now.config.limit (listing bytes.now))
+        (known_by W.contents writer.old) (known_by W.contents writer.new)) }
+{
+    match parse(alloc, bytes) {
+        Ok(program) => told_of(alloc, asked, &program, writer),
+        Err(fault) if fault.kind == FaultKind::Memory => Err(Refusal::Memory),
+        Err(fault) => {
+            let text = fault_text(alloc, &fault)?;
+            write_whole(writer, text.as_str().as_bytes())?;
+            Ok(Status::TextFault)
+        },
+    }
+}
+
+// The same for a program.
+fn told_of<W: Write>(
+    alloc: Global,
+    asked: &Asked<'_>,
+    program: &Program,
+    writer: &mut Counted<W>,
+) -> Result<Status, Refusal>
+    requires { failures_of writer.old < 2 ^ 64 - 1 }
+    ensures ok { IfOk result (λ status.
+        IsLogged asked.now.config.limit (Ok program.now) (status_number status)
+        (known_by W.contents writer.old) (known_by W.contents writer.new)) }
+    ensures quiet { OnOk result (failures_of writer.new ≡ failures_of writer.old) }
+    ensures err { IfErr result (λ refusal. IsOfWriting refusal) }
+    ensures write { IfErr result (λ refusal.
+        failures_of writer.new ≡ failures_of writer.old + writer_failures refusal) }
+    ensures begun { OnErr result (IsBegun (text_for asked.now.config.limit (Ok program.now))
+        (known_by W.contents writer.old) (known_by W.contents writer.new)) }
+{
+    let predictor = choose(asked.predictor);
+    let ending = log_run(alloc, program, &asked.config, predictor, writer)?;
+    Ok(Status::of(ending))
+}

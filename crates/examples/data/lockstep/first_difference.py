@@ -1,0 +1,29 @@
+#!/usr/bin/env python3
+"""The first line in which two logs of commits differ: first_difference.py OURS THEIRS. The texts of instructions are passed
+over, so that a simulator need not write them."""
+import itertools
+import re
+import sys
+
+TEXT = re.compile(r"(core   0: 3 0x\w{8} \(\S{10}\)) *(?:[a-z]+(?: \S+)?)??(?: +((?:x\d+|lo|hi|mem) +0x.*))?")
+
+
+def bare(line):
+    """A line without its text."""
+    found = TEXT.fullmatch(line)
+    return " ".join(filter(None, found.groups())) if found else line
+
+
+def main():
+    with open(sys.argv[1], encoding="ascii") as ours, open(sys.argv[2], encoding="ascii") as theirs:
+        for number, pair in enumerate(itertools.zip_longest(ours, theirs), 1):
+            one, other = ((line or "nothing").rstrip("\n") for line in pair)
+            if bare(one) != bare(other):
+                print(f"line {number}\n  {one}\n  {other}")
+                return 1
+    print("no difference")
+    return 0
+
+
+if __name__ == "__main__":
+    sys.exit(main())

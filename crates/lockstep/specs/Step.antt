@@ -1,0 +1,48 @@
+-- One step of the in-order machine over a text of machine words and over buffers of a caller.
+use Rattle.std.specs.Prelude.{◌≡◌, ℕ, ◌-◌, ◌/◌, List, [], Option, None, Some, ◌==◌, if◌then◌else◌, slice_get}
+use Rattle.instructions.specs.declared.instr.Instr.{Instr}
+use Rattle.instructions.specs.declared.stop.Stop.TheVariants.{BadPc}
+use Rattle.instructions.specs.Programs.{text_start, address}
+use Rattle.inorder.specs.Machine.{State, Ran, Goes, Halts, fetched}
+use Rattle.machine_words.specs.Words.{decode}
+use Rattle.lockstep.specs.declared.stepping.Answer.{Answer}
+use Rattle.lockstep.specs.declared.stepping.Answer.TheVariants.{Went, Stopped, NoOperation}
+
+-- the word at an address, if it is that of one
+unfoldable pub word_at : List ℕ → ℕ → Option ℕ
+word_at text pc =
+    if address ((pc - text_start) / 4) == pc then slice_get text ((pc - text_start) / 4) else None
+
+-- the step of an instruction that a word says; none where it says none
+abbrev pub step_by : State → Option Instr → Option Ran
+step_by s None = None
+step_by s (Some i) = Some (fetched (record { code = []; bytes = s.memory }) s (Some i))
+
+-- the step of the word at the pc
+abbrev pub step_at : State → Option ℕ → Option Ran
+step_at s None = Some (Halts BadPc)
+step_at s (Some w) = step_by s (decode s.pc w)
+
+-- one step over a text of words; none where the word at the pc is no operation
+abbrev pub step_over : List ℕ → State → Option Ran
+step_over text s = step_at s (word_at text s.pc)
+
+-- a state that counts nothing
+abbrev pub state_of : (registers memory : List ℕ) → ℕ → State
+state_of registers memory pc =
+    record { registers = registers; memory = memory; pc = pc; count = 0 }
+
+-- registers, data memory and pc are those of a state
+pub record Holds (registers memory : List ℕ) (pc : ℕ) (s : State) : Type 0 where
+  pub registers_are : registers ≡ s.registers
+  pub memory_is : memory ≡ s.memory
+  pub pc_is : pc ≡ s.pc
+
+-- what a step answers and leaves: all is as it was, unless it went on
+abbrev pub IsStepped : State → Answer → (registers memory : List ℕ) → ℕ → Option Ran → Type 0
+IsStepped old answer registers memory pc (Some (Goes t)) =
+    (answer ≡ Went) × Holds registers memory pc t
+IsStepped old answer registers memory pc (Some (Halts c)) =
+    (answer ≡ Stopped c) × Holds registers memory pc old
+IsStepped old answer registers memory pc None =
+    (answer ≡ NoOperation) × Holds registers memory pc old

@@ -1,0 +1,125 @@
+#!/usr/bin/env bash
+# The log of `./ruu commits`: of the examples, and of a hundred random listings with every operation, it says what the report
+# of the run says; it has the same bytes for every ring, queue and predictor; with a limit it is cut behind so many lines; the
+# simulator of examples/lockstep writes the same log, and with its mistake differs at one line. Then what goes wrong: devices,
+# files and want of memory. And 100,000 instructions are logged in the memory of 100.
+. "$(dirname "$0")/common.bash"
+build_refuse
+build run ruu
+build run listing
+build run commits
+ruu=crates/ruu/out/ruu
+commits=crates/commits/out/commits
+
+log() { # listing, options
+  "$commits" commits "$@" > "$work/out" 2> "$work/err"
+  status=$?
+}
+
+# The log of a listing, which has to agree with its report and to be the same for other sizes.
+agrees() { # listing, its report, zeroed or nothing
+  log "$1"
+  [ $status -eq "$(status_of "$2")" ] && [ ! -s "$work/err" ] || fail "$1: status $status"
+  python3 tests/commits.py "$work/out" "$2" ${3:+"$3"} 2> "$work/err" || fail "$1: the log and the report differ"
+  mv "$work/out" "$work/log"
+  for options in '--ruu-size 2 --lsq-size 2 --bpred nottaken' '--ruu-size 32 --bpred taken'; do
+    # shellcheck disable=SC2086
+    log "$1" $options
+    cmp -s "$work/out" "$work/log" || fail "$1 $options: another log"
+  done
+}
+
+for report in examples/*.report examples/c/*.report tests/listings/limit.report; do
+  agrees "${report%.report}.s" "$report"
+done
+count=$(wc -l < "$work/log")
+[ "$count" -ge 1000000 ] || fail "the log of a run up to the limit has $count lines"
+log tests/listings/fault.s
+[ $status -eq 2 ] && cmp -s "$work/out" tests/listings/fault.report || fail "a listing with a fault: status $status"
+for limit in 0 1 40; do
+  log examples/sieve.s --limit $limit
+  [ $status -eq 4 ] && [ "$(wc -l < "$work/out")" -eq $limit ] || fail "a limit of $limit: status $status"
+  mv "$work/out" "$work/cut"
+  log examples/sieve.s
+  head -n $limit "$work/out" | cmp -s - "$work/cut" || fail "a limit of $limit: no beginning of the log"
+done
+echo "the logs of the examples agree with their reports"
+
+for seed in {1..100}; do
+  python3 benchmarks/random_listing.py "$seed" > "$work/random.s"
+  "$ruu" run "$work/random.s" --alone > "$work/report" 2> "$work/err" || fail "seed $seed: status $?"
+  "$ruu" run "$work/random.s" --units $((1 + seed % 4)) > "$work/threads" 2> "$work/err" || fail "seed $seed: status $?"
+  cmp -s "$work/threads" "$work/report" || fail "seed $seed: threads have another report"
+  agrees "$work/random.s" "$work/report" zeroed
+done
+words=$(grep -ohE '^        [a-z]+' "$work/random.s" | sort -u | wc -l)
+[ "$words" -eq 51 ] || fail "a random listing has $words operations"
+echo "a hundred random listings, each with every operation, agree on one thread, on threads and in their logs"
+
+# the simulator of examples/lockstep beside the log, with its mistake and without
+for name in primes numbers sorting; do
+  log examples/c/$name.s
+  python3 examples/lockstep/simulator.py --right examples/c/$name.elf > "$work/simulated"
+  python3 examples/lockstep/first_difference.py "$work/out" "$work/simulated" > "$work/err" || fail "$name: the simulator has another log"
+done
+log examples/c/primes.s
+python3 examples/lockstep/simulator.py examples/c/primes.elf > "$work/simulated"
+python3 examples/lockstep/first_difference.py "$work/out" "$work/simulated" > "$work/told" && fail 'the mistake does not show'
+[ "$(head -n 1 "$work/told")" = 'line 1503' ] || fail 'the mistake shows at another line'
+echo "the simulator's first difference is line 1503 of its log"
+
+# what goes wrong
+says() { # name, status, standard error
+  [ "$status" -eq "$2" ] || fail "$1: status $status, and not $2"
+  [ "$(cat "$work/err")" = "$3" ] || fail "$1: another line on standard error"
+}
+"$commits" commits examples/sum.s > /dev/full 2> "$work/err"
+status=$?
+says 'a full standard output' 5 'ruu: write'
+log "$work/nowhere.s"
+says 'a listing that is not there' 5 'ruu: open'
+log examples
+says 'a folder as the listing' 5 'ruu: read'
+[ ! -s "$work/out" ] || fail 'a log of a folder'
+log examples/sum.s --ruu-size 3
+[ $status -eq 3 ] || fail "a ring of 3: status $status"
+log --help
+[ $status -eq 0 ] && grep -q 'Usage: ruu commits' "$work/out" || fail "help: status $status"
+"$commits" commits - < examples/sum.s > "$work/again" 2> "$work/err"
+log examples/sum.s
+cmp -s "$work/out" "$work/again" || fail 'standard input has another log'
+
+# each allocation is refused in turn: named behind a beginning of the log, or the log is whole
+log examples/wrong_path.s
+mv "$work/out" "$work/whole"
+n=0 refused=0
+while :; do
+  n=$((n + 1))
+  run_under /dev/null REFUSED=$n "$commits" commits examples/wrong_path.s
+  $was_refused || break
+  ! $is_held || fail "allocation $n refused: a block was held at the end"
+  if [ "$status" -eq 5 ] && [ "$said" = 'ruu: memory' ]; then
+    refused=$((refused + 1))
+    cmp -s -n "$(stat -c %s "$work/out")" "$work/out" "$work/whole" || fail "allocation $n refused: no beginning of the log"
+  else
+    cmp -s "$work/out" "$work/whole" && [ "$status" -eq 0 ] && [ -z "$said" ] || fail "allocation $n refused: status $status"
+  fi
+done
+cmp -s "$work/out" "$work/whole" || fail 'with all its memory another log'
+[ $refused -gt 20 ] || fail "only $refused allocations were refused"
+echo "each of $((n - 1)) allocations was refused in turn, $refused told"
+
+# the least room in which 100 instructions are logged has room for 100,000
+within() { # kilobytes, limit
+  (ulimit -v "$1"; exec "$commits" commits tests/listings/limit.s --limit "$2") > "$work/out" 2> /dev/null
+  [ $? -eq 4 ]
+}
+low=0 high=1048576
+within $high 100 || fail 'a run of 100 instructions has no room'
+while [ $((high - low)) -gt 16 ]; do
+  middle=$(((low + high) / 2))
+  if within $middle 100; then high=$middle; else low=$middle; fi
+done 2> /dev/null
+within $((high + 64)) 100000 || fail "100 instructions are logged in $high kilobytes, and 100,000 are not"
+[ "$(wc -l < "$work/out")" -eq 100000 ] || fail 'the log of 100,000 instructions is shorter'
+echo "100,000 instructions are logged in the $high kilobytes of 100"
