@@ -13,6 +13,7 @@ mod forwarding;
 mod future;
 mod leaver;
 mod memory_port;
+mod mending;
 mod pipeline;
 mod places;
 mod recovery;
