@@ -32,11 +32,11 @@ pub record IsHeld (by : ℕ) (t : Tenant) : Type 0 where
   pub fate : t.fate ≡ Busy by
   pub stays : (t.standing ≡ Live) ⊎ (t.standing ≡ Squashed)
 
--- Its needed sources are delivered
+-- The sources that the tenant needs are delivered
 abbrev pub IsReady : Program → Tenant → Type 0
 IsReady P t = missing P t ≡ None
 
--- It has claimed the tenant, whose outcome is this one
+-- This unit has claimed the tenant, which is ready, and whose outcome is this one
 pub record HasJob (P : Program) (by predicted : ℕ) (outcome : Outcome) (t : Tenant) : Type 0 where
   pub held : IsHeld by t
   pub ready : IsReady P t
@@ -62,7 +62,7 @@ abbrev pub IsLastAt : UpdateUnit → ℕ → ℕ → Type 0
 IsLastAt U p station =
     (q : ℕ) (u : Tenant) → p < q → at U.tenants q ≡ Some u → u.station ≢ station
 
--- It is live, and a misprediction that goes on at x
+-- The tenant is a live misprediction that goes on at x
 pub record IsMissing (x : ℕ) (t : Tenant) : Type 0 where
   pub live : t.standing ≡ Live
   pub fate : t.fate ≡ Miss x
@@ -88,7 +88,7 @@ pub record CanMend (U : UpdateUnit) (p x : ℕ) : Type 0 where
 
 -- The back
 
--- It has left by retiring
+-- A tenant of this standing has retired
 abbrev pub stands_retired : Standing → Bool
 stands_retired Retired = true
 stands_retired _ = false

@@ -29,11 +29,11 @@ front = 0
 abbrev pub back : ℕ
 back = 1
 
--- It is the number of a unit
+-- The number is that of a unit
 abbrev pub IsUnit : ℕ → Type 0
 IsUnit by = 2 ≤ by
 
--- It is the number of a unit or of the back
+-- The number is that of a unit or of the back
 abbrev pub IsUnitOrBack : ℕ → Type 0
 IsUnitOrBack by = 1 ≤ by
 

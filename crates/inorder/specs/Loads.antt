@@ -32,7 +32,7 @@ access_width Lhu = Half
 access_width Sh = Half
 access_width _ = Word
 
--- It is a store
+-- An operation of this kind is a store
 abbrev pub is_store : Kind → Bool
 is_store Stores = true
 is_store _ = false

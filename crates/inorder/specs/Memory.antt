@@ -24,7 +24,7 @@ stored_by _ _ _ w d = None
 abbrev pub stored : Program → Tenant → Option Stored
 stored P t = stored_by (on_path t) (kind_of P t) t.fate (width (instr P t).op) t.second.value
 
--- It writes the byte at x
+-- The store writes the byte at x
 abbrev pub covers : Stored → ℕ → Bool
 covers s x = nat_le s.at x && nat_lt x (s.at + s.width)
 
@@ -44,7 +44,7 @@ byte_at P (t ∷ ts) x = byte_after (stored P t) x (byte_at P ts x)
 abbrev pub raw_at : Program → List Tenant → Instr → ℕ → Option ℕ
 raw_at P ts i a = little_endian_if_there (byte_at P ts) a (width i.op)
 
--- The same by the fate of the load, once it has its address
+-- The bytes of a load by the stores before it, once its fate is its address
 abbrev pub raw : Program → List Tenant → Instr → Fate → Option ℕ
 raw P ts i (Addr a) = raw_at P ts i a
 raw P ts i _ = None

@@ -5,7 +5,7 @@ use Rattle.inorder.specs.Legal.{AreAllowed, Taken, reached}
 use Rattle.inorder.specs.Tenants.{Addr, Done, Fate, Miss, Tenant}
 use Rattle.inorder.specs.Unit.{Sizes, at}
 
--- It fits in 32 bits
+-- The number fits in 32 bits
 abbrev pub IsWord : ℕ → Type 0
 IsWord n = n < 2 ^ 32
 

@@ -16,7 +16,7 @@ use Rattle.inorder.specs.Unit.{Sizes, UpdateUnit, at, front_pc, how_many, next_t
 abbrev pub last_tag : ℕ
 last_tag = 2 ^ 28 - 1
 
--- It is live, and not claimed
+-- The tenant is live, and not claimed
 pub record IsOpen (t : Tenant) : Type 0 where
   pub live : t.standing ≡ Live
   pub fate : t.fate ≡ Open
@@ -105,7 +105,7 @@ IsWaiting P U p k = Has U p (λ t. missing P t ≡ Some k)
 abbrev pub HasMoved : UpdateUnit → ℕ → Type 0
 HasMoved U p = Has U p (λ t. ¬ IsOpen t)
 
--- It was squashed
+-- The tenant was squashed
 abbrev pub IsSquashed : Tenant → Type 0
 IsSquashed t = t.standing ≡ Squashed
 
@@ -115,7 +115,7 @@ IsStale U p = Has U p IsSquashed
 
 -- What the back is told. `Over` comes before the two others
 
--- It is a stop that has retired
+-- The tenant is a stop that has retired
 pub record IsRetiredStop (t : Tenant) : Type 0 where
   pub code : Stop
   pub standing : t.standing ≡ Retired

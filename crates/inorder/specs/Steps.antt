@@ -108,7 +108,7 @@ delivered ts t k =
 
 -- Claim
 
--- It is live and open, and each source that it needs is delivered
+-- The tenant is live and open, and each source that it needs is delivered
 pub record MayClaim (P : Program) (t : Tenant) : Type 0 where
   pub live : t.standing ≡ Live
   pub fate : t.fate ≡ Open
@@ -116,7 +116,7 @@ pub record MayClaim (P : Program) (t : Tenant) : Type 0 where
 
 -- Finish
 
--- It is live, and this caller has claimed it
+-- The tenant is live, and this caller has claimed it
 pub record MayFinish (t : Tenant) (by : ℕ) : Type 0 where
   pub live : t.standing ≡ Live
   pub fate : t.fate ≡ Busy by
@@ -158,7 +158,7 @@ CanRetire k second (Stopped c) = ⊤
 CanRetire k second (Addr a) = (k ≡ Stores) × IsThere second
 CanRetire k second _ = ⊥
 
--- It is no stop that has retired
+-- The tenant is no stop that has retired
 abbrev pub IsNoRetiredStop : Tenant → Type 0
 IsNoRetiredStop t = t.standing ≡ Retired → (c : Stop) → t.fate ≢ Stopped c
 
@@ -175,7 +175,7 @@ abbrev pub made_at_end : Fate → Option ℕ → ℕ → Option ℕ
 made_at_end (Stopped c) made n = Some n
 made_at_end _ made n = made
 
--- It has left; if it is a stop, what it made is n
+-- The tenant as it has retired; if it is a stop, n is what it made
 abbrev pub retired : Tenant → ℕ → Tenant
 retired t n = record t { standing = Retired; made = made_at_end t.fate t.made n }
 
@@ -192,7 +192,7 @@ pub record MaySquash (ys : List Tenant) (t : Tenant) (ts : List Tenant) : Type 0
   pub miss_live : miss.standing ≡ Live
   pub miss_fate : miss.fate ≡ Miss x
 
--- It has left, and is off the path
+-- The tenant as it was squashed: it has left, and is off the path
 abbrev pub squashed : Tenant → Tenant
 squashed t = record t { standing = Squashed }
 

@@ -12,7 +12,7 @@ pub record SourceIsStill (ts : List Tenant) (o : Operand) : Type 0 where
   pub value : o.value ≡ value_of ts o.creator
   pub way : o.value ≡ None → WasLinked o
 
--- It is not claimed, or is finished
+-- A tenant of this fate is not claimed, or is finished
 abbrev pub IsNotBusy : Fate → Type 0
 IsNotBusy (Busy by) = ⊥
 IsNotBusy _ = ⊤

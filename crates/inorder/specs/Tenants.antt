@@ -74,7 +74,7 @@ instr P t = instr_of P t.index
 abbrev pub kind_of : Program → Tenant → Kind
 kind_of P t = kind (instr P t).op
 
--- It is the first of two halves
+-- The tenant is the first of two halves of its instruction
 abbrev pub is_first : Program → Tenant → Bool
 is_first P t = is_first_half (instr P t).op t.half
 
@@ -100,7 +100,7 @@ stands_live _ = false
 abbrev pub is_live : Tenant → Bool
 is_live t = stands_live t.standing
 
--- It has left
+-- The tenant has left
 abbrev pub IsNotLive : Tenant → Type 0
 IsNotLive t = t.standing ≢ Live
 

@@ -17,7 +17,7 @@ pub fn access_width(op: Op) -> Width
     }
 }
 
-/// It is a store.
+/// The operation is a store.
 pub fn is_store(op: Op) -> bool
     ensures { result ≡ is_store_of (kind op) }
 {

@@ -124,7 +124,7 @@ impl Instr {
         read_register(self.op, self.second)
     }
 
-    /// It is the first of two halves: the second comes behind it, at the same pc.
+    /// The half is the first of two: the second comes behind it, at the same pc.
     pub fn is_first_half(&self, half: Half) -> bool
         ensures { result ≡ first_half self.now.op half }
     {

@@ -70,20 +70,20 @@ pub enum Half {
 /// What an operation does.
 #[derive(Clone, Copy, Debug, PartialEq, Eq)]
 pub enum Kind {
-    /// It computes a value from its sources, or stops.
+    /// Computes a value from its sources, or stops.
     Computes,
-    /// It only says where to go on.
+    /// Only says where to go on.
     Jumps,
-    /// It says where to go on, and writes the address behind it.
+    /// Says where to go on, and writes the address behind it.
     Links,
-    /// It reads memory into a register.
+    /// Reads memory into a register.
     Loads,
-    /// It writes a register into memory.
+    /// Writes a register into memory.
     Stores,
 }
 
 impl Op {
-    /// What it does.
+    /// The kind of the operation.
     pub fn kind(self) -> Kind
         ensures { result ≡ kind_of self }
     {
@@ -97,7 +97,7 @@ impl Op {
         }
     }
 
-    /// It is a load or store.
+    /// The operation is a load or store.
     pub fn is_access(self) -> bool
         ensures { result ≡ is_access_of (kind_of self) }
     {
@@ -117,7 +117,7 @@ impl Op {
         }
     }
 
-    /// It is a conditional branch.
+    /// The operation is a conditional branch.
     pub fn is_branch(self) -> bool
         ensures { result ≡ is_branch_of self }
     {
@@ -127,7 +127,7 @@ impl Op {
         )
     }
 
-    /// It makes two values, one for LO and one for HI.
+    /// The operation makes two values, one for LO and one for HI.
     pub fn is_pair(self) -> bool
         ensures { result ≡ is_pair_of self }
     {

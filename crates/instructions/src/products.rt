@@ -72,7 +72,8 @@ pub fn divided(half: Half, a: u32, b: u32) -> u32
     }
 }
 
-/// The same of signed words.
+/// The signed quotient, or the remainder. A zero divisor gives quotient 0 and leaves the dividend.
+/// MIPS I leaves that case undefined.
 pub fn signed_divided(half: Half, a: i32, b: i32) -> u32
     ensures { result ≡ signed_divided_of half a b }
 {

@@ -51,7 +51,7 @@ impl Program {
         Program { code, bytes }
     }
 
-    /// The same program once more, in memory of its own.
+    /// A copy of the program, in memory of its own.
     pub fn copied(&self, alloc: Global) -> Result<Program, Memory>
         ensures same { IfOk result (λ p. p ≡ self.now) }
         ensures small { IfOk result (λ p. length p.code ≤ 16384) }

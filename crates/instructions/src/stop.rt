@@ -50,7 +50,7 @@ impl fmt::Display for Stop {
     }
 }
 
-/// What an instruction comes to.
+/// The outcome of an instruction.
 #[derive(Clone, Copy, Debug, PartialEq, Eq)]
 pub enum Outcome {
     /// The value for its register.
@@ -59,8 +59,8 @@ pub enum Outcome {
     Next(u32),
     /// The address of a load or store, aligned and inside data memory.
     Address(u32),
-    /// It stops.
+    /// The code with which the instruction stops.
     Stop(Stop),
-    /// It makes these values for LO and HI.
+    /// The values for LO and HI.
     Pair(u32, u32),
 }

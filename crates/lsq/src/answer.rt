@@ -5,14 +5,14 @@ ghost use Rattle.lsq.specs.LoadRule.{lacks_address, overlaps, taken_from, younge
 
 use crate::{Entry, Queue, Width};
 
-/// What a load of known address gets.
+/// The answer to a load of known address.
 #[derive(Clone, Copy, Debug, PartialEq)]
 pub enum Answer {
-    /// Its bytes, as a little endian number, from the data of an older store.
+    /// The bytes of the load, as a little endian number, from the data of an older store.
     Forward(u32),
-    /// It reads data memory: no older store writes a byte of it.
+    /// The load reads data memory: no older store writes a byte of it.
     Memory,
-    /// It has to wait for the store at this place.
+    /// The load has to wait for the store at this place.
     Blocked(usize),
 }
 
@@ -80,14 +80,14 @@ fn youngest_overlapping(older: &[Entry], address: u32, width: Width) -> Option<(
     None
 }
 
-/// It is a store without its address.
+/// The entry is a store without its address.
 pub fn lacks_address(entry: &Entry) -> bool
     ensures { result ≡ lacks_address entry.now }
 {
     entry.store && entry.address.is_none()
 }
 
-/// It is a store that has a byte in common with a load of so many bytes from an address on.
+/// The entry is a store that has a byte in common with a load of this width at this address.
 pub fn overlaps(entry: &Entry, address: u32, width: Width) -> bool
     ensures { result ≡ overlaps address (bytes width) entry.now }
 {

@@ -72,7 +72,7 @@ pub record IsOperandOf (o : OperandWord) (n : ℕ) : Type 0 where
   pub state : state_of n ≡ operand_code o.value
   pub value : word_value n ≡ value_field o.value
 
--- The same; a station that has had no tenant has the word 0
+-- The word n is that of this operand, or 0 where the station has had no tenant
 abbrev pub IsOperand : Option OperandWord → ℕ → Type 0
 IsOperand None n = n ≡ 0
 IsOperand (Some o) n = IsOperandOf o n
@@ -139,7 +139,7 @@ operand_unit P C U Nothing k = U
 operand_unit P C U (Of stage index predicted first second) k =
     if has_operand stage k then with_new P C U index predicted first second else U
 
--- It may be let
+-- The let in progress, if there is one, is allowed, and its tag is below the last one
 abbrev pub IsDraft : Program → Sizes → UpdateUnit → Draft → Type 0
 IsDraft P C U Nothing = ⊤
 IsDraft P C U (Of stage index predicted first second) =

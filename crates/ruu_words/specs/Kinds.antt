@@ -43,7 +43,7 @@ IsAny t = ⊤
 abbrev pub IsNamed : UpdateUnit → ℕ → ℕ → ℕ → Type 0
 IsNamed U p station tag = IsTenant U p station tag IsAny
 
--- It is not open
+-- The tenant is not open
 abbrev pub IsClosed : Tenant → Type 0
 IsClosed t = ¬ IsOpen t
 
@@ -94,7 +94,7 @@ IsMade n = (n ≡ 0) ⊎ (n ≡ 4)
 abbrev pub IsEarly : ℕ → Type 0
 IsEarly n = (n ≡ 1) ⊎ (n ≡ 2) ⊎ (n ≡ 5)
 
--- It has its address, is done or stops
+-- A state in which a tenant has its address, is done or stops
 abbrev pub IsLate : ℕ → Type 0
 IsLate n = (n ≡ 3) ⊎ (n ≡ 4) ⊎ (n ≡ 6)
 

@@ -16,39 +16,39 @@ use Rattle.ruu_words.specs.Places.{IsPlace, index, words_for}
 use Rattle.ruu_words.specs.Openings.{IsOpening, opening_of, renewed, sizes_of}
 use Rattle.ruu_words.specs.Rule.{IsStart}
 
--- A packed word reads back as its fields, and a word is the packed one of its fields
+-- A packed station or operand word fits in 64 bits, and reads back as its fields
 pub record ReadsBack (tag state value : ℕ) : Type 0 where
   pub word : pack tag state value < 2 ^ 64
   pub tag_is : tag_of (pack tag state value) ≡ tag
   pub state_is : state_of (pack tag state value) ≡ state
   pub value_is : word_value (pack tag state value) ≡ value
 
--- So it is of each tag, state and value that has its bits
+-- Station and operand words read back for each tag, state and value of the width of its field
 abbrev pub WordsReadBack : Type 0
 WordsReadBack =
     (tag state value : ℕ) → tag < tag_count → state < 16 → value < 2 ^ 32 →
     ReadsBack tag state value
 
--- The same of info words
+-- A packed info word fits in 64 bits, and reads back as its fields
 pub record InfoReadsBack (half : Half) (index predicted : ℕ) : Type 0 where
   pub word : pack_info half index predicted < 2 ^ 64
   pub half_is : half_of (pack_info half index predicted) ≡ half
   pub index_is : index_of (pack_info half index predicted) ≡ index
   pub predicted_is : predicted_of (pack_info half index predicted) ≡ predicted
 
--- So it is of each index and predicted next pc that has its bits
+-- Info words read back for each index and predicted next pc of the width of its field
 abbrev pub InfosReadBack : Type 0
 InfosReadBack =
     (half : Half) (index predicted : ℕ) → index < 2 ^ 31 → predicted < 2 ^ 32 →
     InfoReadsBack half index predicted
 
--- The same of link words
+-- A packed link word fits in 64 bits, and reads back as its fields
 pub record LinkReadsBack (producer consumer : ℕ) : Type 0 where
   pub word : pack_link producer consumer < 2 ^ 64
   pub producer_is : producer_of (pack_link producer consumer) ≡ producer
   pub consumer_is : consumer_of (pack_link producer consumer) ≡ consumer
 
--- So it is of each two tags
+-- Link words read back for each two tags
 abbrev pub LinksReadBack : Type 0
 LinksReadBack =
     (producer consumer : ℕ) → producer < tag_count → consumer < tag_count →

@@ -43,7 +43,7 @@ pub record Keeps (P : Program) (C : Sizes) (opening : List Entry) (s : State ℕ
   pub draft : Draft
   pub kept : IsKept P C opening s history draft
 
--- The same of a table's setup
+-- There is one legal history of a table with this setup
 abbrev pub Kept : Setup → State ℕ View → Type 0
 Kept c s = Keeps c.program (sizes_of c) (opening_of c) s
 

@@ -50,7 +50,7 @@ view role by heirs seen draft =
 abbrev pub first_view : Setup → View
 first_view c = view Start front (record { first = 1; every = 1 }) (opening_of c) Nothing
 
--- The same seat, told of what another has seen
+-- The seat v, told of what the seat w has seen
 abbrev pub informed : View → View → View
 informed v w =
     record {
