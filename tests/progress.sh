@@ -1,6 +1,7 @@
 #!/usr/bin/env bash
 # A run on threads ends with the tally of its steps. With `--progress` it tells on standard error each tally that it has
-# counted when it shows: each 64 instructions and at the end, with the retirements shown. One thread alone tells nothing.
+# counted when it shows: each 64 instructions and at the end, with the retirements shown. On a terminal of 80 columns that
+# stays on one line. One thread alone tells nothing.
 . "$(dirname "$0")/common.bash"
 build run ruu
 ruu=crates/ruu/out/ruu
@@ -25,6 +26,49 @@ for units in 1 4; do
   tail -n 1 "$work/err" | grep -qE "^tally lets [0-9]+ $numbers\$" || fail "$units units: the last line is no tally"
 done
 echo "ruu: each tally is told with the retirements shown, with one unit and with four"
+
+# Rows of a terminal of 80 columns behind a run that takes some tenths of a second: what is left of the progress is one.
+printf 'lui $1,8\nL: addiu $1,$1,-1\nbne $1,$0,L\nbreak\n' > "$work/long.s"
+python3 - "$ruu" "$work/long.s" > "$work/rows" <<'END' || fail 'the run on a terminal'
+import fcntl, os, pty, re, struct, sys, termios
+WIDTH = 80
+pid, terminal = pty.fork()
+if pid == 0:
+    os.execv(sys.argv[1], [sys.argv[1], "run", sys.argv[2], "--progress"])
+fcntl.ioctl(terminal, termios.TIOCSWINSZ, struct.pack("HHHH", 24, WIDTH, 0, 0))
+told = b""
+while True:
+    try:
+        more = os.read(terminal, 4096)
+    except OSError:
+        break
+    if not more:
+        break
+    told += more
+status = os.waitstatus_to_exitcode(os.waitpid(pid, 0)[1])
+rows, row, column, wrote = [""], 0, 0, 0
+for part in re.findall(r"\x1b\[A|[^\x1b]", told.decode("ascii"), re.S):
+    if part == "\x1b[A":
+        row, wrote = max(row - 1, 0), wrote + 1
+    elif part == "\r":
+        column = 0
+    elif part == "\n":
+        row += 1
+    else:
+        if column == WIDTH:
+            row, column = row + 1, 0
+        while len(rows) <= row:
+            rows.append("")
+        rows[row] = rows[row][:column].ljust(column) + part + rows[row][column + 1:]
+        column += 1
+print(status, wrote)
+print(*rows, sep="\n")
+END
+read -r status wrote < "$work/rows"
+[ "$status" -eq 4 ] && [ "$wrote" -ge 2 ] || fail "on a terminal: status $status, written over $wrote times"
+[ "$(sed -n 2p "$work/rows" | grep -cE '^progress retires [0-9]+ lets [0-9]+ mends [0-9]+$')" -eq 1 ] \
+  && [ "$(sed -n 3p "$work/rows")" = limit ] || fail "the progress is not one row of a terminal: $(cat "$work/rows")"
+echo "ruu: on a terminal of 80 columns the progress is one row, written over $wrote times"
 
 $ruu run "$work/loop.s" --progress --alone > "$work/out" 2> "$work/err" || fail "alone: status $?"
 [ ! -s "$work/err" ] || fail 'one thread alone told something'

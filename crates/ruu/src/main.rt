@@ -4,7 +4,7 @@
 mod teller;
 
 use command::{Asked, Request, end, go, is_standard_input, requested};
-use devices::Counted;
+use devices::{ClosedStreams, Counted};
 use pool::Open;
 use requests::{of_another_program, refuse, words};
 use std::fs::File;
@@ -15,6 +15,9 @@ use std::thread::Threads;
 use teller::Teller;
 
 fn main(rt: HostRuntime) -> ExitCode {
+    let Ok(_closed) = ClosedStreams::taken(&rt) else {
+        return ExitCode::from(5);
+    };
     let words = match words(&rt) {
         Ok(words) => words,
         Err(no_run) => return refuse(&rt, &no_run),

@@ -13,9 +13,9 @@ const NEVER: u64 = u64::MAX;
 // Takes a terminal's cursor to the start of the line above, which is then written over.
 const UP: &str = "\u{1b}[A\r";
 
-/// A gate that holds nobody and tells each tally in a line of its own. On a terminal it is one line,
-/// which is written over at most ten times a second; the cursor stands below it, where the report or
-/// the next message begins.
+/// A gate that holds nobody and tells each tally in a line of its own. On a terminal there is one line with
+/// the three numbers that tell most, which has room in 80 columns and is written over at most ten times a
+/// second; the cursor stands below it, where the report or the next message begins.
 #[derive(Drop)]
 pub struct Teller<'a> {
     rt: &'a HostRuntime,
@@ -61,13 +61,19 @@ impl Gate for Teller<'_> {
 
     // A failure to print changes nothing.
     fn counted(&self, tally: &Tally) {
-        let progress = Progress { tally: *tally };
-        let _ = match &self.began {
-            None => eprintln!(self.rt; "{progress}"),
-            Some(began) => match self.due(began) {
-                Some(at) => eprintln!(self.rt; "{at}{progress}"),
-                None => Ok(()),
-            },
+        let Some(began) = &self.began else {
+            let progress = Progress { tally: *tally };
+            let _ = eprintln!(self.rt; "{progress}");
+            return;
         };
+        if let Some(at) = self.due(began) {
+            let Tally {
+                retires,
+                lets,
+                mends,
+                ..
+            } = *tally;
+            let _ = eprintln!(self.rt; "{at}progress retires {retires} lets {lets} mends {mends}");
+        }
     }
 }
