@@ -1,3 +1,5 @@
 pub mod Counted
+pub mod Deeds
+pub mod Gathering
 pub mod HintsPut
 pub mod Sends

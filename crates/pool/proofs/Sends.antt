@@ -32,6 +32,7 @@ use Rattle.pool.specs.contracts.dispatch.Begin as begin
 use Rattle.pool.specs.contracts.dispatch.Dispatcher as dispatcher
 use Rattle.pool.specs.contracts.dispatch.Left as left
 use Rattle.pool.specs.contracts.floor.Floor as floor
+use Rattle.pool.specs.contracts.turns.Turns.{the_row as turns_row}
 use Rattle.pool.proofs.floor.Floor.TheSendSync as floor_crosses
 
 pub front_seat_sends : IsSend (seat_row front_row front_part)
@@ -45,6 +46,9 @@ unit_seat_sends = search rules
 pub count_sends : IsSend count_row
 unfolding types.Keyed.entry denote.Memory.part_of
 count_sends = search rules
+
+pub turns_sends : IsSend turns_row
+turns_sends = search sendable depth 40
 
 pub worker_sends : IsSend worker.the_row
 worker_sends = recorded_send worker.the_field.row _ _ worker.the_type.to_one (struct_send (shape worker.the_type) (search rules, (unit_seat_sends, (count_sends, tt))))
@@ -65,10 +69,10 @@ pub begin_sends : (P : RattleType) (G : Ghosts P.Denot) → IsSend P → IsSend 
 begin_sends P G s = let T = begin.the_type P G in recorded_send (Enum (enum_shape T)) T.D T.to T.to_one (enum_send (enum_shape T) ((s, tt), ((still_sends P G s, tt), tt)))
 
 pub dispatcher_sends : (P : RattleType) (G : Ghosts P.Denot) → IsSend P → IsSend (dispatcher.the_row P G)
-dispatcher_sends P G s = declared_send (dispatcher.the_type P G) (front_seat_sends, (begin_sends P G s, (count_sends, (search rules, tt))))
+dispatcher_sends P G s = declared_send (dispatcher.the_type P G) (front_seat_sends, (begin_sends P G s, (count_sends, (turns_sends, tt))))
 
 pub left_sends : (P : RattleType) (G : Ghosts P.Denot) → IsSend P → IsSend (left.the_row P G)
-left_sends P G s = declared_send (left.the_type P G) (front_seat_sends, (still_sends P G s, (search rules, tt)))
+left_sends P G s = declared_send (left.the_type P G) (front_seat_sends, (still_sends P G s, (turns_sends, tt)))
 
 pub given_back_sends : (P : RattleType) (G : Ghosts P.Denot) → IsSend P → IsSend (option.the_row (left.the_row P G))
 given_back_sends P G s = let T = option.the_type (left.the_row P G) in recorded_send (Enum (enum_shape T)) T.D T.to T.to_one (enum_send (enum_shape T) (tt, ((left_sends P G s, tt), tt)))

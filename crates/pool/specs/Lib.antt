@@ -1,4 +1,5 @@
 pub mod Committing
+pub mod Deeds
 pub mod Gathering
 pub mod HintsPut
 pub mod Making

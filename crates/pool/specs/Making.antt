@@ -6,6 +6,7 @@ use Rattle.front.specs.Fronts.{IsUnused}
 use Rattle.instructions.specs.Programs.{Program}
 use Rattle.pool.specs.Runs.{IsLimit, LeavesTurns, TellsRenewals}
 use Rattle.pool.specs.Terms.{MayBegin}
+use Rattle.pool.specs.Turns.{untaken}
 use Rattle.pool.specs.declared.answer.RunInTurns.{RunInTurns}
 use Rattle.pool.specs.declared.floor.Floor.{Floor}
 use Rattle.pool.specs.declared.making.Made.{Made}
@@ -26,9 +27,10 @@ pub record IsFloor {K : Type 0} (ring : ℕ) (counts : TableId) (floor : Floor K
   pub counts_are : floor.counts ≡ counts
   pub ring_is : floor.hints.ring ≡ ring
 
--- The floor stands on these totals, and the first term may begin
-pub record RunIsMade {J K S : Type 0} (counts : TableId) (made : Made J K S) : Type 0 where
+-- The floor stands on these totals, and the first term may begin, whose dispatch thread has all turns
+pub record RunIsMade {J K S : Type 0} (counts : TableId) (turns : ℕ) (made : Made J K S) : Type 0 where
   pub counts_are : made.floor.counts ≡ counts
+  pub turns_are : made.term.turns ≡ untaken turns
   pub ready : MayBegin made.floor.hints.ring made.floor.counts made.term made.committer
 
 -- All that is said of a run of this program, with this limit and so many turns

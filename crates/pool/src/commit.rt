@@ -56,8 +56,9 @@ impl<J: Naming, K: Bounds + Ring> Model for Committer<J, K> {
 }
 
 impl<J: Naming, K: Bounds + Ring> Committer<J, K> {
-    ghost use Rattle.std.specs.Prelude.{◌≡◌, Err, None};
+    ghost use Rattle.std.specs.Prelude.{◌≡◌, Err, IfErr, None};
     ghost use Rattle.pool.specs.Committing.{HasCounted};
+    ghost use Rattle.pool.specs.Turns.{untaken};
     ghost use Rattle.pool.specs.Runs.{IsLimit, LeavesTurns, TellsRenewals};
     ghost use Rattle.run_ends.specs.Runs.{RunIsRight, IsWithinLimit};
 
@@ -69,6 +70,8 @@ impl<J: Naming, K: Bounds + Ring> Committer<J, K> {
         requires going { back.ended ≡ None }
         ensures back { result.back ≡ back }
         ensures over { result.over ≡ Err Refusal.Thread }
+        ensures turns { result.turns ≡ untaken turns }
+        ensures none { result.renewals ≡ 0 }
     {
         Committer {
             back,
@@ -87,6 +90,8 @@ impl<J: Naming, K: Bounds + Ring> Committer<J, K> {
         requires counts { floor.now.counts ≡ K.counts }
         ensures right { RunIsRight J.program result.run }
         ensures within { IsWithinLimit K.limit result.run }
+        ensures refused { IfErr self.over (λ refusal. result.run ≡ Run.Refused refusal) }
+        ensures counted { result.renewals ≡ self.renewals }
         ensures turns { result.turns ≡ self.turns }
         ensures all { result.turns.all ≡ K.turns }
         ensures left { LeavesTurns result.turns result.renewals result.run }

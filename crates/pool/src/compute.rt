@@ -1,8 +1,11 @@
 //! What a unit thread does.
 ghost use Rattle.std.specs.Prelude.{◌≡◌, ◌<◌, ◌≤◌};
 ghost use Rattle.inorder.specs.History.{IsLegal};
+ghost use Rattle.pool.specs.Deeds.{HasAddedDeeds, HasDone, total_of_claim, total_of_finish};
+ghost use Rattle.pool.specs.Gathering.{CountsClaim, HasGatheredNothing, IsAllAddedBy};
 ghost use Rattle.pool.specs.HintsPut.{AsksOnce, HintsWoken, candidate_station};
-ghost use Rattle.pool.specs.Units.{Works};
+ghost use Rattle.pool.specs.Turns.{AreTaken};
+ghost use Rattle.pool.specs.Units.{HasCountedDeeds, Works};
 ghost use Rattle.station.specs.Claiming.{ClaimAnswers, Holds};
 ghost use Rattle.station.specs.Seats.{IsSameSeat};
 
@@ -12,6 +15,7 @@ use crate::gathered::Gathered;
 use crate::hinting::hint_each;
 use crate::rest::Rest;
 use crate::search::{Candidate, Search};
+use crate::turns::Turns;
 use counts::{Total, WorkerSeat};
 use hints::Ring;
 use instructions::outcome_of;
@@ -27,6 +31,7 @@ fn claim(core: &Core, seat: &mut UnitSeat, candidate: Candidate) -> Claim
     ensures kept { IsSameSeat seat.old seat.new }
     ensures reply { ClaimAnswers core.now.program core.now.sizes
         seat.old.by seat.old.seen seat.new.seen (candidate_station candidate) result }
+    ensures done { HasDone seat.old.by seat.old.seen seat.new.seen (total_of_claim result) }
 {
     let station = candidate.station();
     core.claim(seat, station)
@@ -37,7 +42,8 @@ fn compute(core: &Core, seat: &mut UnitSeat, job: Job) -> Finish
     requires core { seat.old.core ≡ core.now }
     requires job { Holds core.now.program core.now.sizes seat.old.by seat.old.seen job }
     requires legal { IsLegal core.now.program core.now.sizes seat.old.seen }
-    ensures core { seat.new.core ≡ core.now }
+    ensures kept { IsSameSeat seat.old seat.new }
+    ensures done { HasDone seat.old.by seat.old.seen seat.new.seen (total_of_finish result) }
 {
     a_job_is_of_the_program();
     let program = core.program();
@@ -47,25 +53,24 @@ fn compute(core: &Core, seat: &mut UnitSeat, job: Job) -> Finish
     core.finish(seat, job, result)
 }
 
-// Waits while the gate holds the unit and it has turns left, and says how many it has then. Another unit
-// works meanwhile.
+// Waits while the gate holds the unit and it has turns left, of which each question takes one. Another unit works
+// meanwhile.
 fn wait_at<K: Bounds + Ring, G: Gate, R>(
     crew: &Crew<'_, K, G, R>,
     unit: u32,
     station: u32,
-    turns: u32,
-) -> u32
-    ensures { result ≤ turns }
+    turns: &mut Turns,
+)
+    ensures { AreTaken turns.old turns.new }
 {
-    let mut left = turns;
-    while crew.gate.held(unit, station) && 0 < left && !crew.floor.is_over() {
-        if left == turns {
+    let mut waits = false;
+    'questions: while crew.gate.held(unit, station) && !crew.floor.is_over() && turns.take() {
+        if !waits {
+            waits = true;
             crew.floor.call(1);
         }
-        left -= 1;
         yield_now();
     }
-    left
 }
 
 /// What a unit thread owns: its number from 1 on, its seat, and the one that it counts with.
@@ -78,7 +83,6 @@ pub(crate) struct Worker {
 
 /// A unit at work: its number, its seat, what it has counted, where it looks for work, how it rests, and how often it
 /// has found work since it last looked in vain without a hint.
-#[derive(Drop)]
 pub(crate) struct Unit {
     number: u32,
     pub(crate) seat: UnitSeat,
@@ -92,7 +96,11 @@ pub(crate) struct Unit {
 fn enter<K: Bounds + Ring, G, R>(crew: &Crew<'_, K, G, R>, worker: Worker) -> Unit
     requires core { worker.seat.core ≡ crew.now.core.now }
     requires count { worker.count.of ≡ crew.now.floor.now.counts }
-    ensures { Works crew.now.core.now crew.now.floor.now.counts crew.now.floor.now.hints result }
+    ensures works { Works crew.now.core.now crew.now.floor.now.counts
+        crew.now.floor.now.hints result }
+    ensures seat { result.seat ≡ worker.seat }
+    ensures count { result.count.seat ≡ worker.count }
+    ensures nothing { HasGatheredNothing result.count }
 {
     let Worker { unit, seat, count } = worker;
     Unit {
@@ -102,6 +110,27 @@ fn enter<K: Bounds + Ring, G, R>(crew: &Crew<'_, K, G, R>, worker: Worker) -> Un
         search: Search::new(&crew.floor.hints),
         rest: Rest::after(crew.core.ring() as u32 / 2),
         row: 0,
+    }
+}
+
+// The unit goes home: all that it has counted is added to the totals.
+fn leave<K: Bounds + Ring, G, R>(crew: &Crew<'_, K, G, R>, unit: Unit) -> Worker
+    requires { Works crew.now.core.now crew.now.floor.now.counts crew.now.floor.now.hints unit }
+    ensures seat { result.seat ≡ unit.seat }
+    ensures added { IsAllAddedBy unit.count result.count }
+{
+    let Unit {
+        number,
+        seat,
+        count,
+        search: _,
+        rest: _,
+        row: _,
+    } = unit;
+    Worker {
+        unit: number,
+        seat,
+        count: count.end(&crew.floor.counts),
     }
 }
 
@@ -117,6 +146,7 @@ fn count_claim<K: Bounds + Ring, G, R>(
     ensures search { unit.new.search ≡ unit.old.search }
     ensures works { Works crew.now.core.now crew.now.floor.now.counts
         crew.now.floor.now.hints unit.new }
+    ensures counted { CountsClaim candidate unit.old.count unit.new.count }
 {
     unit.rest.begin_again();
     unit.count.count(&crew.floor.counts, Total::Claims, 1);
@@ -144,6 +174,7 @@ fn finish<K: Bounds + Ring, G, R: Wait>(
     requires legal { IsLegal crew.now.core.now.program crew.now.core.now.sizes unit.old.seat.seen }
     ensures works { Works crew.now.core.now crew.now.floor.now.counts
         crew.now.floor.now.hints unit.new }
+    ensures counted { HasCountedDeeds unit.old unit.new }
     ensures hinted { HintsWoken crew.now.core.now.sizes.ring unit.new.seat.woken result
         unit.old.search.hinter unit.new.search.hinter }
     ensures asks { unit.new.search.hinter.asked ≡ unit.old.search.hinter.asked }
@@ -169,13 +200,14 @@ fn finish<K: Bounds + Ring, G, R: Wait>(
 fn turn<K: Bounds + Ring, G: Gate, R: Wait>(
     crew: &Crew<'_, K, G, R>,
     unit: &mut Unit,
-    left: u32,
-) -> u32
+    turns: &mut Turns,
+)
     requires { Works crew.now.core.now crew.now.floor.now.counts crew.now.floor.now.hints unit.old }
     ensures works { Works crew.now.core.now crew.now.floor.now.counts
         crew.now.floor.now.hints unit.new }
+    ensures counted { HasCountedDeeds unit.old unit.new }
     ensures asks { AsksOnce unit.old.search unit.new.search }
-    ensures left { result ≤ left }
+    ensures turns { AreTaken turns.old turns.new }
 {
     let candidate = unit
         .search
@@ -187,35 +219,54 @@ fn turn<K: Bounds + Ring, G: Gate, R: Wait>(
                 unit.row = 0;
             }
             unit.rest.rest();
-            return left;
+            return;
         }
     };
     count_claim(crew, unit, candidate);
-    let left = wait_at(crew, unit.number, candidate.station() as u32, left);
+    wait_at(crew, unit.number, candidate.station() as u32, turns);
     let _finished = finish(crew, unit, job);
-    left
+}
+
+// Turns, until none is left or the term is over.
+fn take_turns<K: Bounds + Ring, G: Gate, R: Wait>(
+    crew: &Crew<'_, K, G, R>,
+    unit: &mut Unit,
+    turns: &mut Turns,
+)
+    requires { Works crew.now.core.now crew.now.floor.now.counts crew.now.floor.now.hints unit.old }
+    ensures works { Works crew.now.core.now crew.now.floor.now.counts
+        crew.now.floor.now.hints unit.new }
+    ensures counted { HasCountedDeeds unit.old unit.new }
+    ensures turns { AreTaken turns.old turns.new }
+{
+    'turns: while !crew.floor.is_over() && turns.take() {
+        turn(crew, unit, turns);
+    }
 }
 
 /// Looks for work at the stations that are hinted, and without a hint in ring order, one a turn, and finishes what
-/// it has claimed. It rests until it is called, calls another when it has no turn left,
-/// and keeps those that it has left when the term is over.
-pub(crate) fn work<K: Bounds + Ring, G: Gate, R: Wait>(crew: &Crew<'_, K, G, R>, worker: Worker)
+/// it has claimed. It rests until it is called, and calls another when it has no turn left. What it has done is then
+/// in the totals.
+pub(crate) fn work<K: Bounds + Ring, G: Gate, R: Wait>(
+    crew: &Crew<'_, K, G, R>,
+    worker: Worker,
+) -> Worker
     requires core { worker.seat.core ≡ crew.now.core.now }
     requires count { worker.count.of ≡ crew.now.floor.now.counts }
+    ensures { HasAddedDeeds worker result }
 {
     let floor = crew.floor;
-    let number = worker.unit;
-    if !floor.is_called(crew.wait, number) {
-        return;
+    if !floor.is_called(crew.wait, worker.unit) {
+        return worker;
     }
+    let Some(turns) = floor.turns_of(worker.unit) else {
+        return worker;
+    };
+    let mut turns = turns.lock(crew.wait);
     let mut unit = enter(crew, worker);
-    let mut left = floor.turns_left(number);
-    while 0 < left && !floor.is_over() {
-        left = turn(crew, &mut unit, left - 1);
-    }
-    unit.count.add(&floor.counts);
-    floor.keep_turns(number, left);
-    if left == 0 {
+    take_turns(crew, &mut unit, &mut turns);
+    if turns.left() == 0 {
         floor.call(1);
     }
+    leave(crew, unit)
 }

@@ -1,15 +1,17 @@
 //! What the dispatch thread does.
-ghost use Rattle.std.specs.Prelude.{◌≡◌, ◌<◌, IfSome, true};
-ghost use Rattle.front.specs.Fronts.{TurnsTo};
+ghost use Rattle.std.specs.Prelude.{◌≡◌, IfSome, true};
 ghost use Rattle.hints.specs.Hinted.{IsEndOf};
+ghost use Rattle.pool.specs.Deeds.{CountsFrontDeeds};
 ghost use Rattle.pool.specs.HintsPut.{HintsLet};
 ghost use Rattle.pool.specs.Terms.{Begins, GivesBack};
+ghost use Rattle.pool.specs.Turns.{AreTaken, IsTakenFrom};
 ghost use Rattle.pool.specs.declared.dispatch.Stepped.TheVariants.{Rested};
 
 use crate::bounds::Bounds;
 use crate::crew::Crew;
 use crate::gathered::Gathered;
 use crate::rest::Rest;
+use crate::turns::Turns;
 use counts::{Total, WorkerSeat};
 use front::{Front, FrontStill, Recovery, Rest as Rests, Turn};
 use hints::{Hinter, Ring};
@@ -42,6 +44,7 @@ fn let_next<K: Bounds + Ring, P: Predictor + Drop, G, R: Wait>(
     requires hinter { IsEndOf crew.now.floor.now.hints hinter.old }
     ensures core { front.new.core ≡ crew.now.core.now }
     ensures count { count.new.seat.of ≡ crew.now.floor.now.counts }
+    ensures counted { CountsFrontDeeds front.old.seen front.new.seen count.old count.new }
     ensures hinter { IsEndOf crew.now.floor.now.hints hinter.new }
     ensures hinted { HintsLet crew.now.core.now front.old.seen front.new.seen result
         hinter.old hinter.new }
@@ -74,6 +77,7 @@ fn step<K: Bounds + Ring, P: Predictor + Drop, G, R: Wait>(
     requires hinter { IsEndOf crew.now.floor.now.hints hinter.old }
     ensures core { front.new.core ≡ crew.now.core.now }
     ensures count { count.new.seat.of ≡ crew.now.floor.now.counts }
+    ensures counted { CountsFrontDeeds front.old.seen front.new.seen count.old count.new }
     ensures hinter { IsEndOf crew.now.floor.now.hints hinter.new }
     ensures rested { result ≡ Rested → front.new.rested ≡ true }
 {
@@ -94,14 +98,13 @@ pub(crate) enum Begin<P: Predictor + Drop> {
     Again(FrontStill<P>),
 }
 
-/// What the dispatch thread owns: the front's seat, its beginning, the seat that it counts with, and the turns that
-/// it has left.
+/// What the dispatch thread owns: the front's seat, its beginning, the seat that it counts with, and its turns.
 #[derive(Drop)]
 pub(crate) struct Dispatcher<P: Predictor + Drop> {
     pub seat: FrontSeat,
     pub begin: Begin<P>,
     pub count: WorkerSeat,
-    pub left: u32,
+    pub turns: Turns,
 }
 
 /// What the dispatch thread gives back where the core is to be renewed.
@@ -109,7 +112,7 @@ pub(crate) struct Dispatcher<P: Predictor + Drop> {
 pub(crate) struct Left<P: Predictor + Drop> {
     pub seat: FrontSeat,
     pub still: FrontStill<P>,
-    pub turns: u32,
+    pub turns: Turns,
 }
 
 // The front at the core of a term.
@@ -123,65 +126,72 @@ fn enter<'x, P: Predictor + Drop>(core: &'x Core, seat: FrontSeat, begin: Begin<
     }
 }
 
-// The front has left, with so many turns left.
-fn leave<P: Predictor + Drop>(core: &Core, front: Front<P>, turns: u32) -> Left<P>
+// The front has left, with the turns that it has left.
+fn leave<P: Predictor + Drop>(core: &Core, front: Front<P>, turns: Turns) -> Left<P>
     requires core { front.core ≡ core.now }
     requires rested { front.rested ≡ true }
-    ensures { GivesBack core.now result.seat result.still }
+    ensures gives { GivesBack core.now result.seat result.still }
+    ensures turns { result.turns ≡ turns }
 {
     let (seat, still) = front.leave();
     Left { seat, still, turns }
 }
 
-// The turns of a term. Where the tags of a station are spent and nobody is live they end, and so many are left.
+// The turns of a term. True where the tags of a station are spent and nobody is live, with which they end.
 fn take_turns<K: Bounds + Ring, P: Predictor + Drop, G, R: Wait>(
     crew: &Crew<'_, K, G, R>,
     front: &mut Front<P>,
     count: &mut Gathered,
-    turns: u32,
-) -> Option<u32>
+    turns: &mut Turns,
+) -> bool
     requires core { front.old.core ≡ crew.now.core.now }
     requires count { count.old.seat.of ≡ crew.now.floor.now.counts }
     ensures core { front.new.core ≡ crew.now.core.now }
     ensures count { count.new.seat.of ≡ crew.now.floor.now.counts }
-    ensures rested { IfSome result (λ _. front.new.rested ≡ true) }
+    ensures counted { CountsFrontDeeds front.old.seen front.new.seen count.old count.new }
+    ensures turns { AreTaken turns.old turns.new }
+    ensures rested { result ≡ true → front.new.rested ≡ true }
+    ensures taken { result ≡ true → IsTakenFrom turns.old turns.new }
 {
     let mut hinter = crew.floor.hints.hinter();
     let mut rest = Rest::after(PATIENCE);
-    for taken in 0..turns {
+    while turns.take() {
         match step(crew, front, count, &mut hinter) {
             Stepped::Worked => rest.begin_again(),
             Stepped::Idle => rest.rest(),
-            Stepped::Rested => return Some(turns - 1 - taken),
+            Stepped::Rested => return true,
         }
         if crew.floor.is_closed() {
             break;
         }
     }
-    None
+    false
 }
 
 /// Lets instructions out, and recovers from misses. Where the tags of a station are spent and nobody is live, the
-/// term is over, and the front leaves.
+/// term is over, and the front leaves. It has taken a turn at least.
 pub(crate) fn dispatch<K: Bounds + Ring, P: Predictor + Drop, G, R: Wait>(
     crew: &Crew<'_, K, G, R>,
     dispatcher: Dispatcher<P>,
 ) -> Option<Left<P>>
     requires begins { Begins crew.now.core.now dispatcher.begin dispatcher.seat }
     requires count { dispatcher.count.of ≡ crew.now.floor.now.counts }
-    ensures { IfSome result (λ left. GivesBack crew.now.core.now left.seat left.still) }
+    ensures gives { IfSome result (λ left. GivesBack crew.now.core.now left.seat left.still) }
+    ensures turns { IfSome result (λ left. IsTakenFrom dispatcher.turns left.turns) }
 {
     let Dispatcher {
         seat,
         begin,
         count,
-        left,
+        mut turns,
     } = dispatcher;
     let mut front = enter(crew.core, seat, begin);
     let mut count = Gathered::new(count);
-    let turns = take_turns(crew, &mut front, &mut count, left);
-    count.add(&crew.floor.counts);
-    let turns = turns?;
+    let rested = take_turns(crew, &mut front, &mut count, &mut turns);
+    let _count = count.end(&crew.floor.counts);
+    if !rested {
+        return None;
+    }
     crew.floor.rest();
     Some(leave(crew.core, front, turns))
 }

@@ -1,13 +1,14 @@
 //! What the threads of one run share.
 ghost use Rattle.std.specs.Prelude.{◌≤◌};
 
+use crate::turns::Turns;
 use counts::Counts;
 use hints::{Hints, Ring};
 use instructions::Memory;
 use std::alloc::Global;
-use std::sync::Wait;
 use std::sync::atomic::Ordering::{Acquire, Release};
-use std::sync::atomic::{AtomicBool, AtomicU32, AtomicU64};
+use std::sync::atomic::{AtomicBool, AtomicU64};
+use std::sync::{Mutex, Wait};
 
 /// What outlives a renewal of the core. Each thread begins with the same number of turns.
 #[derive(Drop)]
@@ -25,18 +26,18 @@ pub(crate) struct Floor<K: Ring> {
     called: AtomicU64,
     // so many are to work at once, where there is work for them
     most: AtomicU64,
-    // the turns that each unit has left
-    left: Vec<AtomicU32>,
+    // each unit's own, which its threads take one term after another
+    unit_turns: Vec<Mutex<Turns>>,
     pub ghost few: { units ≤ 64 },
 }
 
 // So many units, none of which has taken a turn.
-fn unit_turns(alloc: Global, units: u32, turns: u32) -> Result<Vec<AtomicU32>, Memory> {
-    let mut left = Vec::new(alloc);
+fn unit_turns(alloc: Global, units: u32, turns: u32) -> Result<Vec<Mutex<Turns>>, Memory> {
+    let mut all = Vec::new(alloc);
     for _ in 0..units {
-        left.push(AtomicU32::new(turns))?;
+        all.push(Mutex::new(Turns::new(turns)))?;
     }
-    Ok(left)
+    Ok(all)
 }
 
 impl<K: Ring> Floor<K> {
@@ -53,7 +54,7 @@ impl<K: Ring> Floor<K> {
         ensures counts { IfOk result (λ floor. floor.counts ≡ counts) }
         ensures hints { IfOk result (λ floor. floor.hints ≡ hints) }
     {
-        let left = unit_turns(alloc, units, turns)?;
+        let unit_turns = unit_turns(alloc, units, turns)?;
         Ok(Floor {
             counts,
             hints,
@@ -64,7 +65,7 @@ impl<K: Ring> Floor<K> {
             news: AtomicU64::new(0),
             called: AtomicU64::new(0),
             most: AtomicU64::new(0),
-            left,
+            unit_turns,
         })
     }
 
@@ -98,19 +99,9 @@ impl<K: Ring> Floor<K> {
         self.is_closed() || self.has_rested()
     }
 
-    /// The turns that a unit has left.
-    pub(crate) fn turns_left(&self, unit: u32) -> u32 {
-        match self.left.get((unit as usize).saturating_sub(1)) {
-            Some(left) => left.load(Acquire),
-            None => self.turns,
-        }
-    }
-
-    /// Keeps the turns that a unit has left for its next term.
-    pub(crate) fn keep_turns(&self, unit: u32, turns: u32) {
-        if let Some(left) = self.left.get((unit as usize).saturating_sub(1)) {
-            left.store(turns, Release);
-        }
+    /// The turns of a unit. They stay here from term to term, and its thread takes them where they are.
+    pub(crate) fn turns_of(&self, unit: u32) -> Option<&Mutex<Turns>> {
+        self.unit_turns.get((unit as usize).saturating_sub(1))
     }
 
     /// Tells all threads to end.

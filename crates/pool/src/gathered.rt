@@ -3,17 +3,17 @@
 ghost use Rattle.std.specs.Prelude.{◌≡◌, false};
 ghost use Rattle.counts.specs.Shares.{is_kept};
 ghost use Rattle.counts.specs.Totals.{position_of};
-ghost use Rattle.pool.specs.Gathering.{CountsMore, CountsNoMore, HasGatheredNothing};
+ghost use Rattle.pool.specs.Gathering.{CountsMore, CountsNoMore, HasGatheredNothing, IsAllAddedBy};
 
 use counts::{Counts, Total, WorkerSeat};
 
 // It adds each time that it has counted so often.
 const EACH: u32 = 64;
 
-/// A seat to count with, and what was counted since that last added to the totals.
-#[derive(Drop)]
+/// A seat to count with, and what was counted since that last added to the totals. `end` alone takes it apart, so
+/// that nothing that was counted is lost.
 pub(crate) struct Gathered {
-    pub seat: WorkerSeat,
+    seat: WorkerSeat,
     lets: u64,
     claims: u64,
     finishes: u64,
@@ -80,8 +80,29 @@ impl Gathered {
         }
     }
 
-    /// Adds what was gathered to the totals.
-    pub(crate) fn add(&mut self, counts: &Counts)
+    /// Adds what is left to the totals, and gives the seat back.
+    pub(crate) fn end(mut self, counts: &Counts) -> WorkerSeat
+        requires { self.seat.of ≡ counts.now }
+        ensures of { result.of ≡ counts.now }
+        ensures added { IsAllAddedBy self result }
+    {
+        self.add(counts);
+        let Gathered {
+            seat,
+            lets: _,
+            claims: _,
+            finishes: _,
+            stale: _,
+            squashes: _,
+            mends: _,
+            hints: _,
+            left: _,
+        } = self;
+        seat
+    }
+
+    // Adds what was gathered to the totals.
+    fn add(&mut self, counts: &Counts)
         requires { self.old.seat.of ≡ counts.now }
         ensures of { self.new.seat.of ≡ counts.now }
         ensures counted { CountsNoMore self.old self.new }

@@ -9,6 +9,7 @@ use crate::commit::Committer;
 use crate::dispatch::Begin;
 use crate::floor::Floor;
 use crate::terms::Term;
+use crate::turns::Turns;
 use back::{Back, Naming, Snapper};
 use counts::{CountSeat, Counts};
 use hints::{Hints, Ring};
@@ -101,7 +102,7 @@ pub(crate) fn make<J: Naming, K: Bounds + Ring, P: Predictor + Drop, R>(
     requires limit { task.now.config.now.limit ≡ K.limit }
     requires turns { task.now.config.now.turns ≡ K.turns }
     requires ring { task.now.config.now.ring ≡ K.ring }
-    ensures { IfOk result (RunIsMade K.counts) }
+    ensures { IfOk result (RunIsMade K.counts K.turns) }
 {
     let config = task.config;
     let floor = make_floor::<K>(task.alloc, config, counts)?;
@@ -118,7 +119,7 @@ pub(crate) fn make<J: Naming, K: Bounds + Ring, P: Predictor + Drop, R>(
         core,
         seat: front,
         begin: Begin::Fresh(predictor),
-        turns: config.turns(),
+        turns: Turns::new(config.turns()),
         unit,
         count: workers,
     };

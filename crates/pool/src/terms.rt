@@ -1,6 +1,7 @@
 //! The terms of a run: in each, threads work at one core, and give back what they hold where that is to be renewed.
 ghost use Rattle.std.specs.Prelude.{◌≡◌, IfSome};
 ghost use Rattle.pool.specs.Terms.{AreHandsAt, Begins, IsGivenBack, MayBegin, MayCommit};
+ghost use Rattle.pool.specs.Turns.{IsTakenFrom};
 
 use crate::bounds::Bounds;
 use crate::commit::Committer;
@@ -8,6 +9,7 @@ use crate::crew::{Crew, Hall};
 use crate::dispatch::{Begin, Dispatcher, Left};
 use crate::floor::Floor;
 use crate::threads::{start_dispatch, start_units, units_at_once};
+use crate::turns::Turns;
 use back::Naming;
 use counts::{Counts, WorkerSeat};
 use hints::Ring;
@@ -19,14 +21,14 @@ use std::sync::Wait;
 use std::thread;
 use std::thread::Threads;
 
-/// What a term begins with: the core, its seats, the turns that the dispatch thread has left, and the seat from which
-/// those of its threads are cut that they count with.
+/// What a term begins with: the core, its seats, the turns of the dispatch thread, and the seat from which those of
+/// its threads are cut that they count with.
 #[derive(Drop)]
 pub(crate) struct Term<P: Predictor + Drop> {
     pub core: Core,
     pub seat: FrontSeat,
     pub begin: Begin<P>,
-    pub turns: u32,
+    pub turns: Turns,
     pub unit: UnitSeat,
     pub count: WorkerSeat,
 }
@@ -62,7 +64,8 @@ fn in_threads<
 ) -> (&'c mut Committer<J, K>, Option<Given<P>>)
     requires hands { AreHandsAt crew.now.core.now crew.now.floor.now.counts hands }
     requires commits { MayCommit crew.now.core.now committer.old }
-    ensures { IfSome result.1 (λ given. IsGivenBack crew.now.core.now given result.0.now) }
+    ensures given { IfSome result.1 (λ given. IsGivenBack crew.now.core.now given result.0.now) }
+    ensures turns { IfSome result.1 (λ given. IsTakenFrom hands.dispatcher.turns given.left.turns) }
 {
     thread::scope(
         thread::scope_env(),
@@ -70,8 +73,10 @@ fn in_threads<
         move |scope| -> (&mut Committer<J, K>, Option<Given<P>>)
             requires hands { AreHandsAt crew.now.core.now crew.now.floor.now.counts hands }
             requires commits { MayCommit crew.now.core.now committer.now }
-            ensures { IfSome result.1 (λ given.
+            ensures given { IfSome result.1 (λ given.
                 IsGivenBack crew.entry.now.core.now given result.0.now) }
+            ensures turns { IfSome result.1 (λ given.
+                IsTakenFrom hands.dispatcher.turns given.left.turns) }
         {
             // the closure owns them as a whole, as its clause says
             let own = hands;
@@ -115,6 +120,7 @@ fn staff<P: Predictor + Drop>(counts: &Counts, term: Term<P>) -> Staffed<P>
     requires count { term.count.of ≡ counts.now }
     ensures core { result.core ≡ term.core }
     ensures hands { AreHandsAt term.core counts.now result.hands }
+    ensures turns { result.hands.dispatcher.turns ≡ term.turns }
     ensures count { result.count.of ≡ counts.now }
 {
     let Term {
@@ -131,7 +137,7 @@ fn staff<P: Predictor + Drop>(counts: &Counts, term: Term<P>) -> Staffed<P>
         seat,
         begin,
         count: front_count,
-        left: turns,
+        turns,
     };
     let hands = Hands {
         dispatcher,
@@ -158,8 +164,9 @@ fn next_term<J: Naming, K: Bounds + Ring, P: Predictor + Drop>(
     requires count { count.of ≡ floor.now.counts }
     requires ring { floor.now.hints.ring ≡ core.sizes.ring }
     requires given { IsGivenBack core given committer.old }
-    ensures { IfSome result (λ next.
+    ensures begins { IfSome result (λ next.
         MayBegin floor.now.hints.ring floor.now.counts next committer.new) }
+    ensures turns { IfSome result (λ next. next.turns ≡ given.left.turns) }
 {
     let Given { left, unit } = given;
     let Left { seat, still, turns } = left;
@@ -189,8 +196,9 @@ fn run_term<
     committer: &'c mut Committer<J, K>,
 ) -> (&'c mut Committer<J, K>, Option<Term<P>>)
     requires { MayBegin hall.now.floor.now.hints.ring hall.now.floor.now.counts term committer.old }
-    ensures { IfSome result.1 (λ next. MayBegin hall.now.floor.now.hints.ring
+    ensures begins { IfSome result.1 (λ next. MayBegin hall.now.floor.now.hints.ring
         hall.now.floor.now.counts next result.0.now) }
+    ensures turns { IfSome result.1 (λ next. IsTakenFrom term.turns next.turns) }
 {
     hall.floor.begin(units_at_once(hall.wait));
     let Staffed { core, hands, count } = staff(&hall.floor.counts, term);

@@ -1,11 +1,13 @@
 //! Starts the threads of a run.
 ghost use Rattle.std.specs.Prelude.{◌≡◌, ◌≤◌, IfSome};
 ghost use Rattle.pool.specs.Terms.{Begins, GivesBack};
+ghost use Rattle.pool.specs.Turns.{IsTakenFrom};
 
 use crate::bounds::Bounds;
 use crate::compute::{Worker, work};
 use crate::crew::{Crew, Hall};
 use crate::dispatch::{Dispatcher, Left, dispatch};
+use crate::turns::Turns;
 use crate::watch::watch;
 use back::{Naming, Snapper};
 use counts::WorkerSeat;
@@ -34,15 +36,17 @@ pub(crate) fn units_at_once<R: Threads>(rt: &R) -> u64
     }
 }
 
-/// What the dispatch thread gives back is of this core.
+/// What the dispatch thread gives back is of this core, and some of these turns are taken.
 #[derive(Drop)]
-pub(crate) struct Leaves(Snapshot<Core>);
+pub(crate) struct Leaves(Snapshot<Core>, Snapshot<Turns>);
 
 impl<P: Predictor + Drop> Promise<Option<Left<P>>> for Leaves {
     ghost use Rattle.std.specs.Prelude.{IfSome};
     ghost use Rattle.pool.specs.Terms.{GivesBack};
+    ghost use Rattle.pool.specs.Turns.{IsTakenFrom};
 
-    ghost kept_by = { λ p r. IfSome r (λ left. GivesBack p.0.value left.seat left.still) };
+    ghost kept_by = { λ p r. IfSome r (λ left.
+        GivesBack p.0.value left.seat left.still × IsTakenFrom p.1.value left.turns) };
 }
 
 /// A dispatch thread, which gives back what it holds where the core is to be renewed.
@@ -63,14 +67,17 @@ pub(crate) fn start_dispatch<
 ) -> Option<Leaving<P>>
     requires begins { Begins crew.now.core.now dispatcher.begin dispatcher.seat }
     requires count { dispatcher.count.of ≡ crew.now.floor.now.counts }
-    ensures { IfSome result (λ thread. thread.promise.0.value ≡ crew.now.core.now) }
+    ensures core { IfSome result (λ thread. thread.promise.0.value ≡ crew.now.core.now) }
+    ensures turns { IfSome result (λ thread. thread.promise.1.value ≡ dispatcher.turns) }
 {
-    let promise = Leaves(Snapshot::of(crew.core));
+    let promise = Leaves(Snapshot::of(crew.core), Snapshot::of(&dispatcher.turns));
     let job = move || -> Option<Left<P>>
         requires begins { Begins crew.now.core.now dispatcher.begin dispatcher.seat }
         requires count { dispatcher.count.of ≡ crew.now.floor.now.counts }
-        ensures { IfSome result (λ left.
+        ensures gives { IfSome result (λ left.
             GivesBack crew.entry.now.core.now left.seat left.still) }
+        ensures turns { IfSome result (λ left.
+            IsTakenFrom dispatcher.turns left.turns) }
     { dispatch(crew, dispatcher) };
     scope.spawn_with(promise, job).ok()
 }
@@ -88,7 +95,9 @@ fn start_unit<
     let job = move ||
         requires core { worker.seat.core ≡ crew.now.core.now }
         requires count { worker.count.of ≡ crew.now.floor.now.counts }
-    { work(crew, worker) };
+    {
+        let _worker = work(crew, worker);
+    };
     scope.spawn(job).is_ok()
 }
 

@@ -1,5 +1,6 @@
 //! The turns of a thread.
 ghost use Rattle.std.specs.Prelude.{◌≡◌, ◌+◌, true, false};
+ghost use Rattle.pool.specs.Turns.{untaken};
 
 use std::marker::Model;
 
@@ -24,7 +25,7 @@ impl Model for Turns {
 
 impl Turns {
     pub(crate) fn new(all: u32) -> Turns
-        ensures { result ≡ record { all = all; left = all } }
+        ensures { result ≡ untaken all }
     {
         Turns { all, taken: 0 }
     }

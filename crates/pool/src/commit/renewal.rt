@@ -1,5 +1,5 @@
 //! Renewal of the core, where the back has left.
-ghost use Rattle.std.specs.Prelude.{◌≡◌, ◌+◌, Err, IfSome};
+ghost use Rattle.std.specs.Prelude.{◌≡◌, ◌+◌, Err, IfNone, IfSome};
 ghost use Rattle.inorder.specs.History.{unit_of};
 ghost use Rattle.pool.specs.Committing.{IsAtRest};
 ghost use Rattle.pool.specs.Terms.{AreRenewed};
@@ -82,6 +82,7 @@ impl<J: Naming, K: Bounds + Ring> Committer<J, K> {
         ensures turns { self.new.turns ≡ self.old.turns }
         ensures renewals { IfSome result (λ t. self.new.renewals ≡ self.old.renewals + 1) }
         ensures begins { IfSome result (λ t. self.new.over ≡ Err Refusal.Thread) }
+        ensures refused { IfNone result (self.new.over ≡ Err Refusal.Memory) }
         ensures goes_on { IfSome result (λ t.
             AreRenewed core front.seen t.0 t.1 t.2 self.new.back.core) }
     {

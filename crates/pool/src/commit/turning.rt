@@ -1,6 +1,8 @@
 //! The turns of the commit thread.
 ghost use Rattle.std.specs.Prelude.{◌≡◌, ◌≢◌, ◌+◌, ◌<◌, ◌≤◌, Err, IfOk, true};
 ghost use Rattle.back.specs.Backs.{IsSameBack, back_state};
+ghost use Rattle.counts.specs.Reads.{WasTotal};
+ghost use Rattle.counts.specs.Totals.{tallied};
 ghost use Rattle.hints.specs.Hinted.{IsEndOf};
 ghost use Rattle.pool.specs.Committing.{Because, IsReason, IsAtRest};
 ghost use Rattle.pool.specs.HintsPut.{HintsLoaded};
@@ -13,10 +15,11 @@ use crate::crew::Crew;
 use crate::hinting::hint_each;
 use crate::rest::Rest;
 use back::{Commit, Mark, Naming, Refresh};
-use counts::{Tally, Total};
+use counts::{CountSeat, Tally, Total};
 use hints::{Hinter, Ring};
 use instructions::Memory;
 use run_ends::{Gate, Refusal};
+use std::snapshot::Snapshot;
 use std::sync::Wait;
 
 // It shows each so many instructions.
@@ -25,10 +28,19 @@ const SHOWN_EACH: u64 = 64;
 // After so many fruitless turns it lets another thread run.
 const PATIENCE: u32 = 4;
 
-// The gate is told no retirements but those that are shown.
-fn tell<G: Gate>(gate: &G, shown: &Mark, tally: &Tally)
-    requires { tally.now.retires ≡ shown.now.n }
+// The gate is told the retirements that are shown, and of each total what that was at a moment since `before`.
+fn tell<G: Gate>(
+    gate: &G,
+    shown: &Mark,
+    before: Snapshot<CountSeat>,
+    count: &CountSeat,
+    tally: &Tally,
+)
+    requires retires { tally.now.retires ≡ shown.now.n }
+    requires totals { (total : Total) →
+        WasTotal before.value.seen count.now.seen total (tallied tally.now total) }
 {
+    let _moments = (before, count);
     gate.counted(tally);
 }
 
@@ -50,8 +62,9 @@ impl<J: Naming, K: Bounds + Ring> Committer<J, K> {
         ensures over { self.new.over ≡ self.old.over }
     {
         let mark = self.back.show(crew.wait)?;
+        let before = Snapshot::of(&self.count);
         let tally = crew.floor.counts.read(&mut self.count);
-        tell(crew.gate, &mark, &tally);
+        tell(crew.gate, &mark, before, &self.count, &tally);
         Ok(())
     }
 

@@ -1,5 +1,6 @@
 use Rattle.std.proofs.Common.{◌<◌, length, subst, sym}
 use Rattle.instructions.specs.Programs.{Program}
+use Rattle.pool.proofs.Deeds.{finish_done}
 use Rattle.pool.proofs.compute.compute.Goals as goal
 
 pub instr-instr-requires : goal.instr-instr-requires
@@ -8,3 +9,6 @@ instr-instr-requires c =
     let seat = c.args.seat.now in
     subst (λ (P : Program). c.args.job.index < length P.code) (sym c.program-program.ensures)
     (c.a_job_is_of_the_program.ensures core.program core.sizes seat.by seat.seen c.args.job c.requires.legal c.requires.job)
+
+pub returns-clause-done : goal.returns-clause-done
+returns-clause-done c = finish_done _ _ _ _ _ c.args.job _ c.finish.ensures.reply

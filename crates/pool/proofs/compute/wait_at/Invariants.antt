@@ -1,8 +1,8 @@
-use Rattle.std.specs.Prelude.{◌≤◌}
+use Rattle.pool.specs.Turns.{AreTaken}
 use Rattle.pool.proofs.compute.wait_at.Given as goal
 
-abbrev pub invariant-loop-left : goal.invariant-loop-left
-invariant-loop-left g l = l.left ≤ l.turns
+abbrev pub invariant-questions : goal.invariant-questions
+invariant-questions g l = AreTaken l.initial.turns l.turns
 
-abbrev pub decreases-loop-left : goal.decreases-loop-left
-decreases-loop-left g l = l.left
+abbrev pub decreases-questions : goal.decreases-questions
+decreases-questions g l = l.turns.left

@@ -1,4 +1,5 @@
 use Rattle.std.proofs.Common.{◌<◌, arith}
+use Rattle.pool.proofs.Deeds.{let_done}
 use Rattle.pool.proofs.HintsPut.{in_ring}
 use Rattle.pool.proofs.dispatch.let_next.Goals as goal
 
@@ -11,3 +12,9 @@ pub push-is_put-requires-clause-station : goal.push-is_put-requires-clause-stati
 push-is_put-requires-clause-station g c =
     let below : c.in-Let.station < c.args.crew.now.core.now.sizes.ring = in_ring _ _ _ c.in-Let.ensures.reply.lets.station_is (omega (arith, c.ring-ring.ensures.least, c.ring-ring.ensures.value)) in
     omega (arith, below, c.args.crew.now.ring)
+
+pub returns-in-Let-clause-counted : goal.returns-in-Let-clause-counted
+returns-in-Let-clause-counted g c = λ total told.
+    let counts = c.count.ensures.counted total in
+    let done = let_done _ _ _ _ _ _ _ _ c.in-Let.ensures.reply.lets total in
+    omega (arith, counts, done)
