@@ -12,7 +12,7 @@ use Rattle.inorder.specs.History.{IsLegal, IsUnit, MayAdd, back, unit_of}
 use Rattle.inorder.specs.Tenants.{Busy, Tenant}
 use Rattle.inorder.specs.Unit.{Sizes, at}
 
--- Who has claimed a tenant may finish it, or is told that it is stale
+-- A unit that has claimed a tenant may finish it, or is told that it is stale
 abbrev pub FinishIsAnswered : Program → Sizes → List Entry → Type 0
 FinishIsAnswered P C h =
     (by p : ℕ) (t : Tenant) → IsUnit by → IsLegal P C h → at (unit_of P C h).tenants p ≡ Some t →

@@ -6,7 +6,7 @@ use Rattle.inorder.specs.Machine.{State, start, store_bytes, write}
 use Rattle.inorder.specs.Memory.{Stored, stored}
 use Rattle.inorder.specs.Tenants.{Fate, Retired, Standing, Stopped, Tenant, computed_next, destination_of, is_first}
 
--- What has retired commits, unless it is a stop
+-- A tenant that has retired commits, unless it is a stop
 abbrev pub commits_by : Standing → Fate → Bool
 commits_by Retired (Stopped c) = false
 commits_by Retired _ = true
@@ -54,8 +54,8 @@ ahead P (t ∷ ts) = if commits t then with_retired (is_first P t) P t (ahead P 
 abbrev pub completes : Program → Tenant → Bool
 completes P t = commits t && not (is_first P t)
 
--- What whole instructions have left: the start state with the writes and stores of the tenants up
--- to the last that completes an instruction
+-- The committed state, which whole instructions have left: the start state with the writes and stores
+-- of the tenants up to the last that completes an instruction
 abbrev pub committed : Program → List Tenant → State
 committed P [] = start P
 committed P (t ∷ ts) = if completes P t then with_tenant P t (ahead P ts) else committed P ts
@@ -65,6 +65,6 @@ abbrev pub with_low : Option ℕ → List ℕ → List ℕ
 with_low None registers = registers
 with_low (Some v) registers = write registers lo v
 
--- What a state comes to with a value that waits for LO, if there is one
+-- The state with the value that waits for LO written, if there is one
 abbrev pub ahead_by : Option ℕ → State → State
 ahead_by low s = record s { registers = with_low low s.registers }

@@ -40,7 +40,7 @@ pub record FollowsFrom (P : Program) (ts : List Tenant) (t : Tenant) : Type 0 wh
   pub pc : t.pc ≡ address t.index
   pub inside : t.index < length P.code
 
--- So it is of each tenant in the unit that these steps reach, if each was allowed
+-- The fate of each tenant says this in the unit that these steps reach, if each was allowed
 abbrev pub FatesFollow : Program → Sizes → List Taken → Type 0
 FatesFollow P C history =
     (p : ℕ) (t : Tenant) → AreAllowed P C history → at (reached P C history).tenants p ≡ Some t →

@@ -58,7 +58,8 @@ pub record IsGivenRight (ts : List Tenant) (k : Source) (t u : Tenant) : Type 0 
   pub there : IsThere (operand k u).value
   pub value : (operand k u).value ≡ value_of ts (operand k t).creator
 
--- And no other step changes the value of any source
+-- A delivery gives a source that was asked for what its creator has made, and no other step changes the
+-- value of any source
 pub record Delivers (P : Program) (C : Sizes) (history : List Taken) : Type 0 where
   pub gives : (by p : ℕ) (k : Source) (t u : Tenant) →
       Allowed P C (reached P C history) by (On p (Deliver k)) →

@@ -60,7 +60,7 @@ pub record Commits (P : Program) (C : Sizes) (U : UpdateUnit) (by : ℕ) : Type 
   pub waits_on : (s : Step) → IsNoRetire s → Allowed P C U by s →
       ahead P (applied P C U by s).tenants ≡ ahead P U.tenants
 
--- So it is behind these steps, if each was allowed
+-- Retirements alone commit in the unit that these steps reach, if each was allowed
 abbrev pub OnlyRetirementsCommit : Program → Sizes → List Taken → ℕ → Type 0
 OnlyRetirementsCommit P C history by =
     AreAllowed P C history → Commits P C (reached P C history) by

@@ -20,7 +20,7 @@ May P by (Retire n) ys t ts = MayRetire P n ts t
 May P by Squash ys t ts = MaySquash ys t ts
 May P by Mend ys t ts = MayMend ys t
 
--- What becomes of it
+-- The tenant t behind an act, with ts before it
 abbrev pub changed : Program → ℕ → Act → Tenant → List Tenant → Tenant
 changed P by (Link k) t ts = linked ts t k
 changed P by (Deliver k) t ts = delivered ts t k

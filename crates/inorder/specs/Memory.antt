@@ -15,12 +15,12 @@ pub record Stored : Type 0 where
   pub width : ℕ
   pub content : Option ℕ
 
--- What a store of the path has once its address is known; no other tenant stores
+-- The address, width and data of a store of the path once its address is known; no other tenant stores
 abbrev pub stored_by : Bool → Kind → Fate → ℕ → Option ℕ → Option Stored
 stored_by true Stores (Addr a) w d = Some (record { at = a; width = w; content = d })
 stored_by _ _ _ w d = None
 
--- What a tenant stores, if it is such a store
+-- The address, width and data that a tenant stores, if it is a store of the path with its address
 abbrev pub stored : Program → Tenant → Option Stored
 stored P t = stored_by (on_path t) (kind_of P t) t.fate (width (instr P t).op) t.second.value
 

@@ -32,7 +32,8 @@ pub record AreWords (t : Tenant) : Type 0 where
   pub made : IfSome t.made IsWord
   pub fate : FateIsWord t.fate
 
--- So it is of each tenant behind these steps, if each was allowed, for such a program
+-- Each value, address and pc of each tenant is a word behind these steps, if each was allowed, for such
+-- a program
 abbrev pub ValuesAreWords : Program → Sizes → List Taken → Type 0
 ValuesAreWords P C history =
     HasWords P → AreAllowed P C history → (p : ℕ) (t : Tenant) →

@@ -11,8 +11,8 @@ use Rattle.inorder.specs.History.{IsLegal, MayAdd, StartsWith, entry, own, renew
 use Rattle.inorder.specs.Theorem.{IsInOrder}
 use Rattle.inorder.specs.Unit.{Sizes}
 
--- What a caller has seen has grown, with no renewal, and these events, the last one first, are all
--- that it added itself. Two such facts in a row are one, with the events of both
+-- The history that a caller has seen has grown, with no renewal, and these events, the last one first,
+-- are all that the caller added itself. Two such facts in a row are one, with the events of both
 pub record Adds (P : Program) (C : Sizes) (by : ℕ) (old new : List Entry) (events : List Event) :
     Type 0 where
   pub begins : StartsWith new old

@@ -60,7 +60,7 @@ pub record MovesOperands (P : Program) (C : Sizes) (U : UpdateUnit) (by : ℕ) :
       at U.tenants p ≡ Some t → is_old U p ≡ false → last_of (recent U) t.station ≡ Some t →
       operand_word (recent (applied P C U by (On p (Deliver k)))) t.station k ≡
       Some (record { tag = t.tag; value = value_of (older U.tenants p) (operand k t).creator })
-  -- and changes no other operand; one to an older tenant of the station changes none
+  -- a delivery changes no other operand; one to an older tenant of the station changes none
   pub elsewhere : (p : ℕ) (k : Source) (t : Tenant) (s : ℕ) (j : Source) →
       Allowed P C U by (On p (Deliver k)) → at U.tenants p ≡ Some t →
       (is_old U p ≡ true) ⊎ (last_of (recent U) s ≢ Some t) ⊎ (j ≢ k) →
@@ -69,7 +69,7 @@ pub record MovesOperands (P : Program) (C : Sizes) (U : UpdateUnit) (by : ℕ) :
       Allowed P C U by (On p act) →
       operand_word (recent (applied P C U by (On p act))) s j ≡ operand_word (recent U) s j
 
--- So it is behind these steps, if each was allowed
+-- The steps move the operand words so in the unit that these steps reach, if each was allowed
 abbrev pub OperandsFollow : Program → Sizes → List Taken → ℕ → Type 0
 OperandsFollow P C history by =
     AreAllowed P C history → MovesOperands P C (reached P C history) by

@@ -38,7 +38,7 @@ pub record IsKnownOfBefore (P : Program) (C : Sizes) (U : UpdateUnit) (by : ℕ)
       creator P U.tenants (second_of (instr_of P index)) ≡ Some p → is_old U p ≡ true →
       second ≢ From
 
--- Who was let before the last renewal has left, and a station and a tag name one tenant since it
+-- A tenant that was let before the last renewal has left, and a station and a tag name one tenant since
 pub record IsPast (U : UpdateUnit) : Type 0 where
   pub left : (p : ℕ) (t : Tenant) → at U.tenants p ≡ Some t → is_old U p ≡ true → IsNotLive t
   pub names : (p q : ℕ) (t u : Tenant) → at U.tenants p ≡ Some t → at U.tenants q ≡ Some u →
@@ -60,7 +60,7 @@ pub record HasSamePast (P : Program) (C : Sizes) (old new : List Entry) : Type 0
   pub since : (p : ℕ) → length (unit_of P C old).tenants ≤ p →
       is_old (unit_of P C new) p ≡ false
 
--- So it is where a legal history goes on with no renewal
+-- The tenants of before stay the same ones where a legal history goes on with no renewal
 abbrev pub PastStays : Program → Sizes → List Entry → List Entry → Type 0
 PastStays P C old new =
     StartsWith new old → IsLegal P C new → renewals new ≡ renewals old → HasSamePast P C old new

@@ -22,7 +22,7 @@ pub data StationState : Type 0 where
   IsMiss : StationState
   IsStop : StationState
 
--- What a station shows
+-- The content of a station's word
 pub record StationWord : Type 0 where
   pub tag : ℕ
   pub state : StationState

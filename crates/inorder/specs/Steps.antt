@@ -121,7 +121,7 @@ pub record MayFinish (t : Tenant) (by : ℕ) : Type 0 where
   pub live : t.standing ≡ Live
   pub fate : t.fate ≡ Busy by
 
--- What a tenant becomes by its outcome
+-- The tenant as its outcome finishes it
 abbrev pub finished : Tenant → Outcome → Tenant
 finished t (Value v) = record t { fate = Done v; made = Some v }
 finished t (Next x) = record t { fate = if x == t.predicted then Done x else Miss x }

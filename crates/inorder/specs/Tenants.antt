@@ -41,7 +41,7 @@ pub data Standing : Type 0 where
   Retired : Standing
   Squashed : Standing
 
--- What is known of a tenant
+-- A tenant, with all that is known of it
 pub record Tenant : Type 0 where
   pub station : ℕ
   pub tag : ℕ
@@ -56,7 +56,7 @@ pub record Tenant : Type 0 where
   pub fate : Fate
   pub standing : Standing
 
--- Its source k
+-- Source k of a tenant
 abbrev pub operand : Source → Tenant → Operand
 operand First t = t.first
 operand Second t = t.second
@@ -66,11 +66,11 @@ abbrev pub with_operand : Source → Tenant → Operand → Tenant
 with_operand First t o = record t { first = o }
 with_operand Second t o = record t { second = o }
 
--- Its instruction
+-- The instruction of a tenant
 abbrev pub instr : Program → Tenant → Instr
 instr P t = instr_of P t.index
 
--- What its operation does
+-- The kind of a tenant's operation
 abbrev pub kind_of : Program → Tenant → Kind
 kind_of P t = kind (instr P t).op
 
@@ -104,7 +104,7 @@ is_live t = stands_live t.standing
 abbrev pub IsNotLive : Tenant → Type 0
 IsNotLive t = t.standing ≢ Live
 
--- What is made from the start: a jump that links knows its return address
+-- The value that a tenant has from the start: a jump that links knows its return address
 abbrev pub made_at_let : Kind → ℕ → Option ℕ
 made_at_let Links pc = Some (pc_plus_4 pc)
 made_at_let _ pc = None

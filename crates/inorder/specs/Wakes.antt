@@ -39,7 +39,7 @@ pub record IsWalkedBehind (P : Program) (C : Sizes) (h : List Entry) (q : ℕ) :
 pub record AreMarked (P : Program) (C : Sizes) (h : List Entry) : Type 0 where
   -- each finish or load that made a value has its mark behind it
   pub walked : (q : ℕ) → IsMadeByCall P (unit_of P C h) q → IsWalkedBehind P C h q
-  -- and so has each source that was let to come from its creator
+  -- each source that was let to come from its creator has its mark
   pub asked : (p : ℕ) (t : Tenant) (k : Source) → at (unit_of P C h).tenants p ≡ Some t →
       (operand k t).way ≢ AtLet → IsMarked h (Asked p k)
 

@@ -63,14 +63,14 @@ impl Committed {
         self.count
     }
 
-    /// What a register holds.
+    /// The value of a register.
     pub fn register(&self, r: Reg) -> u32
         ensures { result ≡ slice_index self.now.registers r }
     {
         self.register_ahead(None, r)
     }
 
-    /// What a register holds, where a value may wait for LO.
+    /// The value of a register, where a value may wait for LO.
     pub fn register_ahead(&self, low: Option<u32>, r: Reg) -> u32
         ensures { result ≡ slice_index (with_low low self.now.registers) r }
     {

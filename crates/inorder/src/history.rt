@@ -14,7 +14,7 @@ pub enum Supply {
     From,
 }
 
-/// What is done to one tenant.
+/// An act on one tenant.
 pub enum Act {
     Link(Source),
     Deliver(Source),
@@ -48,7 +48,7 @@ pub enum Refusal {
     Over,
 }
 
-/// What a call adds when it has gone along all links of a tenant, or has asked for a source.
+/// The mark that a call adds when it has gone along all links of a tenant, or has asked for a source.
 pub enum Mark {
     Walked(u64),
     Asked(u64, Source),

@@ -51,7 +51,7 @@ pub fn a_renewal_begins_again()
         BeginsAgain p c (reached p c history) by }
 {}
 
-/// Who was let before the last renewal has left, and a station and a tag name one tenant since it.
+/// A tenant that was let before the last renewal has left, and a station and a tag name one tenant since.
 pub fn what_is_past_is_past()
     ensures { (p : Program) (c : Sizes) (history : List Taken) → PastIsPast p c history }
 {}
@@ -132,7 +132,7 @@ pub fn no_wake_is_lost()
         IsLegal p c history → AreMarked p c history → LosesNoWake p c history }
 {}
 
-/// Who has claimed a tenant may finish it, or is told that it is stale.
+/// A unit that has claimed a tenant may finish it, or is told that it is stale.
 pub fn a_finish_is_answered()
     ensures { (p : Program) (c : Sizes) (history : List Entry) → FinishIsAnswered p c history }
 {}

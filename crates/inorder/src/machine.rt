@@ -11,7 +11,7 @@ use instructions::{
 use std::alloc::Global;
 use std::marker::Model;
 
-/// What a step answers.
+/// The answer of a step.
 #[derive(Clone, Copy, Debug, PartialEq, Eq)]
 pub enum Stepped {
     /// One instruction was run.
@@ -69,7 +69,7 @@ impl<'a> Machine<'a> {
         self.state.pc()
     }
 
-    /// What a register holds.
+    /// The value of a register.
     pub fn register(&self, r: Reg) -> u32
         ensures { result ≡ slice_index self.now.state.registers r }
     {

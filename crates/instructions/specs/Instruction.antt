@@ -18,7 +18,7 @@ instr_with op target first second number =
 abbrev pub pc_plus_4 : ℕ → ℕ
 pc_plus_4 pc = (pc + 4) % 2 ^ 32
 
--- what an operation does
+-- the kind of an operation
 abbrev pub kind : Op → Kind
 kind Lb = Loads
 kind Lbu = Loads
@@ -56,7 +56,7 @@ width Lhu = 2
 width Sh = 2
 width _ = 4
 
--- it is a conditional branch
+-- the operation is a conditional branch
 abbrev pub is_branch : Op → Bool
 is_branch Beq = true
 is_branch Bne = true
@@ -66,7 +66,7 @@ is_branch Bltz = true
 is_branch Bgez = true
 is_branch _ = false
 
--- it makes two values, one for LO and one for HI
+-- the operation makes two values, one for LO and one for HI
 abbrev pub is_pair : Op → Bool
 is_pair Mult = true
 is_pair Multu = true
@@ -83,7 +83,7 @@ is_low High = false
 abbrev pub is_first_half : Op → Half → Bool
 is_first_half op half = is_pair op && is_low half
 
--- it has a source 1
+-- the operation has a source 1
 abbrev pub reads_first : Op → Bool
 reads_first Lui = false
 reads_first J = false
@@ -91,7 +91,7 @@ reads_first Jal = false
 reads_first Break = false
 reads_first _ = true
 
--- it has a source 2
+-- the operation has a source 2
 abbrev pub reads_second : Op → Bool
 reads_second Addu = true
 reads_second Subu = true
@@ -123,7 +123,7 @@ kind_writes Jumps = false
 kind_writes Stores = false
 kind_writes _ = true
 
--- it writes a register
+-- the operation writes a register
 abbrev pub writes : Op → Bool
 writes Break = false
 writes op = kind_writes (kind op)
@@ -159,7 +159,7 @@ abbrev pub target_by : Bool → Half → ℕ → ℕ
 target_by true half r = pair_target half
 target_by false half r = r
 
--- the same of an instruction
+-- the register of a half of an instruction, where it writes one
 abbrev pub target_of : Instr → Half → ℕ
 target_of i half = target_by (is_pair i.op) half i.target
 
@@ -186,7 +186,8 @@ fixed_next_by Jr pc to = None
 fixed_next_by Jalr pc to = None
 fixed_next_by op pc to = if is_branch op then None else Some (pc_plus_4 pc)
 
--- the same for a half: behind the first of two halves comes the second, at the same pc
+-- the pc behind a half, or none where a predictor is asked for it: behind the first of two halves
+-- comes the second, at the same pc
 abbrev pub fixed_next_if : Bool → Instr → ℕ → Option ℕ
 fixed_next_if true i pc = Some pc
 fixed_next_if false i pc = fixed_next_by i.op pc i.number

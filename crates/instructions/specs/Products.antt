@@ -14,7 +14,7 @@ word_of_half High n = n / 2 ^ 32 % 2 ^ 32
 abbrev pub product : ℕ → ℕ → ℕ
 product a b = a * b
 
--- the same of signed words: the product of two whole numbers, as two's complement of 64 bits
+-- the product of two signed words, as two's complement of 64 bits
 abbrev pub signed_product : ℤ → ℤ → ℕ
 signed_product a b = cast_unsigned w64 (a *ℤ b)
 
@@ -40,7 +40,7 @@ abbrev pub divided : Half → ℕ → ℕ → ℕ
 divided Low a b = quotient a b
 divided High a b = remainder a b
 
--- the same of signed words
+-- a division of signed words leaves the quotient in LO and the remainder in HI
 abbrev pub signed_divided : Half → ℤ → ℤ → ℕ
 signed_divided Low a b = signed_quotient a b
 signed_divided High a b = signed_remainder a b

@@ -4,8 +4,8 @@ ghost use Rattle.instructions.specs.Guesses.{Guesses, IsTold};
 
 use crate::{Half, Instr, Predictor};
 
-/// Who has left, as a predictor is told of it: the instruction at `pc`, about which it was asked, has gone on at
-/// `next`.
+/// An instruction that has left, as a predictor is told of it: the one at `pc`, about which the
+/// predictor was asked, has gone on at `next`.
 #[derive(Clone, Copy)]
 pub struct Leaver {
     pub pc: u32,

@@ -32,7 +32,8 @@ fn read_register(op: Op, named: Reg) -> Reg
     }
 }
 
-// the same of a multiplication or division, apart from the way that nearly every instruction takes
+// the register that a multiplication or division reads where this one is named; apart from the way that
+// nearly every instruction takes
 #[cold]
 #[inline(never)]
 fn read_by_pair(named: Reg) -> Reg
@@ -92,7 +93,7 @@ impl Instr {
             && self.number == other.number
     }
 
-    /// Its operation.
+    /// The operation of the instruction.
     pub fn op(&self) -> Op
         ensures { result ≡ self.now.op }
     {

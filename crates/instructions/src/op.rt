@@ -67,7 +67,7 @@ pub enum Half {
     High,
 }
 
-/// What an operation does.
+/// The kind of an operation.
 #[derive(Clone, Copy, Debug, PartialEq, Eq)]
 pub enum Kind {
     /// Computes a value from its sources, or stops.

@@ -6,9 +6,9 @@ ghost use Rattle.instructions.specs.Prediction.{taken_target, counter_at, traine
 
 use crate::{Instr, pc_plus_4};
 
-/// What is asked for the next pc of a conditional branch, `jr` or `jalr`, and told how it turned
-/// out. Its answers may be any numbers: a wrong one costs time and changes no result.
-/// This is the branch predictor; a wrong answer is a misprediction.
+/// A branch predictor: it is asked for the next pc of a conditional branch, `jr` or `jalr`, and told
+/// how that turned out. Its answers may be any numbers: a wrong one is a misprediction, which costs
+/// time and changes no result.
 pub trait Predictor {
     /// What an answer to `predict` is, and what the call makes of the predictor.
     ghost Predicts: { Self → ℕ → Instruction → ℕ → Self → Type 0 };

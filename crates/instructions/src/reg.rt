@@ -61,7 +61,7 @@ impl Reg {
         }
     }
 
-    /// Its number.
+    /// The number of the register.
     pub fn number(self) -> u8
         ensures value { result ≡ self }
         ensures small { result < register_count }

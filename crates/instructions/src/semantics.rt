@@ -156,7 +156,7 @@ fn checked_address(width: u32, at: u32, size: u32) -> Result<u32, Stop>
     }
 }
 
-/// What an instruction at `pc` comes to, where `a` and `b` are its sources 1 and 2 (anything where
+/// The outcome of an instruction at `pc`, where `a` and `b` are its sources 1 and 2 (anything where
 /// it has none) and data memory has `size` bytes. The rules are those of the MIPS I manual; jumps
 /// have no delay slot.
 #[inline(always)]
@@ -172,7 +172,7 @@ pub fn outcome(instr: &Instr, pc: u32, a: u32, b: u32, size: u32) -> Outcome
     }
 }
 
-/// What a half of an instruction at `pc` comes to, as `outcome` has it for the whole: of a
+/// The outcome of a half of an instruction at `pc`, as `outcome` has it for the whole: of a
 /// multiplication or division its own value.
 #[inline(always)]
 pub fn outcome_of(instr: &Instr, half: Half, pc: u32, a: u32, b: u32, size: u32) -> Outcome

@@ -21,7 +21,7 @@ pub enum Stop {
 }
 
 impl Stop {
-    /// Its number, 0 to 4.
+    /// The number of the stop, 0 to 4.
     pub fn code(self) -> u32
         ensures { result ≡ code_of self }
     {
@@ -35,7 +35,7 @@ impl Stop {
     }
 }
 
-/// Its word, as a report has it.
+/// The word of the stop, as a report has it.
 impl fmt::Display for Stop {
     ghost output = { λ stop. Some (stop_word stop) };
 

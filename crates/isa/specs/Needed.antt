@@ -61,7 +61,7 @@ abbrev pub IsWanted : List Bits → Option (List ℕ) → Type 0
 IsWanted all None = ⊤
 IsWanted all (Some name) = is_needed all name ≡ true
 
--- and so for each of these instructions
+-- the labels that these instructions name are needed
 abbrev pub AreWanted : List Bits → List Target → Type 0
 AreWanted all [] = ⊤
 AreWanted all (t ∷ ts) = IsWanted all (name_of t) × AreWanted all ts

@@ -62,7 +62,7 @@ operation_word Jr = codes "jr"
 operation_word Jalr = codes "jalr"
 operation_word Break = codes "break"
 
--- Its operands, from the left. `jalr` is written with both of its registers.
+-- The operands of an operation, from the left. `jalr` is written with both of its registers.
 abbrev pub slots_of : Op → List Slot
 slots_of Addu = Into ∷ First ∷ Second ∷ []
 slots_of Subu = Into ∷ First ∷ Second ∷ []

@@ -20,7 +20,7 @@ impl fmt::Display for Hexadecimal {
     }
 }
 
-/// What a report calls a register, by its number.
+/// The name of a register in a report, by its number.
 #[derive(Clone, Copy)]
 pub struct RegisterName(pub usize);
 

@@ -14,11 +14,11 @@ abbrev pub lines_left : Option (List ℕ) → List (List ℕ)
 lines_left None = []
 lines_left (Some text) = lines_of text
 
--- what stands before the first `#`
+-- the text before the first `#`
 abbrev pub before_comment : List ℕ → List ℕ
 before_comment line = before_first (λ b. b == 35) line
 
--- the same, where each of its bytes may stand there
+-- the text before the first `#`, where each of its bytes may stand there
 abbrev pub plain_code : List ℕ → Option (List ℕ)
 plain_code line = if is_plain_text (before_comment line) then Some (before_comment line) else None
 

@@ -29,7 +29,7 @@ pub fn next_line(text: &[u8]) -> (&[u8], Option<&[u8]>)
     (without_return(line), rest)
 }
 
-/// What stands before the first `#`.
+/// The text before the first `#`.
 pub fn before_comment(line: &[u8]) -> &[u8]
     ensures { result.now ≡ before_comment line.now }
 {
@@ -65,8 +65,8 @@ fn bare_code(text: &[u8]) -> Option<(&[u8], Option<&[u8]>)>
     Some((code, Some(after)))
 }
 
-/// What the first line has before its comment, and what stands behind its line feed, if it has
-/// one. No code is given for a line with a byte that is neither a tab nor printable ASCII.
+/// The code of the first line, before its comment, and the text behind its line feed, if it has one. No
+/// code is given for a line with a byte that is neither a tab nor printable ASCII.
 pub fn next_code(text: &[u8]) -> (Option<&[u8]>, Option<&[u8]>)
     ensures code { IsFirstCode text.now (option_map (λ t. t.now) result.0)
         (option_map (λ r. r.now) result.1) }

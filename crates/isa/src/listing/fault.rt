@@ -6,7 +6,7 @@ ghost use Rattle.isa.specs.Reading.{fault_code, fault_name};
 use std::alloc::{AllocError, AllocFailed};
 use thiserror::Error;
 
-/// What is wrong.
+/// The kind of a fault.
 #[derive(Clone, Copy, Debug, PartialEq, Eq, Error)]
 pub enum FaultKind {
     #[error("a byte before the comment is neither a tab nor printable ASCII")]
@@ -30,7 +30,7 @@ pub enum FaultKind {
 }
 
 impl FaultKind {
-    /// Its number, 1 to 9.
+    /// The number of the kind, 1 to 9.
     pub fn code(self) -> u32
         ensures { result ≡ fault_code self }
     {
@@ -47,7 +47,7 @@ impl FaultKind {
         }
     }
 
-    /// Its word, as a report has it.
+    /// The word of the kind, as a report has it.
     pub fn name(self) -> &'static str
         ensures { result.now ≡ fault_name self }
     {

@@ -9,7 +9,7 @@ ghost use Rattle.isa.specs.Forms.{has_word, has_word_and_count, form_of, row};
 use super::fault::FaultKind;
 use instructions::Op;
 
-/// What an operand of an operation is.
+/// The kind of an operand of an operation.
 #[derive(Clone, Copy)]
 pub enum Slot {
     /// The register that it writes.

@@ -14,7 +14,7 @@ use super::table::Entry;
 use instructions::{Instr, Program};
 use text::{label_line, next_code};
 
-/// What is to be resolved of an instruction: its label, if it has one, and the number of its line.
+/// The target of an instruction, which is to be resolved: its label, if it has one, and the number of its line.
 #[derive(Clone, Copy)]
 pub struct Target<'a> {
     pub line: u64,

@@ -6,7 +6,7 @@ use super::form::Slot;
 use Slot::{First, Into, Label, Offset, S16, Second, U5, U16};
 use instructions::Op;
 
-/// Its word.
+/// The word of an operation.
 pub fn word_of(op: Op) -> &'static str
     ensures { result.now ≡ operation_word op }
 {
@@ -65,7 +65,7 @@ pub fn word_of(op: Op) -> &'static str
     }
 }
 
-/// Its operands, from the left. `jalr` is written with both of its registers.
+/// The operands of an operation, from the left. `jalr` is written with both of its registers.
 pub fn slots_of(op: Op) -> &'static [Slot]
     ensures { result.now ≡ slots_by op }
 {
