@@ -87,7 +87,7 @@ fn logged<R: Read, W: Write>(
     told(alloc, asked, listing.as_slice(), writer)
 }
 
-// The same for the bytes of a listing.
+// Answers the bytes of a listing.
 fn told<W: Write>(
     alloc: Global,
     asked: &Asked<'_>,
@@ -116,7 +116,7 @@ fn told<W: Write>(
     }
 }
 
-// The same for a program.
+// Answers a program.
 fn told_of<W: Write>(
     alloc: Global,
     asked: &Asked<'_>,

@@ -17,7 +17,7 @@ fn write(registers: &mut [u32; 34], r: Reg, value: u32)
     }
 }
 
-// What the tenant of a station has made, as it retires.
+// Writes what the tenant of a station has made, as it retires.
 fn retire(registers: &mut [u32; 34], station: &Option<Station>)
     ensures { registers.new ≡ registers_behind station.now registers.old }
 {
