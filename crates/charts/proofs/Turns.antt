@@ -37,13 +37,6 @@ pub appends_none : (known : Option (List ℕ)) → Appends known known []
 appends_none None = tt
 appends_none (Some xs) = sym (append-nil xs)
 
--- nothing is a beginning
-pub none_given : {W : Type 0} (contents : W → Option (List ℕ)) (w : Counted W) (bytes : List ℕ) → GivesUpTo contents w w bytes
-none_given contents w bytes = record { n = 0; inside = omega arith; gives = appends_none (contents w.inner) }
-
-pub part_given : {W : Type 0} (contents : W → Option (List ℕ)) (old new : Counted W) (bytes : List ℕ) → GivesPart contents old new bytes → GivesUpTo contents old new bytes
-part_given contents old new bytes part = record { n = part.0; inside = omega (arith, part.1); gives = part.2 }
-
 -- a whole text, and a beginning of the next one
 begins : (whole more rest : List ℕ) (n : ℕ) → n ≤ length more → take (length whole + n) (whole ++ (more ++ rest)) ≡ whole ++ take n more
 begins whole more rest n h = take-append-add whole (more ++ rest) n ∙ ap (λ l. whole ++ l) (take-append-le n more rest h)
