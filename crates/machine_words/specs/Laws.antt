@@ -19,7 +19,7 @@ pub record HasWord (op : Op) (pc : ℕ) : Type 0 where
   pub is : decode pc word ≡ Some says
   pub of : says.op ≡ op
 
--- so it is of each operation, at each address
+-- some word says an instruction of each operation, at each address
 abbrev pub EachOperationHasAWord : Type 0
 EachOperationHasAWord = (op : Op) (pc : ℕ) → HasWord op pc
 

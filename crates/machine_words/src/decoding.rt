@@ -8,8 +8,8 @@ use crate::fields;
 use crate::layout::{Layout, Shape, layout_of, operation_of};
 use instructions::{Op, Reg, pc_plus_4};
 
-/// What a word says: an operation, the registers that it writes and reads (register 0 where it has
-/// none), and its number. A target is an address.
+/// The instruction of a word: an operation, the registers that it writes and reads (register 0 where it
+/// has none), and its number. A target is an address.
 #[derive(Clone, Copy, Debug, PartialEq, Eq)]
 pub struct Decoded {
     pub op: Op,
@@ -101,8 +101,8 @@ fn read(op: Op, layout: Layout, word: u32, pc: u32) -> Option<Decoded>
     })
 }
 
-/// What a word at the address `pc` says, if it is one of the language's operations with no bit set
-/// that the operation does not use.
+/// The instruction of a word at the address `pc`, if it is one of the language's operations with no bit
+/// set that the operation does not use.
 #[tactic(auto, unfolding(crate::specs::Words::decode))]
 pub fn decode(word: u32, pc: u32) -> Option<Decoded>
     ensures { option_map instruction_of result ≡ decode_of pc word }

@@ -12,7 +12,7 @@ pub fn each_operation_has_a_word()
     ensures { EachOperationHasAWord }
 {}
 
-/// What a word says can be written in a listing, and is read back from its text.
+/// The instruction of a word can be written in a listing, and is read back from its text.
 pub fn each_word_is_written()
     ensures { EachWordIsWritten }
 {}

@@ -6,7 +6,7 @@ ghost use Rattle.machine_words.specs.Layouts.{layout as layout_by, operation_of 
 use crate::fields;
 use instructions::Op;
 
-/// What stands in the fields of a word behind its opcode.
+/// The fields of a word behind its opcode.
 #[derive(Clone, Copy, Debug, PartialEq, Eq)]
 pub enum Shape {
     /// rd is written, rs and rt are read.

@@ -105,7 +105,7 @@ pub record NamesLink (U : UpdateUnit) (p c : ℕ) (k : Source) (n : ℕ) : Type 
 -- The word of a link from station p to source k of station c: 0, or that of a linked source
 pub record IsLinkWord (U : UpdateUnit) (p c : ℕ) (k : Source) (n : ℕ) : Type 0 where
   pub names : (n ≡ 0) ⊎ NamesLink U p c k n
-  -- and a linked source whose tenant has not left stands in its word
+  -- a linked source whose tenant has not left stands in its word
   pub stands : (q r : ℕ) (producer consumer : Tenant) →
       IsLinked U.tenants q r k producer consumer → consumer.standing ≡ Live →
       producer.station ≡ p → consumer.station ≡ c → n ≡ pack_link producer.tag consumer.tag

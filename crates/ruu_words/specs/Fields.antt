@@ -19,7 +19,7 @@ tag_of word = word / 2 ^ 36
 abbrev pub state_of : ℕ → ℕ
 state_of word = word / 2 ^ 32 % 16
 
--- Its value
+-- The value of a station or operand word
 abbrev pub word_value : ℕ → ℕ
 word_value word = word % 2 ^ 32
 
@@ -46,7 +46,7 @@ half_of word = half_by (word / 2 ^ 63)
 abbrev pub index_of : ℕ → ℕ
 index_of word = word / 2 ^ 32 % 2 ^ 31
 
--- Its predicted next pc
+-- The predicted next pc of an info word
 abbrev pub predicted_of : ℕ → ℕ
 predicted_of word = word % 2 ^ 32
 

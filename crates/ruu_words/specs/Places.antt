@@ -17,7 +17,7 @@ index n (Info s) = n + s
 index n (Operand s k) = 2 * n + 2 * s + number k
 index n (Link p c k) = 4 * n + 2 * (p * n + c) + number k
 
--- Its stations are in the ring
+-- The stations of the place are in the ring
 abbrev pub IsPlace : ℕ → Place → Type 0
 IsPlace n (Station s) = s < n
 IsPlace n (Info s) = s < n

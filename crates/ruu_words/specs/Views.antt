@@ -23,11 +23,11 @@ pub record IsHeir (heirs : Heirs) (n : ℕ) : Type 0 where
   pub k : ℕ
   pub is : n ≡ heirs.first + k * heirs.every
 
--- Its own number, or one that it may give away
+-- The number is the seat's own, or one that the seat may give away
 abbrev pub IsOf : View → ℕ → Type 0
 IsOf v n = (n ≡ v.by) ⊎ IsHeir v.heirs n
 
--- What is left when the first is given away
+-- The numbers that are left when the first is given away
 abbrev pub without_first : Heirs → Heirs
 without_first heirs = record { first = heirs.first + heirs.every; every = heirs.every }
 

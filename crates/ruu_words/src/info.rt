@@ -4,7 +4,7 @@ ghost use Rattle.ruu_words.specs.Fields.{pack_info, half_bit, half_by, half_of, 
 
 use instructions::Half;
 
-/// What the info word of a station holds.
+/// The content of a station's info word.
 #[derive(Clone, Copy, Debug, PartialEq, Eq)]
 pub struct InfoWord {
     /// The half that it is of its instruction.

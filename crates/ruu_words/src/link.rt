@@ -2,7 +2,7 @@
 ghost use Rattle.std.specs.Prelude.{◌≡◌, ◌<◌, ◌↔◌, IsNone, IfSome};
 ghost use Rattle.ruu_words.specs.Fields.{tag_count, pack_link, producer_of, consumer_of};
 
-/// What a link word holds: who is to be told of whose value.
+/// The content of a link word: which consumer waits for the value of which producer.
 #[derive(Clone, Copy, Debug, PartialEq, Eq)]
 pub struct LinkWord {
     /// The tag of the tenant that makes the value.

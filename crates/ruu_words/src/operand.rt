@@ -10,7 +10,7 @@ pub enum OperandState {
     Val,
 }
 
-/// What an operand word holds.
+/// The content of an operand word.
 #[derive(Clone, Copy, Debug, PartialEq, Eq)]
 pub struct OperandWord {
     /// The tag of the tenant whose source this is.

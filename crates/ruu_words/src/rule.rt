@@ -16,7 +16,7 @@ pub struct Setup {
     pub opening: Badge<View>,
 }
 
-/// Who a seat belongs to.
+/// The role of a seat.
 pub enum Role {
     /// The first seat, which becomes the front's once the back's is cut from it.
     Start,
@@ -48,7 +48,7 @@ pub struct Heirs {
     pub every: u64,
 }
 
-/// What a seat at the table knows. No value of it is made.
+/// The view of a seat at the table: what it knows. No value of this type is made.
 pub struct View {
     pub role: Role,
     /// The number of its caller.

@@ -20,7 +20,7 @@ pub enum StationState {
 }
 
 impl StationState {
-    /// Its number in a word.
+    /// The number of the state in a word.
     pub fn code(self) -> u64
         ensures code { result ≡ state_code self }
         ensures small { result < state_count }
@@ -53,7 +53,7 @@ impl StationState {
     }
 }
 
-/// What the word of a station holds.
+/// The content of a station's word.
 #[derive(Clone, Copy, Debug, PartialEq, Eq)]
 pub struct StationWord {
     pub tag: u32,
