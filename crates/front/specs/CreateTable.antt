@@ -35,13 +35,13 @@ table_entry_in told notes r = table_entry told (newest_note None notes r)
 abbrev pub made_from_start : Record → Option ℕ
 made_from_start x = if x.links then Some (pc_plus_4 x.pc) else None
 
--- It is what the table keeps of a tenant
+-- The table keeps s of the tenant of record x
 pub record IsSaved (x : Record) (s : Saved) : Type 0 where
   pub tag : s.tag ≡ x.tag
   pub register : s.register ≡ x.destination
   pub made : s.made ≡ made_from_start x
 
--- The table keeps this of the station's last tenant
+-- The table keeps the tenant of record x as the last one of its station
 pub record IsLatest (latest : List Saved) (x : Record) : Type 0 where
   pub saved : Saved
   pub is : slice_get latest x.station ≡ Some saved
@@ -80,7 +80,7 @@ pub record FindsOne (T : Table) (r : ℕ) (c : Creator) : Type 0 where
   pub tag : saved.tag ≡ c.tag
   pub made : c.made ≡ saved.made
 
--- What a look at the entry of r finds
+-- A look at the entry of r finds this creator, or none
 abbrev pub EntryFinds : Table → ℕ → Option Creator → Type 0
 EntryFinds T r None = FindsNone T r
 EntryFinds T r (Some c) = FindsOne T r c
@@ -104,9 +104,9 @@ pub record IsSupplied (T : Table) (own : ℕ) (base : Base) (r : ℕ) (given : S
   pub finds : EntryFinds T r found
   pub is : given ≡ supply_found own (slice_index base.registers r) found
 
--- What a let makes of the table
+-- Changes of the table
 
--- It saves the entry that it replaces
+-- A let saves the entry that it replaces, and names its tenant in that entry's place
 pub record IsEntered (old new : Table) (x : Record) : Type 0 where
   pub saved : Saved
   pub of : IsSaved x saved
@@ -117,7 +117,7 @@ pub record IsEntered (old new : Table) (x : Record) : Type 0 where
   pub entries : 0 < x.destination → x.destination < 34 →
       new.entries ≡ slice_set old.entries x.destination (Some (record { station = x.station; tag = x.tag }))
 
--- What a squash makes of it: the entry that the let replaced stands again
+-- A squash puts back the entry that the let had replaced
 pub record IsRestored (old new : Table) (station : ℕ) : Type 0 where
   pub latest : new.latest ≡ old.latest
   pub none : (s : Saved) → slice_get old.latest station ≡ Some s →

@@ -1,4 +1,4 @@
--- Who creates a register, as it is asked from outside.
+-- The creator of a register, as it is asked for from outside.
 use Rattle.std.specs.Prelude.{◌≡◌, ℕ, ◌≤◌, Some}
 use Rattle.instructions.specs.Programs.{Program}
 use Rattle.inorder.specs.Callers.{IsLastAt}
@@ -23,7 +23,7 @@ pub record IsBase (P : Program) (U : UpdateUnit) (told r v : ℕ) : Type 0 where
   pub again : (p : ℕ) (t : Tenant) → creator P U.tenants r ≡ Some p → at U.tenants p ≡ Some t →
       told ≤ p → ¬ IsLastAt U p t.station
 
--- What is answered of register r: its creator, or the value that older ones left
+-- The answer for register r: its creator, or the value that older tenants left
 abbrev pub IsCreatorAnswer : Program → UpdateUnit → ℕ → ℕ → Made → Type 0
 IsCreatorAnswer P U told r (IsMade station tag) = IsMaker P U told r station tag
 IsCreatorAnswer P U told r (Base v) = IsBase P U told r v

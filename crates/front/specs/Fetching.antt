@@ -14,7 +14,7 @@ use Rattle.front.specs.declared.fetch.Fetched.{Fetched}
 use Rattle.front.specs.declared.path.record.Record.{Record}
 use Rattle.front.specs.Queues.{how_many_accesses}
 
--- It has retired, and left this value
+-- The tenant has retired, and left this value
 pub record HasLeft (left : ℕ) (t : Tenant) : Type 0 where
   pub retired : t.standing ≡ Retired
   pub value : HasValue (left_value t.fate t.made) left

@@ -32,12 +32,12 @@ abbrev pub KnowsTable : TheCore → List Entry → Base → Counted → Type 0
 KnowsTable core seen base creators =
     HasTable core.program (unit_of core.program core.sizes seen) (rested_at base) creators.table
 
--- What it has seen has grown, and it has added nothing
+-- The history that the front has seen has grown, and the front has added nothing
 abbrev pub AddsNothing : TheCore → List Entry → List Entry → Type 0
 AddsNothing core old new = Adds core.program core.sizes front old new []
 
--- Its core, what it has seen, its predictor, how often its create vector was read or written, how many
--- tenants there were when it last rested, and whether it has not turned or recovered since
+-- A front: its core, what it has seen, its predictor, how often its create vector was read or written,
+-- how many tenants there were when it last rested, and whether it has not turned or recovered since
 pub record TheFront (S : Type 0) : Type 0 where
   pub core : TheCore
   pub seen : List Entry
@@ -67,20 +67,20 @@ pub record IsFront (P : Program) (seat : Caller) (path : Path) (creators : Count
   pub table : KnowsTable seat.core seat.seen path.base creators
   pub rests : rested ≡ true → HasRested seat.core seat.seen path
 
--- What a turn answers
+-- A turn of the front is answered so
 abbrev pub TurnsTo : {S : Type 0} → (S → ℕ → Instr → ℕ → S → Type 0) → (S → ℕ → ℕ → S → Type 0) → TheCore → TheFront S → TheFront S → Turn → Type 0
 TurnsTo Predicts Learns core old new turn =
     TurnAnswers Predicts Learns core.program core.sizes old.told old.seen new.seen old.predictor new.predictor turn
 
--- What a recovery answers
+-- A recovery of the front is answered so
 abbrev pub FrontRecoversTo : {S : Type 0} → TheCore → TheFront S → TheFront S → Recovery → Type 0
 FrontRecoversTo core old new recovery = RecoverAnswers core.program core.sizes old.seen new.seen recovery
 
--- What a rest answers
+-- A rest of the front is answered so
 abbrev pub RestsTo : {S : Type 0} → (S → ℕ → ℕ → S → Type 0) → TheCore → TheFront S → TheFront S → Rest → Type 0
 RestsTo Learns core old new rest =
     RestAnswers Learns core.program core.sizes old.told old.seen new.seen old.predictor new.predictor rest
 
--- Who creates a register, by what the front has seen
+-- The creator of register r, by what the front has seen
 abbrev pub CreatorOf : {S : Type 0} → TheFront S → ℕ → Made → Type 0
 CreatorOf f r made = IsCreatorAnswer f.core.program (unit_of f.core.program f.core.sizes f.seen) f.told r made

@@ -12,29 +12,30 @@ use Rattle.front.specs.Creators.{creator_note, position}
 use Rattle.front.specs.Path.{rested_at}
 use Rattle.front.specs.Trail.{Note, trail}
 
--- What the front keeps of each
+-- The records that the front keeps of these tenants
 abbrev pub whats : List Note → List Record
 whats notes = map (λ n. n.what) notes
 
--- It has retired
+-- The tenant has retired
 abbrev pub IsGone : UpdateUnit → Note → Type 0
 IsGone U n = Has U n.at (λ t. t.standing ≡ Retired)
 
--- Its station was let again
+-- The tenant's station was let again
 pub record IsReused (U : UpdateUnit) (n : Note) : Type 0 where
   pub p : ℕ
   pub behind : n.at < p
   pub tenant : Has U p (λ t. t.station ≡ n.what.station)
 
--- Its station was not let again
+-- The tenant's station was not let again
 abbrev pub IsNewest : UpdateUnit → Note → Type 0
 IsNewest U n = IsLastAt U n.at n.what.station
 
--- Or it was there when the front last rested
+-- The tenant's station was let again, or the tenant was there when the front last rested
 abbrev pub IsFolded : UpdateUnit → ℕ → Note → Type 0
 IsFolded U told n = IsReused U n ⊎ (n.at < told)
 
--- Or its station is the next tenant's
+-- The tenant's station was let again or is the next tenant's, or the tenant was there when the front
+-- last rested
 abbrev pub IsPassed : Sizes → UpdateUnit → ℕ → Note → Type 0
 IsPassed C U told n = IsFolded U told n ⊎ (n.what.station ≡ next_station C (recent U))
 

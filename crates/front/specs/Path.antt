@@ -29,12 +29,12 @@ pc_after start (Some x) = x.next
 abbrev pub pc_behind : Base → List Record → ℕ
 pc_behind base records = pc_after base.pc (youngest_record records)
 
--- The half that comes next, by the same
+-- The half that comes next behind a tenant, or without one
 abbrev pub half_behind_last : Half → Option Record → Half
 half_behind_last start None = start
 half_behind_last start (Some x) = half_after x.first
 
--- The same by all records
+-- The half that comes next, by the tenants that are kept
 abbrev pub next_half : Base → List Record → Half
 next_half base records = half_behind_last base.half (youngest_record records)
 
@@ -47,7 +47,7 @@ place_after ring start (Some x) = (x.station + 1) % ring
 abbrev pub station_of_next : ℕ → Base → List Record → ℕ
 station_of_next ring base records = place_after ring base.station (youngest_record records)
 
--- What a tenant has made that left this value in its station's word
+-- The value of a tenant that left this one in its station's word: of a jump that links, its return address
 abbrev pub made_of : Record → ℕ → ℕ
 made_of x left = if x.links then pc_plus_4 x.pc else left
 
@@ -76,7 +76,7 @@ abbrev pub Releases : ℕ → ℕ → Path → Option Record → Path → Type 0
 Releases ring left old None new = (length old.records < ring) × (new ≡ old)
 Releases ring left old (Some x) new = (ring ≤ length old.records) × Released left old x new
 
--- What is kept of the tenant of an instruction
+-- The record of the tenant of an instruction
 abbrev pub record_for : Fetched → ℕ → ℕ → Record
 record_for f tag predicted =
     record {

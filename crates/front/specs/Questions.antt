@@ -28,7 +28,7 @@ pub record WasAsked (P : Program) (C : Sizes) (old new : List Entry) (station ta
   pub question : IsQuestion r k events
   pub adds : Adds P C front old new events
 
--- It was, and nothing was done for another
+-- A source that comes from its creator was asked for; for one with a known value nothing was done
 abbrev pub Asks : Program → Sizes → List Entry → List Entry → ℕ → ℕ → Source → Supply → Type 0
 Asks P C old new station tag k (Known v) = new ≡ old
 Asks P C old new station tag k (From s g) = WasAsked P C old new station tag k

@@ -7,12 +7,12 @@ use Rattle.inorder.specs.Tenants.{is_live_access}
 use Rattle.inorder.specs.Unit.{Sizes, UpdateUnit, how_many}
 use Rattle.front.specs.declared.path.record.Record.{Record}
 
--- How many of them reach memory
+-- How many of these tenants reach memory
 abbrev pub memory_records : List Record → ℕ
 memory_records [] = 0
 memory_records (x ∷ xs) = if x.access then suc (memory_records xs) else memory_records xs
 
--- It reaches memory, and so do n younger ones
+-- The tenant of record x reaches memory, and so do n younger ones
 pub record IsBefore (records : List Record) (n : ℕ) (x : Record) : Type 0 where
   pub older : List Record
   pub younger : List Record

@@ -39,7 +39,7 @@ pub record MissIsMended (P : Program) (C : Sizes) (old new : List Entry) (statio
   pub count : length squashes ≡ squashed
   pub adds : Adds P C front old new (Does (On p Mend) ∷ map squash_event squashes)
 
--- What a recovery answers: a miss was mended, or there was none when it began
+-- A recovery answers that a miss was mended, or that there was none when it began
 abbrev pub RecoverAnswers : Program → Sizes → List Entry → List Entry → Recovery → Type 0
 RecoverAnswers P C old new (Mended station squashed) = MissIsMended P C old new station squashed
 RecoverAnswers P C old new NoMiss = Adds P C front old new [] × HasNoMiss (unit_of P C old)
@@ -51,7 +51,7 @@ squashed_by NoMiss = 0
 
 -- The stages of a recovery
 
--- It may be a jump: it reaches no memory, and writes a register only as a link
+-- The tenant may be a jump: it reaches no memory, and writes a register only as a link
 abbrev pub may_miss : Record → Bool
 may_miss r = not r.access && (r.links || r.destination == 0)
 
@@ -66,7 +66,7 @@ pub record IsMiss (P : Program) (C : Sizes) (seen : List Entry) (r : Record) (ne
   pub p : ℕ
   pub tenant : IsTenant (unit_of P C seen) p r.station r.tag (IsMissing next)
 
--- It is the one that was found
+-- The found miss m is, in what was seen, the tenant of one of these records
 pub record IsMissAt (P : Program) (C : Sizes) (seen : List Entry) (records : List Record) (m : Missed) : Type 0 where
   pub one : Record
   pub here : slice_get records m.at ≡ Some one
@@ -74,12 +74,12 @@ pub record IsMissAt (P : Program) (C : Sizes) (seen : List Entry) (records : Lis
   pub small : m.station < C.ring
   pub miss : IsMiss P C seen one m.next
 
--- And it is the first
+-- The found miss m is the first among these records
 pub record IsFound (P : Program) (C : Sizes) (old new : List Entry) (records : List Record) (m : Missed) : Type 0 where
   pub miss : IsMissAt P C new records m
   pub first : AllByRecursion (IsNoLiveMiss (unit_of P C old)) (take m.at records)
 
--- What the scan of the records finds: no miss, or the first
+-- The scan of the records finds no miss, or the first
 abbrev pub ScanFinds : Program → Sizes → List Entry → List Entry → List Record → Option Missed → Type 0
 ScanFinds P C old new records None = AllByRecursion (IsNoLiveMiss (unit_of P C old)) records
 ScanFinds P C old new records (Some m) = IsFound P C old new records m

@@ -51,7 +51,7 @@ pub record WasLive {S : Type 0} (P : Program) (C : Sizes) (old new : List Entry)
   pub live : WasOnce P C old new (λ U. ¬ HasNobody U)
   pub predictor : after ≡ before
 
--- What a rest answers
+-- A rest answers Idle where nobody is live, or Live where somebody was
 abbrev pub RestAnswers : {S : Type 0} → (S → ℕ → ℕ → S → Type 0) → Program → Sizes → ℕ → List Entry → List Entry → S → S → Rest → Type 0
 RestAnswers Learns P C told old new before after Idle = WasIdle Learns P C told old new before after
 RestAnswers Learns P C told old new before after Live = WasLive P C old new before after
@@ -74,7 +74,7 @@ TellsRecords Learns [] old new = new ≡ old
 TellsRecords {S = S} Learns (x ∷ xs) old new =
     (middle : S) × (IsTold Learns (leaver_if x.guessed x.pc x.next) old middle × TellsRecords Learns xs middle new)
 
--- It was told of the first of these, and those that are left stand behind them
+-- The predictor was told of the first of these records, and those that are left stand behind them
 pub record TellsFirst {S : Type 0} (Learns : S → ℕ → ℕ → S → Type 0) (all left : List Record) (old new : S) : Type 0 where
   pub done : List Record
   pub are : all ≡ done ++ left

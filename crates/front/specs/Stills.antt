@@ -47,7 +47,7 @@ pub record FrontMayEnter (core : TheCore) (seen : List Entry) (seat : Caller) : 
   pub goes_on : GoesOnForFront core seen seat
   pub first : next_at seat.core seat.seen ≡ 0
 
--- It enters the core that it left with this seat: the path goes on where it was left
+-- The front enters the core that it left with this seat: the path goes on where it was left
 pub record FrontMayEnterAgain (core : TheCore) (seen : List Entry) (seat : Caller) : Type 0 where
   pub goes_on : GoesOnForFront core seen seat
   pub next : next_at seat.core seat.seen ≡ next_at core seen

@@ -16,7 +16,7 @@ is_link _ = false
 abbrev pub is_guessed : Program → Tenant → Bool
 is_guessed P t = is_none (fixed_next (instr P t) t.half t.pc)
 
--- What the front keeps of a tenant: no step of others changes it
+-- The record that the front keeps of a tenant: no step of others changes it
 abbrev pub record_of : Program → Tenant → Record
 record_of P t =
     record {

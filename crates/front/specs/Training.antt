@@ -22,7 +22,7 @@ abbrev pub leaver_in : Program → Option Tenant → Option Leaver
 leaver_in P None = None
 leaver_in P (Some t) = leaver_if (is_retired t && is_guessed P t) t.pc (computed_next P t)
 
--- The same, by what the front keeps of a tenant that leaves
+-- The leaver of a tenant that leaves, by its record, if the predictor was asked about it
 abbrev pub leaver_of : Option Record → Option Leaver
 leaver_of None = None
 leaver_of (Some x) = leaver_if x.guessed x.pc x.next

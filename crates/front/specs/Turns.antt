@@ -47,7 +47,7 @@ pub record SpentNow (P : Program) (C : Sizes) (old new : List Entry) : Type 0 wh
   pub instr : WasOnce P C old new (λ U. ¬ HasNoInstr P U)
   pub room : WasOnce P C old new (λ U. ¬ HasFullQueue P C U)
 
--- What each refusal says
+-- The meaning of each refusal of a turn
 abbrev pub Refuses : Program → Sizes → List Entry → List Entry → Turn → Type 0
 Refuses P C old new Full = WasOnce P C old new (IsFull C)
 Refuses P C old new NoInstr = NoInstrNow P C old new
@@ -94,7 +94,7 @@ pub record IsLet {S : Type 0} (Predicts : S → ℕ → Instr → ℕ → S → 
       (leaver_in P (last_of (untold told (unit_of P C lets.point).tenants) station))
       (instr_of P lets.index) (front_half P (unit_of P C lets.point).tenants) pc predicted before after
 
--- What a turn answers: a tenant was let, or a refusal
+-- A turn answers that a tenant was let, or a refusal
 abbrev pub TurnAnswers : {S : Type 0} → (S → ℕ → Instr → ℕ → S → Type 0) → (S → ℕ → ℕ → S → Type 0) → Program → Sizes → ℕ → List Entry → List Entry → S → S → Turn → Type 0
 TurnAnswers Predicts Learns P C told old new before after (HasLet station tag pc) =
     IsLet Predicts Learns P C told old new before after station tag pc

@@ -1,6 +1,6 @@
-//! What the calls answer.
+//! The answers of the calls.
 
-/// What a turn answers.
+/// The answer of a turn.
 #[derive(Clone, Copy, Debug, PartialEq, Eq)]
 pub enum Turn {
     /// All stations are in use.
@@ -15,7 +15,7 @@ pub enum Turn {
     Let { station: usize, tag: u32, pc: u32 },
 }
 
-/// Who creates a register.
+/// The creator of a register, or its value.
 #[derive(Clone, Copy, Debug, PartialEq, Eq)]
 pub enum Made {
     /// The tenant of this station and tag. Its station was not let again, and the front has not rested since.
@@ -24,7 +24,7 @@ pub enum Made {
     Base(u32),
 }
 
-/// What a rest answers.
+/// The answer of a rest.
 #[derive(Clone, Copy, Debug, PartialEq, Eq)]
 pub enum Rest {
     /// No tenant is in flight: all results are in the base registers.
@@ -33,7 +33,7 @@ pub enum Rest {
     Live,
 }
 
-/// What a recovery answers.
+/// The answer of a recovery.
 #[derive(Clone, Copy, Debug, PartialEq, Eq)]
 pub enum Recovery {
     /// The miss of this station was mended, after that many younger tenants were squashed.

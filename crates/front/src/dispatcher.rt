@@ -173,7 +173,7 @@ impl<'a, P: Predictor + Drop> Front<'a, P> {
         rest
     }
 
-    /// Who creates a register.
+    /// The creator of a register, or its value.
     /// The create vector is that of SimpleScalar's sim-outorder, in the place of a register alias
     /// table: results stay in their reservation stations, so there are no physical registers.
     pub fn creator(&self, r: Reg) -> Made

@@ -26,7 +26,7 @@ pub struct Path {
     pub base: Base,
 }
 
-// What a tenant has made that left this value in its station's word.
+// The value of a tenant that left this one in its station's word: of a jump that links, its return address.
 fn made_of(tenant: &Record, left: u32) -> u32
     ensures { result ≡ made_of_record tenant.now left }
 {

@@ -6,7 +6,7 @@ use crate::path::{Counted, Path};
 use instructions::Reg;
 use station::Supply;
 
-/// What a new tenant is given for a source that reads this register. The last tenant of its own station leaves.
+/// The source of a new tenant that reads this register. The last tenant of its own station leaves.
 pub fn supply(path: &Path, creators: &mut Counted, own: usize, r: Reg) -> Supply
     ensures value { IsSupplied creators.old.table own path.now.base r result }
     ensures table { creators.new.table ≡ creators.old.table }

@@ -5,7 +5,7 @@ ghost use Rattle.front.specs.Training.{leaver_of};
 use crate::path::Record;
 use instructions::Leaver;
 
-/// What the predictor is told of the tenant that leaves, if it was asked about that.
+/// The leaver that the predictor is told of, if it was asked about the tenant that leaves.
 pub fn leaver(left: Option<Record>) -> Option<Leaver>
     ensures { result ≡ leaver_of left }
 {

@@ -6,7 +6,7 @@ use Rattle.inorder.specs.Machine.{State}
 use Rattle.inorder.specs.Runs.{after}
 use Rattle.snapshots.specs.declared.snap.Snap.{Snap}
 
--- What a snapshot holds of a state
+-- The snapshot of a state: its count, pc and registers
 abbrev pub snapshot : State → Snap
 snapshot s = record { n = s.count; pc = s.pc; registers = s.registers }
 
@@ -14,6 +14,6 @@ snapshot s = record { n = s.count; pc = s.pc; registers = s.registers }
 abbrev pub opening : Snap
 opening = record { n = 0; pc = text_start; registers = replicate register_count 0 }
 
--- It is the snapshot of the state after its n instructions, none of which stops
+-- The snapshot is that of the state after its n instructions, none of which stops
 abbrev pub IsSnapshotOf : Program → Snap → Type 0
 IsSnapshotOf P snap = option_map snapshot (after P snap.n) ≡ Some snap

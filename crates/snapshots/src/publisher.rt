@@ -14,7 +14,7 @@ use std::marker::Model;
 use std::sync::Wait;
 
 /// Publishes snapshots of one program. To a contract it is the snapshot that was published last.
-/// It is no `Drop`: the one that holds it ends it.
+/// A publisher is no `Drop`: the one that holds it ends it.
 pub struct Publisher<J: Naming> {
     writer: SnapWriter<J>,
 }
@@ -65,7 +65,7 @@ impl<J: Naming> Publisher<J> {
     }
 
     /// Publishes a snapshot by one step, so that a snapper takes this one whole or an earlier one.
-    /// It waits for the snappers that are reading. At an error nothing is published.
+    /// The call waits for the snappers that are reading. At an error nothing is published.
     pub fn publish<R: Wait>(&mut self, wait: &R, snap: Snap) -> Result<Mark, Memory>
         requires snap { IsSnapshotOf J.program snap }
         requires later { self.old.n ≤ snap.n }

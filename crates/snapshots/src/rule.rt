@@ -8,8 +8,8 @@ use left_right::reader::Reader;
 use left_right::writer::Writer;
 use std::marker::{Brand, PhantomData};
 
-/// Which program it is whose states are published. It has no value at run time: each call with a
-/// `Brand` picks it, in the proof.
+/// The program whose states are published. It has no value at run time: each call with a `Brand`
+/// picks it, in the proof.
 pub trait Naming {
     ghost use Rattle.instructions.specs.Programs.{Program};
 

@@ -1,4 +1,4 @@
--- What the calls of a core answer, of a seat before the call and behind it.
+-- The answers of the calls of a core, of a seat before the call and behind it.
 use Rattle.std.specs.Prelude.{ℕ}
 use Rattle.inorder.specs.declared.history.Source.{Source}
 use Rattle.inorder.specs.History.{unit_of}
@@ -19,7 +19,7 @@ use Rattle.station.specs.Seats.{Caller, TheCore}
 use Rattle.station.specs.Waking.{Wakes}
 use Rattle.station.specs.Writeback.{FinishAnswers, SettleAnswers}
 
--- What may be said of a seat before a call and behind it, at a core
+-- A statement on a seat before a call and behind it, at a core
 abbrev pub Reply : Type 1
 Reply = TheCore → Caller → Caller → Type 0
 
@@ -35,21 +35,21 @@ MayLetNow t core v = MayLetOut core.program core.sizes (unit_seen core v) t
 abbrev pub IsLetNow : Letting → Reply
 IsLetNow t core v w = IsLetOut core.program core.sizes v.by t v.seen w.seen
 
--- What a question for a source, by station and tag, comes to
+-- A question for source k of the tenant of this station and tag is answered so
 abbrev pub AnswersAsk : ℕ × ℕ → Source → ℕ × ℕ → Ask → Reply
 AnswersAsk of k from r core v w =
     AskAnswers core.program core.sizes v.by v.seen w.seen of.0 of.1 k from.0 from.1 r
 
--- What a claim answers
+-- A claim is answered so
 abbrev pub AnswersClaim : ℕ → Claim → Reply
 AnswersClaim station r core v w =
     ClaimAnswers core.program core.sizes v.by v.seen w.seen station r
 
--- What a writeback answers
+-- The writeback of a job is answered so
 abbrev pub AnswersFinish : Job → Finish → Reply
 AnswersFinish job r core v w = FinishAnswers core.program core.sizes v.by v.seen w.seen job r
 
--- What the settling of a load answers
+-- The settling of a load is answered so
 abbrev pub AnswersSettle : ℕ → ℕ → Settle → Reply
 AnswersSettle station tag r core v w =
     SettleAnswers core.program core.sizes v.by v.seen w.seen station tag r
@@ -58,7 +58,7 @@ AnswersSettle station tag r core v w =
 abbrev pub Woke : (ℕ → Type 0) → Reply
 Woke Station core v w = Wakes core.program core.sizes v.by v.seen w.seen Station
 
--- What a retirement answers
+-- A retirement is answered so
 abbrev pub AnswersRetire : Retire → Reply
 AnswersRetire r core v w = RetireAnswers core.program core.sizes v.by v.seen w.seen r
 

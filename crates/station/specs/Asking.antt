@@ -51,7 +51,7 @@ IsAnswer P C old new r k q Delivered = IsDelivered (unit_of P C new) r k
 IsAnswer P C old new r k q Linked =
     IsAskedInTime (unit_of P C new) r k × WasOnce P C old new (HasMadeNothing q)
 
--- What a question for source k comes to: its entries, and an answer that is true
+-- A question for source k, once answered: its entries, and an answer that is true
 pub record AskAnswers (P : Program) (C : Sizes) (by : ℕ) (old new : List Entry) (station tag : ℕ) (k : Source) (from_station from_tag : ℕ) (answer : Ask) : Type 0 where
   pub r : ℕ
   pub q : ℕ

@@ -32,7 +32,7 @@ use Rattle.station.specs.Answers.{AnswersRetire, IsLetNow, MayLetNow, Reply, Wok
 use Rattle.station.specs.Seats.{Caller, IsNumbered, TheCore}
 use Rattle.station.specs.Writeback.{HasTenant}
 
--- Its core, what the seat knows at this point, and which seat is lent to the call
+-- A call at a point: its core, what its seat knows by then, and which seat is lent to it
 pub record TheCall : Type 0 where
   pub core : TheCore
   pub view : View
@@ -42,11 +42,11 @@ pub record TheCall : Type 0 where
 abbrev pub call_of : TheCore → View → ℕ → TheCall
 call_of core view lent = record { core = core; view = view; lent = lent }
 
--- Its seat as callers see one, with nobody woken yet
+-- The seat of a call as callers see one, with nobody woken yet
 abbrev pub caller : TheCall → Caller
 caller v = record { core = v.core; by = v.view.by; heirs = v.view.heirs; seen = v.view.seen; woken = 0 }
 
--- What is true of it between two steps
+-- The facts of a call between two steps
 pub record IsCall (core : TheCore) (role : Role) (table : TableId) (me : Me ℕ View) : Type 0 where
   pub at : table ≡ core.id
   pub role_is : me.0.role ≡ role
@@ -54,7 +54,7 @@ pub record IsCall (core : TheCore) (role : Role) (table : TableId) (me : Me ℕ 
   pub legal : IsLegal core.program core.sizes me.0.seen
   pub numbered : IsNumbered core.opening role me.0
 
--- The same call, later
+-- The call w is the call v at a later point
 pub record IsSameCall (v w : TheCall) : Type 0 where
   pub core : w.core ≡ v.core
   pub role : w.view.role ≡ v.view.role
@@ -83,28 +83,28 @@ MayStepAt role v x f K =
     IsPlace v.core.sizes.ring x ×
     Plans v.core.program v.core.sizes v.view.by v.view x f (λ n. K n v.core.program v.core.sizes)
 
--- The same call later, and what it has come to
+-- The call w is the call v at a later point, where it has come to this answer
 pub record ComesTo (v w : TheCall) (Answer : Reply) : Type 0 where
   pub same : IsSameCall v w
   pub reply : Answer v.core (caller v) (caller w)
 
--- The unit of what it has seen
+-- The unit of what the call has seen
 abbrev pub seen_unit : TheCall → UpdateUnit
 seen_unit v = unit_of v.core.program v.core.sizes v.view.seen
 
--- It has seen a tenant of this station and tag, open once, of which this is true
+-- The call has seen a tenant of this station and tag, open once, of which this is true
 abbrev pub Saw : TheCall → ℕ → ℕ → (Tenant → Type 0) → Type 0
 Saw v station tag Fact = HasSeen v.core.program v.core.sizes v.view.seen station tag Fact
 
--- It has seen a tenant of this station and tag, of which this is true
+-- The call has seen a tenant of this station and tag, of which this is true
 abbrev pub HasOne : TheCall → ℕ → ℕ → (Tenant → Type 0) → Type 0
 HasOne v station tag Fact = HasTenant v.core.program v.core.sizes v.view.seen station tag Fact
 
--- Where the next tenant goes
+-- The station of the next tenant
 abbrev pub let_place : TheCall → ℕ
 let_place v = next_station v.core.sizes (recent (seen_unit v))
 
--- The tag that it gets
+-- The tag of the next tenant
 abbrev pub new_tag : TheCall → ℕ
 new_tag v = next_tag v.core.sizes (recent (seen_unit v))
 
@@ -118,11 +118,11 @@ pub record IsAbout (v : TheCall) (station : ℕ) (draft : Draft) (t : Letting) :
 abbrev pub new_operand : TheCall → Option ℕ → OperandWord
 new_operand v value = record { tag = new_tag v; value = value }
 
--- What the last store of a let tells
+-- The last store of a let, as a kind of step
 abbrev pub LetsTenant : Letting → StepKind
 LetsTenant t P C = Lets P C t.index t.predicted (supply_of t.sources.0) (supply_of t.sources.1)
 
--- What its reading of a source answers
+-- A claim's reading of source k is answered so
 abbrev pub AnswersSource : TheCall → TheCall → ℕ → ℕ → Source → Bool → Result ℕ Claim → Type 0
 AnswersSource v w s tag k needed r =
     SourceAnswers v.core.program v.core.sizes v.view.by v.view.seen w.view.seen s tag k needed r
@@ -131,11 +131,11 @@ AnswersSource v w s tag k needed r =
 abbrev pub MadeValue : TheCall → ℕ × ℕ → ℕ → Type 0
 MadeValue v of value = HasValueOf v.core.program v.core.sizes v.view.seen of.0 of.1 value
 
--- It has come to this outcome, if that is a value
+-- The tenant of this station and tag has come to this outcome, if that is a value
 abbrev pub HasComeTo : TheCall → ℕ × ℕ → Outcome → Type 0
 HasComeTo v of outcome = HasMadeOf v.core.program v.core.sizes v.view.seen of.0 of.1 outcome
 
--- Who waits for it at one source is served
+-- The tenants of station `to` that wait at source k for the tenant `of` are served
 abbrev pub Serves : ℕ × ℕ → ℕ → Source → Reply
 Serves of to k core v w = OfTenant core.program core.sizes v.seen of.0 of.1
     (λ q. IsServing core.program core.sizes v.by q to k v.seen w.seen)
@@ -154,28 +154,28 @@ Carries of outcome core v w = OfTenant core.program core.sizes v.seen of.0 of.1
 abbrev pub HeadMoves : TheCall → ℕ → Retire → Type 0
 HeadMoves w station r = HeadGoesOn w.core.sizes (seen_unit w) station r
 
--- What a call that carries a value comes to: its answer, and the stations that values were taken to
+-- A call that carries a value, at its end: its answer, and the stations that values were taken to
 pub record Carried (v w : TheCall) (Answer : Reply) (Station : ℕ → Type 0) : Type 0 where
   pub same : IsSameCall v w
   pub reply : Answer v.core (caller v) (caller w)
   pub woken : Woke Station v.core (caller v) (caller w)
 
--- What a let comes to: the tenant was let under this tag, and none is in progress
+-- A let at its end: the tenant was let under this tag, and none is in progress
 pub record HasLetOut (v w : TheCall) (t : Letting) (tag : ℕ) : Type 0 where
   pub same : IsSameCall v w
   pub draft : w.view.draft ≡ Nothing
   pub tag_is : tag ≡ new_tag v
   pub out : IsLetNow t v.core (caller v) (caller w)
 
--- What another call of the front comes to: its answer, no let in progress, and where the next tenant
--- goes then
+-- Another call of the front at its end: its answer, no let in progress, and where the next tenant goes
+-- then
 pub record LeadsTo (v w : TheCall) (station : ℕ) (Answer : Reply) : Type 0 where
   pub same : IsSameCall v w
   pub draft : w.view.draft ≡ Nothing
   pub reply : Answer v.core (caller v) (caller w)
   pub next : let_place w ≡ station
 
--- What a retirement from this station comes to: its answer, and where the oldest live tenant stands
+-- A retirement from this station at its end: its answer, and where the oldest live tenant stands
 pub record RetiresFrom (v w : TheCall) (station : ℕ) (answer : Retire) : Type 0 where
   pub same : IsSameCall v w
   pub reply : AnswersRetire answer v.core (caller v) (caller w)

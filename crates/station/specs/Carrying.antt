@@ -70,7 +70,7 @@ abbrev pub OfTenant : Program → Sizes → List Entry → ℕ → ℕ → (ℕ 
 OfTenant P C seen station tag Fact =
     (q : ℕ) → IsNamed (unit_of P C seen) q station tag → Fact q
 
--- What the last load of a walk tells
+-- The last load of a walk, as a kind of step
 abbrev pub EndsWalk : Program → Sizes → ℕ → ℕ → List Entry → Draft → List Event → Type 0
 EndsWalk P C station tag h d events = OfTenant P C h station tag (λ q. Walks P C q h d events)
 

@@ -75,7 +75,7 @@ pub record IsRefused (P : Program) (C : Sizes) (by : ℕ) (old new : List Entry)
   pub opened : WasOpenOnce P C old new p
   pub adds : Adds P C by old new (refusal p ∷ [])
 
--- What a claim answers: a job, or a refusal that was true at a moment of the call
+-- A claim answers a job, or a refusal that was true at a moment of the call
 abbrev pub ClaimAnswers : Program → Sizes → ℕ → List Entry → List Entry → ℕ → Claim → Type 0
 ClaimAnswers P C by old new s (Claimed j) = IsClaimed P C by old new s j
 ClaimAnswers P C by old new s NotOpen = Adds P C by old new (Refuses (IsNotOpen s) ∷ [])
@@ -90,7 +90,7 @@ ClaimAnswers P C by old new s (Moved tag) =
 abbrev pub IsBusyWord : ℕ → ℕ → Type 0
 IsBusyWord tag word = (by : ℕ) → IsStation (live_word tag (Busy by)) word
 
--- It was open when its info word was read
+-- The tenant was open when its info word was read, which showed these fields
 pub record IsOpenAs (half : Half) (index predicted : ℕ) (t : Tenant) : Type 0 where
   pub is_open : IsOpen t
   pub half_is : t.half ≡ half
@@ -121,7 +121,7 @@ pub record HasRefusal (P : Program) (C : Sizes) (by : ℕ) (old new : List Entry
   pub named : IsNamed (unit_of P C new) p s tag
   pub adds : Adds P C by old new (refusal p ∷ [])
 
--- What reading a source answers: its value, or with which refusal the claim ends
+-- The reading of a source answers its value, or the refusal with which the claim ends
 abbrev pub SourceAnswers : Program → Sizes → ℕ → List Entry → List Entry → ℕ → ℕ → Source → Bool → Result ℕ Claim → Type 0
 SourceAnswers P C by old new s tag k needed (Ok v) = HasSource P C by old new s tag needed k v
 SourceAnswers P C by old new s tag k needed (Err refusal) =

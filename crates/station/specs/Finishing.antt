@@ -1,4 +1,4 @@
--- What becomes of a claimed tenant, where units alone step.
+-- The fate of a claimed tenant, where units alone step.
 use Rattle.std.specs.Prelude.{◌≡◌, ℕ, List, Some}
 use Rattle.instructions.specs.Programs.{Program}
 use Rattle.instructions.specs.declared.stop.Outcome.{Outcome}
@@ -19,7 +19,7 @@ pub record OnlyUnits (old new : List Entry) : Type 0 where
   pub fronts : own front new ≡ own front old
   pub backs : own back new ≡ own back old
 
--- It has not left
+-- The tenant has not left
 abbrev pub IsLive : Tenant → Type 0
 IsLive t = t.standing ≡ Live
 
@@ -27,7 +27,7 @@ IsLive t = t.standing ≡ Live
 abbrev pub IsInFlight : Program → Sizes → List Entry → Job → Type 0
 IsInFlight P C seen j = HasTenant P C seen j.station j.tag IsLive
 
--- It is live and has come to this outcome, of which a value is there for its register
+-- The tenant is live and has come to this outcome, of which a value is there for its register
 pub record HasOutcome (outcome : Outcome) (t : Tenant) : Type 0 where
   pub live : IsLive t
   pub fate : t.fate ≡ fate_of t.predicted outcome
@@ -44,14 +44,14 @@ ClaimedAreInFlight =
     (P : Program) (C : Sizes) (by : ℕ) (old new : List Entry) (s : ℕ) (j : Job) →
     OnlyUnits old new → IsClaimed P C by old new s j → IsInFlight P C new j
 
--- it stays so
+-- The tenant of a job stays live while units alone step
 abbrev pub JobsStayInFlight : Type 0
 JobsStayInFlight =
     (P : Program) (C : Sizes) (old new : List Entry) (j : Job) →
     StartsWith new old → IsLegal P C new → OnlyUnits old new →
     IsInFlight P C old j → IsInFlight P C new j
 
--- and so its finish is in time
+-- The finish of a job whose tenant is live is in time, where units alone step
 abbrev pub JobsAreFinished : Type 0
 JobsAreFinished =
     (P : Program) (C : Sizes) (by : ℕ) (old new : List Entry) (j : Job) (answer : Finish) →

@@ -48,7 +48,7 @@ LetsAreAsked =
 
 -- From a question to another
 
--- What the front may ask for the other source before a question, it may behind it
+-- A question for one source leaves allowed what the front may ask for the other
 abbrev pub QuestionsLeaveOthers : Type 0
 QuestionsLeaveOthers =
     (P : Program) (C : Sizes) (old new : List Entry) (station tag : ℕ) (k : Source) (from_station from_tag : ℕ) (answer : Ask) →
@@ -61,20 +61,20 @@ QuestionsLeaveOthers =
 abbrev pub SeesLiveMiss : Program → Sizes → List Entry → ℕ → ℕ → ℕ → Type 0
 SeesLiveMiss P C seen station tag next = HasTenant P C seen station tag (IsMissing next)
 
--- It stays so while the front looks and meets
+-- A live miss that was seen stays one while the front looks and meets
 abbrev pub MissesStaySeen : Type 0
 MissesStaySeen =
     (P : Program) (C : Sizes) (old new : List Entry) (station tag next : ℕ) →
     Adds P C front old new [] → SeesLiveMiss P C old station tag next → SeesLiveMiss P C new station tag next
 
--- and while it squashes another tenant
+-- A live miss that was seen stays one while the front squashes another tenant
 abbrev pub MissesStaySquashing : Type 0
 MissesStaySquashing =
     (P : Program) (C : Sizes) (old new : List Entry) (s g station tag next : ℕ) →
     WasSquashed P C front s g old new → (station ≢ s) ⊎ (tag ≢ g) →
     SeesLiveMiss P C old station tag next → SeesLiveMiss P C new station tag next
 
--- There is a younger live tenant, which may be squashed, or it can be mended
+-- Where a live miss was seen, the youngest live tenant may be squashed, or this miss can be mended
 abbrev pub MissesAreRecovered : Type 0
 MissesAreRecovered =
     (P : Program) (C : Sizes) (seen : List Entry) (station tag next : ℕ) →

@@ -21,11 +21,11 @@ use Rattle.station.specs.Letting.{MayLetOut}
 use Rattle.station.specs.Recovery.{SeesMiss, SeesWrongPath}
 use Rattle.station.specs.Writeback.{FinishAnswers, MaySettle}
 
--- Tenant p is not finished by it
+-- The event does not finish tenant p
 abbrev pub IsNoFinish : ℕ → Event → Type 0
 IsNoFinish p e = e ≢ Does (On p FinishIt)
 
--- They name two tenants
+-- The jobs are of two tenants
 abbrev pub AreTwo : Job → Job → Type 0
 AreTwo i j = (i.station ≢ j.station) ⊎ (i.tag ≢ j.tag)
 
@@ -35,19 +35,19 @@ JobsStay =
     (P : Program) (C : Sizes) (by : ℕ) (old new : List Entry) (es : List Event) (j : Job) (h : Holds P C by old j) →
     Adds P C by old new es → AllByRecursion (IsNoFinish h.p) es → Holds P C by new j
 
--- so it does while its caller looks and meets
+-- A job stays held while its caller looks and meets
 abbrev pub JobsStaySeen : Type 0
 JobsStaySeen =
     (P : Program) (C : Sizes) (by : ℕ) (old new : List Entry) (j : Job) →
     Holds P C by old j → Adds P C by old new [] → Holds P C by new j
 
--- while it claims
+-- A job stays held while its caller claims
 abbrev pub JobsStayClaiming : Type 0
 JobsStayClaiming =
     (P : Program) (C : Sizes) (by : ℕ) (old new : List Entry) (s : ℕ) (answer : Claim) (j : Job) →
     Holds P C by old j → ClaimAnswers P C by old new s answer → Holds P C by new j
 
--- and while it finishes another job
+-- A job stays held while its caller finishes another job
 abbrev pub JobsStayFinishing : Type 0
 JobsStayFinishing =
     (P : Program) (C : Sizes) (by : ℕ) (old new : List Entry) (other : Job) (answer : Finish) (j : Job) →
@@ -59,7 +59,7 @@ JobsEndAtARenewal =
     (P : Program) (C : Sizes) (by : ℕ) (seen : List Entry) (j : Job) →
     ¬ Holds P C by (entry front (Does Renew) ∷ seen) j
 
--- What the front might do it still may, where it has only looked and met since
+-- The front may still do in the history `new` what it might in `old`
 pub record FrontMays (P : Program) (C : Sizes) (old new : List Entry) : Type 0 where
   pub lets : (t : Tenant) → MayLetOut P C (unit_of P C old) t → MayLetOut P C (unit_of P C new) t
   pub asks : (station tag : ℕ) (k : Source) (from_station from_tag : ℕ) →
@@ -67,12 +67,12 @@ pub record FrontMays (P : Program) (C : Sizes) (old new : List Entry) : Type 0 w
   pub squashes : SeesWrongPath P C old → SeesWrongPath P C new
   pub mends : (station : ℕ) → SeesMiss P C old station → SeesMiss P C new station
 
--- So it is as long as the front itself adds nothing
+-- The front may still do what it might as long as it has only looked and met
 abbrev pub FrontsStay : Type 0
 FrontsStay =
     (P : Program) (C : Sizes) (old new : List Entry) → Adds P C front old new [] → FrontMays P C old new
 
--- and so the back
+-- The back may still settle a load that it might as long as it has only looked and met
 abbrev pub BacksStay : Type 0
 BacksStay =
     (P : Program) (C : Sizes) (old new : List Entry) (station tag value : ℕ) →

@@ -31,7 +31,7 @@ pub record Shows (word : StationWord) (tag : ℕ) (state : StationState) (value 
   pub state_is : state_code state ≡ code word.state
   pub value_is : HasValue word.value value
 
--- What a look at station s sees is its word at this point
+-- A look at station s sees its word at this point
 abbrev pub SeesStation : Program → Sizes → List Entry → ℕ → Seen StationState → Type 0
 SeesStation P C h s seen =
     Shows (station_word C (recent (unit_of P C h)) s) seen.tag seen.state seen.value
@@ -48,16 +48,16 @@ pub record SeesInfo (P : Program) (C : Sizes) (h : List Entry) (s index : ℕ) (
   pub draft : Draft
   pub proper : IsDraft P C (unit_of P C h) draft
   pub shows : ShowsInfo (last_of (recent (info_unit P C (unit_of P C h) draft)) s) index half predicted
-  -- so it is that of each live tenant of the station
+  -- the word is that of each live tenant of the station
   pub its : (p : ℕ) (t : Tenant) → at (unit_of P C h).tenants p ≡ Some t → t.station ≡ s →
       t.standing ≡ Live →
       (index ≡ t.index) × (half ≡ t.half) × (predicted ≡ t.predicted)
 
--- By the number in the word
+-- The state of a source, by the number in its operand word
 abbrev pub source_state_of : ℕ → SourceState
 source_state_of n = if n == 0 then Unset else if n == 1 then Wait else Val
 
--- The same by its value: it waits while it has none
+-- The state of a source by its value: the source waits while it has none
 abbrev pub source_state : Option ℕ → SourceState
 source_state None = Wait
 source_state (Some v) = Val
@@ -73,6 +73,6 @@ pub record SeesOperand (P : Program) (C : Sizes) (h : List Entry) (s : ℕ) (k :
   pub draft : Draft
   pub proper : IsDraft P C (unit_of P C h) draft
   pub shows : ShowsOperand (operand_word (recent (operand_unit P C (unit_of P C h) draft k)) s k) seen.tag seen.state seen.value
-  -- so it is that of each live tenant of the station
+  -- the word is that of each live tenant of the station
   pub its : (p : ℕ) (t : Tenant) → at (unit_of P C h).tenants p ≡ Some t → t.station ≡ s →
       t.standing ≡ Live → ShowsOperand (Some (record { tag = t.tag; value = (operand k t).value })) seen.tag seen.state seen.value

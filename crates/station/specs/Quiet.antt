@@ -20,7 +20,7 @@ use Rattle.station.specs.Claiming.{ClaimAnswers, fields_of}
 use Rattle.station.specs.Letting.{MayLetOut, let_of}
 use Rattle.station.specs.Making.{first_unit, other_units}
 
--- It is open, and has all that it needs
+-- The tenant is open, and the sources that it needs are delivered
 pub record IsClaimable (P : Program) (t : Tenant) : Type 0 where
   pub is_open : IsOpen t
   pub ready : IsReady P t
@@ -53,7 +53,7 @@ SplitsShareNumbers =
     (heirs : Heirs) (n : ℕ) → IsHeir heirs n →
     (n ≡ heirs.first) ⊎ (IsHeir (half heirs) n ⊎ IsHeir (other_half heirs) n)
 
--- It has the instruction with which it was let, and the values that were known then
+-- The tenant has the instruction with which it was let, and the values that were known then
 pub record IsLetAs (t : NewTenant) (pc : ℕ) (u : Tenant) : Type 0 where
   pub index_is : u.index ≡ t.index
   pub half_is : u.half ≡ t.half
@@ -68,18 +68,18 @@ pub record IsOut (P : Program) (C : Sizes) (old new : List Entry) (t : NewTenant
   pub tenant : IsTenant (unit_of P C new) p (next_station C (recent (unit_of P C old))) (next_tag C (recent (unit_of P C old))) (IsLetAs t (front_pc (unit_of P C old).tenants))
   pub opens : ((n : ℕ) → IsUnit n → own n new ≡ own n old) → IsOpen tenant.tenant
 
--- What a let of the front leaves
+-- Behind a let of the front its tenant is there, and open unless a unit has done something since
 abbrev pub LetsAreOut : Type 0
 LetsAreOut =
     (P : Program) (C : Sizes) (old new : List Entry) (t : NewTenant) →
     MayLetOut P C (unit_of P C old) t → Adds P C front old new (let_of t ∷ []) → IsOut P C old new t
 
--- An open tenant that is ready stays so, with its job, while nobody does anything but the back
+-- The tenant is still open and ready, with its job
 pub record IsStill (P : Program) (C : Sizes) (new : List Entry) (s g p : ℕ) (t : Tenant) : Type 0 where
   pub tenant : IsTenant (unit_of P C new) p s g (IsClaimable P)
   pub job_is : job_of P tenant.tenant ≡ job_of P t
 
--- So it is of each tenant that was open and ready
+-- Each tenant that was open and ready stays so, with its job, while nobody does anything but the back
 abbrev pub ReadyTenantsStay : Type 0
 ReadyTenantsStay =
     (P : Program) (C : Sizes) (old new : List Entry) (s g p : ℕ) →

@@ -27,7 +27,7 @@ pub record SeesMiss (P : Program) (C : Sizes) (seen : List Entry) (station : ℕ
   pub next : ℕ
   pub miss : HasMiss P C seen station tag next
 
--- What the write tells: the miss was mended, and no let is in progress
+-- The write of a mending tells that the miss was mended, and no let is in progress
 pub record Mends (P : Program) (C : Sizes) (s : ℕ) (h : List Entry) (d : Draft) (events : List Event) : Type 0 where
   pub tag : ℕ
   pub next : ℕ
@@ -35,7 +35,7 @@ pub record Mends (P : Program) (C : Sizes) (s : ℕ) (h : List Entry) (d : Draft
   pub added : events ≡ Does (On miss.p Mend) ∷ []
   pub draft : d ≡ Nothing
 
--- That miss, the tenant of this station, was mended
+-- The live miss at this station, the youngest live tenant, was mended
 pub record IsMended (P : Program) (C : Sizes) (by station : ℕ) (old new : List Entry) : Type 0 where
   pub p : ℕ
   pub tag : ℕ
@@ -49,19 +49,19 @@ pub record SeesWrongPath (P : Program) (C : Sizes) (seen : List Entry) : Type 0 
   pub p : ℕ
   pub can : CanSquash (unit_of P C seen) p
 
--- In what was seen it is the station's tenant with this tag
+-- In what was seen the youngest live tenant, behind a live miss, is of this station and tag
 pub record HasYoungest (P : Program) (C : Sizes) (seen : List Entry) (station tag : ℕ) : Type 0 where
   pub p : ℕ
   pub named : IsNamed (unit_of P C seen) p station tag
   pub can : CanSquash (unit_of P C seen) p
 
--- What the write tells: it was squashed, and no let is in progress
+-- The write of a squash tells that the youngest live tenant was squashed, and no let is in progress
 pub record Squashes (P : Program) (C : Sizes) (s g : ℕ) (h : List Entry) (d : Draft) (events : List Event) : Type 0 where
   pub youngest : HasYoungest P C h s g
   pub added : events ≡ Does (On youngest.p Squash) ∷ []
   pub draft : d ≡ Nothing
 
--- That tenant, of this station and tag, was squashed
+-- The tenant of this station and tag, the youngest live one behind a live miss, was squashed
 pub record WasSquashed (P : Program) (C : Sizes) (by station tag : ℕ) (old new : List Entry) : Type 0 where
   pub p : ℕ
   pub named : IsNamed (unit_of P C new) p station tag

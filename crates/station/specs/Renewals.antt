@@ -24,12 +24,12 @@ pub record Seats : Type 0 where
   pub back : Caller
   pub unit : Caller
 
--- These three
+-- The seats of these three callers
 abbrev pub seats_of : Caller → Caller → Caller → Seats
 seats_of front_seat back_seat unit_seat =
     record { front = front_seat; back = back_seat; unit = unit_seat }
 
--- The same seat, whose caller has looked and met
+-- The seat `new` is the seat `old`, whose caller has looked and met
 pub record HasLooked (core : TheCore) (old new : Caller) : Type 0 where
   pub same : IsSameSeat old new
   pub heirs : new.heirs ≡ old.heirs
@@ -82,7 +82,7 @@ NoStopStays =
     (P : Program) (C : Sizes) (old new : List Entry) → Adds P C back old new [] →
     GoesOn (unit_of P C old) → GoesOn (unit_of P C new)
 
--- So the front may renew behind what both have then seen
+-- The front may renew behind what it and the back have seen, where nobody was live and no stop had retired
 abbrev pub EmptyCoresMayBeRenewed : Type 0
 EmptyCoresMayBeRenewed =
     (P : Program) (C : Sizes) (of_front of_back new : List Entry) →

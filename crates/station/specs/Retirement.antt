@@ -37,7 +37,7 @@ EndsAs P (Stored address word) t =
     (kind_of P t ≡ Stores) × (t.fate ≡ Addr address) × (t.second.value ≡ Some word)
 EndsAs P (WasStop code) t = t.fate ≡ Stopped code
 
--- It is this half of this instruction, and ended so
+-- The tenant is this half of this instruction, and ended so
 pub record IsLast (P : Program) (index : ℕ) (half : Half) (last : Last) (t : Tenant) : Type 0 where
   pub index_is : t.index ≡ index
   pub half_is : t.half ≡ half
@@ -51,7 +51,7 @@ pub record IsRetired (P : Program) (C : Sizes) (by : ℕ) (old new : List Entry)
   pub tenant : IsTenant (unit_of P C new) p station tag (IsLast P index half last)
   pub adds : Adds P C by old new (Does (On p (RetireIt n)) ∷ [])
 
--- What a retirement answers: who retired, or a refusal that was true at its point
+-- A retirement answers which tenant retired, or a refusal that was true at its point
 abbrev pub RetireAnswers : Program → Sizes → ℕ → List Entry → List Entry → Retire → Type 0
 RetireAnswers P C by old new (Retired station tag index half last) =
     IsRetired P C by old new station tag index half last
@@ -66,7 +66,7 @@ pub record LooksAtHead (P : Program) (C : Sizes) (by s n : ℕ) (h : List Entry)
   pub by_is : by ≡ back
   pub heads : Heads P C s n h d events
 
--- Its fate, by the state and value of its word: it has its address, is done or stops
+-- The fate of a tenant by the state and value of its word: it has its address, is done or stops
 abbrev pub IsEnd : StationState → ℕ → Fate → Type 0
 IsEnd AddrState value fate = fate ≡ Addr value
 IsEnd DoneState value fate = fate ≡ Done value
@@ -89,7 +89,7 @@ abbrev pub IsLastOf : StationState → ℕ → Last → Type 0
 IsLastOf StopState value last = (code : Stop) × (code_of code ≡ value) × (last ≡ WasStop code)
 IsLastOf _ value last = last ≡ WasDone value
 
--- It is a load or store with its address
+-- The tenant is the load or store of this access, with its address
 pub record IsAccess (a : Access) (t : Tenant) : Type 0 where
   pub station_is : t.station ≡ a.station
   pub tag_is : t.tag ≡ a.tag
@@ -107,7 +107,7 @@ pub record FindsData (P : Program) (C : Sizes) (a : Access) (n : ℕ) (h : List 
   pub access : HasAccess P C h a
   pub data_is : ReadsData P C access.p n h d events
 
--- It can retire like this
+-- The tenant can retire like this
 pub record IsLeaving (P : Program) (l : Leaving) (t : Tenant) : Type 0 where
   pub station_is : t.station ≡ l.station
   pub tag_is : t.tag ≡ l.tag
@@ -118,7 +118,7 @@ pub record MayLeave (P : Program) (C : Sizes) (seen : List Entry) (l : Leaving) 
   pub p : ℕ
   pub head : IsHead (unit_of P C seen) p (IsLeaving P l)
 
--- What its station keeps
+-- The value that the station keeps of a retired tenant
 abbrev pub kept_value : Last → ℕ
 kept_value (WasDone v) = v
 kept_value (Stored address word) = 0
@@ -128,12 +128,12 @@ kept_value (WasStop code) = code_of code
 abbrev pub left_word : Leaving → Shown
 left_word l = record { tag = suc l.tag; state = IsFree; value = Some (kept_value l.last) }
 
--- What the write tells: that tenant retired
+-- The write of a retirement tells that this tenant retired
 pub record Leaves (P : Program) (C : Sizes) (l : Leaving) (h : List Entry) (d : Draft) (events : List Event) : Type 0 where
   pub may : MayLeave P C h l
   pub added : events ≡ Does (On may.p (RetireIt (kept_value l.last))) ∷ []
 
--- What retired was a stop
+-- The retired tenant was a stop
 abbrev pub is_stop : Last → Bool
 is_stop (WasStop code) = true
 is_stop _ = false

@@ -37,7 +37,7 @@ pub record Caller : Type 0 where
   pub seen : List Entry
   pub woken : ℕ
 
--- The same seat at the same core
+-- The seat w is the seat v at the same core
 pub record IsSameSeat (v w : Caller) : Type 0 where
   pub core : w.core ≡ v.core
   pub by : w.by ≡ v.by
@@ -70,7 +70,7 @@ pub record IsSeated (P : Program) (C : Sizes) (role : Role) (by station : ℕ) (
   pub inside : station < C.ring
   pub knows : Knows P C role by station over me.0
 
--- It may give numbers away, all above its own, and their callers have done nothing since the opening
+-- The seat may give numbers away, all above its own, whose callers have done nothing since the opening
 pub record IsGiver (opening : List Entry) (v : View) : Type 0 where
   pub some : 1 ≤ v.heirs.every
   pub above : v.by < v.heirs.first
@@ -84,7 +84,7 @@ HasHeirs opening Front v = v.heirs ≡ nobody
 HasHeirs opening Back v = v.heirs ≡ nobody
 HasHeirs opening Spent v = ⊥
 
--- Its caller's number is one of its role, at a table with this opening
+-- The number of a seat's caller is one of its role, at a table with this opening
 pub record IsNumbered (opening : List Entry) (role : Role) (v : View) : Type 0 where
   pub caller : IsCaller role v.by
   pub heirs : HasHeirs opening role v

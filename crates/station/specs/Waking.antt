@@ -17,7 +17,7 @@ use Rattle.inorder.specs.Unit.{Sizes, UpdateUnit}
 abbrev pub IsSet : ℕ → ℕ → Type 0
 IsSet n s = bit_at n s ≡ 1
 
--- It is one of these events
+-- The event is one of these
 abbrev pub IsAmong : Event → List Event → Type 0
 IsAmong e [] = ⊥
 IsAmong e (x ∷ xs) = (e ≡ x) ⊎ IsAmong e xs

@@ -68,7 +68,7 @@ pub record AreOperands (old new : ℕ) : Type 0 where
   pub old_is : IsOperandOf (wait_word (tag_of old)) old
   pub new_is : IsOperandOf (val_word (tag_of old) (word_value new)) new
 
--- What a unit has to compute for a job
+-- The outcome that a unit has to compute for a job
 abbrev pub job_outcome : Program → Job → Outcome
 job_outcome P j = outcome_of_half (instr_of P j.index) j.half j.pc j.a j.b (length P.bytes)
 
@@ -109,14 +109,14 @@ pub record WasStale (P : Program) (C : Sizes) (by : ℕ) (old new : List Entry) 
   pub named : IsNamed (unit_of P C new) p station tag
   pub adds : Adds P C by old new (Refuses (IsStaleNow p) ∷ [])
 
--- What `finish` answers: the outcome was written, and a value carried along its links; or the
+-- `finish` answers that the outcome was written, and a value carried along its links; or that the
 -- tenant was squashed before
 abbrev pub FinishAnswers : Program → Sizes → ℕ → List Entry → List Entry → Job → Finish → Type 0
 FinishAnswers P C by old new j Finished =
     IsWritten P C by old new j.station j.tag FinishIt (λ p. IsCarried P C new p (job_outcome P j))
 FinishAnswers P C by old new j Stale = WasStale P C by old new j.station j.tag
 
--- What `settle` answers: the load was done, and its value carried along its links; or it was
+-- `settle` answers that the load was done, and its value carried along its links; or that it was
 -- squashed before
 abbrev pub SettleAnswers : Program → Sizes → ℕ → List Entry → List Entry → ℕ → ℕ → Settle → Type 0
 SettleAnswers P C by old new station tag Settled =

@@ -1,4 +1,4 @@
-//! What the calls take and answer.
+//! The arguments and answers of the calls.
 use inorder::history::Source;
 use instructions::{Half, Stop};
 
@@ -22,7 +22,7 @@ pub enum SourceState {
 /// How a new tenant is given a source.
 #[derive(Clone, Copy)]
 pub enum Supply {
-    /// Its value; 0 where the instruction has no such source.
+    /// The value of the source; 0 where the instruction has no such source.
     Known(u32),
     /// The tenant that makes it.
     From { station: usize, tag: u32 },
@@ -30,7 +30,7 @@ pub enum Supply {
 
 /// A tenant to be let: the index of its instruction and its half of that, its predicted next pc, and
 /// sources 1 and 2.
-/// It is a dynamic instruction, on its way into a reservation station.
+/// A tenant is a dynamic instruction, on its way into a reservation station.
 #[derive(Clone, Copy)]
 pub struct Tenant {
     pub index: u32,
@@ -54,7 +54,7 @@ pub struct Job {
     pub b: u32,
 }
 
-/// What a unit's claim answers.
+/// The answer of a unit's claim.
 pub enum Claim {
     Job(Job),
     /// No tenant of the station is open.
@@ -81,7 +81,7 @@ pub enum Settle {
     Stale,
 }
 
-/// What the question for a source answers.
+/// The answer of a question for a source.
 #[derive(Clone, Copy, Debug, PartialEq, Eq)]
 pub enum Ask {
     /// The source has its value.
@@ -99,7 +99,7 @@ pub enum Last {
     Stop(Stop),
 }
 
-/// What a retirement answers.
+/// The answer of a retirement.
 #[derive(Clone, Copy)]
 pub enum Retire {
     Retired {

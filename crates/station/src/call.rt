@@ -28,7 +28,7 @@ impl<'a, P: Part> Model for Call<'a, P> {
     ghost invariant = { λ s. IsCall s.core.now P.role s.seat.now.table_id s.seat.now.me };
 }
 
-/// What a step tells, of the number found (at a store, the number stored).
+/// The kind of a step, of the number found (at a store, the number stored).
 pub(crate) trait Telling {
     ghost use Rattle.std.specs.Prelude.{ℕ};
     ghost use Rattle.station.specs.Calls.{StepKind};

@@ -33,7 +33,7 @@ fn needs_second(kind: Kind) -> bool
     !matches!(kind, Kind::Stores)
 }
 
-// What the word of a source says, of a tenant with this tag.
+// The value in a source's word, or the refusal of the claim, for a tenant with this tag.
 fn source_says(word: u64, tag: u32, k: Source) -> Result<u32, Claim>
     ensures { SourceSays word tag k result }
 {

@@ -178,7 +178,7 @@ impl Core {
         (core, opening)
     }
 
-    // Its table, and the setup of one that opens with this.
+    // The core in two: its table, and the setup of a table that opens with this badge.
     pub(crate) fn apart(self, badge: Badge<View>) -> (Stations, Setup)
         ensures core { self ≡ core_of result.0.shared.table_id result.0.shared.key }
         ensures kept { IsCore result.0.shared.table_id.words result.0.shared.key result.1.program

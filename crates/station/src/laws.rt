@@ -33,7 +33,7 @@ pub fn an_empty_core_may_be_renewed()
     ensures may { EmptyCoresMayBeRenewed }
 {}
 
-/// What the front and the back might do they still may, where they have only looked and met since.
+/// The front and the back may still do what they might, where they have only looked and met since.
 pub fn mays_stay()
     ensures front { FrontsStay }
     ensures back { BacksStay }
@@ -57,12 +57,12 @@ pub fn a_renewal_goes_on()
     ensures { RenewalsGoOn }
 {}
 
-/// What `info` tells of a station where the next tenant does not go is the last tenant's.
+/// The answer of `info` for a station where the next tenant does not go is that of its last tenant.
 pub fn an_info_is_the_last_tenants()
     ensures { InfosElsewhere }
 {}
 
-/// What a caller has seen is a legal history.
+/// The history that a caller has seen is legal.
 pub fn what_is_seen_is_legal<P: Part>(seat: &SeatOf<P>)
     ensures { IsLegal seat.now.core.program seat.now.core.sizes seat.now.seen }
 {
@@ -76,7 +76,7 @@ pub fn a_number_is_of_its_part<P: Part>(seat: &SeatOf<P>)
     let _over = seat.over;
 }
 
-/// Who has no seat has done nothing: a unit's number is given by `make`, `renew` or `split`, and those
+/// A unit without a seat has done nothing: its number is given by `make`, `renew` or `split`, and those
 /// that a seat may still give away have no entry, behind that with which the core opened, in what its
 /// caller has seen.
 pub fn no_seat_no_entry(seat: &UnitSeat)
@@ -86,7 +86,7 @@ pub fn no_seat_no_entry(seat: &UnitSeat)
     let _over = seat.over;
 }
 
-/// Which numbers there are to give away, and to whom they go at a split.
+/// The numbers that there are to give away, and to whom they go at a split.
 pub fn numbers_are_given_once()
     ensures all { UnitsAreNumbered }
     ensures split { SplitsShareNumbers }

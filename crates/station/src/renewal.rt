@@ -32,7 +32,7 @@ impl Core {
     /// tag. Its seats are new: the front's, the back's, and that of the first unit. They have seen what
     /// the three old ones had, once these have met, and the renewal behind it. Seats of the old core are
     /// of no use any more, and no job of before is held.
-    /// It is called once all tags of a station are spent, where the front has seen that nobody is live
+    /// Call `renew` once all tags of a station are spent, where the front has seen that nobody is live
     /// and the back has retired no stop.
     /// Where there is no memory for the new words, core and seats come back. The seats have met then.
     pub fn renew(

@@ -7,7 +7,7 @@ use std::snapshot::Snapshot;
 // The words of a core.
 pub(crate) type Words = Shared<u8, View, Setup, OneHistory>;
 
-/// Whose seat it is.
+/// The part that a seat is for: the front, the back or a unit.
 pub trait Part {
     ghost use Rattle.ruu_words.specs.declared.rule.Role.{Role};
 

@@ -43,7 +43,7 @@ pub(crate) fn has_value(word: u64) -> bool
     (word >> 32) & 15 == 2
 }
 
-/// What an operand word says of its source.
+/// The state of a source, by its operand word.
 pub(crate) fn source_state(word: u64) -> SourceState
     ensures { result ≡ source_state_of (state_of word) }
 {

@@ -12,7 +12,7 @@ pub struct Maker {
     pub tag: u32,
 }
 
-/// What is kept of the last tenant of a station.
+/// The part of a station's last tenant that the table keeps.
 #[derive(Clone, Copy)]
 pub struct Saved {
     pub tag: u32,
@@ -73,7 +73,7 @@ impl Counted {
         self.table.entries[r] = maker;
     }
 
-    // What is kept of the last tenant of a station.
+    // The part of a station's last tenant that the table keeps.
     pub(super) fn record(&mut self, station: usize) -> Option<Saved>
         ensures value { result ≡ slice_get self.old.table.latest station }
         ensures table { self.new.table ≡ self.old.table }

@@ -15,7 +15,7 @@ pub struct Creator {
     pub made: Option<u32>,
 }
 
-// What a tenant has made from the start.
+// The value that a tenant has from the start: the return address of a jump that links.
 fn made_at_let(tenant: &Record) -> Option<u32>
     ensures { result ≡ made_from_start tenant.now }
 {

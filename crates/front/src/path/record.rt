@@ -19,17 +19,17 @@ pub struct Record {
     pub(super) next: u32,
     // the register that it writes; 0 where it writes none
     pub(super) destination: u8,
-    // it makes its return address
+    // the tenant makes its return address
     pub(super) links: bool,
-    // it is the first of two halves
+    // the tenant is the first of two halves
     pub(super) first: bool,
-    // it reaches memory
+    // the tenant reaches memory
     pub access: bool,
     // a predictor was asked for its next pc
     pub(super) guessed: bool,
 }
 
-// What is kept of a new tenant.
+// The record of a new tenant.
 pub(super) fn new_record(next: &Fetched, tag: u32, predicted: u32) -> Record
     ensures { result ≡ record_for next.now tag predicted }
 {
@@ -55,7 +55,7 @@ impl Record {
         !self.access && (self.links || self.destination == 0)
     }
 
-    /// What a predictor is told of it when it leaves, if that was asked about it.
+    /// The leaver that a predictor is told of when the tenant leaves, if it was asked about the tenant.
     pub fn leaver(&self) -> Option<Leaver>
         ensures { result ≡ leaver_if self.now.guessed self.now.pc self.now.next }
     {
