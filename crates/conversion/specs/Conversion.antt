@@ -21,11 +21,11 @@ abbrev pub with_memory : List ℕ → Result (List Instr) Refusal → Result Pro
 with_memory bytes (Ok code) = Ok (record { code = code; bytes = bytes })
 with_memory bytes (Err refusal) = Err refusal
 
--- what words and bytes mean
+-- the program that the words and bytes of a loaded file mean
 abbrev pub meaning_of : Loaded → Result Program Refusal
 meaning_of loaded = with_memory loaded.bytes (meant_up_to loaded.code (length loaded.code))
 
--- the same of a file that was loaded, or why it was not
+-- the program that a file means, if the file was loaded, or else why it was not
 abbrev pub program_by : Result Loaded FileRefusal → Result Program Refusal
 program_by (Ok loaded) = meaning_of loaded
 program_by (Err why) = Err (refusal_by_file why)

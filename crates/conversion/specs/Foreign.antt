@@ -26,7 +26,7 @@ other opcode =
     else (if opcode == 46 then Swr
     else (if is_of_coprocessor opcode then Coprocessor else Unknown))))
 
--- what a word is that is no operation of a listing
+-- the name of a word that is no operation of a listing
 abbrev pub foreign_of : ℕ → Foreign
 foreign_of word =
     if opcode_of word == 0 then special (funct_of word)

@@ -47,7 +47,7 @@ checked words k i =
     then with_delay_slot (address k) (slice_index words k) i (slice_get words (k + 1))
     else Ok i)
 
--- the same where the word is an instruction; another word is refused with its address
+-- instruction k of a text, checked, where the word is one; another word is refused with its address
 abbrev pub checked_if : List ℕ → ℕ → Option Instr → Result Instr Refusal
 checked_if words k None =
     Err (Word (address k) (slice_index words k) (foreign_of (slice_index words k)))

@@ -94,7 +94,7 @@ pub record IsSound (n : ℕ) (i : Instr) : Type 0 where
   pub writable : IsWritable i
   pub inside : has_target i.op ≡ true → is_inside n i.number ≡ true
 
--- so it is of each of them
+-- a listing can write each of these, and each goes to one of n instructions
 abbrev pub AllSound : ℕ → List Instr → Type 0
 AllSound n [] = ⊤
 AllSound n (i ∷ is) = IsSound n i × AllSound n is
@@ -123,7 +123,7 @@ pub record IsReadAs (p : Parsed) (i : Instr) : Type 0 where
   pub stands : ReadsAs p i
   pub unlabelled : has_target i.op ≡ false → p.label ≡ None
 
--- so it is of each line and its instruction, in their order
+-- each line was read as its instruction, in their order
 abbrev pub AllRead : List (ℕ × Parsed) → List Instr → Type 0
 AllRead [] [] = ⊤
 AllRead [] (i ∷ is) = ⊥

@@ -4,7 +4,7 @@ ghost use Rattle.conversion.specs.Foreign.{foreign_of};
 
 use thiserror::Error;
 
-/// What a word is that is no operation of a listing, by its name in MIPS I.
+/// A word that is no operation of a listing, by its name in MIPS I.
 #[derive(Clone, Copy, Debug, PartialEq, Eq, Error)]
 pub enum Foreign {
     #[error("syscall")]
@@ -29,7 +29,7 @@ pub enum Foreign {
     Unknown,
 }
 
-// what a word with opcode 0 is
+// the name of a word with opcode 0
 fn special(function: u32) -> Foreign
     ensures { result ≡ Rattle.conversion.specs.Foreign.special function }
 {
@@ -40,7 +40,7 @@ fn special(function: u32) -> Foreign
     }
 }
 
-// what a word with opcode 1 is
+// the name of a word with opcode 1
 fn linking(selected: u32) -> Foreign
     ensures { result ≡ Rattle.conversion.specs.Foreign.linking selected }
 {
@@ -51,7 +51,7 @@ fn linking(selected: u32) -> Foreign
     }
 }
 
-// what a word with another opcode is
+// the name of a word with another opcode
 fn other(opcode: u32) -> Foreign
     ensures { result ≡ Rattle.conversion.specs.Foreign.other opcode }
 {
@@ -67,7 +67,7 @@ fn other(opcode: u32) -> Foreign
     }
 }
 
-/// What a word is that is no operation of a listing.
+/// The name in MIPS I of a word that is no operation of a listing.
 pub fn foreign_word(word: u32) -> Foreign
     ensures { result ≡ foreign_of word }
 {

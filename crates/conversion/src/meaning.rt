@@ -24,7 +24,7 @@ fn has_slot(op: Op) -> bool
     matches!(op.kind(), Kind::Jumps | Kind::Links)
 }
 
-/// It names where it goes.
+/// The operation is a jump or branch that names its target.
 pub fn has_target(op: Op) -> bool
     ensures { result ≡ has_target_of op }
 {

@@ -131,7 +131,7 @@ fn push_name(out: &mut String, name: &[u8], k: usize) -> Result<(), AllocError>
     push_text(out, text)
 }
 
-// the same, where there is one
+// the comment that names a function, where there is one
 #[tactic(auto, using(crate::proofs::Names::quieter_none))]
 fn push_comment(
     out: &mut String,

@@ -60,7 +60,8 @@ pub record IsWorkedOut (core : TheCore) (by : ℕ) (t : Tenant) (station : ℕ) 
   pub answer : Finish
   pub finished : FinishAnswers core.program core.sizes by mid new job answer
 
--- The same, of whichever tenant was ready there
+-- A unit has claimed whichever tenant of this station was ready and finished its job, and nobody else
+-- has done anything
 abbrev pub WorksOut : TheCore → ℕ → ℕ → Outcome → List Entry → List Entry → Type 0
 WorksOut core by station outcome old new =
     (p tag : ℕ) → (t : IsTenant (unit_after core old) p station tag (IsClaimable core.program)) →

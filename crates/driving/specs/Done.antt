@@ -1,4 +1,4 @@
--- Who has all seats of a core in one hand knows what was done, to the letter.
+-- A caller with all seats of a core in one hand knows what was done, to the letter.
 use Rattle.std.specs.Prelude.{◌≡◌, ◌≢◌, ℕ, List, [], ◌∷◌}
 use Rattle.inorder.specs.declared.history.Entry.{Entry}
 use Rattle.inorder.specs.declared.history.Source.{Source}
@@ -56,7 +56,7 @@ unit_after core all = unit_of core.program core.sizes all
 abbrev pub MayLetNext : TheCore → Tenant → List Entry → Type 0
 MayLetNext core t all = MayLetOut core.program core.sizes (unit_after core all) t
 
--- It was let, with the next tag
+-- The tenant t was let, with the next tag
 pub record IsLetNext (core : TheCore) (t : Tenant) (tag : ℕ) (old new : List Entry) : Type 0 where
   pub adds : Adds core.program core.sizes front old new (let_of t ∷ [])
   pub tag_is : tag ≡ next_tag core.sizes (recent (unit_after core old))

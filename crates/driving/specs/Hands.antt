@@ -47,7 +47,7 @@ pub record AreNew (P : Program) (config : Settings) (core : TheCore) (s : Seats)
   pub other_seen : s.other.seen ≡ []
   pub fresh : own s.other.by s.other.seen ≡ []
 
--- The same seat, whose caller has looked and met
+-- The seat w is the seat v, whose caller has looked and met
 pub record HasHeardMore (core : TheCore) (v w : Caller) : Type 0 where
   pub core_is : w.core ≡ v.core
   pub by_is : w.by ≡ v.by

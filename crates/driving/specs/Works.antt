@@ -34,13 +34,13 @@ pub record HasCome (station tag : ℕ) (outcome : Outcome) (U : UpdateUnit) : Ty
   pub p : ℕ
   pub tenant : IsTenant U p station tag (HasOutcome outcome)
 
--- What a unit works out by the definitions, for a tenant that is let in the unit U
+-- The values that a unit works out by the definitions, for a tenant that is let in the unit U
 pub record IsWorkedRight (P : Program) (U : UpdateUnit) (t : Tenant) (w : Worked) : Type 0 where
   pub pc : w.pc ≡ front_pc U.tenants
   -- its values are what the creators of its sources have made
   pub first : (v : ℕ) →
       value_of U.tenants (creator P U.tenants (first_of (instr_of P t.index))) ≡ Some v → w.a ≡ v
-  -- and 0 where it does not need the second
+  -- the second value is 0 where the instruction does not need it
   pub second : (v : ℕ) →
       value_of U.tenants (creator P U.tenants (second_of (instr_of P t.index))) ≡ Some v →
       w.b ≡ (if needs (kind (instr_of P t.index).op) Second then v else 0)

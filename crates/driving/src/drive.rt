@@ -13,8 +13,8 @@ use station::{
 };
 use std::alloc::Global;
 
-/// What a unit has worked out for a tenant with this tag: the pc and the two values of its job, and
-/// the outcome.
+/// The work of a unit for a tenant with this tag: the pc and the two values of the job, and the
+/// outcome.
 #[derive(Clone, Copy)]
 pub struct Worked {
     pub tag: u32,
