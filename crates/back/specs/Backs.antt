@@ -38,15 +38,15 @@ back_of seat ended shown =
 abbrev pub unit_in : TheCore → List Entry → UpdateUnit
 unit_in core seen = unit_of core.program core.sizes seen
 
--- What that unit has committed
+-- The state that the unit of what was seen has committed
 abbrev pub committed_in : TheCore → List Entry → State
 committed_in core seen = committed core.program (unit_in core seen).tenants
 
--- What a caller has seen may have grown, by entries of others alone
+-- The history that a caller has seen may have grown, by entries of others alone
 abbrev pub SeesMore : TheCore → ℕ → List Entry → List Entry → Type 0
 SeesMore core by old new = Adds core.program core.sizes by old new []
 
--- Its registers, memory, pc and n are what the unit has committed in what it has seen
+-- The registers, memory, pc and n of a back: what the unit has committed in what the back has seen
 abbrev pub back_state : TheBack → State
 back_state b = committed_in b.core b.seen
 
@@ -64,7 +64,7 @@ pub record IsNewBack (seat : Caller) (b : TheBack) : Type 0 where
   pub shown : b.shown ≡ opening
   pub state : back_state b ≡ start seat.core.program
 
--- The same back, which may have seen more
+-- The back `new` is the back `old`, and may have seen more
 pub record IsSameBack (old new : TheBack) : Type 0 where
   pub core : new.core ≡ old.core
   pub by : new.by ≡ old.by

@@ -17,11 +17,11 @@ use Rattle.back.specs.Backs.{TheBack, back_state, unit_in}
 use Rattle.back.specs.declared.answers.Commit.{Commit}
 use Rattle.back.specs.declared.answers.Commit.TheVariants.{Empty, Ended, Half, NotDone, Retired}
 
--- These events are what it added to what it has seen
+-- The back has added these events to what it has seen
 abbrev pub HasAdded : TheBack → TheBack → List Event → Type 0
 HasAdded old new events = Adds old.core.program old.core.sizes old.by old.seen new.seen events
 
--- It had not ended, and there was an instruction at its pc
+-- The back had not ended, and there was an instruction at its pc
 pub record WentOn (old : TheBack) : Type 0 where
   pub not_ended : old.ended ≡ None
   pub instr : IsSome (instr_at old.core.program (back_state old).pc)
@@ -61,19 +61,19 @@ pub record HasHalved (old new : TheBack) (pc : ℕ) : Type 0 where
   pub pc_is : pc ≡ (back_state old).pc
   pub state : back_state new ≡ back_state old
 
--- It was refused, and nothing was committed
+-- The commit was refused, and nothing was committed
 pub record WasRefused (old new : TheBack) (event : Event) : Type 0 where
   pub went_on : WentOn old
   pub not_ended : new.ended ≡ None
   pub adds : HasAdded old new (event ∷ [])
   pub state : back_state new ≡ back_state old
 
--- It is a stop with this code, and has retired
+-- The tenant is a stop with this code, and has retired
 pub record IsRetiredStopOf (code : Stop) (t : Tenant) : Type 0 where
   pub standing : t.standing ≡ HasRetired
   pub fate : t.fate ≡ Stopped code
 
--- How it ended: before this call, or where there is no instruction, or a stop retired
+-- How the back ended: before this call, or where there is no instruction, or a stop retired
 pub data HowEnded (old new : TheBack) (code : Stop) : Type 0 where
   Before : old.ended ≡ Some code → new ≡ old → HowEnded old new code
   Nowhere : old.ended ≡ None → code ≡ BadPc → instr_at old.core.program (back_state old).pc ≡ None →
@@ -81,14 +81,14 @@ pub data HowEnded (old new : TheBack) (code : Stop) : Type 0 where
   Stops : WentOn old → (p made : ℕ) → Has (unit_in new.core new.seen) p (IsRetiredStopOf code) →
       HasAdded old new (Does (On p (Retire made)) ∷ []) → HowEnded old new code
 
--- It has ended, with the code with which the machine in order stops there
+-- The back has ended, with the code with which the machine in order stops there
 pub record HasEndedWith (old new : TheBack) (code : Stop) : Type 0 where
   pub ended : new.ended ≡ Some code
   pub how : HowEnded old new code
   pub state : back_state new ≡ back_state old
   pub stops : stop new.core.program (back_state new).count ≡ Some code
 
--- What `commit` answers, each with what it says
+-- The answers of `commit`, each with what it says
 abbrev pub CommitAnswers : TheBack → TheBack → Commit → Type 0
 CommitAnswers old new (Retired pc n) = HasCommitted old new pc n
 CommitAnswers old new (Half pc) = HasHalved old new pc

@@ -12,7 +12,8 @@ abbrev pub StopsThere : Program → ℕ → Ending → Type 0
 StopsThere P n (ByStop code) = stop P n ≡ Some code
 StopsThere P n Limit = ⊤
 
--- It holds the state of the machine in order after its n instructions, and a stop is that machine's next step
+-- The end holds the state of the machine in order after its n instructions, and a stop is that
+-- machine's next step
 pub record EndIsInOrder (P : Program) (e : End) : Type 0 where
   pub state : after P e.n ≡ Some (state_in e)
   pub stops : StopsThere P e.n e.outcome

@@ -14,18 +14,18 @@ use Rattle.station.specs.Seats.{Caller}
 use Rattle.back.specs.Backs.{unit_in}
 use Rattle.back.specs.Commits.{IsRetiredStopOf}
 
--- Why it has ended with this code: a stop has retired, or its pc is the address of no instruction
+-- Why a back has ended with this code: a stop has retired, or its pc is that of no instruction
 pub data WhyEnded (P : Program) (U : UpdateUnit) (code : Stop) : Type 0 where
   ByStop : (p : ℕ) → Has U p (IsRetiredStopOf code) → WhyEnded P U code
   Nowhere : code ≡ BadPc → instr_at P (committed P U.tenants).pc ≡ None → GoesOn U → WhyEnded P U code
 
--- It has not ended, and no stop has retired; or it has ended with a code
+-- The back has not ended, and no stop has retired; or the back has ended with a code
 abbrev pub EndIs : Program → UpdateUnit → Option Stop → Type 0
 EndIs P U None = GoesOn U
 EndIs P U (Some code) = WhyEnded P U code
 
--- The unit that it has seen, and its fields: the state is what whole instructions have left, and the
--- low value, where one waits, is what a first half has made
+-- The unit that a back has seen, and the back's fields: the state is what whole instructions have left,
+-- and the low value, where one waits, is what a first half has made
 pub record KeepsUnit (P : Program) (C : Sizes) (U : UpdateUnit) (state : State) (low : Option ℕ)
     (head : ℕ) (ended : Option Stop) : Type 0 where
   pub state_is : state ≡ committed P U.tenants
@@ -33,7 +33,7 @@ pub record KeepsUnit (P : Program) (C : Sizes) (U : UpdateUnit) (state : State) 
   pub head_is : head ≡ head_station C U
   pub end_is : EndIs P U ended
 
--- Its fields, and what its seat has seen
+-- The fields of a back, and what its seat has seen
 pub record BackIsKept (P : Program) (seat : Caller) (state : State) (low : Option ℕ)
     (head : ℕ) (ended : Option Stop) (shown : Snap) : Type 0 where
   pub program : seat.core.program ≡ P

@@ -12,7 +12,7 @@ use Rattle.lsq.specs.declared.entry.Entry.{Entry as QueueEntry}
 use Rattle.lsq.specs.LoadRule.{answer}
 use Rattle.station.specs.Moments.{WasOnce}
 
--- It is a live load
+-- The tenant is a live load
 pub record IsLiveLoad (P : Program) (t : Tenant) : Type 0 where
   pub live : t.standing ≡ Live
   pub kind : kind_of P t ≡ Loads
@@ -23,7 +23,7 @@ pub record IsWaitingLoad (P : Program) (t : Tenant) : Type 0 where
   pub address : ℕ
   pub fate : t.fate ≡ Addr address
 
--- It is a live store
+-- The tenant is a live store
 pub record IsLiveStore (P : Program) (t : Tenant) : Type 0 where
   pub live : t.standing ≡ Live
   pub kind : kind_of P t ≡ Stores
@@ -38,10 +38,10 @@ pub record Blocks (P : Program) (U : UpdateUnit) (p q : ℕ) : Type 0 where
   pub there : slice_get (live_accesses P U.tenants) place ≡ Some (q, entry)
   pub answers : answer (queue_of P U.tenants) (place_of P U.tenants p) ≡ Blocked place
 
--- It was no load in fate Addr at a moment of the call
+-- Tenant p was no load in fate Addr at a moment of the call
 abbrev pub WasNotWaiting : Program → Sizes → List Entry → List Entry → ℕ → Type 0
 WasNotWaiting P C old new p = WasOnce P C old new (λ U. ¬ Has U p (IsWaitingLoad P))
 
--- A store blocked it at a moment of the call
+-- A store blocked load p at a moment of the call
 abbrev pub WasBlocked : Program → Sizes → List Entry → List Entry → ℕ → Type 0
 WasBlocked P C old new p = WasOnce P C old new (λ U. (q : ℕ) × Blocks P U p q)

@@ -36,7 +36,7 @@ abbrev pub shown_address : Fate → Option ℕ
 shown_address (Addr a) = Some a
 shown_address _ = None
 
--- What the queue holds of an instruction whose station shows this
+-- The queue's entry of an instruction whose station shows this
 abbrev pub seen_as : Instr → StationState → ℕ → QueueEntry
 seen_as i state value = access_entry i.op (address_in state value) None
 
@@ -44,7 +44,7 @@ seen_as i state value = access_entry i.op (address_in state value) None
 abbrev pub station_behind : ℕ → ℕ → ℕ → ℕ
 station_behind head ring k = (head + k) % ring
 
--- This is so of each live tenant of the station that is one of the first n
+-- The fact is true of each live tenant of the station that is one of the first n
 abbrev pub AtStation : UpdateUnit → ℕ → ℕ → (Tenant → Type 0) → Type 0
 AtStation U n station Fact =
     (q : ℕ) (u : Tenant) → q < n → at U.tenants q ≡ Some u → u.standing ≡ Live → u.station ≡ station → Fact u
@@ -56,16 +56,16 @@ pub record IsEntryOf (P : Program) (e : QueueEntry) (u : Tenant) : Type 0 where
   pub address : e.address ≡ shown_address u.fate
   pub content : e.content ≡ None
 
--- No store, or one with its address
+-- The tenant is no store, or one with its address
 abbrev pub IsKnown : Program → Tenant → Type 0
 IsKnown P u = (is_store (kind_of P u) ≡ false) ⊎ ((a : ℕ) × (u.fate ≡ Addr a))
 
--- It does not wait for this one
+-- A load at address a of w bytes does not wait for this tenant
 pub record DoesNotWaitFor (P : Program) (a w : ℕ) (u : Tenant) : Type 0 where
   pub known : IsKnown P u
   pub apart : overlaps a w (entry_of P u) ≡ false
 
--- A store with this entry, which overlaps it
+-- The tenant is a store with this entry, which overlaps a load at address a of w bytes
 pub record IsMet (P : Program) (a w : ℕ) (e : QueueEntry) (u : Tenant) : Type 0 where
   pub base : ℕ
   pub store : is_store (kind_of P u) ≡ true
@@ -73,7 +73,7 @@ pub record IsMet (P : Program) (a w : ℕ) (e : QueueEntry) (u : Tenant) : Type 
   pub entry : e ≡ record { store = true; width = access_width (instr P u).op; address = Some base; content = None }
   pub meets : overlaps a w e ≡ true
 
--- It is a store without its address
+-- The tenant is a store without its address
 abbrev pub Lacks : Program → Tenant → Type 0
 Lacks P u = lacks_address (entry_of P u) ≡ true
 
@@ -86,7 +86,8 @@ pub record HasMet (P : Program) (U : UpdateUnit) (n head ring k at a w s : ℕ) 
   pub younger : (j : ℕ) → s < j → j < at → AtStation U n (station_behind head ring j) (DoesNotWaitFor P a w)
   pub it : AtStation U n (station_behind head ring s) (IsMet P a w e)
 
--- The same, where none may overlap it
+-- The stores from the k-th station on up to that of the load have their addresses, and this is the
+-- youngest that overlaps it, if one does
 abbrev pub HasFound : Program → UpdateUnit → (n head ring k at a w : ℕ) → Option (ℕ × QueueEntry) → Type 0
 HasFound P U n head ring k at a w None =
     (j : ℕ) → k ≤ j → j < at → AtStation U n (station_behind head ring j) (DoesNotWaitFor P a w)
@@ -98,7 +99,7 @@ pub record HasUnknown (P : Program) (U : UpdateUnit) (n head ring at s : ℕ) : 
   pub younger : (j : ℕ) → s < j → j < at → AtStation U n (station_behind head ring j) (IsKnown P)
   pub it : AtStation U n (station_behind head ring s) (Lacks P)
 
--- It is this load, and waits
+-- The tenant is this load, and waits
 pub record IsLoadOf (P : Program) (station : ℕ) (l : Load) (t : Tenant) : Type 0 where
   pub load : IsLiveLoad P t
   pub station_is : t.station ≡ station
@@ -106,7 +107,7 @@ pub record IsLoadOf (P : Program) (station : ℕ) (l : Load) (t : Tenant) : Type
   pub fate : t.fate ≡ Addr l.address
   pub op_is : (instr P t).op ≡ l.op
 
--- Unless it was squashed
+-- Tenant p is this load and waits, unless it was squashed
 abbrev pub IsAskedInOrder : Program → UpdateUnit → ℕ → ℕ → Load → Type 0
 IsAskedInOrder P U p station l = Has U p (IsLoadOf P station l) ⊎ IsStale U p
 
@@ -127,13 +128,13 @@ abbrev pub IsEntryThere : TheCore → (old new : List Entry) → ℕ → QueueEn
 IsEntryThere core old new station e =
     AtStation (unit_in core new) (length (unit_in core old).tenants) station (IsEntryOf core.program e)
 
--- What a search of the stations before that of the load has found
+-- The search of the stations before that of the load has found this
 abbrev pub SearchFinds : TheCore → (old new : List Entry) → (head at : ℕ) → Load → Option (ℕ × QueueEntry) → Type 0
 SearchFinds core old new head at l found =
     HasFound core.program (unit_in core new) (length (unit_in core old).tenants) head core.sizes.ring
     0 at l.address (width l.op) found
 
--- It has met a store without address
+-- The search has met a store without its address
 abbrev pub SearchMisses : TheCore → (old new : List Entry) → (head at s : ℕ) → Type 0
 SearchMisses core old new head at s =
     HasUnknown core.program (unit_in core new) (length (unit_in core old).tenants) head core.sizes.ring at s
@@ -144,7 +145,7 @@ MayAnswer core old new head at l v =
     (p : ℕ) → IsAskedInOrder core.program (unit_in core old) p (station_behind head core.sizes.ring at) l →
     CanLoad core.program (unit_in core new) p l.address v ⊎ IsStale (unit_in core new) p
 
--- The store at place s blocks it, unless it was squashed
+-- The store at place s blocks the load at this place, unless that was squashed
 abbrev pub MayBlock : TheCore → (old new : List Entry) → (head at : ℕ) → Load → ℕ → Type 0
 MayBlock core old new head at l s =
     (p : ℕ) → IsAskedInOrder core.program (unit_in core old) p (station_behind head core.sizes.ring at) l →
@@ -156,7 +157,7 @@ Remains core old new station l =
     (p : ℕ) → IsNamed (unit_in core old) p station l.tag → IsAskedInOrder core.program (unit_in core old) p station l →
     Has (unit_in core new) p (IsLoadOf core.program station l)
 
--- It waits no more
+-- The load waits no more
 abbrev pub Ceases : TheCore → (old new : List Entry) → ℕ → Load → Type 0
 Ceases core old new station l =
     (p : ℕ) → IsAskedInOrder core.program (unit_in core old) p station l →

@@ -21,11 +21,11 @@ use Rattle.back.specs.Loads.{Blocks, IsLiveLoad, WasBlocked, WasNotWaiting}
 use Rattle.back.specs.declared.answers.Refresh.{Refresh}
 use Rattle.back.specs.declared.answers.Refresh.TheVariants.{Blocked, Idle, Loaded}
 
--- It came too late for a load that was squashed in the meantime
+-- The event came too late for a load that was squashed in the meantime
 abbrev pub IsTooLate : Event → Type 0
 IsTooLate event = (p : ℕ) × (event ≡ Refuses (Stale p))
 
--- This is so of each tenant that was a live load when the call began
+-- The fact is true of each tenant that was a live load when the call began
 abbrev pub EachLoad : Program → Sizes → List Entry → (ℕ → Type 0) → Type 0
 EachLoad P C old Fact = (p : ℕ) → Has (unit_of P C old) p (IsLiveLoad P) → Fact p
 
@@ -39,8 +39,8 @@ pub record HasLoaded (P : Program) (C : Sizes) (by : ℕ) (old new : List Entry)
   pub late : List Event
   pub are_late : AllByRecursion IsTooLate late
   pub adds : Adds P C by old new (carried ++ Does (On p Load) ∷ late)
-  -- it was the oldest that could have it: each older one was not waiting, or was blocked, at a moment of
-  -- its own within the call
+  -- the load was the oldest that could have its value: each older one was not waiting, or was blocked, at
+  -- a moment of its own within the call
   pub older : EachLoad P C old (λ o. o < p → WasNotWaiting P C old new o ⊎ WasBlocked P C old new o)
 
 -- No load got a value
@@ -72,7 +72,7 @@ pub record PortWasIdle (P : Program) (C : Sizes) (by : ℕ) (old new : List Entr
   pub each : EachLoad P C old (WasNotWaiting P C old new)
   pub nothing : HasLoadedNothing P C by old new
 
--- What a refresh of this caller answers
+-- A refresh of this caller is answered so
 abbrev pub RefreshAnswers : TheCore → ℕ → List Entry → List Entry → Refresh → Type 0
 RefreshAnswers core by old new (Loaded station tag value) =
     HasLoaded core.program core.sizes by old new station tag value

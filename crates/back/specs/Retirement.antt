@@ -49,7 +49,7 @@ with_last i half (Done v) s = with_done i half v s
 with_last i half (Stored address content) s = with_store i half address content s
 with_last i half (WasStop code) s = s
 
--- What a first half is done with waits for its second
+-- The value of a first half, which waits for the second
 abbrev pub low_by : Bool → Last → Option ℕ
 low_by true (Done v) = Some v
 low_by _ _ = None
@@ -64,7 +64,7 @@ abbrev pub state_behind_by : (waits : Option ℕ) → Instr → Half → Last �
 state_behind_by (Some v) i half last waited s = s
 state_behind_by None i half last waited s = with_last i half last (ahead_by waited s)
 
--- The same by the tenant's instruction and half
+-- The state behind a retired tenant, by its instruction and half
 abbrev pub state_behind : Instr → Half → Last → Option ℕ → State → State
 state_behind i half last waited s = state_behind_by (low_in i half last) i half last waited s
 

@@ -14,7 +14,7 @@ use Rattle.back.specs.Port.{station_behind}
 use Rattle.back.specs.Refreshes.{IsTooLate}
 use Rattle.back.specs.Trials.{HoldsBack, IsLoadAt}
 
--- This is so of each tenant that was a live load of one of the stations when the call began
+-- The fact is true of each tenant that was a live load of one of the stations when the call began
 abbrev pub EachBehind : Program → Sizes → List Entry → (head ring k : ℕ) → (ℕ → Type 0) → Type 0
 EachBehind P C old head ring k Fact =
     (j : ℕ) → j < k → (q : ℕ) → Has (unit_of P C old) q (IsLoadAt P (station_behind head ring j)) → Fact q
@@ -33,7 +33,7 @@ abbrev pub FirstIs : Program → Sizes → List Entry → List Entry → (head r
 FirstIs P C old now head ring k None = EachBehind P C old head ring k (WasNotWaiting P C old now)
 FirstIs P C old now head ring k (Some b) = IsFirstBlocked P C old now head ring k b.0 b.1
 
--- What a scan of the first k stations finds, and what it has added
+-- A scan of the first k stations: what it finds, and what it has added
 pub record Scanned (P : Program) (C : Sizes) (by : ℕ) (old now : List Entry) (head ring k : ℕ) (blocked : Option (ℕ × ℕ)) : Type 0 where
   pub late : List Event
   pub are_late : AllByRecursion IsTooLate late

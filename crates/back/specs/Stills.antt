@@ -15,7 +15,7 @@ pub record TheStillBack : Type 0 where
   pub seen : List Entry
   pub shown : Snap
 
--- What is left of a back without its core
+-- A back without its core
 abbrev pub still_of : TheBack → TheStillBack
 still_of b = record { core = b.core; seen = b.seen; shown = b.shown }
 
@@ -38,7 +38,8 @@ pub record BackMayEnter (core : TheCore) (seen : List Entry) (seat : Caller) : T
   pub goes_on : GoesOnForBack core seen seat
   pub first : head_at seat.core seat.seen ≡ 0
 
--- It enters the core that it left with this seat: the oldest live tenant is looked for where it was
+-- The back enters the core that it left with this seat: the oldest live tenant is looked for where it
+-- was
 pub record BackMayEnterAgain (core : TheCore) (seen : List Entry) (seat : Caller) : Type 0 where
   pub goes_on : GoesOnForBack core seen seat
   pub head : head_at seat.core seat.seen ≡ head_at core seen

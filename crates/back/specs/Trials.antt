@@ -33,7 +33,7 @@ load_of_kind Loads size i tag address =
     if nat_le (address + width i.op) size then Some (record { tag = tag; address = address; op = i.op }) else None
 load_of_kind _ size i tag address = None
 
--- The same by the index of the instruction, if it is one of the program's
+-- The load of the instruction of this index, if the program has one, and it is a load inside the memory
 abbrev pub load_of_index : Program → ℕ → ℕ → ℕ → Option Load
 load_of_index P index tag address =
     if nat_lt index (length P.code)
@@ -56,23 +56,23 @@ pub record ShowsAddress (station tag address : ℕ) (t : Tenant) : Type 0 where
 abbrev pub NoLoadWaits : Program → Sizes → List Entry → List Entry → ℕ → Type 0
 NoLoadWaits P C old new station = (q : ℕ) → Has (unit_of P C old) q (IsLoadAt P station) → WasNotWaiting P C old new q
 
--- No other waits
+-- No live load of the station but p waits, each at a moment of its own
 abbrev pub NoOtherWaits : Program → Sizes → List Entry → List Entry → ℕ → ℕ → Type 0
 NoOtherWaits P C old new station p =
     (q : ℕ) → q ≢ p → Has (unit_of P C old) q (IsLoadAt P station) → WasNotWaiting P C old new q
 
--- This one waits, unless it was squashed
+-- The load l of the station waits, unless it was squashed, and no other does
 pub record SomeWaits (P : Program) (C : Sizes) (old new : List Entry) (station : ℕ) (l : Load) : Type 0 where
   pub p : ℕ
   pub named : IsNamed (unit_of P C new) p station l.tag
   pub asked : IsAskedInOrder P (unit_of P C new) p station l
   pub others : NoOtherWaits P C old new station p
 
--- The same two over a core
+-- No load of the station waits, over a core
 abbrev pub NobodyWaits : TheCore → List Entry → List Entry → ℕ → Type 0
 NobodyWaits core old new station = NoLoadWaits core.program core.sizes old new station
 
--- This load waits, and no other of the station
+-- The load l of the station waits, unless it was squashed, and no other does, over a core
 abbrev pub ThisWaits : TheCore → List Entry → List Entry → ℕ → Load → Type 0
 ThisWaits core old new station l = SomeWaits core.program core.sizes old new station l
 
@@ -105,13 +105,13 @@ pub record DidLoad (P : Program) (C : Sizes) (by : ℕ) (old new : List Entry) (
   -- at a moment of the call it was live and stood there
   pub when : WasOnce P C old new (λ U. Has U p (IsLoadAt P station))
 
--- What is answered of one station
+-- The answer about one station
 abbrev pub StationAnswers : Program → Sizes → ℕ → List Entry → List Entry → ℕ → Tried → Type 0
 StationAnswers P C by old new station Passed = HasPassed P C by old new station
 StationAnswers P C by old new station (Blocked s) = HasHeldBack P C by old new station s
 StationAnswers P C by old new station (Loaded tag value) = DidLoad P C by old new station tag value
 
--- The same of the k-th station behind the head's
+-- The answer about the k-th station behind the head's
 abbrev pub TriedAnswers : TheCore → ℕ → List Entry → List Entry → (head k : ℕ) → Tried → Type 0
 TriedAnswers core by old new head k tried =
     StationAnswers core.program core.sizes by old new (station_behind head core.sizes.ring k) tried

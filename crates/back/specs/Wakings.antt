@@ -14,7 +14,8 @@ use Rattle.back.specs.declared.answers.Refresh.TheVariants.{Blocked, Idle, Loade
 use Rattle.back.specs.declared.port.Tried.{Tried}
 use Rattle.back.specs.declared.port.Tried.TheVariants.{Blocked as HeldBack, Loaded as Got, Passed}
 
--- It is as it was where nothing was added, and else of what was added
+-- The bits of woken stations are as they were where no event was added, and else those of what was
+-- added
 abbrev pub WokenSince : Program → Sizes → ℕ → List Entry → List Entry → List Event → ℕ → ℕ → Type 0
 WokenSince P C by old new [] was woken = woken ≡ was
 WokenSince P C by old new (e ∷ es) was woken = HasWoken P C by old new woken
@@ -36,7 +37,7 @@ RefreshWakes core by old new was woken (Blocked load store) =
 RefreshWakes core by old new was woken Idle =
     WakesNobody core.program core.sizes by old new was woken
 
--- The same of a try of one load
+-- Whom the port's try of one load has woken
 abbrev pub TryWakes : TheCore → ℕ → List Entry → List Entry → ℕ → ℕ → Tried → Type 0
 TryWakes core by old new was woken (Got tag value) =
     HasWoken core.program core.sizes by old new woken

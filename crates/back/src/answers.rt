@@ -1,7 +1,7 @@
-//! What the calls answer.
+//! The answers of the calls.
 use instructions::Stop;
 
-/// What a commit answers.
+/// The answer of a commit.
 #[derive(Clone, Copy, Debug, PartialEq, Eq)]
 pub enum Commit {
     /// The oldest live tenant retired, and its instruction is whole: its pc, and the count of instructions
@@ -18,7 +18,7 @@ pub enum Commit {
     Ended(Stop),
 }
 
-/// What a refresh answers. Tenants are named by their stations.
+/// The answer of a refresh. Tenants are named by their stations.
 #[derive(Clone, Copy, Debug, PartialEq, Eq)]
 pub enum Refresh {
     /// This load got its value.

@@ -36,7 +36,7 @@ impl<J: Naming> Model for Back<J> {
     ghost invariant = { λ b. BackIsKept J.program b.seat b.committed b.low b.head b.ended b.publisher };
 }
 
-// What a back needs memory for. The publisher comes last, since it could not be given up without Wait.
+// The parts of a back that need memory. The publisher comes last, since it could not be given up without Wait.
 fn parts<J: Naming>(
     alloc: Global,
     program: &Program,

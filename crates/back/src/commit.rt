@@ -56,8 +56,8 @@ fn commit_store(committed: &mut Committed, instr: &Instr, half: Half, address: u
     committed.advance(instr.destination(half), 0, pc_plus_4(pc));
 }
 
-// What an instruction made that retired whole goes into its register, and a store writes memory. A stop changes
-// nothing.
+// Commits an instruction that retired whole: its value goes into its register, and a store writes memory. A
+// stop changes nothing.
 fn commit_last(committed: &mut Committed, instr: &Instr, half: Half, last: Last)
     requires count { committed.old.count < 2 ^ 64 - 1 }
     requires inside { StoreIsInside (length committed.old.memory) instr.now last }
@@ -70,7 +70,7 @@ fn commit_last(committed: &mut Committed, instr: &Instr, half: Half, last: Last)
     }
 }
 
-// What a first half is done with waits for its second.
+// The value of a first half, which waits for the second.
 fn low_value(instr: &Instr, half: Half, last: Last) -> Option<u32>
     ensures { result ≡ low_in instr.now half last }
 {

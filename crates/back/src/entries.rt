@@ -1,4 +1,4 @@
-//! What the load/store queue holds of what a station shows.
+//! The load/store queue's entry of an instruction, by what its station shows.
 ghost use Rattle.std.specs.Prelude.{◌≡◌};
 ghost use Rattle.back.specs.Port.{address_in, content_in, seen_as};
 
@@ -17,7 +17,7 @@ pub(crate) fn address(state: StationState, value: u32) -> Option<u32>
     }
 }
 
-// What the queue holds of an instruction.
+// The queue's entry of an instruction, by the state and value that its station shows.
 pub(crate) fn entry(instr: &Instr, state: StationState, value: u32) -> Entry
     ensures { result ≡ seen_as instr.now state value }
 {

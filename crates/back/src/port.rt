@@ -23,14 +23,14 @@ pub struct Load {
     pub op: Op,
 }
 
-/// What came of the load at one station.
+/// The outcome of a try to load at one station.
 #[derive(Clone, Copy)]
 pub enum Tried {
     /// No load waits there.
     Passed,
-    /// It waits for the store of this station.
+    /// The load waits for the store of this station.
     Blocked(usize),
-    /// It got its value: its tag, and the value.
+    /// The load got its value: the tag of the load, and the value.
     Loaded(u32, u32),
 }
 

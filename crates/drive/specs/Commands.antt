@@ -42,11 +42,11 @@ verb_name Table = codes "table"
 abbrev pub is_empty : List ℕ → Bool
 is_empty text = length text == 0
 
--- It has one operand, or two
+-- The line has one operand
 abbrev pub has_one : Texts → Bool
 has_one w = not (is_empty w.first) && is_empty w.second
 
--- It has two operands
+-- The line has two operands
 abbrev pub has_two : Texts → Bool
 has_two w = not (is_empty w.second) && is_empty w.rest
 
@@ -135,7 +135,7 @@ pub record IsMistaken (w : Texts) (v : Verb) : Type 0 where
   pub none : command_of v w ≡ None
   pub no_table : v ≡ Table → is_empty w.first ≡ false
 
--- What the words of a line come to. A line without words asks for nothing
+-- The line that these words are. A line without words asks for nothing
 abbrev pub IsLine : Texts → Line → Type 0
 IsLine w Nothing = w.verb ≡ []
 IsLine w Unknown = (v : Verb) → w.verb ≢ verb_name v

@@ -57,7 +57,7 @@ abbrev pub TurnSays : Program → Sizes → List Entry → List Entry → Turn �
 TurnSays P C before behind (Let station tag pc) = HasLet P C before behind station tag pc
 TurnSays P C before behind turn = IsTurnRefusal P C before behind turn
 
--- What a turn of the front answers, and what it has added to the history
+-- The answer of a turn of the front, and what the turn has added to the history
 abbrev pub IsTurn : TheCore → List Entry → List Entry → Turn → Type 0
 IsTurn core old new turn =
     IsBetween old new (λ before behind. TurnSays core.program core.sizes before behind turn)
@@ -74,7 +74,7 @@ IsClaim core by old new station claim =
     IsBetween old new (λ before behind.
     ClaimAnswers core.program core.sizes by before behind station claim)
 
--- Its finish of a job
+-- The finish of a job by this unit
 abbrev pub IsFinish : TheCore → ℕ → List Entry → List Entry → Job → Finish → Type 0
 IsFinish core by old new job finish =
     IsBetween old new (λ before behind.
@@ -106,7 +106,7 @@ abbrev pub IsLook : TheCore → List Entry → List Entry → ℕ → Seen Stati
 IsLook core old new station seen =
     IsBetween old new (λ before behind. SeesStation core.program core.sizes behind station seen)
 
--- Who creates a register
+-- The creator of a register, or its value
 abbrev pub IsCreatorNow : TheCore → List Entry → List Entry → (told register : ℕ) → Made → Type 0
 IsCreatorNow core old new told register made =
     IsBetween old new (λ before behind.
@@ -147,7 +147,7 @@ abbrev pub RestSays : Program → Sizes → List Entry → List Entry → (told 
 RestSays P C before behind told new_told Idle = HasIdled P C before behind new_told
 RestSays P C before behind told new_told Live = SomebodyWasLive P C before behind told new_told
 
--- What a rest answers, and of how many tenants nobody is told any more before it and behind it
+-- The answer of a rest, and of how many tenants nobody is told any more before it and behind it
 abbrev pub IsRest : TheCore → List Entry → List Entry → (told new_told : ℕ) → Rest → Type 0
 IsRest core old new told new_told rest =
     IsBetween old new (λ before behind.

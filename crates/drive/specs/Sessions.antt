@@ -95,7 +95,7 @@ pub record HasLearnt (old new : TheSession) : Type 0 where
 abbrev pub KeepsCommits : TheSession → TheSession → Type 0
 KeepsCommits old new = IsSameBack old.commits new.commits
 
--- It is as it was, and some snapshot may have been shown of it
+-- What was committed is as it was, and a snapshot of it may have been shown
 abbrev pub ShowsCommits : TheSession → TheSession → Type 0
 ShowsCommits old new = IsSameBack (record old.commits { shown = new.commits.shown }) new.commits
 

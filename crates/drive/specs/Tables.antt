@@ -44,7 +44,7 @@ pub record IsRow (old new : TheSession) (command : Command) (text : List ℕ) : 
   pub kept : new ≡ after_command command old new
   pub text_is : text ≡ row_text command reply
 
--- It was written behind what was there before
+-- The row of this command was written behind what was there before
 pub record HasRow (old new : TheSession) (command : Command) (before after : List ℕ) : Type 0 where
   pub text : List ℕ
   pub row : IsRow old new command text
@@ -59,13 +59,13 @@ AreRows first (command ∷ earlier) text last =
     × IsRow middle last command told
     × (text ≡ before ++ told)
 
--- What is asked of so many stations: its word, its info word and its two operand words
+-- The questions for so many stations: the word of each, its info word and its two operand words
 abbrev pub of_stations : ℕ → List Command
 of_stations zero = []
 of_stations (suc s) =
     ask.Operand s Second ∷ ask.Operand s First ∷ ask.Info s ∷ ask.Look s ∷ of_stations s
 
--- And who creates each of so many registers
+-- The questions for the creators of so many registers, behind earlier commands
 abbrev pub of_registers : ℕ → List Command → List Command
 of_registers zero earlier = earlier
 of_registers (suc r) earlier = ask.Creator r ∷ of_registers r earlier

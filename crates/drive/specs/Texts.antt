@@ -40,7 +40,7 @@ abbrev pub half_text : Half → List ℕ
 half_text Low = codes "Low"
 half_text High = codes "High"
 
--- Which of the two sources
+-- The text of a source
 abbrev pub source_text : Source → List ℕ
 source_text First = codes "1"
 source_text Second = codes "2"
@@ -55,7 +55,7 @@ state_text state.Done = codes "DONE"
 state_text state.Miss = codes "MISS"
 state_text state.Stop = codes "STOP"
 
--- What a turn of the front answered
+-- The text of the answer of a turn of the front
 abbrev pub front_turn_text : Turn → List ℕ
 front_turn_text turn.Full = codes "Full"
 front_turn_text turn.NoInstr = codes "NoInstr"
@@ -65,19 +65,19 @@ front_turn_text (turn.Let station tag pc) =
     codes "Let station " ++ (decimal station ++ (codes " tag " ++ (decimal tag
     ++ (codes " pc " ++ hexadecimal pc))))
 
--- What a recovery answered
+-- The text of the answer of a recovery
 abbrev pub recovery_text : Recovery → List ℕ
 recovery_text (recovery.Mended station squashed) =
     codes "Mended station " ++ (decimal station ++ (codes " squashed " ++ decimal squashed))
 recovery_text recovery.NoMiss = codes "NoMiss"
 
--- Which tenant a job is of
+-- The text of a job's tenant
 abbrev pub place_text : Held → List ℕ
 place_text h =
     codes "Job station " ++ (decimal h.station ++ (codes " tag " ++ (decimal h.tag
     ++ (codes " index " ++ (decimal h.index ++ (codes " half " ++ half_text h.half))))))
 
--- What a job computes with
+-- The text of the values that a job computes with
 abbrev pub values_text : Held → List ℕ
 values_text h =
     codes " pc " ++ (hexadecimal h.pc ++ (codes " predicted " ++ (hexadecimal h.predicted
@@ -87,7 +87,7 @@ values_text h =
 abbrev pub held_text : Held → List ℕ
 held_text h = place_text h ++ values_text h
 
--- What a claim answered
+-- The text of the answer of a claim
 abbrev pub claimed_text : Claimed → List ℕ
 claimed_text (claimed.Job held) = held_text held
 claimed_text claimed.NotOpen = codes "NotOpen"
@@ -95,12 +95,12 @@ claimed_text (claimed.Waiting tag k) =
     codes "Waiting tag " ++ (decimal tag ++ (codes " source " ++ source_text k))
 claimed_text (claimed.Moved tag) = codes "Moved tag " ++ decimal tag
 
--- What a finish answered
+-- The text of the answer of a finish
 abbrev pub finish_text : Finish → List ℕ
 finish_text finish.Finished = codes "Finished"
 finish_text finish.Stale = codes "Stale"
 
--- What a refresh answered
+-- The text of the answer of a refresh
 abbrev pub refresh_text : Refresh → List ℕ
 refresh_text (refresh.Loaded station tag value) =
     codes "Loaded station " ++ (decimal station ++ (codes " tag " ++ (decimal tag
@@ -109,7 +109,7 @@ refresh_text (refresh.Blocked load store) =
     codes "Blocked load " ++ (decimal load ++ (codes " store " ++ decimal store))
 refresh_text refresh.Idle = codes "Idle"
 
--- What a commit answered
+-- The text of the answer of a commit
 abbrev pub commit_text : Commit → List ℕ
 commit_text (commit.Retired pc n) =
     codes "Retired pc " ++ (hexadecimal pc ++ (codes " n " ++ decimal n))
@@ -137,7 +137,7 @@ made_text (made.Made station tag) =
     codes "Made station " ++ (decimal station ++ (codes " tag " ++ decimal tag))
 made_text (made.Base value) = codes "Base " ++ hexadecimal value
 
--- What a look at a station saw
+-- The text of a look at a station
 abbrev pub look_text : Seen StationState → List ℕ
 look_text seen =
     codes "Seen tag " ++ (decimal seen.tag ++ (codes " state " ++ (state_text seen.state
@@ -149,7 +149,7 @@ operand_state_text source.Unset = codes "UNSET"
 operand_state_text source.Wait = codes "WAIT"
 operand_state_text source.Val = codes "VAL"
 
--- What was seen of an operand
+-- The text of a look at an operand
 abbrev pub seen_operand_text : Seen SourceState → List ℕ
 seen_operand_text seen =
     codes "Seen tag " ++ (decimal seen.tag ++ (codes " state " ++ (operand_state_text seen.state
@@ -161,7 +161,7 @@ info_text info =
     codes "Info index " ++ (decimal info.index ++ (codes " half " ++ (half_text info.half
     ++ (codes " predicted " ++ hexadecimal info.predicted))))
 
--- What a rest answered
+-- The text of the answer of a rest
 abbrev pub rest_text : Rest → List ℕ
 rest_text rest.Idle = codes "Idle"
 rest_text rest.Live = codes "Live"
@@ -179,7 +179,7 @@ refusal_text no.NoRest = codes "the front has not rested"
 refusal_text no.HasEnded = codes "the run has ended"
 refusal_text no.NoOther = codes "a seat does not meet itself"
 
--- What is told of a line
+-- The text of a reply
 abbrev pub reply_text : Reply → List ℕ
 reply_text (say.Turn turn) = front_turn_text turn
 reply_text (say.Recovery recovery) = recovery_text recovery
@@ -203,7 +203,7 @@ reply_text (say.Report end) = report_of end
 reply_text say.Renewed = codes "Renewed"
 reply_text (say.Refused refusal) = refusal_text refusal
 
--- The same with the end of its line, which a report has itself
+-- The text of a reply with the end of its line, which a report has itself
 abbrev pub reply_line : Reply → List ℕ
 reply_line (say.Report end) = report_of end
 reply_line reply = reply_text reply ++ newline

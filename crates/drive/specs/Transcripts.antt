@@ -14,7 +14,7 @@ use Rattle.drive.specs.Sessions.{Answers, TheSession, after_command}
 use Rattle.drive.specs.Texts.{reply_line}
 use Rattle.drive.specs.Words.{words_of}
 
--- What the operands of a command are
+-- The text that names the operands of a command
 abbrev pub operands_text : Verb → List ℕ
 operands_text verb.Claim = codes "a unit and a station"
 operands_text verb.Finish = codes "a unit and a station"
@@ -43,7 +43,7 @@ pub record IsAnswered (old new : TheSession) (command : Command) (text : List �
   pub kept : new ≡ after_command command old new
   pub text_is : text ≡ reply_line reply
 
--- What is told of a line of this number. A line that makes no call changes nothing
+-- The text of what a line of this number comes to. A line that makes no call changes nothing
 abbrev pub LineSays : TheSession → TheSession → ℕ → Line → List ℕ → Type 0
 LineSays old new number Nothing text = (text ≡ []) × (new ≡ old)
 LineSays old new number Unknown text = (text ≡ unknown_text number) × (new ≡ old)
@@ -51,13 +51,13 @@ LineSays old new number (Wants v) text = (text ≡ wants_text number v) × (new 
 LineSays old new number (Asks command) text = IsAnswered old new command text
 LineSays old new number Table text = IsTable old new text
 
--- What is told of the bytes of a line
+-- The text of what the bytes of a line come to
 pub record IsToldOfLine (old new : TheSession) (number : ℕ) (bytes text : List ℕ) : Type 0 where
   pub line : Line
   pub line_is : IsLine (words_of bytes) line
   pub says : LineSays old new number line text
 
--- What is told of lines, the last one first: one history grows from line to line, and what is told
+-- The transcript of lines, the last one first: one history grows from line to line, and what is told
 -- of each is allowed between what was seen before it and behind it
 abbrev pub IsTranscript : TheSession → List (List ℕ) → List ℕ → TheSession → Type 0
 IsTranscript first [] text last = (text ≡ []) × (last ≡ first)

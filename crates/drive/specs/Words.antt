@@ -12,11 +12,11 @@ pub record Texts : Type 0 where
   pub second : List ℕ
   pub rest : List ℕ
 
--- What stands before the first blank
+-- The text before the first blank
 abbrev pub first_word : List ℕ → List ℕ
 first_word text = before_first is_blank text
 
--- What stands behind the first word, without the blanks at its ends
+-- The text behind the first word, without the blanks at its ends
 abbrev pub behind_word : List ℕ → List ℕ
 behind_word text = trim (after_first is_blank text)
 

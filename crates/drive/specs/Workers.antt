@@ -25,7 +25,7 @@ pub record IsWorker (core : TheCore) (w : Worker) : Type 0 where
 abbrev pub worker_at : List (Option Worker) → ℕ → Option Worker
 worker_at units at = slice_index_or units at None
 
--- So do all that there are
+-- Each unit that was made is of this core, and holds the job that is kept for it
 abbrev pub AreWorkers : TheCore → List (Option Worker) → Type 0
 AreWorkers core units =
     (at : ℕ) (w : Worker) → worker_at units at ≡ Some w → IsWorker core w

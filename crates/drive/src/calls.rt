@@ -146,7 +146,7 @@ pub fn show<J: Naming, R: Wait>(
     back.show(wait)
 }
 
-/// What the front sees of a station.
+/// The front's look at a station.
 pub fn look<P: Predictor + Drop>(
     core: &Core,
     all: &mut UnitSeat,
@@ -187,7 +187,7 @@ pub fn rest<P: Predictor + Drop>(core: &Core, all: &mut UnitSeat, front: &mut Fr
     answer
 }
 
-/// Who creates a register, as the front knows it.
+/// The creator of a register, as the front knows it, or the register's value.
 pub fn creator<P: Predictor + Drop>(
     core: &Core,
     all: &mut UnitSeat,

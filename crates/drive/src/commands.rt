@@ -63,14 +63,14 @@ pub enum Command {
     Renew,
 }
 
-/// What a line asks for.
+/// A line of a script, by what it asks for.
 #[derive(Clone, Copy, Debug, PartialEq, Eq)]
 pub enum Line {
-    /// It has no word, or none before a `#`.
+    /// The line has no word, or none before a `#`.
     Nothing,
-    /// Its first word is none of a command.
+    /// The first word of the line is none of a command.
     Unknown,
-    /// Its operands are none of this command.
+    /// The operands of the line are none of this command.
     Wants(Verb),
     Asks(Command),
     /// All stations, and who creates which register.
@@ -155,7 +155,7 @@ fn unit_and_number(words: &Words<'_>) -> Option<(usize, u32)>
     Some((unit, number))
 }
 
-// Which of the two sources.
+// The source of this number, 1 or 2.
 fn source_in(text: &[u8]) -> Option<Which>
     ensures { result ≡ source_of text.now }
 {
@@ -217,7 +217,7 @@ fn command_in(verb: Verb, words: &Words<'_>) -> Option<Command>
     }
 }
 
-/// What a line asks for: a command, its operands between blanks, and a comment from a `#` on.
+/// Reads a line: a command, its operands between blanks, and a comment from a `#` on.
 pub fn line_in(line: &[u8]) -> Line
     ensures { IsLine (words_of line.now) result }
 {

@@ -26,7 +26,7 @@ pub struct Held {
     pub b: u32,
 }
 
-/// What a claim answered.
+/// The answer of a claim.
 #[derive(Clone, Copy)]
 pub enum Claimed {
     Job(Held),

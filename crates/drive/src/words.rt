@@ -10,7 +10,7 @@ pub struct Words<'a> {
     pub verb: &'a [u8],
     pub first: &'a [u8],
     pub second: &'a [u8],
-    /// What stands behind the third word.
+    /// The text behind the third word.
     pub rest: &'a [u8],
 }
 
