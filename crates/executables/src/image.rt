@@ -160,8 +160,8 @@ fn all_placed(alloc: Global, file: &[u8], table: Table) -> Result<Image, Refusal
     Ok(image)
 }
 
-/// What a file loads, or why it is refused. No byte outside the file is looked at, whatever its
-/// headers say.
+/// The image that a file loads, or why it is refused. No byte outside the file is looked at, whatever
+/// its headers say.
 #[tactic(auto, unfolding(crate::specs::Placing::loaded_from))]
 pub fn read_image(alloc: Global, file: &[u8]) -> Result<Image, Refusal>
     ensures ok { IfOk result (λ i. loaded_from file.now ≡ Ok i) }

@@ -4,7 +4,7 @@ ghost use Rattle.executables.specs.Symbols.{section_of};
 
 use crate::bytes::word_at;
 
-/// What a section header says.
+/// A section, as its header says.
 #[derive(Clone, Copy)]
 pub struct Section {
     pub kind: u32,

@@ -4,7 +4,7 @@ ghost use Rattle.executables.specs.Headers.{segment_of};
 
 use crate::bytes::word_at;
 
-/// What a program header says of a segment.
+/// A segment, as its program header says.
 #[derive(Clone, Copy)]
 pub struct Segment {
     pub kind: u32,
