@@ -196,7 +196,7 @@ def check_rows(page):
             if not os.path.isfile(at) or not os.path.isfile(beside):
                 wrong(page, f"no file {beside if os.path.isfile(at) else at}")
                 continue
-            with open(at, encoding="utf-8") as it:
+            with open(at, encoding="utf-8", errors="replace") as it:
                 text = it.read()
             for name in re.findall(r"`([^`]+)`", names):
                 if (f"fn {name}(" if at.endswith(".rt") else name) not in text:

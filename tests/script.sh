@@ -61,6 +61,8 @@ for words in -h --help help '--unproved --help'; do
 done
 is_answered version.txt -V
 is_answered version.txt --version
+is_answered version.txt run --version
+is_answered version.txt drive nowhere.s -V
 for command in run check drive listing commits; do
   is_answered $command.txt $command --help
   is_answered $command.txt $command -h
@@ -153,6 +155,7 @@ ruu run examples/sum.s --ruu-size 7
 ruu run examples/sum.s --ruu-size foo
 ruu run examples/sum.s --ruu-size 18446744073709551616
 viewer run examples/sum.s --trace examples/sum.s --alone
+viewer run examples/sum.s --trace - --alone
 viewer run examples/sum.s --chart --ruu-size 3
 driver drive -
 driver drive examples/sum.s --first-tag 268435455
@@ -160,6 +163,8 @@ driver drive examples/sum.s --ruu-size 3
 driver drive examples/sum.s --ruu-size 33
 listing listing
 listing listing examples/sum.s examples/double.s
+listing listing --bogus
+listing listing --
 END
 mistake ruu ''
 mistake ruu run ''  ''

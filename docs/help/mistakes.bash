@@ -48,7 +48,7 @@ mistaken() { # what is wrong, the usage or nothing, how the help is had
 # Sets `names`, `values` and `takes` of the options of a command: what stands for the value, as ` <N>`, and what values there are.
 read_options() { # command
     local name value text
-    names=(help) values=([help]='')
+    names=(help version) values=([help]='' [version]='')
     while IFS=$'\t' read -r name value text; do
         names+=("$name")
         values[$name]=${value%-} takes[$name]=
@@ -60,7 +60,7 @@ read_options() { # command
 usage() { # command, options and FILE that were met
     local name text="ruu $1"
     shift
-    [ $# -gt 0 ] || [ ${#values[@]} -eq 1 ] || text+=' [OPTIONS]'
+    [ $# -gt 0 ] || [ ${#values[@]} -eq 2 ] || text+=' [OPTIONS]'
     for name; do
         [ "$name" = FILE ] || text+=" --$name${values[$name]}"
     done
@@ -158,6 +158,7 @@ bad_values() { # command
     done
     [[ ! -v given[chart] && ! -v given[trace] ]] || [[ -v given[alone] ]] || refused run '--chart and --trace need --alone'
     [[ ! -v given[trace] || ${given[trace]} != "${given[FILE]}" ]] || refused run '--trace names the file of the listing'
+    [[ ! -v given[trace] || ${given[trace]} != - ]] || refused run '--trace takes a file'
     [[ ! -v given[ruu-size] ]] || bad_ring "$1" "${given[ruu-size]}"
 }
 
@@ -215,7 +216,8 @@ bad_words() { # command, words
 [ $# -gt 0 ] || [ "$name" = listing ] || no_command
 case $name-${1:-} in
     listing-*)
-        if [ $# -ne 1 ]; then
+        # a file, whose name begins with a dash behind `--` alone
+        if ! [[ $# -eq 1 && ($1 == - || $1 != -*) || $# -eq 2 && $1 == -- ]]; then
             cat "$help/listing.txt" >&2
             exit 3
         fi

@@ -36,7 +36,7 @@ pub record IsOver (b : Pipeline) (limit : ℕ) (later : Pipeline) : Type 0 where
   pub ends : run_from later limit ≡ run_from b limit
   pub log : log_left b limit ≡ last_of (run_from b limit)
 
--- so much was told of a log that this is left of it
+-- the part of a log before what is left of it was written
 pub record HasTold (whole left : List ℕ) (before after : Option (List ℕ)) : Type 0 where
   pub text : List ℕ
   pub says : Appends before after text

@@ -23,11 +23,11 @@ says pc word i = nat_lt word (2 ^ 32) && is_said i (decode pc word)
 unfoldable pub word_of : ℕ → Instr → Option ℕ
 word_of pc i = if says pc (packed pc i) i then Some (packed pc i) else None
 
--- it is the word of 32 bits that says the instruction, and there is none where no word does
+-- `word_of` is the word of 32 bits that says the instruction, and none where no word does
 pub record IsWordOf (pc : ℕ) (i : Instr) : Type 0 where
   pub some : (word : ℕ) → word_of pc i ≡ Some word → (word < 2 ^ 32) × (decode pc word ≡ Some i)
   pub none : word_of pc i ≡ None → (word : ℕ) → word < 2 ^ 32 → decode pc word ≢ Some i
 
--- so it is of each instruction at each address
+-- each instruction at each address has its word, or none
 abbrev pub AWordSaysItsInstruction : Type 0
 AWordSaysItsInstruction = (pc : ℕ) (i : Instr) → IsWordOf pc i

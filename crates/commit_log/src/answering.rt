@@ -61,7 +61,7 @@ pub fn log_commits<R: Read + Drop, W: Write>(
     }
 }
 
-// The status, once all is written.
+// Reads a listing and logs its run; gives the status, once all is written.
 fn logged<R: Read, W: Write>(
     alloc: Global,
     asked: &Asked<'_>,
@@ -87,7 +87,7 @@ fn logged<R: Read, W: Write>(
     told(alloc, asked, listing.as_slice(), writer)
 }
 
-// Answers the bytes of a listing.
+// Logs the run of the listing of these bytes, or writes the line of its fault; gives the status.
 fn told<W: Write>(
     alloc: Global,
     asked: &Asked<'_>,
@@ -116,7 +116,7 @@ fn told<W: Write>(
     }
 }
 
-// Answers a program.
+// Logs the run of a program; gives the status.
 fn told_of<W: Write>(
     alloc: Global,
     asked: &Asked<'_>,

@@ -69,7 +69,7 @@ fn push_memory(out: &mut String, registers: &[u32; 34], instr: &Instr) -> Result
     write!(out, "mem {address} {stored}")
 }
 
-/// What an instruction has changed, behind its text of this length, by the registers behind it.
+/// Adds what an instruction has changed, behind its text of this length, by the registers behind it.
 pub(crate) fn push_change(
     out: &mut String,
     length: usize,

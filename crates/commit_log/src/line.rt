@@ -9,7 +9,7 @@ use isa::{Hexadecimal, InstrText};
 use std::alloc::{AllocError, Global};
 use std::fmt;
 
-// What every line begins with, at a pc.
+// The beginning of every line, at a pc.
 #[derive(Clone, Copy)]
 struct Head(u32);
 

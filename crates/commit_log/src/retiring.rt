@@ -17,7 +17,7 @@ fn write(registers: &mut [u32; 34], r: Reg, value: u32)
     }
 }
 
-// Writes what the tenant of a station has made, as it retires.
+// Writes the value of a station's tenant into its register, as it retires.
 fn retire(registers: &mut [u32; 34], station: &Option<Station>)
     ensures { registers.new ≡ registers_behind station.now registers.old }
 {

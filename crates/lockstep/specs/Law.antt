@@ -30,7 +30,7 @@ abbrev pub end_over : List ℕ → ℕ → State → Option (Ending × State)
 end_over text zero s = Some (ByLimit, s)
 end_over text (suc k) s = end_behind (end_over text k) s (step_over text s)
 
--- such steps end as the machine does that runs the program
+-- steps over a program's text end as the machine does that runs the program
 abbrev pub ARunIsTheMachines : Type 0
 ARunIsTheMachines =
     (P : Program) (text : List ℕ) (k : ℕ) (s : State) → IsTextOf text P

@@ -9,7 +9,7 @@ use inorder::data::{number, store};
 use instructions::{Half, Instr, Kind, Outcome, Program, Reg, Stop, loaded, outcome, pc_plus_4};
 use machine_words::decode;
 
-/// What a step answers.
+/// The answer of a step.
 #[derive(Clone, Copy, Debug, PartialEq, Eq)]
 pub enum Answer {
     /// One instruction was run.

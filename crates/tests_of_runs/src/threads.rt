@@ -61,7 +61,7 @@ fn run_listing<R: Threads + Wait + Sync, G: Gate + Sync>(
     Ok(run(wait, alloc, &program, &config, NotTaken, gate))
 }
 
-// The same with the turns that the commit thread has left.
+// Runs a listing on the threads, and gives the turns that the commit thread has left.
 fn run_listing_in_turns<R: Threads + Wait + Sync, G: Gate + Sync>(
     wait: &R,
     alloc: Global,
