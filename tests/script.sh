@@ -186,22 +186,6 @@ for words in 'run -' 'run a.s --units 64 --lsq-size 2 --turns 4294967295 --limit
 done
 echo 'nothing else is a mistake'
 
-# each takes less than a tenth of a second of a processor: the least of five, in milliseconds
-least() { # words
-  local TIMEFORMAT='%U %S'
-  for _ in 1 2 3 4 5; do
-    { time answer "$@"; } 2>> "$work/times"
-  done
-  awk '{ took = 1000 * ($1 + $2) } NR == 1 || took < least { least = took } END { print int(least) }' "$work/times"
-  rm "$work/times"
-}
-for words in --help --version rnu 'run --helpp' 'run a.s --units 65' ''; do
-  # shellcheck disable=SC2086
-  took=$(least $words)
-  [ "$took" -lt 100 ] || fail "ruu $words took $took milliseconds"
-done
-echo 'each is answered in a tenth of a second'
-
 # without the kit: one line that names what is missing, and status 70
 lacks() { # what is missing, command
   local missing=$1
