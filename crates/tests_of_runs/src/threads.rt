@@ -1,9 +1,11 @@
 //! Runs in threads.
+mod counted;
 mod ends;
 mod gates;
 mod halves;
 mod hinted;
 mod renewals;
+mod together;
 
 use instructions::{Config, NotTaken};
 use isa::{parse, report_text};

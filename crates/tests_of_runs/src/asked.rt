@@ -1,0 +1,107 @@
+//! What a run asks its predictor and tells it: as its turns one by one do.
+ghost use Rattle.std.specs.Prelude.{⊤};
+
+use crate::same::same_in;
+use instructions::{Bimod, Config, Instr, Predictor, Program};
+use isa::parse;
+use std::alloc::Global;
+use std::cell::Cell;
+use std::process::Abort;
+use std::test::Fail;
+use unit::{Bench, Turn};
+
+/// Answers as another predictor, and keeps a number of all calls in their order.
+#[derive(Drop)]
+struct Keeping<'s> {
+    inner: Bimod,
+    seen: &'s Cell<u64>,
+}
+
+impl<'s> Keeping<'s> {
+    fn new(seen: &'s Cell<u64>) -> Keeping<'s> {
+        Keeping {
+            inner: Bimod::new(),
+            seen,
+        }
+    }
+
+    fn keeps(&self, call: u64, pc: u32, next: u32) {
+        let before = self.seen.get().rotate_left(23);
+        let sum = before.wrapping_add(u64::from(pc)) ^ (u64::from(next) << 32);
+        self.seen
+            .set(sum.wrapping_add(call).wrapping_mul(0x9e37_79b9_7f4a_7c15));
+    }
+}
+
+impl<'s> Predictor for Keeping<'s> {
+    ghost Predicts = { λ old pc instr answer new. ⊤ };
+
+    ghost Learns = { λ old pc next new. ⊤ };
+
+    fn predict(&mut self, pc: u32, instr: &Instr) -> u32 {
+        let next = self.inner.predict(pc, instr);
+        self.keeps(1, pc, next);
+        next
+    }
+
+    fn told(&mut self, pc: u32, next: u32) {
+        self.keeps(2, pc, next);
+        self.inner.told(pc, next);
+    }
+}
+
+// The number of all calls of a run up to a limit, in one call or by its turns.
+fn seen(
+    alloc: Global,
+    program: &Program,
+    config: &Config,
+    limit: u64,
+    by_turns: bool,
+) -> Result<u64, Fail> {
+    let calls = Cell::new(0);
+    let mut bench = Bench::new(alloc, program, config, Keeping::new(&calls))?;
+    if by_turns {
+        for _ in 0..20_000 {
+            if bench.count() < limit && bench.has_room() && matches!(bench.turn(), Turn::Over(_)) {
+                break;
+            }
+        }
+    } else {
+        bench.run(limit);
+    }
+    Ok(calls.get())
+}
+
+// At each size, and up to limits at which a run is cut off in different states.
+fn is_asked_alike(rt: &impl Abort, alloc: Global, listing: &[u8]) -> Result<(), Fail> {
+    let program = parse(alloc, listing)?;
+    for (ring, queue) in [(2, 2), (4, 2), (8, 3), (16, 2), (16, 8), (32, 8), (32, 32)] {
+        let config = Config::new(ring, queue, 1, 1, 1, 1_000_000, 1_000_000)?;
+        for limit in [1, 7, 60, 300] {
+            let run = seen(alloc, &program, &config, limit, false)?;
+            same_in(
+                rt,
+                &(ring, queue, limit),
+                &run,
+                &seen(alloc, &program, &config, limit, true)?,
+            );
+        }
+    }
+    Ok(())
+}
+
+// Several tenants are let between two retirements, since the queue was full: a branch that depends on a load of these,
+// and a younger one that does not. Both are mispredicted, and the younger one is known first.
+#[test]
+fn a_miss_is_mended_among_several_lets(rt: HostRuntime) -> Result<(), Fail> {
+    let listing =
+        b".space 64\nori $1,$0,40\nL: andi $2,$1,3\nsw $2,0($0)\nsw $2,4($0)\nlw $3,8($0)\nlw $4,0($0)\nbeq $4,$0,M\nandi $5,$1,1\nbne $5,$0,N\nxor $6,$6,$1\nM: addu $7,$7,$6\nN: addiu $1,$1,-1\nbne $1,$0,L\nbreak\n";
+    is_asked_alike(&rt, rt.alloc(), listing)
+}
+
+#[test]
+fn misses_calls_and_products_are_asked_alike(rt: HostRuntime) -> Result<(), Fail> {
+    let listing =
+        b".space 16\nori $1,$0,30\nL: mult $1,$1\nmflo $2\nandi $3,$2,4\nbeq $3,$0,E\njal F\nE: addu $4,$2,$4\nandi $3,$4,3\nbne $3,$0,G\nsw $4,0($0)\nG: addiu $1,$1,-1\nbne $1,$0,L\nbreak\nF: divu $4,$1\nmfhi $4\nlw $5,0($0)\njr $ra\n";
+    is_asked_alike(&rt, rt.alloc(), listing)
+}
