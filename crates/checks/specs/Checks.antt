@@ -2,11 +2,7 @@
 use Rattle.std.specs.Prelude.{◌≡◌, ◌≤◌, ◌+◌, ℕ, zero, suc, Bool, true, false}
 use Rattle.std.specs.Prelude.{List, [], ◌∷◌, ◌++◌, length, map, codes, decimal}
 use Rattle.std.specs.Prelude.{Option, Some, None, Result, Ok, Err, slice_get, if◌then◌else◌}
-use Rattle.std.specs.Borrow.{Bor}
 use Rattle.std.specs.List.{before_first}
-use Rattle.std.specs.Map.{lookup}
-use Rattle.std.specs.Option.{option_map_or}
-use Rattle.std.specs.Str.{str_eq_ignore_ascii_case}
 use Rattle.text.specs.Blank.{is_blank}
 use Rattle.text.specs.Label.{statement_of}
 use Rattle.text.specs.Line.{before_comment, lines_of}
@@ -15,7 +11,7 @@ use Rattle.isa.specs.declared.listing.fault.FaultKind.TheVariants as kind
 use Rattle.isa.specs.Listing.{Lines, labels}
 use Rattle.instructions.specs.Programs.{Program}
 use Rattle.isa.specs.Report.{fault_line, newline}
-use Rattle.checks.specs.Forms.{known_forms}
+use Rattle.checks.specs.Forms.{word_note}
 use Rattle.checks.specs.Quotes.{quote}
 use Rattle.checks.specs.declared.parts.Part.{Part}
 
@@ -71,21 +67,9 @@ has_form _ = false
 abbrev pub word_in : List ℕ → List ℕ
 word_in line = before_first is_blank (statement_of (before_comment line))
 
--- a row of the code's table
-abbrev pub table_row : Bor (List ℕ) × Bor (List ℕ) → List ℕ × List ℕ
-table_row e = (e.0.now, e.1.now)
-
--- the form of a word
-unfoldable pub form_of : List ℕ → Option (List ℕ)
-form_of word = lookup (λ k. str_eq_ignore_ascii_case k word) known_forms
-
--- what is told of the form behind a fault, if there is one
-abbrev pub form_sentence : Option (List ℕ) → List ℕ
-form_sentence form = option_map_or (λ f. codes " The form is " ++ (f ++ codes ".")) form []
-
 -- what is said of the line
 abbrev pub form_note : FaultKind → List ℕ → List ℕ
-form_note kind line = if has_form kind then form_sentence (form_of (word_in line)) else []
+form_note kind line = if has_form kind then word_note (word_in line) else []
 
 -- a line with a mark under some part of it, and what the language wants there; a fault of the listing
 -- as a whole has no line

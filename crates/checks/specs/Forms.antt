@@ -1,62 +1,25 @@
--- The form of each word of the language, as it is told to whoever got it wrong. What the words and their
--- operands are is defined by the forms of the listing language.
-use Rattle.std.specs.Prelude.{ℕ, List, [], ◌∷◌, codes}
+-- What is told of the forms of a word to whoever got it wrong.
+use Rattle.std.specs.Prelude.{ℕ, Bool, true, false, List, [], ◌∷◌, ◌++◌, map, filter, codes}
+use Rattle.std.specs.Option.{option_map_or}
+use Rattle.isa.specs.Forms.{forms, form_text, has_word}
+use Rattle.isa.specs.Statement.{directive_text}
 
--- each operation with its form, in the order of the manual
-abbrev pub known_forms : List (List ℕ × List ℕ)
-known_forms =
-    (codes "addu", codes "addu rd,rs,rt")
-    ∷ (codes "subu", codes "subu rd,rs,rt")
-    ∷ (codes "add", codes "add rd,rs,rt")
-    ∷ (codes "sub", codes "sub rd,rs,rt")
-    ∷ (codes "and", codes "and rd,rs,rt")
-    ∷ (codes "or", codes "or rd,rs,rt")
-    ∷ (codes "xor", codes "xor rd,rs,rt")
-    ∷ (codes "nor", codes "nor rd,rs,rt")
-    ∷ (codes "slt", codes "slt rd,rs,rt")
-    ∷ (codes "sltu", codes "sltu rd,rs,rt")
-    ∷ (codes "sll", codes "sll rd,rt,n with n from 0 to 31")
-    ∷ (codes "srl", codes "srl rd,rt,n with n from 0 to 31")
-    ∷ (codes "sra", codes "sra rd,rt,n with n from 0 to 31")
-    ∷ (codes "sllv", codes "sllv rd,rt,rs")
-    ∷ (codes "srlv", codes "srlv rd,rt,rs")
-    ∷ (codes "srav", codes "srav rd,rt,rs")
-    ∷ (codes "mult", codes "mult rs,rt")
-    ∷ (codes "multu", codes "multu rs,rt")
-    ∷ (codes "div", codes "div rs,rt")
-    ∷ (codes "divu", codes "divu rs,rt")
-    ∷ (codes "mflo", codes "mflo rd")
-    ∷ (codes "mfhi", codes "mfhi rd")
-    ∷ (codes "mtlo", codes "mtlo rs")
-    ∷ (codes "mthi", codes "mthi rs")
-    ∷ (codes "addiu", codes "addiu rt,rs,n with n from -32768 to 32767")
-    ∷ (codes "addi", codes "addi rt,rs,n with n from -32768 to 32767")
-    ∷ (codes "slti", codes "slti rt,rs,n with n from -32768 to 32767")
-    ∷ (codes "sltiu", codes "sltiu rt,rs,n with n from -32768 to 32767")
-    ∷ (codes "andi", codes "andi rt,rs,n with n from 0 to 65535")
-    ∷ (codes "ori", codes "ori rt,rs,n with n from 0 to 65535")
-    ∷ (codes "xori", codes "xori rt,rs,n with n from 0 to 65535")
-    ∷ (codes "lui", codes "lui rt,n with n from 0 to 65535")
-    ∷ (codes "lb", codes "lb rt,n(rs) with n from -32768 to 32767")
-    ∷ (codes "lbu", codes "lbu rt,n(rs) with n from -32768 to 32767")
-    ∷ (codes "lh", codes "lh rt,n(rs) with n from -32768 to 32767")
-    ∷ (codes "lhu", codes "lhu rt,n(rs) with n from -32768 to 32767")
-    ∷ (codes "lw", codes "lw rt,n(rs) with n from -32768 to 32767")
-    ∷ (codes "sb", codes "sb rt,n(rs) with n from -32768 to 32767")
-    ∷ (codes "sh", codes "sh rt,n(rs) with n from -32768 to 32767")
-    ∷ (codes "sw", codes "sw rt,n(rs) with n from -32768 to 32767")
-    ∷ (codes "beq", codes "beq rs,rt,label")
-    ∷ (codes "bne", codes "bne rs,rt,label")
-    ∷ (codes "blez", codes "blez rs,label")
-    ∷ (codes "bgtz", codes "bgtz rs,label")
-    ∷ (codes "bltz", codes "bltz rs,label")
-    ∷ (codes "bgez", codes "bgez rs,label")
-    ∷ (codes "j", codes "j label")
-    ∷ (codes "jal", codes "jal label")
-    ∷ (codes "jr", codes "jr rs")
-    ∷ (codes "jalr", codes "jalr rs or jalr rd,rs")
-    ∷ (codes "break", codes "break without operands")
-    ∷ (codes "nop", codes "nop without operands")
-    ∷ (codes ".space", codes ".space n with n a multiple of 4 from 0 to 65536")
-    ∷ (codes ".word", codes ".word n,.. with each n from -2147483648 to 4294967295")
-    ∷ []
+-- the forms of a word, as they are told
+unfoldable pub forms_of : List ℕ → List (List ℕ)
+forms_of word = map form_text (filter (has_word word) forms)
+
+-- what stands before a form: before the first the beginning of the sentence
+abbrev pub lead : (began : Bool) → List ℕ
+lead false = codes " The form is "
+lead true = codes " or "
+
+-- a sentence that tells of forms, or the rest of one that began with another; without a form there is none
+abbrev pub alternatives : (began : Bool) → List (List ℕ) → List ℕ
+alternatives false [] = []
+alternatives true [] = codes "."
+alternatives began (form ∷ forms) = lead began ++ (form ++ alternatives true forms)
+
+-- what is told of a word: the form of a directive, or those of an operation
+abbrev pub word_note : List ℕ → List ℕ
+word_note word =
+    option_map_or (λ form. alternatives false (form ∷ [])) (directive_text word) (alternatives false (forms_of word))

@@ -2,10 +2,9 @@
 ghost use Rattle.std.specs.Prelude.{◌≤◌, IfOk};
 ghost use Rattle.checks.specs.Checks.{IsPartOf, LiesIn};
 
-use super::forms::form_of;
 use super::parts::{Part, code, find, labels, operands, statement, trimmed, word};
 use super::registers::is_register;
-use isa::FaultKind;
+use isa::{FaultKind, Form, Operands, forms};
 use std::alloc::{AllocError, Global};
 use text::{is_plain_text, number_in};
 
@@ -36,10 +35,10 @@ fn last_operand(line: &[u8], operands: Part) -> Part
 
 // Whether the word's last operand is an offset with a register, as its form says.
 fn has_offset(word: &[u8]) -> bool {
-    match form_of(word) {
-        Some(form) => form.as_bytes().contains(&b'('),
-        None => false,
-    }
+    let has_offset = |form: &Form| matches!(form.operands, Operands::Load | Operands::Store);
+    forms()
+        .iter()
+        .any(|form| form.has_word(word) && has_offset(form))
 }
 
 // The offset of an operand `offset(register)`: what stands before its first parenthesis.

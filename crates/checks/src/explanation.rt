@@ -2,10 +2,10 @@
 ghost use Rattle.std.specs.Prelude.{◌≡◌, ◌++◌, IfOk, OnOk, None, Some};
 ghost use Rattle.std.specs.Option.{option_map};
 ghost use Rattle.checks.specs.Checks.{IsExplained, IsExplanationBehind};
-ghost use Rattle.checks.specs.Checks.{form_note, form_sentence, has_form, sentence};
+ghost use Rattle.checks.specs.Checks.{form_note, has_form, sentence};
 
 use super::blame::part_at_fault;
-use super::forms::form_of;
+use super::forms::push_forms;
 use super::lines::{line_at, word_in};
 use super::quoting::push_quote;
 use isa::{FaultKind, TextFault, fault_text};
@@ -48,28 +48,14 @@ fn has_form(kind: FaultKind) -> bool
     )
 }
 
-fn push_form_of(text: &mut Vec<u8>, form: &str) -> Result<(), AllocError>
-    ensures { OnOk result (text.new.items
-        ≡ text.old.items ++ form_sentence (Some form.now)) }
-{
-    text.extend_from_slice(b" The form is ")?;
-    text.extend_from_slice(form.as_bytes())?;
-    text.push(b'.')?;
-    Ok(())
-}
-
-// The form of the line's word, where that tells what is wanted.
+// The forms of the line's word, where they tell what is wanted.
 fn push_form(text: &mut Vec<u8>, kind: FaultKind, line: &[u8]) -> Result<(), AllocError>
     ensures { OnOk result (text.new.items ≡ text.old.items ++ form_note kind line.now) }
 {
-    if !has_form(kind) {
-        return Ok(());
+    if has_form(kind) {
+        push_forms(text, word_in(line))?;
     }
-    let word = word_in(line);
-    match form_of(word) {
-        Some(form) => push_form_of(text, form),
-        None => Ok(()),
-    }
+    Ok(())
 }
 
 // The line of the listing with its mark, and what is wanted there.

@@ -9,11 +9,11 @@ use Rattle.std.proofs.lemmas.Fmt.{length-decimal-le}
 use Rattle.instructions.specs.declared.op.Op.{Op}
 use Rattle.instructions.specs.declared.op.Op.TheVariants.{Addu}
 use Rattle.instructions.specs.declared.instr.Instr.{Instr}
-use Rattle.isa.specs.declared.listing.form.Slot.{Slot}
-use Rattle.isa.specs.declared.listing.form.Slot.TheVariants.{Into, First, Second, S16, U16, U5, Label, Offset}
+use Rattle.isa.specs.declared.listing.slot.Slot.{Slot}
+use Rattle.isa.specs.declared.listing.slot.Slot.TheVariants.{Into, First, Second, S16, U16, U5, Label, Offset}
 use Rattle.isa.specs.declared.listing.instr_text.Naming.TheVariants.{Names}
 use Rattle.isa.specs.Report.{hex8}
-use Rattle.isa.specs.Wording.{operation_word, slots_of}
+use Rattle.isa.specs.Forms.{operation_word, slots_of}
 use Rattle.isa.specs.InstrText.{register_text, signed_text, label_text, operand_text, with_operands_text, is_nop, text_of, Fits, AllFit, IsSignedHalf, IsWritable}
 use Rattle.isa.proofs.TextNumbers.{signed_positive, signed_negative, below_zero}
 use Rattle.conversion.specs.Writing.{code_line}

@@ -1,2 +1,3 @@
 pub mod WideProducts
 pub mod Quotients
+pub mod Words

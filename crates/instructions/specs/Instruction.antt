@@ -1,7 +1,10 @@
 -- What an instruction reads, writes and names.
-use Rattle.std.specs.Prelude.{ℕ, ◌+◌, ◌%◌, ◌^◌, Bool, true, false, ◌==◌, if◌then◌else◌, ◌&&◌, nat_lt, Option, Some, None}
+use Rattle.std.specs.Prelude.{ℕ, ◌+◌, ◌%◌, ◌^◌, Bool, true, false, ◌==◌, if◌then◌else◌, ◌&&◌, nat_lt, List, [], ◌∷◌, Option, Some, None}
 use Rattle.instructions.specs.declared.op.Op.{Op}
-use Rattle.instructions.specs.declared.op.Op.TheVariants.{Addu, Subu, Add, Sub, And, Or, Xor, Nor, Slt, Sltu, Sllv, Srlv, Srav, Mult, Multu, Div, Divu, Lui, Lb, Lbu, Lh, Lhu, Lw, Sb, Sh, Sw, Beq, Bne, Blez, Bgtz, Bltz, Bgez, J, Jal, Jr, Jalr, Break}
+use Rattle.instructions.specs.declared.op.Op.TheVariants.{Addu, Subu, Add, Sub, And, Or, Xor, Nor, Slt, Sltu, Sll, Srl, Sra, Sllv, Srlv, Srav}
+use Rattle.instructions.specs.declared.op.Op.TheVariants.{Mult, Multu, Div, Divu, Mflo, Mfhi, Mtlo, Mthi}
+use Rattle.instructions.specs.declared.op.Op.TheVariants.{Addiu, Addi, Slti, Sltiu, Andi, Ori, Xori, Lui, Lb, Lbu, Lh, Lhu, Lw, Sb, Sh, Sw}
+use Rattle.instructions.specs.declared.op.Op.TheVariants.{Beq, Bne, Blez, Bgtz, Bltz, Bgez, J, Jal, Jr, Jalr, Break}
 use Rattle.instructions.specs.declared.op.Half.{Half}
 use Rattle.instructions.specs.declared.op.Half.TheVariants.{Low, High}
 use Rattle.instructions.specs.declared.op.Kind.{Kind}
@@ -17,6 +20,14 @@ instr_with op target first second number =
 -- the address behind the instruction at pc
 abbrev pub pc_plus_4 : ℕ → ℕ
 pc_plus_4 pc = (pc + 4) % 2 ^ 32
+
+-- all operations
+abbrev pub operations : List Op
+operations =
+    Addu ∷ Subu ∷ Add ∷ Sub ∷ And ∷ Or ∷ Xor ∷ Nor ∷ Slt ∷ Sltu ∷ Sll ∷ Srl ∷ Sra ∷ Sllv ∷ Srlv ∷ Srav
+    ∷ Mult ∷ Multu ∷ Div ∷ Divu ∷ Mflo ∷ Mfhi ∷ Mtlo ∷ Mthi
+    ∷ Addiu ∷ Addi ∷ Slti ∷ Sltiu ∷ Andi ∷ Ori ∷ Xori ∷ Lui ∷ Lb ∷ Lbu ∷ Lh ∷ Lhu ∷ Lw ∷ Sb ∷ Sh ∷ Sw
+    ∷ Beq ∷ Bne ∷ Blez ∷ Bgtz ∷ Bltz ∷ Bgez ∷ J ∷ Jal ∷ Jr ∷ Jalr ∷ Break ∷ []
 
 -- the kind of an operation
 abbrev pub kind : Op → Kind

@@ -1,5 +1,5 @@
 -- What each operation comes to: MIPS I's integer operations, without delay slots.
-use Rattle.std.specs.Prelude.{ℕ, ℤ, pos, negsuc, ◌+◌, ◌-◌, ◌*◌, ◌/◌, ◌%◌, ◌^◌, ◌≤◌, ◌+ℤ◌, ◌-ℤ◌, Bool, true, false, not, ◌&&◌, ⊤, ◌==◌, nat_lt, nat_le, int_lt, int_le, if◌then◌else◌, bit_and, bit_or, bit_xor, Result, Ok, Err}
+use Rattle.std.specs.Prelude.{ℕ, ℤ, pos, negsuc, ◌+◌, ◌-◌, ◌*◌, ◌/◌, ◌%◌, ◌^◌, ◌<◌, ◌≤◌, ◌+ℤ◌, ◌-ℤ◌, Bool, true, false, not, ◌&&◌, ⊤, ◌==◌, nat_lt, nat_le, int_lt, int_le, if◌then◌else◌, bit_and, bit_or, bit_xor, Result, Ok, Err}
 use Rattle.std.specs.Int.{Width, w8, w16, w32, cast_signed, cast_unsigned, int_div_euclid}
 use Rattle.instructions.specs.declared.op.Op.{Op}
 use Rattle.instructions.specs.declared.op.Op.TheVariants.{Addu, Subu, Add, Sub, And, Or, Xor, Nor, Slt, Sltu, Sll, Srl, Sra, Sllv, Srlv, Srav, Mult, Multu, Div, Divu, Mflo, Mfhi, Mtlo, Mthi, Addiu, Addi, Slti, Sltiu, Andi, Ori, Xori, Lui, Lb, Lh, Beq, Bne, Blez, Bgtz, Bltz, Bgez, Jr, Jalr}
@@ -22,6 +22,10 @@ code_of Overflow = 1
 code_of Unaligned = 2
 code_of OutOfRange = 3
 code_of BadPc = 4
+
+-- a number of 32 bits
+abbrev pub IsWord : ℕ → Type 0
+IsWord n = n < 2 ^ 32
 
 -- a word, read as two's complement
 abbrev pub signed : ℕ → ℤ

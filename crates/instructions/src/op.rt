@@ -1,6 +1,6 @@
 //! Operations.
 ghost use Rattle.std.specs.Prelude.{◌≡◌, ◌<◌, ◌≤◌};
-ghost use Rattle.instructions.specs.Instruction.{kind as kind_of, width as width_of, is_access as is_access_of, is_branch as is_branch_of, is_pair as is_pair_of, reads_first as reads_first_of, reads_second as reads_second_of, writes as writes_of};
+ghost use Rattle.instructions.specs.Instruction.{operations, kind as kind_of, width as width_of, is_access as is_access_of, is_branch as is_branch_of, is_pair as is_pair_of, reads_first as reads_first_of, reads_second as reads_second_of, writes as writes_of};
 
 /// An operation, one for each row of the table of MIPS I integer operations. `nop` is `Sll` of
 /// zeros.
@@ -82,7 +82,68 @@ pub enum Kind {
     Stores,
 }
 
+static OPERATIONS: [Op; 51] = [
+    Op::Addu,
+    Op::Subu,
+    Op::Add,
+    Op::Sub,
+    Op::And,
+    Op::Or,
+    Op::Xor,
+    Op::Nor,
+    Op::Slt,
+    Op::Sltu,
+    Op::Sll,
+    Op::Srl,
+    Op::Sra,
+    Op::Sllv,
+    Op::Srlv,
+    Op::Srav,
+    Op::Mult,
+    Op::Multu,
+    Op::Div,
+    Op::Divu,
+    Op::Mflo,
+    Op::Mfhi,
+    Op::Mtlo,
+    Op::Mthi,
+    Op::Addiu,
+    Op::Addi,
+    Op::Slti,
+    Op::Sltiu,
+    Op::Andi,
+    Op::Ori,
+    Op::Xori,
+    Op::Lui,
+    Op::Lb,
+    Op::Lbu,
+    Op::Lh,
+    Op::Lhu,
+    Op::Lw,
+    Op::Sb,
+    Op::Sh,
+    Op::Sw,
+    Op::Beq,
+    Op::Bne,
+    Op::Blez,
+    Op::Bgtz,
+    Op::Bltz,
+    Op::Bgez,
+    Op::J,
+    Op::Jal,
+    Op::Jr,
+    Op::Jalr,
+    Op::Break,
+];
+
 impl Op {
+    /// All operations, in the order of their table.
+    pub fn all() -> &'static [Op]
+        ensures { result.now ≡ operations }
+    {
+        OPERATIONS.as_slice()
+    }
+
     /// The kind of the operation.
     pub fn kind(self) -> Kind
         ensures { result ≡ kind_of self }

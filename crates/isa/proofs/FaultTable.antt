@@ -11,12 +11,12 @@ use Rattle.text.specs.Number.{first_is, begins_number, number_in}
 use Rattle.text.specs.Operand.{operands, parenthesized}
 use Rattle.isa.specs.declared.listing.fault.FaultKind.{FaultKind}
 use Rattle.isa.specs.declared.listing.fault.FaultKind.TheVariants.{UnknownOp, BadOperands, BadRegister, BadNumber}
-use Rattle.isa.specs.declared.listing.form.Slot.{Slot}
-use Rattle.isa.specs.declared.listing.form.Slot.TheVariants.{Into, First, Second, S16, U16, U5, Label, Offset}
+use Rattle.isa.specs.declared.listing.slot.Slot.{Slot}
+use Rattle.isa.specs.declared.listing.slot.Slot.TheVariants.{Into, First, Second, S16, U16, U5, Label, Offset}
 use Rattle.isa.specs.Reading.{◌>>=◌}
 use Rattle.isa.specs.RegisterNames.{register, register_number, existing}
 use Rattle.isa.specs.Operands.{number, signed_half, label, offset, offset_and_register}
-use Rattle.isa.specs.Forms.{Form, has_word, has_word_and_count, forms, is_operation, form_with, form_of}
+use Rattle.isa.specs.Forms.{Form, slots, has_word, has_word_and_count, forms, is_operation, form_with, form_of}
 use Rattle.isa.specs.Statement.{Parsed, fill, filled, instruction, space, words, data_words, is_word, with_operands, statement}
 use Rattle.isa.specs.Faults.{Fault, first_kind, register_faults, number_faults, label_faults, offset_faults, address_faults, operand_faults, operands_faults, slots_if}
 use Rattle.isa.specs.Faults.{instruction_faults, is_size, size_faults, space_faults, words_faults, faults_with, statement_faults}
@@ -113,17 +113,17 @@ second_of true b e = e
 second_of false b e = absurd cc
 
 -- a row that is found has the number of operands that was asked for
-found_count : (word : List ℕ) (n : ℕ) (rs : List (List ℕ × Form)) (row : List ℕ × Form) → find (has_word_and_count word n) rs ≡ Some row → length row.1.1 ≡ n
+found_count : (word : List ℕ) (n : ℕ) (rs : List Form) (row : Form) → find (has_word_and_count word n) rs ≡ Some row → length (slots row.operands) ≡ n
 found_count word n [] row e = absurd cc
 found_count word n (r ∷ rs) row e = elim (cases_Bool (has_word_and_count word n r)) [
   | inl is ↦
       let found : Some r ≡ Some row = rw is at e in
       let same : r ≡ row = cc in
-      subst (λ (x : List ℕ × Form). length x.1.1 ≡ n) same (eqb-true (length r.1.1) n (second_of (has_word word r) (length r.1.1 == n) is))
+      subst (λ (x : Form). length (slots x.operands) ≡ n) same (eqb-true (length (slots r.operands)) n (second_of (has_word word r) (length (slots r.operands) == n) is))
   | inr other ↦ let rest : find (has_word_and_count word n) rs ≡ Some row = rw other at e in found_count word n rs row rest
 ]
 
-form_count : (word : List ℕ) (n : ℕ) (row : List ℕ × Form) → form_with word n ≡ Some row → length row.1.1 ≡ n
+form_count : (word : List ℕ) (n : ℕ) (row : Form) → form_with word n ≡ Some row → length (slots row.operands) ≡ n
 unfolding form_with
 form_count word n row e = found_count word n forms row e
 
@@ -135,12 +135,12 @@ is_there false o k j x e = absurd cc
 instruction_fault : (word : List ℕ) (parts : List (List ℕ)) → error_of (instruction word parts) ≡ first_kind (instruction_faults word parts)
 unfolding instruction
 instruction_fault word parts =
-    let o : Option (List ℕ × Form) = form_with word (length parts) in
+    let o : Option Form = form_with word (length parts) in
     then_next (form_of word (length parts)) _ ((UnknownOp, not (is_operation word)) ∷ (BadOperands, is_none o) ∷ []) (operands_faults (slots_if o) parts)
     (both_there (is_operation word) o UnknownOp BadOperands)
     (λ form is.
     let there : form_with word (length parts) ≡ Some form = is_there (is_operation word) o UnknownOp BadOperands form is in
-    rw there (filled_fault form.1.1 parts _ (form_count word (length parts) form there)))
+    rw there (filled_fault (slots form.operands) parts _ (form_count word (length parts) form there)))
 
 -- ---- directives
 

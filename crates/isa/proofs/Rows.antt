@@ -1,5 +1,5 @@
 -- Instructions beside their targets, and the addresses of their labels.
-use Rattle.std.proofs.Common.{◌≡◌, ℕ, ◌+◌, ◌<◌, ◌≤◌, List, [], ◌∷◌, ◌++◌, length, take, drop, get_or, slice_set, Result, Ok, Err, refl, sym, ap, ◌∙◌, append_assoc, arith}
+use Rattle.std.proofs.Common.{◌≡◌, ℕ, ◌+◌, ◌<◌, ◌≤◌, List, [], ◌∷◌, ◌++◌, length, take, drop, get_or, slice_set, map, Result, Ok, Err, refl, sym, ap, ◌∙◌, append_assoc, arith}
 use Rattle.std.proofs.lemmas.List.{append-nil, drop_more, drop_all, take_all, get_or_default, take_more_set, drop-set-lt}
 use Rattle.instructions.specs.declared.instr.Instr.{Instr}
 use Rattle.isa.specs.declared.listing.fault.FaultKind.{FaultKind}
@@ -84,3 +84,10 @@ pub written_back : (n : ℕ) (new old : List Instr) → length new ≡ n → len
 written_back n new old e f =
     let none : drop (length new) old ≡ [] = drop_all (length new) old (omega arith) in
     rw (none, append-nil new) (take_all n new (omega arith))
+
+-- The numbers of the lines of instructions
+pub lines_of_rows : (code : List Instr) (ts : List Target) → length code ≡ length ts → map (λ (t : Target). t.line) ts ≡ map (λ (d : ℕ × Parsed). d.0) (rows code ts)
+lines_of_rows [] [] e = refl
+lines_of_rows [] (t ∷ ts) e = absurd (omega (arith, e))
+lines_of_rows (i ∷ is) [] e = absurd (omega (arith, e))
+lines_of_rows (i ∷ is) (t ∷ ts) e = ap (λ ns. t.line ∷ ns) (lines_of_rows is ts (omega (arith, e)))

@@ -4,7 +4,7 @@ use Rattle.std.specs.Prelude.{ok_or}
 use Rattle.std.proofs.lemmas.List.{drop_more, drop_all}
 use Rattle.isa.specs.declared.listing.fault.FaultKind.{FaultKind}
 use Rattle.isa.specs.declared.listing.fault.FaultKind.TheVariants.{BadOperands}
-use Rattle.isa.specs.declared.listing.form.Slot.{Slot}
+use Rattle.isa.specs.declared.listing.slot.Slot.{Slot}
 use Rattle.isa.specs.Statement.{Parsed, fill, filled}
 
 module _ (slots : List Slot) (n : ℕ) (texts : List (List ℕ)) (p : Parsed) (all : Result Parsed FaultKind)

@@ -12,8 +12,8 @@ use Rattle.text.specs.Number.{numeral, decimal, decimal_in}
 use Rattle.text.specs.Operand.{parenthesized, before_close}
 use Rattle.instructions.specs.declared.instr.Instr.{Instr}
 use Rattle.isa.specs.declared.listing.fault.FaultKind.{FaultKind}
-use Rattle.isa.specs.declared.listing.form.Slot.{Slot}
-use Rattle.isa.specs.declared.listing.form.Slot.TheVariants.{Into, First, Second, S16, U16, U5, Label, Offset}
+use Rattle.isa.specs.declared.listing.slot.Slot.{Slot}
+use Rattle.isa.specs.declared.listing.slot.Slot.TheVariants.{Into, First, Second, S16, U16, U5, Label, Offset}
 use Rattle.isa.specs.declared.listing.instr_text.Naming.{Naming}
 use Rattle.isa.specs.declared.listing.instr_text.Naming.TheVariants.{Numbers, Names}
 use Rattle.isa.specs.RegisterNames.{register, register_number}

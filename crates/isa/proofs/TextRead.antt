@@ -13,10 +13,9 @@ use Rattle.instructions.specs.declared.op.Op.TheVariants.{Addu, Sll}
 use Rattle.instructions.specs.declared.instr.Instr.{Instr}
 use Rattle.isa.specs.declared.listing.instr_text.Naming.{Naming}
 use Rattle.instructions.specs.Instruction.{instr_with}
-use Rattle.isa.specs.Forms.{is_operation, form_with, form_of}
+use Rattle.isa.specs.Forms.{is_operation, form_with, form_of, form_as_written, operation_word, slots_of}
 use Rattle.isa.specs.Statement.{Parsed, bare, is_word, instruction, with_operands, statement, filled, gives_code}
 use Rattle.isa.specs.Listing.{read, labels}
-use Rattle.isa.specs.Wording.{operation_word, slots_of}
 use Rattle.isa.specs.InstrText.{operand_text, with_operands_text, is_nop, text_of, said_of, ReadsAs, IsWritable, TextIsReadBack}
 use Rattle.isa.proofs.Statements.{instruction_ok, statement_is}
 use Rattle.isa.proofs.TextBytes.{Of, of_all, of_append, of_other, inner, inner_no_blank, IsPart, part_of, part_starts, part_ends, AreParts, Starts, Ends, ends_behind, joined_ends, some_length}
@@ -25,7 +24,7 @@ use Rattle.isa.proofs.TextOperands.{filled_of, parts_are}
 
 -- ---- words
 
-form_is : (op : Op) → form_of (operation_word op) (length (slots_of op)) ≡ Ok (operation_word op, (op, slots_of op))
+form_is : (op : Op) → form_of (operation_word op) (length (slots_of op)) ≡ Ok (form_as_written op)
 unfolding is_operation form_with
 form_is Addu = refl
 form_is op = refl

@@ -1,7 +1,7 @@
 -- The text of an instruction as it is written: its word, and each operand behind its separator.
 use Rattle.std.proofs.Common.{◌≡◌, ℕ, zero, suc, ◌+◌, ◌<◌, List, [], ◌∷◌, ◌++◌, length, get_or, take, map, sym, ap, append_assoc, append-nil, arith}
 use Rattle.std.specs.List.{join_with_byte}
-use Rattle.isa.specs.declared.listing.form.Slot.{Slot}
+use Rattle.isa.specs.declared.listing.slot.Slot.{Slot}
 use Rattle.isa.specs.InstrText.{with_operands_text, separator, separated_text}
 
 -- ---- one operand more

@@ -10,10 +10,10 @@ use Rattle.text.specs.Line.{before_comment}
 use Rattle.text.specs.Label.{statement_of}
 use Rattle.isa.specs.declared.listing.fault.FaultKind.{FaultKind}
 use Rattle.isa.specs.declared.listing.fault.FaultKind.TheVariants.{NotAscii, DoubleLabel, UnknownOp, BadOperands, BadRegister, BadNumber, TooLong}
-use Rattle.isa.specs.declared.listing.form.Slot.{Slot}
-use Rattle.isa.specs.declared.listing.form.Slot.TheVariants.{Into, First, Second, S16, U16, U5, Label, Offset}
+use Rattle.isa.specs.declared.listing.slot.Slot.{Slot}
+use Rattle.isa.specs.declared.listing.slot.Slot.TheVariants.{Into, First, Second, S16, U16, U5, Label, Offset}
 use Rattle.isa.specs.RegisterNames.{register_number, existing}
-use Rattle.isa.specs.Forms.{Form, is_operation, form_with}
+use Rattle.isa.specs.Forms.{Form, is_operation, form_with, slots}
 use Rattle.isa.specs.Statement.{is_word}
 use Rattle.isa.specs.Listing.{Lines, labels, numbered, memory, instruction_count, stands_in, is_double, all_labels}
 
@@ -73,9 +73,9 @@ operands_faults (s ∷ ss) [] = []
 operands_faults (s ∷ ss) (t ∷ ts) = operand_faults s t ++ operands_faults ss ts
 
 -- what the operands of a form are, if there is one
-abbrev pub slots_if : Option (List ℕ × Form) → List Slot
+abbrev pub slots_if : Option Form → List Slot
 slots_if None = []
-slots_if (Some row) = row.1.1
+slots_if (Some form) = slots form.operands
 
 -- an instruction: its word, how many operands it has, and then the operands
 abbrev pub instruction_faults : List ℕ → List (List ℕ) → List Fault

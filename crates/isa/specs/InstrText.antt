@@ -6,15 +6,15 @@ use Rattle.std.specs.Int.{w32, cast_signed}
 use Rattle.instructions.specs.declared.op.Op.{Op}
 use Rattle.instructions.specs.declared.op.Op.TheVariants.{Sll}
 use Rattle.instructions.specs.declared.instr.Instr.{Instr}
-use Rattle.isa.specs.declared.listing.form.Slot.{Slot}
-use Rattle.isa.specs.declared.listing.form.Slot.TheVariants.{Into, First, Second, S16, U16, U5, Label, Offset}
+use Rattle.isa.specs.declared.listing.slot.Slot.{Slot}
+use Rattle.isa.specs.declared.listing.slot.Slot.TheVariants.{Into, First, Second, S16, U16, U5, Label, Offset}
 use Rattle.isa.specs.declared.listing.instr_text.Naming.{Naming}
 use Rattle.isa.specs.declared.listing.instr_text.Naming.TheVariants.{Numbers, Names}
 use Rattle.instructions.specs.Registers.{general_count}
 use Rattle.isa.specs.Report.{hex8}
 use Rattle.isa.specs.Statement.{Parsed, bare, gives_code, with_target, with_first_source, with_second_source, with_number, with_label}
 use Rattle.isa.specs.Listing.{read, labels}
-use Rattle.isa.specs.Wording.{operation_word, slots_of}
+use Rattle.isa.specs.Forms.{operation_word, slots_of}
 
 -- ---- registers and numbers
 

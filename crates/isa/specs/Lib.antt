@@ -11,5 +11,4 @@ pub mod Late
 pub mod Held
 pub mod Needed
 pub mod Report
-pub mod Wording
 pub mod InstrText

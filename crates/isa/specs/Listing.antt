@@ -161,3 +161,7 @@ unfoldable pub listing : List ℕ → Result Program (ℕ × FaultKind)
 listing bytes =
     if nat_lt 4194304 (length bytes) then Err (0, TooLong)
     else program_of (lines_of bytes) (first_fault (lines_of bytes))
+
+-- the number of the line of each instruction, counted from 1
+abbrev pub instruction_lines : List ℕ → List ℕ
+instruction_lines bytes = map (λ d. d.0) (numbered 1 (lines_of bytes))

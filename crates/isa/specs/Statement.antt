@@ -12,13 +12,13 @@ use Rattle.instructions.specs.declared.instr.Instr.{Instr}
 use Rattle.instructions.specs.Registers.{lo, hi}
 use Rattle.isa.specs.declared.listing.fault.FaultKind.{FaultKind}
 use Rattle.isa.specs.declared.listing.fault.FaultKind.TheVariants.{BadOperands, BadNumber}
-use Rattle.isa.specs.declared.listing.form.Slot.{Slot}
-use Rattle.isa.specs.declared.listing.form.Slot.TheVariants.{Into, First, Second, S16, U16, U5, Label, Offset}
+use Rattle.isa.specs.declared.listing.slot.Slot.{Slot}
+use Rattle.isa.specs.declared.listing.slot.Slot.TheVariants.{Into, First, Second, S16, U16, U5, Label, Offset}
 use Rattle.isa.specs.declared.listing.instruction.Draft.{Draft}
 use Rattle.isa.specs.Reading.{◌>>=◌}
 use Rattle.isa.specs.RegisterNames.{register}
 use Rattle.isa.specs.Operands.{number, signed_half, label, offset_and_register}
-use Rattle.isa.specs.Forms.{form_of}
+use Rattle.isa.specs.Forms.{form_of, slots}
 
 -- ---- instructions
 
@@ -93,7 +93,7 @@ filled (s ∷ ss) (t ∷ ts) p = fill s t p >>= filled ss ts
 unfoldable pub instruction : List ℕ → List (List ℕ) → Result Parsed FaultKind
 instruction word parts = do
   form ← form_of word (length parts)
-  filled form.1.1 parts (record { instr = bare form.1.0; label = None })
+  filled (slots form.operands) parts (record { instr = bare form.op; label = None })
 
 -- ---- directives
 
@@ -132,6 +132,13 @@ gives_bytes bytes = Ok (record { code = []; bytes = bytes })
 -- a text is this word, in letters of either case
 abbrev pub is_word : List ℕ → List ℕ → Bool
 is_word word text = str_eq_ignore_ascii_case word text
+
+-- a directive as it is told, where the word is one of a directive
+unfoldable pub directive_text : List ℕ → Option (List ℕ)
+directive_text word =
+    if is_word (codes ".space") word then Some (codes ".space n with n a multiple of 4 from 0 to 65536")
+    else (if is_word (codes ".word") word
+    then Some (codes ".word n,.. with each n from -2147483648 to 4294967295") else None)
 
 -- a directive or an instruction, by its word
 unfoldable pub with_operands : List ℕ → List (List ℕ) → Result Line FaultKind

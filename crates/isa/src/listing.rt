@@ -1,7 +1,7 @@
 //! The listing language: from bytes to a program, or to the first fault.
 ghost use Rattle.std.specs.Prelude.{◌≡◌, ◌≢◌, ◌≤◌, ◌/◌, ◌%◌, ℕ, List, [], map, Option, Some, None, Ok, Err, length, OnOk, IfOk, IfErr};
 ghost use Rattle.text.specs.Line.{lines_of};
-ghost use Rattle.isa.specs.Listing.{resolve_number, resolved, first_fault, listing};
+ghost use Rattle.isa.specs.Listing.{instruction_lines, resolve_number, resolved, first_fault, listing};
 ghost use Rattle.isa.specs.Late.{mark, pairs, double_line, or_other};
 ghost use Rattle.isa.specs.Held.{name_of, rows, LinesAreRead};
 
@@ -16,17 +16,20 @@ mod line;
 mod needed;
 mod operand;
 mod register;
+mod slot;
 mod statement;
 mod table;
-mod wording;
 
+pub use directive::directive_text;
 use fault::fault_at;
 pub use fault::{FaultKind, TextFault};
+pub use form::{Form, form_of, forms};
 pub use instr_text::{InstrText, Label, Naming, text_is_read_back};
 use instructions::{Instr, Program};
 pub use law::the_first_fault_is_named;
 use line::{Target, read_first_line};
 use needed::needed;
+pub use slot::{Operands, Slot};
 use std::alloc::Global;
 use table::{Entry, Labels};
 
@@ -168,12 +171,13 @@ fn first_of<'a>(alloc: Global, entries: &[Entry<'a>], fault: TextFault) -> TextF
     }
 }
 
-/// The program of a listing, or its first fault. A fault of a line has its number, counted from 1;
-/// a listing of more than 4,194,304 bytes and want of memory have line 0.
-pub fn parse(alloc: Global, bytes: &[u8]) -> Result<Program, TextFault>
-    ensures ok { IfOk result (λ program. listing bytes.now ≡ Ok program) }
+// The program of a listing with what its instructions name, or its first fault.
+fn read_all(alloc: Global, bytes: &[u8]) -> Result<(Program, Vec<Target<'_>>), TextFault>
+    ensures ok { IfOk result (λ found. listing bytes.entry.now ≡ Ok found.0) }
+    ensures lines { IfOk result (λ found.
+        map (λ t. t.line) found.1.items ≡ instruction_lines bytes.entry.now) }
     ensures fault { IfErr result (λ f. f.kind ≢ FaultKind.Memory
-        → listing bytes.now ≡ Err (f.line, f.kind)) }
+        → listing bytes.entry.now ≡ Err (f.line, f.kind)) }
     ensures memory { IfErr result (λ f. f.kind ≡ FaultKind.Memory → f.line ≡ 0) }
 {
     if bytes.len() > MOST_TEXT {
@@ -189,5 +193,30 @@ pub fn parse(alloc: Global, bytes: &[u8]) -> Result<Program, TextFault>
     }
     let labels = labels_of(alloc, entries.as_slice(), targets.as_slice())?;
     resolve_all(&labels, code.as_mut_slice(), targets.as_slice())?;
-    Ok(Program::new(code, memory))
+    Ok((Program::new(code, memory), targets))
+}
+
+/// The program of a listing, or its first fault. A fault of a line has its number, counted from 1;
+/// a listing of more than 4,194,304 bytes and want of memory have line 0.
+pub fn parse(alloc: Global, bytes: &[u8]) -> Result<Program, TextFault>
+    ensures ok { IfOk result (λ program. listing bytes.now ≡ Ok program) }
+    ensures fault { IfErr result (λ f. f.kind ≢ FaultKind.Memory
+        → listing bytes.now ≡ Err (f.line, f.kind)) }
+    ensures memory { IfErr result (λ f. f.kind ≡ FaultKind.Memory → f.line ≡ 0) }
+{
+    let (program, _) = read_all(alloc, bytes)?;
+    Ok(program)
+}
+
+/// What `parse` gives, and for each instruction the number of its line, counted from 1.
+pub fn parse_with_lines(alloc: Global, bytes: &[u8]) -> Result<(Program, Vec<u64>), TextFault>
+    ensures ok { IfOk result (λ found. listing bytes.now ≡ Ok found.0) }
+    ensures lines { IfOk result (λ found. found.1.items ≡ instruction_lines bytes.now) }
+    ensures fault { IfErr result (λ f. f.kind ≢ FaultKind.Memory
+        → listing bytes.now ≡ Err (f.line, f.kind)) }
+    ensures memory { IfErr result (λ f. f.kind ≡ FaultKind.Memory → f.line ≡ 0) }
+{
+    let (program, targets) = read_all(alloc, bytes)?;
+    let lines = targets.iter().map(|target| target.line).collect(alloc)?;
+    Ok((program, lines))
 }

@@ -10,7 +10,8 @@ use Rattle.instructions.specs.declared.op.Op.TheVariants.{Beq, Bne, Blez, Bgtz, 
 use Rattle.machine_words.specs.declared.layout.Shape.{Shape}
 use Rattle.machine_words.specs.declared.layout.Shape.TheVariants.{ThreeRegisters, ShiftByAmount, ShiftByRegister, TwoRegisters, MoveFrom, MoveTo, JumpRegister, LinkRegister, Bare}
 use Rattle.machine_words.specs.Fields.{opcode_of, select_of, funct_of}
-use Rattle.machine_words.specs.Layouts.{layout, operations, has_layout, operation_of}
+use Rattle.instructions.specs.Instruction.{operations}
+use Rattle.machine_words.specs.Layouts.{layout, has_layout, operation_of}
 
 -- what is found passes the test
 found : {X : Type 0} (test : X → Bool) (xs : List X) (x : X) → find test xs ≡ Some x → test x ≡ true

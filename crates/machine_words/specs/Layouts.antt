@@ -1,11 +1,12 @@
 -- Where each operation has its registers and its number: the opcodes and functions of MIPS I.
-use Rattle.std.specs.Prelude.{ℕ, ◌==◌, ◌&&◌, Bool, List, [], ◌∷◌, Option}
+use Rattle.std.specs.Prelude.{ℕ, ◌==◌, ◌&&◌, Bool, Option}
 use Rattle.std.specs.List.{find}
 use Rattle.instructions.specs.declared.op.Op.{Op}
 use Rattle.instructions.specs.declared.op.Op.TheVariants.{Addu, Subu, Add, Sub, And, Or, Xor, Nor, Slt, Sltu, Sll, Srl, Sra, Sllv, Srlv, Srav}
 use Rattle.instructions.specs.declared.op.Op.TheVariants.{Mult, Multu, Div, Divu, Mflo, Mfhi, Mtlo, Mthi}
 use Rattle.instructions.specs.declared.op.Op.TheVariants.{Addiu, Addi, Slti, Sltiu, Andi, Ori, Xori, Lui, Lb, Lbu, Lh, Lhu, Lw, Sb, Sh, Sw}
 use Rattle.instructions.specs.declared.op.Op.TheVariants.{Beq, Bne, Blez, Bgtz, Bltz, Bgez, J, Jal, Jr, Jalr, Break}
+use Rattle.instructions.specs.Instruction.{operations}
 use Rattle.machine_words.specs.declared.layout.Layout.{Layout}
 use Rattle.machine_words.specs.declared.layout.Shape.{Shape}
 use Rattle.machine_words.specs.declared.layout.Shape.TheVariants.{ThreeRegisters, ShiftByAmount, ShiftByRegister, TwoRegisters, MoveFrom, MoveTo, JumpRegister, LinkRegister, Bare, SignedHalf, UnsignedHalf, UpperHalf, Store, BranchOnTwo, BranchOnOne, Region}
@@ -68,13 +69,6 @@ layout Jal = layout_of 3 0 Region
 layout Jr = layout_of 0 8 JumpRegister
 layout Jalr = layout_of 0 9 LinkRegister
 layout Break = layout_of 0 13 Bare
-
--- all operations of the table
-abbrev pub operations : List Op
-operations =
-    Addu ∷ Subu ∷ Add ∷ Sub ∷ And ∷ Or ∷ Xor ∷ Nor ∷ Slt ∷ Sltu ∷ Sll ∷ Srl ∷ Sra ∷ Sllv ∷ Srlv ∷ Srav
-    ∷ Mult ∷ Multu ∷ Div ∷ Divu ∷ Mflo ∷ Mfhi ∷ Mtlo ∷ Mthi
-    ∷ Addiu ∷ Addi ∷ Slti ∷ Sltiu ∷ Andi ∷ Ori ∷ Xori ∷ Lui ∷ Lb ∷ Lbu ∷ Lh ∷ Lhu ∷ Lw ∷ Sb ∷ Sh ∷ Sw ∷ Beq ∷ Bne ∷ Blez ∷ Bgtz ∷ Bltz ∷ Bgez ∷ J ∷ Jal ∷ Jr ∷ Jalr ∷ Break ∷ []
 
 -- an operation has this opcode, and is selected so
 abbrev pub has_layout : ℕ → ℕ → Op → Bool

@@ -126,60 +126,6 @@ pub fn layout_of(op: Op) -> Layout
     }
 }
 
-static OPERATIONS: [Op; 51] = [
-    Op::Addu,
-    Op::Subu,
-    Op::Add,
-    Op::Sub,
-    Op::And,
-    Op::Or,
-    Op::Xor,
-    Op::Nor,
-    Op::Slt,
-    Op::Sltu,
-    Op::Sll,
-    Op::Srl,
-    Op::Sra,
-    Op::Sllv,
-    Op::Srlv,
-    Op::Srav,
-    Op::Mult,
-    Op::Multu,
-    Op::Div,
-    Op::Divu,
-    Op::Mflo,
-    Op::Mfhi,
-    Op::Mtlo,
-    Op::Mthi,
-    Op::Addiu,
-    Op::Addi,
-    Op::Slti,
-    Op::Sltiu,
-    Op::Andi,
-    Op::Ori,
-    Op::Xori,
-    Op::Lui,
-    Op::Lb,
-    Op::Lbu,
-    Op::Lh,
-    Op::Lhu,
-    Op::Lw,
-    Op::Sb,
-    Op::Sh,
-    Op::Sw,
-    Op::Beq,
-    Op::Bne,
-    Op::Blez,
-    Op::Bgtz,
-    Op::Bltz,
-    Op::Bgez,
-    Op::J,
-    Op::Jal,
-    Op::Jr,
-    Op::Jalr,
-    Op::Break,
-];
-
 fn find_in(operations: &[Op], opcode: u32, select: u32) -> Option<Op>
     ensures { result ≡ find (has_layout opcode select) operations.now }
 {
@@ -197,9 +143,5 @@ fn find_in(operations: &[Op], opcode: u32, select: u32) -> Option<Op>
 pub fn operation_of(word: u32) -> Option<Op>
     ensures { result ≡ operation word }
 {
-    find_in(
-        OPERATIONS.as_slice(),
-        fields::opcode(word),
-        fields::select(word),
-    )
+    find_in(Op::all(), fields::opcode(word), fields::select(word))
 }

@@ -3,10 +3,11 @@ ghost use Rattle.std.specs.Prelude.{◌≡◌, ◌≢◌, ◌≤◌, ◌%◌, Er
 ghost use Rattle.std.specs.Option.{option_map};
 ghost use Rattle.text.specs.Operand.{operands_left};
 ghost use Rattle.isa.specs.Reading.{Reads};
-ghost use Rattle.isa.specs.Statement.{space, words, data_words};
+ghost use Rattle.isa.specs.Statement.{space, words, data_words, directive_text};
 ghost use Rattle.isa.specs.Held.{IsAppended};
 
 use super::fault::FaultKind;
+use super::form::same_word;
 use super::operand::number;
 use text::{count_operands, next_operand, only_operand};
 
@@ -60,4 +61,19 @@ pub fn add_words(memory: &mut Vec<u8>, part: Option<&[u8]>) -> Result<(), FaultK
         return Err(FaultKind::BadOperands);
     }
     add_numbers(memory, part)
+}
+
+/// How a directive is written with its operands, where the word, in letters of either case, is one
+/// of a directive.
+#[tactic(auto, unfolding(crate::specs::Statement::directive_text))]
+pub fn directive_text(word: &[u8]) -> Option<&'static str>
+    ensures { option_map (λ t. t.now) result ≡ directive_text word.now }
+{
+    if same_word(b".space", word) {
+        return Some(".space n with n a multiple of 4 from 0 to 65536");
+    }
+    if same_word(b".word", word) {
+        return Some(".word n,.. with each n from -2147483648 to 4294967295");
+    }
+    None
 }

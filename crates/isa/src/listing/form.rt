@@ -4,92 +4,101 @@ ghost use Rattle.std.specs.List.{list_any, find};
 ghost use Rattle.std.specs.Str.{str_eq_ignore_ascii_case};
 ghost use Rattle.isa.specs.Reading.{Reads};
 ghost use Rattle.isa.specs.declared.listing.fault.FaultKind.TheVariants.{BadOperands, UnknownOp};
-ghost use Rattle.isa.specs.Forms.{has_word, has_word_and_count, form_of, row};
+ghost use Rattle.isa.specs.Forms.{has_word, has_word_and_count, form_as_written, form_of, form_view, forms};
 
 use super::fault::FaultKind;
+use super::slot::Operands;
 use instructions::Op;
 
-/// The kind of an operand of an operation.
+/// A word with its operation and its operands.
 #[derive(Clone, Copy)]
-pub enum Slot {
-    /// The register that it writes.
-    Into,
-    /// The register of source 1.
-    First,
-    /// The register of source 2.
-    Second,
-    /// A number from -32768 to 32767.
-    S16,
-    /// A number from 0 to 65535.
-    U16,
-    /// A number from 0 to 31.
-    U5,
-    /// A label.
-    Label,
-    /// An offset and the register of source 1.
-    Offset,
+pub struct Form {
+    pub word: &'static str,
+    pub op: Op,
+    pub operands: Operands,
 }
 
-/// A word, its operation, and what its operands are, from the left.
-pub type Form = (&'static str, Op, &'static [Slot]);
+macro_rules! form {
+    ($word:literal, $op:ident, $operands:ident) => {
+        Form {
+            word: $word,
+            op: Op::$op,
+            operands: Operands::$operands,
+        }
+    };
+}
 
-use Slot::{First, Into, Label, Offset, S16, Second, U5, U16};
-
+// Each operation as a listing writes it, in the order of `Op`, and then the forms that are only read:
+// `jalr` without the register that it writes, which is 31 then, and `nop`, a shift of register 0.
 static FORMS: [Form; 53] = [
-    ("addu", Op::Addu, &[Into, First, Second]),
-    ("subu", Op::Subu, &[Into, First, Second]),
-    ("add", Op::Add, &[Into, First, Second]),
-    ("sub", Op::Sub, &[Into, First, Second]),
-    ("and", Op::And, &[Into, First, Second]),
-    ("or", Op::Or, &[Into, First, Second]),
-    ("xor", Op::Xor, &[Into, First, Second]),
-    ("nor", Op::Nor, &[Into, First, Second]),
-    ("slt", Op::Slt, &[Into, First, Second]),
-    ("sltu", Op::Sltu, &[Into, First, Second]),
-    ("sll", Op::Sll, &[Into, First, U5]),
-    ("srl", Op::Srl, &[Into, First, U5]),
-    ("sra", Op::Sra, &[Into, First, U5]),
-    ("sllv", Op::Sllv, &[Into, First, Second]),
-    ("srlv", Op::Srlv, &[Into, First, Second]),
-    ("srav", Op::Srav, &[Into, First, Second]),
-    ("mult", Op::Mult, &[First, Second]),
-    ("multu", Op::Multu, &[First, Second]),
-    ("div", Op::Div, &[First, Second]),
-    ("divu", Op::Divu, &[First, Second]),
-    ("mflo", Op::Mflo, &[Into]),
-    ("mfhi", Op::Mfhi, &[Into]),
-    ("mtlo", Op::Mtlo, &[First]),
-    ("mthi", Op::Mthi, &[First]),
-    ("addiu", Op::Addiu, &[Into, First, S16]),
-    ("addi", Op::Addi, &[Into, First, S16]),
-    ("slti", Op::Slti, &[Into, First, S16]),
-    ("sltiu", Op::Sltiu, &[Into, First, S16]),
-    ("andi", Op::Andi, &[Into, First, U16]),
-    ("ori", Op::Ori, &[Into, First, U16]),
-    ("xori", Op::Xori, &[Into, First, U16]),
-    ("lui", Op::Lui, &[Into, U16]),
-    ("lb", Op::Lb, &[Into, Offset]),
-    ("lbu", Op::Lbu, &[Into, Offset]),
-    ("lh", Op::Lh, &[Into, Offset]),
-    ("lhu", Op::Lhu, &[Into, Offset]),
-    ("lw", Op::Lw, &[Into, Offset]),
-    ("sb", Op::Sb, &[Second, Offset]),
-    ("sh", Op::Sh, &[Second, Offset]),
-    ("sw", Op::Sw, &[Second, Offset]),
-    ("beq", Op::Beq, &[First, Second, Label]),
-    ("bne", Op::Bne, &[First, Second, Label]),
-    ("blez", Op::Blez, &[First, Label]),
-    ("bgtz", Op::Bgtz, &[First, Label]),
-    ("bltz", Op::Bltz, &[First, Label]),
-    ("bgez", Op::Bgez, &[First, Label]),
-    ("j", Op::J, &[Label]),
-    ("jal", Op::Jal, &[Label]),
-    ("jr", Op::Jr, &[First]),
-    ("jalr", Op::Jalr, &[First]),
-    ("jalr", Op::Jalr, &[Into, First]),
-    ("break", Op::Break, &[]),
-    ("nop", Op::Sll, &[]),
+    form!("addu", Addu, RdRsRt),
+    form!("subu", Subu, RdRsRt),
+    form!("add", Add, RdRsRt),
+    form!("sub", Sub, RdRsRt),
+    form!("and", And, RdRsRt),
+    form!("or", Or, RdRsRt),
+    form!("xor", Xor, RdRsRt),
+    form!("nor", Nor, RdRsRt),
+    form!("slt", Slt, RdRsRt),
+    form!("sltu", Sltu, RdRsRt),
+    form!("sll", Sll, RdRtAmount),
+    form!("srl", Srl, RdRtAmount),
+    form!("sra", Sra, RdRtAmount),
+    form!("sllv", Sllv, RdRtRs),
+    form!("srlv", Srlv, RdRtRs),
+    form!("srav", Srav, RdRtRs),
+    form!("mult", Mult, RsRt),
+    form!("multu", Multu, RsRt),
+    form!("div", Div, RsRt),
+    form!("divu", Divu, RsRt),
+    form!("mflo", Mflo, Rd),
+    form!("mfhi", Mfhi, Rd),
+    form!("mtlo", Mtlo, Rs),
+    form!("mthi", Mthi, Rs),
+    form!("addiu", Addiu, RtRsSigned),
+    form!("addi", Addi, RtRsSigned),
+    form!("slti", Slti, RtRsSigned),
+    form!("sltiu", Sltiu, RtRsSigned),
+    form!("andi", Andi, RtRsUnsigned),
+    form!("ori", Ori, RtRsUnsigned),
+    form!("xori", Xori, RtRsUnsigned),
+    form!("lui", Lui, RtUnsigned),
+    form!("lb", Lb, Load),
+    form!("lbu", Lbu, Load),
+    form!("lh", Lh, Load),
+    form!("lhu", Lhu, Load),
+    form!("lw", Lw, Load),
+    form!("sb", Sb, Store),
+    form!("sh", Sh, Store),
+    form!("sw", Sw, Store),
+    form!("beq", Beq, RsRtLabel),
+    form!("bne", Bne, RsRtLabel),
+    form!("blez", Blez, RsLabel),
+    form!("bgtz", Bgtz, RsLabel),
+    form!("bltz", Bltz, RsLabel),
+    form!("bgez", Bgez, RsLabel),
+    form!("j", J, Label),
+    form!("jal", Jal, Label),
+    form!("jr", Jr, Rs),
+    form!("jalr", Jalr, RdRs),
+    form!("break", Break, Nothing),
+    form!("jalr", Jalr, Rs),
+    form!("nop", Sll, Nothing),
 ];
+
+/// All forms. The first one of an operation is that in which a listing writes it.
+pub fn forms() -> &'static [Form]
+    ensures { map form_view result.now ≡ forms }
+{
+    FORMS.as_slice()
+}
+
+/// The form in which a listing writes an operation.
+pub fn form_as_written(op: Op) -> Form
+    ensures { form_view result ≡ form_as_written op }
+{
+    FORMS[op as usize]
+}
 
 /// The words are the same but for the case of their letters.
 pub fn same_word(a: &[u8], b: &[u8]) -> bool
@@ -98,18 +107,27 @@ pub fn same_word(a: &[u8], b: &[u8]) -> bool
     a.eq_ignore_ascii_case(b)
 }
 
-// The row with this word and count, or what is wrong: no row has the word, or none of its rows
+impl Form {
+    /// The form has this word, in letters of either case.
+    pub fn has_word(&self, word: &[u8]) -> bool
+        ensures { result ≡ has_word word.now (form_view self.now) }
+    {
+        same_word(self.word.as_bytes(), word)
+    }
+}
+
+// The form with this word and count, or what is wrong: no form has the word, or none of its forms
 // has the count.
 fn find_in(table: &[Form], word: &[u8], count: usize) -> Result<Form, FaultKind>
-    ensures { Reads row result (if list_any (has_word word.now) (map row table.now)
-        then ok_or (find (has_word_and_count word.now count) (map row table.now)) BadOperands
+    ensures { Reads form_view result (if list_any (has_word word.now) (map form_view table.now)
+        then ok_or (find (has_word_and_count word.now count) (map form_view table.now)) BadOperands
         else Err UnknownOp) }
 {
     let mut fault = FaultKind::UnknownOp;
-    for entry in table {
-        if same_word(entry.0.as_bytes(), word) {
-            if entry.2.len() == count {
-                return Ok(*entry);
+    for form in table {
+        if form.has_word(word) {
+            if form.operands.slots().len() == count {
+                return Ok(*form);
             }
             fault = FaultKind::BadOperands;
         }
@@ -119,7 +137,7 @@ fn find_in(table: &[Form], word: &[u8], count: usize) -> Result<Form, FaultKind>
 
 /// The form of a word, in letters of either case, with so many operands.
 pub fn form_of(word: &[u8], count: usize) -> Result<Form, FaultKind>
-    ensures { Reads row result (form_of word.now count) }
+    ensures { Reads form_view result (form_of word.now count) }
 {
     find_in(FORMS.as_slice(), word, count)
 }

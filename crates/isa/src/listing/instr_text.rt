@@ -3,8 +3,8 @@ ghost use Rattle.std.specs.Prelude.{◌≡◌, Some, slice_get, map};
 ghost use Rattle.std.specs.Option.{option_map};
 ghost use Rattle.isa.specs.InstrText.{TextIsReadBack, names, register_text, label_text, operand_text, separator, separated_text, text_of, is_nop as is_nop_of};
 
-use super::form::Slot;
-use super::wording::{slots_of, word_of};
+use super::form::form_as_written;
+use super::slot::Slot;
 use instructions::{Instr, Op, Reg};
 use std::fmt;
 
@@ -149,12 +149,12 @@ fn separator(at: usize) -> &'static str
 
 // operands of an instruction, from the first one on
 #[derive(Clone, Copy)]
-struct Operands<'a> {
+struct OperandsText<'a> {
     text: InstrText,
     slots: &'a [Slot],
 }
 
-impl fmt::Display for Operands<'_> {
+impl fmt::Display for OperandsText<'_> {
     ghost output = { λ o. Some (separated_text 0
         (map (λ s. operand_text o.text.naming s o.text.instr) o.slots.now)) };
 
@@ -179,10 +179,11 @@ impl fmt::Display for InstrText {
         if is_nop(&self.instr) {
             return f.write_str("nop");
         }
-        let word = word_of(self.instr.op);
-        let operands = Operands {
+        let form = form_as_written(self.instr.op);
+        let word = form.word;
+        let operands = OperandsText {
             text: *self,
-            slots: slots_of(self.instr.op),
+            slots: form.operands.slots(),
         };
         write!(f, "{word}{operands}")
     }

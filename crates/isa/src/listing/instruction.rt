@@ -5,9 +5,10 @@ ghost use Rattle.text.specs.Operand.{operands_left};
 ghost use Rattle.isa.specs.Statement.{draft_view, bare, fill, filled, instruction};
 
 use super::fault::FaultKind;
-use super::form::{Slot, form_of};
+use super::form::form_of;
 use super::operand::{label, number, offset_and_register, signed_half};
 use super::register::register;
+use super::slot::Slot;
 use instructions::{Instr, Op, Reg};
 use text::{count_operands, next_operand};
 
@@ -111,8 +112,8 @@ pub fn instruction<'a>(
     ensures err { IfErr result (λ e.
         instruction word.now (operands_left (option_map (λ t. t.now) part.entry)) ≡ Err e) }
 {
-    let (_, op, slots) = form_of(word, count_operands(part))?;
-    draft.instr = bare(op);
+    let form = form_of(word, count_operands(part))?;
+    draft.instr = bare(form.op);
     draft.label = None;
-    fill_all(draft, slots, part)
+    fill_all(draft, form.operands.slots(), part)
 }

@@ -3,7 +3,7 @@ use Rattle.std.specs.Option.{option_map}
 use Rattle.std.proofs.lemmas.Result.{err_from_is_err_and}
 use Rattle.text.specs.Operand.{operands_left}
 use Rattle.isa.specs.declared.listing.fault.FaultKind.{FaultKind}
-use Rattle.isa.specs.declared.listing.form.Slot.TheVariants.{Into}
+use Rattle.isa.specs.declared.listing.slot.Slot.TheVariants.{Into}
 use Rattle.isa.specs.Statement.{Parsed, draft_view}
 use Rattle.isa.proofs.Slots.{filled_done, filled_none, filled_more, filled_fault, kind_is}
 use Rattle.isa.proofs.listing.instruction.fill_all.Goals as goal

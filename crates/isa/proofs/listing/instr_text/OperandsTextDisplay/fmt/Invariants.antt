@@ -1,7 +1,7 @@
 use Rattle.std.proofs.Common.{take, map}
 use Rattle.std.specs.Fmt.{HasWritten, IsPlainFormatter}
 use Rattle.isa.specs.InstrText.{operand_text, separated_text}
-use Rattle.isa.proofs.listing.instr_text.OperandsDisplay.fmt.Given as goal
+use Rattle.isa.proofs.listing.instr_text.OperandsTextDisplay.fmt.Given as goal
 
 -- the operands so far are written
 abbrev pub invariant-loop-at : goal.invariant-loop-at

@@ -1,10 +1,11 @@
-use Rattle.std.proofs.Common.{ℕ, ◌∙◌, sym, ap, refl, None, length, Result, Ok}
+use Rattle.std.proofs.Common.{ℕ, ◌∙◌, sym, ap, refl, None, length, map, Result, Ok}
 use Rattle.std.proofs.lemmas.Result.{err_from_is_err_and}
 use Rattle.isa.specs.declared.listing.fault.FaultKind.{FaultKind}
 use Rattle.instructions.specs.Programs.{Program}
 use Rattle.isa.proofs.Whole.{listing_long, listing_fault, listing_done}
-use Rattle.isa.proofs.Rows.{written_back}
-use Rattle.isa.proofs.listing.parse.Goals as goal
+use Rattle.isa.specs.Statement.{Parsed}
+use Rattle.isa.proofs.Rows.{lines_of_rows, written_back}
+use Rattle.isa.proofs.listing.read_all.Goals as goal
 
 abbrev given_program : Program → Result Program (ℕ × FaultKind)
 given_program P = Ok P
@@ -45,3 +46,8 @@ returns-clause-ok c =
     ∙ sym (ap given_program (c.new.ensures ∙ ap (λ code. record { code = code; bytes = c.read_lines-went.new.memory.items }) (
     written_back c.read_lines-went.new.code.len c.resolve_all.new.code c.read_lines-went.new.code.items (c.resolve_all.ensures.length ∙ c.as_mut_slice.ensures.len)
     (ap length (sym c.as_mut_slice.ensures.value) ∙ c.as_mut_slice.ensures.len))))
+
+pub returns-clause-lines : goal.returns-clause-lines
+returns-clause-lines c =
+    let read = c.in_default.ensures.ok.read in
+    lines_of_rows _ _ read.length_is ∙ ap (map (λ (d : ℕ × Parsed). d.0)) read.code_is

@@ -1,7 +1,7 @@
 use Rattle.std.proofs.Common.{rules, arith}
 use Rattle.std.proofs.Output.{has_written_append, has_written_of_eq}
 use Rattle.isa.proofs.TextWritten.{operand_written}
-use Rattle.isa.proofs.listing.instr_text.OperandsDisplay.fmt.Goals as goal
+use Rattle.isa.proofs.listing.instr_text.OperandsTextDisplay.fmt.Goals as goal
 
 pub loop-at-preserved : goal.loop-at-preserved
 loop-at-preserved g c = λ plain.
