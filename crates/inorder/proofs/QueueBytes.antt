@@ -10,8 +10,7 @@ use Rattle.instructions.specs.Programs.{Program}
 use Rattle.instructions.specs.declared.op.Kind.{Kind}
 use Rattle.instructions.specs.declared.op.Kind.TheVariants.{Computes, Jumps, Links, Loads, Stores}
 use Rattle.instructions.specs.declared.op.Op.{Op}
-use Rattle.instructions.specs.declared.op.Op.TheVariants.{Mult, Multu, Div, Divu, Mflo, Mfhi, Mtlo, Mthi, Add, Addi, Addiu, Addu, And, Andi, Beq, Bgez, Bgtz, Blez, Bltz, Bne, Break, J, Jal, Jalr, Jr}
-use Rattle.instructions.specs.declared.op.Op.TheVariants.{Lb, Lbu, Lh, Lhu, Lui, Lw, Nor, Or, Ori, Sb, Sh, Sll, Sllv, Slt, Slti, Sltiu, Sltu, Sra, Srav, Srl, Srlv, Sub, Subu, Sw, Xor, Xori}
+use Rattle.instructions.specs.declared.op.Op.TheVariants.{Lb}
 use Rattle.instructions.specs.declared.stop.Outcome.{Outcome}
 use Rattle.instructions.specs.declared.stop.Stop.{Stop}
 use Rattle.lsq.specs.declared.entry.Entry.{Entry}
@@ -58,57 +57,8 @@ all_append Q (x ∷ xs) ys h = let r = all_append Q xs ys h.1 in ((h.0, r.0), r.
 -- Widths
 
 pub same_width : (op : Op) → bytes (access_width op) ≡ width op
-same_width Addu = refl
-same_width Subu = refl
-same_width Add = refl
-same_width Sub = refl
-same_width And = refl
-same_width Or = refl
-same_width Xor = refl
-same_width Nor = refl
-same_width Slt = refl
-same_width Sltu = refl
-same_width Sll = refl
-same_width Srl = refl
-same_width Sra = refl
-same_width Sllv = refl
-same_width Srlv = refl
-same_width Srav = refl
-same_width Mult = refl
-same_width Multu = refl
-same_width Div = refl
-same_width Divu = refl
-same_width Mflo = refl
-same_width Mfhi = refl
-same_width Mtlo = refl
-same_width Mthi = refl
-same_width Addiu = refl
-same_width Addi = refl
-same_width Slti = refl
-same_width Sltiu = refl
-same_width Andi = refl
-same_width Ori = refl
-same_width Xori = refl
-same_width Lui = refl
 same_width Lb = refl
-same_width Lbu = refl
-same_width Lh = refl
-same_width Lhu = refl
-same_width Lw = refl
-same_width Sb = refl
-same_width Sh = refl
-same_width Sw = refl
-same_width Beq = refl
-same_width Bne = refl
-same_width Blez = refl
-same_width Bgtz = refl
-same_width Bltz = refl
-same_width Bgez = refl
-same_width J = refl
-same_width Jal = refl
-same_width Jr = refl
-same_width Jalr = refl
-same_width Break = refl
+same_width op = refl
 
 -- A live store is known by its entry
 

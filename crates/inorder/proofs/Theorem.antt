@@ -3,7 +3,6 @@ pub mod LetKept
 pub mod DeliveryKept
 pub mod FinishKept
 pub mod LeaveKept
-pub mod Words
 pub mod WordsKept
 pub mod Forbidden
 pub mod Delivered

@@ -1,13 +1,10 @@
 -- The numbers of a unit are 32-bit words.
 use Rattle.std.specs.Prelude.{◌≡◌, ℕ, ◌^◌, ◌<◌, ◌≤◌, List, length, Some, IfSome, slice_index, ⊤}
+use Rattle.instructions.specs.Operations.{IsWord}
 use Rattle.instructions.specs.Programs.{Program, instr_of}
 use Rattle.inorder.specs.Legal.{AreAllowed, Taken, reached}
 use Rattle.inorder.specs.Tenants.{Addr, Done, Fate, Miss, Tenant}
 use Rattle.inorder.specs.Unit.{Sizes, at}
-
--- The number fits in 32 bits
-abbrev pub IsWord : ℕ → Type 0
-IsWord n = n < 2 ^ 32
 
 -- What a listing gives: numbers that are words, bytes below 256, at most 16384 instructions
 pub record HasWords (P : Program) : Type 0 where

@@ -1,5 +1,5 @@
 -- A new tenant is sound.
-use Rattle.std.proofs.Common.{◌≡◌, ℕ, Bool, true, false, List, Option, Some, refl, sym, ap, ◌∙◌, subst}
+use Rattle.std.proofs.Common.{◌≡◌, ℕ, Bool, true, false, List, Option, Some, refl, sym, ap, ◌∙◌, subst, rules}
 use Rattle.std.specs.Prelude.{IfSome}
 use Rattle.instructions.specs.Instruction.{first_of, fixed_next, fixed_next_by, fixed_next_if, is_first_half, kind, pc_plus_4, second_of}
 use Rattle.instructions.specs.Programs.{Program, instr_of}
@@ -8,8 +8,7 @@ use Rattle.instructions.specs.declared.op.Half.{Half}
 use Rattle.instructions.specs.declared.op.Kind.{Kind}
 use Rattle.instructions.specs.declared.op.Kind.TheVariants.{Computes, Jumps, Links, Loads, Stores}
 use Rattle.instructions.specs.declared.op.Op.{Op}
-use Rattle.instructions.specs.declared.op.Op.TheVariants.{Mult, Multu, Div, Divu, Mflo, Mfhi, Mtlo, Mthi, Add, Addi, Addiu, Addu, And, Andi, Beq, Bgez, Bgtz, Blez, Bltz, Bne, Break, J, Jal, Jalr, Jr}
-use Rattle.instructions.specs.declared.op.Op.TheVariants.{Lb, Lbu, Lh, Lhu, Lui, Lw, Nor, Or, Ori, Sb, Sh, Sll, Sllv, Slt, Slti, Sltiu, Sltu, Sra, Srav, Srl, Srlv, Sub, Subu, Sw, Xor, Xori}
+use Rattle.instructions.specs.declared.op.Op.TheVariants.{Addu}
 use Rattle.instructions.specs.declared.stop.Outcome.{Outcome}
 use Rattle.inorder.specs.declared.history.Supply.{Supply}
 use Rattle.inorder.specs.declared.history.Supply.TheVariants.{From, Known}
@@ -34,56 +33,7 @@ let_creator c From = refl
 pub predicted_by : (op : Op) (pc n predicted : ℕ) → IfSome (fixed_next_by op pc n) (λ x. predicted ≡ x) →
     GoesOn (kind op) (pc_plus_4 pc) predicted
 predicted_by Addu pc n predicted h = h
-predicted_by Subu pc n predicted h = h
-predicted_by Add pc n predicted h = h
-predicted_by Sub pc n predicted h = h
-predicted_by And pc n predicted h = h
-predicted_by Or pc n predicted h = h
-predicted_by Xor pc n predicted h = h
-predicted_by Nor pc n predicted h = h
-predicted_by Slt pc n predicted h = h
-predicted_by Sltu pc n predicted h = h
-predicted_by Sll pc n predicted h = h
-predicted_by Srl pc n predicted h = h
-predicted_by Sra pc n predicted h = h
-predicted_by Sllv pc n predicted h = h
-predicted_by Srlv pc n predicted h = h
-predicted_by Srav pc n predicted h = h
-predicted_by Mult pc n predicted h = h
-predicted_by Multu pc n predicted h = h
-predicted_by Div pc n predicted h = h
-predicted_by Divu pc n predicted h = h
-predicted_by Mflo pc n predicted h = h
-predicted_by Mfhi pc n predicted h = h
-predicted_by Mtlo pc n predicted h = h
-predicted_by Mthi pc n predicted h = h
-predicted_by Addiu pc n predicted h = h
-predicted_by Addi pc n predicted h = h
-predicted_by Slti pc n predicted h = h
-predicted_by Sltiu pc n predicted h = h
-predicted_by Andi pc n predicted h = h
-predicted_by Ori pc n predicted h = h
-predicted_by Xori pc n predicted h = h
-predicted_by Lui pc n predicted h = h
-predicted_by Lb pc n predicted h = h
-predicted_by Lbu pc n predicted h = h
-predicted_by Lh pc n predicted h = h
-predicted_by Lhu pc n predicted h = h
-predicted_by Lw pc n predicted h = h
-predicted_by Sb pc n predicted h = h
-predicted_by Sh pc n predicted h = h
-predicted_by Sw pc n predicted h = h
-predicted_by Beq pc n predicted h = tt
-predicted_by Bne pc n predicted h = tt
-predicted_by Blez pc n predicted h = tt
-predicted_by Bgtz pc n predicted h = tt
-predicted_by Bltz pc n predicted h = tt
-predicted_by Bgez pc n predicted h = tt
-predicted_by J pc n predicted h = tt
-predicted_by Jal pc n predicted h = tt
-predicted_by Jr pc n predicted h = tt
-predicted_by Jalr pc n predicted h = tt
-predicted_by Break pc n predicted h = h
+predicted_by op pc n predicted h = search rules
 
 pub predicted_on : (i : Instr) (half : Half) (pc predicted : ℕ) → IfSome (fixed_next i half pc) (λ x. predicted ≡ x) →
     GoesOn (kind i.op) (behind_by (is_first_half i.op half) pc) predicted

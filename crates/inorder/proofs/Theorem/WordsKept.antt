@@ -3,13 +3,13 @@ use Rattle.std.proofs.Common.{◌≡◌, ℕ, zero, suc, ◌+◌, ◌-◌, ◌*�
 use Rattle.std.specs.List.{AllByRecursion}
 use Rattle.std.specs.Prelude.{IfSome, option_map, unwrap_or}
 use Rattle.instructions.specs.Instruction.{first_of, second_of, kind, width}
+use Rattle.instructions.specs.Operations.{IsWord}
 use Rattle.instructions.specs.Programs.{Program, instr_of}
 use Rattle.instructions.specs.declared.instr.Instr.{Instr}
 use Rattle.instructions.specs.declared.op.Kind.{Kind}
 use Rattle.instructions.specs.declared.op.Kind.TheVariants.{Computes, Jumps, Links, Loads, Stores}
 use Rattle.instructions.specs.declared.op.Op.{Op}
-use Rattle.instructions.specs.declared.op.Op.TheVariants.{Mult, Multu, Div, Divu, Mflo, Mfhi, Mtlo, Mthi, Add, Addi, Addiu, Addu, And, Andi, Beq, Bgez, Bgtz, Blez, Bltz, Bne, Break, J, Jal, Jalr, Jr}
-use Rattle.instructions.specs.declared.op.Op.TheVariants.{Lb, Lbu, Lh, Lhu, Lui, Lw, Nor, Or, Ori, Sb, Sh, Sll, Sllv, Slt, Slti, Sltiu, Sltu, Sra, Srav, Srl, Srlv, Sub, Subu, Sw, Xor, Xori}
+use Rattle.instructions.specs.declared.op.Op.TheVariants.{Lb}
 use Rattle.instructions.specs.declared.stop.Outcome.{Outcome}
 use Rattle.instructions.specs.declared.stop.Outcome.TheVariants.{Pair, Address, Next, Stop as Stops, Value}
 use Rattle.inorder.specs.declared.history.Act.{Act}
@@ -21,7 +21,7 @@ use Rattle.inorder.specs.declared.history.Supply.{Supply}
 use Rattle.inorder.specs.declared.history.Supply.TheVariants.{From, Known}
 use Rattle.inorder.specs.Legal.{Allowed, AreAllowed, May, Taken, applied, changed, reached}
 use Rattle.inorder.specs.Memory.{Stored, byte_after, byte_at, covers, load_value, raw, stored}
-use Rattle.inorder.specs.Numbers.{AreWords, FateIsWord, HasWords, IsWord, ValuesAreWords}
+use Rattle.inorder.specs.Numbers.{AreWords, FateIsWord, HasWords, ValuesAreWords}
 use Rattle.inorder.specs.Steps.{MayLet, MaySupply, finished, let_operand, made_at_end, mended_as, new_tenant}
 use Rattle.inorder.specs.Tenants.{Addr, Busy, Done, Fate, Miss, Open, Stopped, Tenant, computed, instr, kind_of, made_at_let}
 use Rattle.inorder.specs.Unit.{Sizes, UpdateUnit, at, creator, front_pc, made_by, next_station, older, recent, value_of, younger}
@@ -29,7 +29,7 @@ use Rattle.lsq.specs.Bytes.{byte_of, joined, little_endian_if_there}
 use Rattle.inorder.proofs.Basics.{split_at}
 use Rattle.inorder.proofs.Grows.{all_grows, all_mid}
 use Rattle.inorder.proofs.Kept.{parts}
-use Rattle.inorder.proofs.Theorem.Words.{OutcomeIsWord, loaded_words, outcome_words}
+use Rattle.instructions.proofs.Words.{OutcomeIsWord, loaded_words, outcome_words}
 
 -- bytes
 
@@ -71,57 +71,8 @@ number_small byte h a (suc w) =
     subst (λ m. IfSome (little_endian_if_there byte a (suc w)) (λ n. n < m)) (omega arith) more
 
 width_small : (op : Op) → width op ≤ 4
-width_small Addu = omega arith
-width_small Subu = omega arith
-width_small Add = omega arith
-width_small Sub = omega arith
-width_small And = omega arith
-width_small Or = omega arith
-width_small Xor = omega arith
-width_small Nor = omega arith
-width_small Slt = omega arith
-width_small Sltu = omega arith
-width_small Sll = omega arith
-width_small Srl = omega arith
-width_small Sra = omega arith
-width_small Sllv = omega arith
-width_small Srlv = omega arith
-width_small Srav = omega arith
-width_small Mult = omega arith
-width_small Multu = omega arith
-width_small Div = omega arith
-width_small Divu = omega arith
-width_small Mflo = omega arith
-width_small Mfhi = omega arith
-width_small Mtlo = omega arith
-width_small Mthi = omega arith
-width_small Addiu = omega arith
-width_small Addi = omega arith
-width_small Slti = omega arith
-width_small Sltiu = omega arith
-width_small Andi = omega arith
-width_small Ori = omega arith
-width_small Xori = omega arith
-width_small Lui = omega arith
 width_small Lb = omega arith
-width_small Lbu = omega arith
-width_small Lh = omega arith
-width_small Lhu = omega arith
-width_small Lw = omega arith
-width_small Sb = omega arith
-width_small Sh = omega arith
-width_small Sw = omega arith
-width_small Beq = omega arith
-width_small Bne = omega arith
-width_small Blez = omega arith
-width_small Bgtz = omega arith
-width_small Bltz = omega arith
-width_small Bgez = omega arith
-width_small J = omega arith
-width_small Jal = omega arith
-width_small Jr = omega arith
-width_small Jalr = omega arith
-width_small Break = omega arith
+width_small op = omega arith
 
 width_cases : (op : Op) (q : Option ℕ) → IfSome q (λ n. n < 256 ^ width op) → IfSome q IsWord
 width_cases op None h = tt
