@@ -17,7 +17,7 @@ use Rattle.unit.specs.StandsFor.{StandsForSome}
 use Rattle.unit.specs.Steady.{AwaitRetirement, AwaitsRetirement, EndsWith, Follows, Foresees}
 use Rattle.unit.specs.Window.{half_behind, half_in}
 use Rattle.unit.proofs.Found.{get_append}
-use Rattle.unit.proofs.RunTurns.{ahead_stands}
+use Rattle.unit.proofs.Known.{ahead_stands}
 use Rattle.unit.proofs.Scan.{get_end}
 use Rattle.unit.proofs.Settled.{settled_no_miss}
 

@@ -15,11 +15,16 @@ use Rattle.unit.specs.Loads.{load_in}
 use Rattle.unit.specs.Notes.{AreNoted, miss_in}
 use Rattle.unit.specs.Stages.{CannotLet, LoadsTo, RunsTo}
 use Rattle.unit.specs.StandsFor.{StandsFor, StandsForSome}
-use Rattle.unit.specs.Turns.{Falls, StaysOpen, IsPlain, Moves, SizesStay, rank}
+use Rattle.unit.specs.Turns.{Falls, StaysOpen, IsPlain, SizesStay, rank}
 use Rattle.unit.specs.Window.{operands_in, station_after}
-use Rattle.unit.proofs.EndTurns.{Refused, can_leave, retires_falls, retires_turn, window_room}
+use Rattle.unit.specs.Order.{MovesFirst}
+use Rattle.unit.proofs.CanLeave.{Refused, can_leave}
+use Rattle.unit.proofs.EndTurns.{retires_falls, retires_turn}
+use Rattle.unit.proofs.Inside.{window_room}
+use Rattle.unit.proofs.Moved.{moves_first}
 use Rattle.unit.proofs.Ranks.{load_falls, run_falls}
-use Rattle.unit.proofs.RunTurns.{answered_as, loaded_on, loaded_turn, ran_on, ran_turn}
+use Rattle.unit.proofs.LoadedTurns.{answered_as, loaded_on, loaded_turn}
+use Rattle.unit.proofs.RanTurns.{ran_on, ran_turn}
 use Rattle.unit.proofs.Start.{retires_keeps, unit_next, unit_on}
 use Rattle.unit.proofs.Turns.{moves_from}
 
@@ -80,7 +85,13 @@ idle_same b b' i = same_rest b b' b.window b'.missed b'.settled i.is
 
 -- what a turn has to show
 pub record Shows (b : Pipeline) (answer : Turn) (later : Pipeline) : Type 0 where
-  pub turn : Moves b answer later
+  pub turn : MovesFirst b answer later
+  pub falls : Falls answer b later
+  pub unit : StandsForSome later
+  pub same : SizesStay b later
+
+-- what any turn comes to
+pub record Comes (b : Pipeline) (answer : Turn) (later : Pipeline) : Type 0 where
   pub falls : Falls answer b later
   pub unit : StandsForSome later
   pub same : SizesStay b later
@@ -97,8 +108,8 @@ ran_shows b later h none miss lets to rest noted =
     let same = same_rest b later later.window later.missed later.settled rest in
     record {
       turn = turn;
-      falls = (ap (λ x. x.committed) rest, ap (λ x. x.low) rest, run_falls (registers_of b) (length b.program.now.bytes) b.window later.window (window_room b h) to);
-      unit = unit_next b later Ran h turn same (ap (λ x. length x.leavers) rest ∙ h.leavers) noted;
+      falls = (ap (λ x. x.committed) rest, ap (λ x. x.low) rest, run_falls (registers_of b) (length b.program.now.bytes) b.window later.window to.i to.w to.o (window_room b h) to.first.here to.is to.new);
+      unit = unit_next b later Ran h (moves_first b later Ran turn) same (ap (λ x. length x.leavers) rest ∙ h.leavers) noted;
       same = same;
     }
 
@@ -113,7 +124,7 @@ ran_unit b later i w o h none here is new rest noted =
 
 -- Loaded
 
-full_rest : (b later : Pipeline) → later ≡ record b { window = later.window } → later ≡ record b { window = later.window; missed = later.missed; settled = later.settled }
+pub full_rest : (b later : Pipeline) → later ≡ record b { window = later.window } → later ≡ record b { window = later.window; missed = later.missed; settled = later.settled }
 full_rest b later e =
     e
     ∙ ap (λ m. record b { window = later.window; missed = m }) (sym (ap (λ x. x.missed) e))
@@ -127,11 +138,11 @@ loaded_shows b b' later i to e noted =
     let rest = full_rest b' later e in
     let turn = loaded_turn b' later i.none i.miss i.lets i.ready to rest in
     let same = same_rest b' later later.window later.missed later.settled rest in
-    let less = load_falls (registers_of b') b'.committed.memory b'.window later.window (window_room b' i.unit) to in
+    let less = load_falls (registers_of b') b'.committed.memory b'.window later.window to.i to.w to.value (window_room b' i.unit) to.first.here to.is to.new in
     record {
       turn = moves_from b b' b'.missed b'.settled Loaded later i.is turn;
       falls = (ap (λ x. x.committed) rest ∙ ap (λ x. x.committed) i.is, ap (λ x. x.low) rest ∙ ap (λ x. x.low) i.is, subst (λ W. rank 32 later.window < rank 32 W) (ap (λ x. x.window) i.is) less);
-      unit = unit_next b' later Loaded i.unit turn same (ap (λ x. length x.leavers) rest ∙ i.unit.leavers) noted;
+      unit = unit_next b' later Loaded i.unit (moves_first b' later Loaded turn) same (ap (λ x. length x.leavers) rest ∙ i.unit.leavers) noted;
       same = same_both b b' later (idle_same b b' i) same;
     }
 
@@ -167,12 +178,12 @@ pub retired_shows : (b b' later : Pipeline) (answer : Turn) → Idle b b' →
 retired_shows b b' later answer i l to =
     let f = refused b b' i l in
     let can = can_leave b' i.unit f in
-    let turn = retires_turn b' later answer i.unit f can to in
+    let turn = retires_turn b' later answer i.unit f to in
     let kept = retires_keeps b' later answer i.unit.noted to in
     record {
       turn = moves_from b b' b'.missed b'.settled answer later i.is turn;
       falls = falls_from answer b b' later i (retires_falls b' later answer i.unit i.none can to);
-      unit = unit_next b' later answer i.unit turn kept.same (kept.leavers ∙ i.unit.leavers) kept.noted;
+      unit = unit_next b' later answer i.unit (moves_first b' later answer turn) kept.same (kept.leavers ∙ i.unit.leavers) kept.noted;
       same = same_both b b' later (idle_same b b' i) kept.same;
     }
 

@@ -26,6 +26,8 @@ use Rattle.unit.specs.Notes.{miss_in}
 use Rattle.unit.specs.Stages.{CanLet}
 use Rattle.unit.specs.StandsFor.{OverIs, StandsFor, sizes}
 use Rattle.unit.specs.Turns.{Lets}
+use Rattle.unit.specs.Order.{MovedFirst}
+use Rattle.unit.specs.declared.bench.Turn.TheVariants.{Let}
 use Rattle.unit.specs.Window.{half_in, let_at, next_in, station_of, window}
 use Rattle.unit.proofs.Waiting.{same_live}
 use Rattle.unit.proofs.Found.{station_alike}
@@ -50,14 +52,13 @@ pub record LetTurned (b : Pipeline) (U : UpdateUnit) (f : Fetched) (guess : ℕ)
   pub leaver : slice_get b.leavers ((b.oldest + length b.window) % b.ring) ≡ Some (leaver b.program.now U.tenants tenant.station)
 
 pub let_turn : (b later : Pipeline) (f : Fetched) (guess : ℕ) (place : ℕ) → b.over ≡ None → 0 < b.ring → b.ring ≤ 32 →
-    length b.leavers ≡ 32 → NoneGives miss_in b.window →
-    CanLet b.program.now b.ring b.queue b.committed.pc b.low b.window f → guess < 2 ^ 32 →
+    length b.leavers ≡ 32 → CanLet b.program.now b.ring b.queue b.committed.pc b.low b.window f → guess < 2 ^ 32 →
     IfSome (fixed_next f.instr f.half f.pc) (λ x. guess ≡ x) → place ≡ (b.oldest + length b.window) % b.ring →
     place < b.ring → later.window ≡ b.window ++ let_at f.instr f.half f.pc guess ∷ [] →
     later.leavers ≡ slice_set b.leavers place None →
     later ≡ record b { window = later.window; leavers = later.leavers } → (U : UpdateUnit) →
     IsReached b.program.now (sizes b) U → StandsFor b U → LetTurned b U f guess later
-let_turn b later f pr place none room most long nm to small predicts pe pl wl ll rest U r s = subst (LetTurned b U f pr) (sym rest) (go (found_at P f.pc f.instr to.is))
+let_turn b later f pr place none room most long to small predicts pe pl wl ll rest U r s = subst (LetTurned b U f pr) (sym rest) (go (found_at P f.pc f.instr to.is))
   where
     P : Program
     P = b.program.now
@@ -132,7 +133,6 @@ let_turn b later f pr place none room most long nm to small predicts pe pl wl ll
               };
               does = record {
                 goes_on = over.0;
-                no_miss = no_miss P ts (none_in miss_in P b.window ts s.window nm);
                 index = a.index;
                 predicted = pr;
                 first = k.first;
@@ -180,3 +180,10 @@ let_turn b later f pr place none room most long nm to small predicts pe pl wl ll
 
             shown : later.window ≡ window P V.tenants
             shown = wl ∙ ap (λ l. l ++ let_at f.instr f.half f.pc pr ∷ []) s.window ∙ ap (λ w. window P ts ++ w ∷ []) (sym letted) ∙ sym (window_live P k.tenant ts live)
+
+-- where nothing is a miss, the let is the first turn
+pub let_first : (b : Pipeline) (U : UpdateUnit) (f : Fetched) (guess : ℕ) (later : Pipeline) → NoneGives miss_in b.window → StandsFor b U →
+    LetTurned b U f guess later → MovedFirst b U Let later
+let_first b U f guess later nm s x =
+    let P = b.program.now in
+    record { unit = x.unit; reached = x.reached; stands = x.stands; does = (x.does, no_miss P U.tenants (none_in miss_in P b.window U.tenants s.window nm)) }

@@ -1,7 +1,7 @@
 -- The measure falls.
 use Rattle.std.proofs.Common.{◌≡◌, ℕ, zero, suc, ◌*◌, ◌^◌, ◌<◌, ◌≤◌, Bool, true, false, cond, eqb, List, [], ◌∷◌, ◌++◌, length, take, Option, Some, refl, sym, ap, ◌∙◌, subst, arith, append-nil}
 use Rattle.std.proofs.Common.{mul-le-mul_right, suc-mul, length-append}
-use Rattle.std.specs.Prelude.{slice_set}
+use Rattle.std.specs.Prelude.{slice_get, slice_set}
 use Rattle.std.proofs.Math.Nat.{pow-succ'}
 use Rattle.instructions.specs.Instruction.{kind}
 use Rattle.instructions.specs.Operations.{outcome_of}
@@ -15,7 +15,8 @@ use Rattle.unit.specs.declared.station.Stage.{Stage}
 use Rattle.unit.specs.declared.station.Stage.TheVariants.{Open, Addr, Done, Miss, Stops}
 use Rattle.unit.specs.Loads.{load_in, waits_by}
 use Rattle.unit.specs.Notes.{miss_in}
-use Rattle.unit.specs.Stages.{LoadsTo, RecoversTo, RunsTo}
+use Rattle.unit.specs.Givers.{gives}
+use Rattle.unit.specs.Stages.{RecoversTo}
 use Rattle.unit.specs.Turns.{digit, rank}
 use Rattle.unit.specs.Window.{miss_of, operands_in, station_after, station_mended, where_open}
 use Rattle.unit.proofs.Entries.{answered_waits}
@@ -92,13 +93,14 @@ open_digit Done o x e = absurd (cc)
 open_digit (Miss y) o x e = absurd (cc)
 open_digit (Stops c) o x e = absurd (cc)
 
-pub run_falls : (g : List ℕ) (size : ℕ) (W W' : List Station) → length W ≤ 32 → RunsTo g size W W' → rank 32 W' < rank 32 W
-run_falls g size W W' room r =
-    let p = place_at W r.i r.w r.is in
-    let v = station_after r.w (outcome_of r.w.instr r.w.half r.w.pc r.o.a r.o.b size) in
-    let five : digit r.w.stage ≡ 5 = open_digit r.w.stage _ r.o (given_station (operands_in g) W r.i r.w r.o r.is r.first.here) in
-    let low = after_digit r.w (outcome_of r.w.instr r.w.half r.w.pc r.o.a r.o.b size) in
-    lower W W' p.zs r.i r.w v room p (r.new ∙ set_place W r.i r.w v p) (omega (arith, five, low))
+pub run_falls : (g : List ℕ) (size : ℕ) (W W' : List Station) (i : ℕ) (w : Station) (o : Operands) → length W ≤ 32 → gives (operands_in g) W i ≡ Some o →
+    slice_get W i ≡ Some w → W' ≡ slice_set W i (station_after w (outcome_of w.instr w.half w.pc o.a o.b size)) → rank 32 W' < rank 32 W
+run_falls g size W W' i w o room here is new =
+    let p = place_at W i w is in
+    let v = station_after w (outcome_of w.instr w.half w.pc o.a o.b size) in
+    let five : digit w.stage ≡ 5 = open_digit w.stage _ o (given_station (operands_in g) W i w o is here) in
+    let low = after_digit w (outcome_of w.instr w.half w.pc o.a o.b size) in
+    lower W W' p.zs i w v room p (new ∙ set_place W i w v p) (omega (arith, five, low))
 
 waits_digit : (k : Kind) (s : Stage) (a : ℕ) → waits_by k s ≡ Some a → digit s ≡ 3
 waits_digit Loads (Addr b) a e = refl
@@ -111,10 +113,11 @@ waits_digit Jumps s a e = absurd (cc)
 waits_digit Links s a e = absurd (cc)
 waits_digit Stores s a e = absurd (cc)
 
-pub load_falls : (g m : List ℕ) (W W' : List Station) → length W ≤ 32 → LoadsTo g m W W' → rank 32 W' < rank 32 W
-load_falls g m W W' room r =
-    let p = place_at W r.i r.w r.is in
-    let v = record r.w { stage = Done; made = Some r.value } in
-    let a = answered_waits g m (take r.i W) r.w r.value (given_station (load_in g m) W r.i r.w r.value r.is r.first.here) in
-    let three : digit r.w.stage ≡ 3 = waits_digit (kind r.w.instr.op) r.w.stage a.0 a.1 in
-    lower W W' p.zs r.i r.w v room p (r.new ∙ set_place W r.i r.w v p) (omega (arith, three))
+pub load_falls : (g m : List ℕ) (W W' : List Station) (i : ℕ) (w : Station) (value : ℕ) → length W ≤ 32 → gives (load_in g m) W i ≡ Some value →
+    slice_get W i ≡ Some w → W' ≡ slice_set W i (record w { stage = Done; made = Some value }) → rank 32 W' < rank 32 W
+load_falls g m W W' i w value room here is new =
+    let p = place_at W i w is in
+    let v = record w { stage = Done; made = Some value } in
+    let a = answered_waits g m (take i W) w value (given_station (load_in g m) W i w value is here) in
+    let three : digit w.stage ≡ 3 = waits_digit (kind w.instr.op) w.stage a.0 a.1 in
+    lower W W' p.zs i w v room p (new ∙ set_place W i w v p) (omega (arith, three))

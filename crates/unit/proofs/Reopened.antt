@@ -97,7 +97,7 @@ pub reopened_let : (b later : Pipeline) (f : Fetched) (guess n : ℕ) (y : Stati
 reopened_let b later f guess n y l h none miss can small fixed wl is ll rest =
     let on : with_reopened n later ≡ record (with_reopened n b) { window = reopened n later.window; leavers = later.leavers } =
     ap (λ (p : Pipeline). record p { window = reopened n later.window }) rest in
-    let shows = let_shows (with_reopened n b) (with_reopened n later) f guess h none (reopened_no_miss n b.window miss) (reopened_lets b n f can) small fixed
+    let shows = let_shows (with_reopened n b) (with_reopened n later) f guess h none (reopened_lets b n f can) small fixed
     (ap (reopened n) wl ∙ reopened_end n b.window y l ∙ ap (λ x. reopened n b.window ++ x ∷ []) is)
     (ll ∙ ap (λ m. slice_set b.leavers ((b.oldest + m) % b.ring) None) (sym (reopened_long n b.window))) on in
     shows.unit

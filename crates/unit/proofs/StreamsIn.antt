@@ -19,7 +19,7 @@ use Rattle.unit.specs.Notes.{AreNoted, missed_after}
 use Rattle.unit.specs.StandsFor.{StandsForSome}
 use Rattle.unit.specs.Steady.{EndsWith, Follows, FollowsYoungest, IsSteady, arrives, as_let}
 use Rattle.unit.specs.Window.{let_at, miss_of, operands_by, operands_in, source_in, stage_after, station_after}
-use Rattle.unit.proofs.EndTurns.{both_there}
+use Rattle.unit.proofs.CanLeave.{both_there}
 use Rattle.unit.proofs.Idle.{ran_unit}
 use Rattle.unit.proofs.Noted.{noted_ran}
 use Rattle.unit.proofs.Scan.{get_end, set_middle}

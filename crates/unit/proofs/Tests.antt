@@ -28,7 +28,8 @@ use Rattle.unit.specs.Givers.{NoneGives, given_at, gives}
 use Rattle.unit.specs.Loads.{entries, load_in, loaded_over, value_by, waits_by}
 use Rattle.unit.specs.Notes.{miss_in}
 use Rattle.unit.specs.Stages.{CannotLet, NoInstr, NoRoom, QueueFull}
-use Rattle.unit.specs.Turns.{IsNoMiss, IsUnclaimable, NoLet}
+use Rattle.unit.specs.Turns.{IsNoMiss}
+use Rattle.unit.specs.Order.{IsUnclaimable, NoLet}
 use Rattle.unit.specs.Window.{miss_of, next_in, operands_by, operands_in, source_in, stage_of, station_of, where_open, window}
 use Rattle.unit.proofs.Queues.{answer_like, queue_like}
 use Rattle.unit.proofs.Scan.{get_end, get_left, take_left, take_middle}

@@ -23,7 +23,10 @@ use Rattle.unit.specs.Leavers.{leaver}
 use Rattle.unit.specs.Notes.{miss_in}
 use Rattle.unit.specs.Stages.{RecoversTo}
 use Rattle.unit.specs.StandsFor.{OverIs, StandsFor, sizes}
-use Rattle.unit.specs.Turns.{Moved, Moves}
+use Rattle.unit.specs.Order.{MovesFirst}
+use Rattle.unit.specs.Possible.{ToRecover}
+use Rattle.unit.proofs.Moved.{MovedAs, MovesAs}
+use Rattle.unit.proofs.Windows.{window_length}
 use Rattle.unit.specs.Window.{miss_of, stage_of, station_mended, station_of, window}
 use Rattle.unit.proofs.Waiting.{LeavesSame, same_recover}
 use Rattle.unit.proofs.Found.{Found, found, window_gone, window_middle}
@@ -79,10 +82,10 @@ stand_on b W m n U V none s c l k w ns still =
     }
 
 -- What is remembered does not matter
-pub moves_from : (b b' : Pipeline) (m : Bool) (n : ℕ) (answer : Turn) (later : Pipeline) → b' ≡ record b { missed = m; settled = n } → Moves b' answer later → Moves b answer later
-moves_from b b' m n answer later e h = go (subst (λ x. Moves x answer later) e h)
+pub moves_from : (b b' : Pipeline) (m : Bool) (n : ℕ) (answer : Turn) (later : Pipeline) → b' ≡ record b { missed = m; settled = n } → MovesFirst b' answer later → MovesFirst b answer later
+moves_from b b' m n answer later e h = go (subst (λ x. MovesFirst x answer later) e h)
   where
-    go : Moves (record b { missed = m; settled = n }) answer later → Moves b answer later
+    go : MovesFirst (record b { missed = m; settled = n }) answer later → MovesFirst b answer later
     go h U r s =
         let x = h U r (record { window = s.window; committed = s.committed; leavers = s.leavers; over = s.over; low = s.low; oldest = s.oldest }) in
         record { unit = x.unit; reached = x.reached; stands = x.stands; does = x.does }
@@ -97,9 +100,9 @@ miss_fate (Stopped c) x e = absurd (cc)
 
 -- Recovered
 
-pub recovered_turn : (b later : Pipeline) → b.over ≡ None → RecoversTo b.window later.window → later ≡ record b { window = later.window; missed = later.missed; settled = later.settled } →
-    Moves b Recovered later
-recovered_turn b later none to rest U r s = subst (Moved b U Recovered) (sym rest) (go (found_in P b.window U.tenants to.i to.w s.window to.is))
+pub recovered_turn : (b later : Pipeline) → b.over ≡ None → (to : RecoversTo b.window later.window) → later ≡ record b { window = later.window; missed = later.missed; settled = later.settled } →
+    MovesAs b (Some (ToRecover to.i)) Recovered later
+recovered_turn b later none to rest U r s = subst (MovedAs b U (Some (ToRecover to.i)) Recovered) (sym rest) (go (found_in P b.window U.tenants to.i to.w s.window to.is))
   where
     P : Program
     P = b.program.now
@@ -113,7 +116,7 @@ recovered_turn b later none to rest U r s = subst (Moved b U Recovered) (sym res
     now : Pipeline
     now = record b { window = later.window; missed = later.missed; settled = later.settled }
 
-    go : FoundIn P b.window U.tenants to.i to.w → Moved b U Recovered now
+    go : FoundIn P b.window U.tenants to.i to.w → MovedAs b U (Some (ToRecover to.i)) Recovered now
     go f = with (recover_run P C 0 U f.found.ys f.found.t f.found.ts to.x f.found.live miss)
       where
         t : Tenant
@@ -138,7 +141,7 @@ recovered_turn b later none to rest U r s = subst (Moved b U Recovered) (sym res
             ∙ ap (λ w. window P ts ++ station_mended w to.x ∷ []) (sym f.found.station)
             ∙ sym (window_gone P ys (mended_to to.x t) ts f.found.live)
 
-        with : RecoverRun P C 0 U ys t ts to.x → Moved b U Recovered now
+        with : RecoverRun P C 0 U ys t ts to.x → MovedAs b U (Some (ToRecover to.i)) Recovered now
         with k =
             let steps = On (length ts) Mend ∷ k.squashes in
             let leads : Leads P C 0 U steps V = subst (λ X. Leads P C 0 (with_tenants U X) steps V) (sym f.found.split) k.leads in
@@ -164,4 +167,9 @@ recovered_turn b later none to rest U r s = subst (Moved b U Recovered) (sym res
                 are = k.are;
                 leads = leads;
               };
+              is = ap (λ n. Some (ToRecover n)) (sym (window_length P ts) ∙ sym f.found.place);
             }
+
+-- so it is the first turn, since nothing stands before it
+pub recovered_first : (b later : Pipeline) (i : ℕ) → MovesAs b (Some (ToRecover i)) Recovered later → MovesFirst b Recovered later
+recovered_first b later i m U r s = let x = m U r s in record { unit = x.unit; reached = x.reached; stands = x.stands; does = (x.does, tt) }

@@ -14,4 +14,10 @@ pub mod Changes
 pub mod StandsFor
 pub mod Blocked
 pub mod Turns
+pub mod Order
+pub mod Possible
+pub mod Choices
+pub mod Steps
+pub mod Ordered
+pub mod Seeds
 pub mod Steady

@@ -1,4 +1,5 @@
--- What a turn is: the first of these that is possible, as steps of the unit.
+-- What a turn does, as steps of the unit, and what it does to the measure and to the predictor. Which of the possible
+-- turns is taken stands in `Order` and in `Choices`.
 use Rattle.std.specs.Prelude.{⊤, ◌≡◌, ◌≢◌, ℕ, zero, suc, ◌+◌, ◌*◌, ◌^◌, ◌<◌, Bool, true, false, List, [], ◌∷◌, ◌++◌, length, Some, None, is_some}
 use Rattle.std.specs.List.{AllByRecursion}
 use Rattle.instructions.specs.Guesses.{Guesses}
@@ -11,7 +12,6 @@ use Rattle.inorder.specs.declared.history.Step.{Step}
 use Rattle.inorder.specs.declared.history.Step.TheVariants.{Let as LetStep, On}
 use Rattle.inorder.specs.declared.history.Supply.{Supply}
 use Rattle.inorder.specs.Committed.{ahead, ahead_by, committed}
-use Rattle.inorder.specs.Steps.{MayClaim, MayLet}
 use Rattle.inorder.specs.Tenants.{IsNotLive, Live, Miss, Tenant, instr, is_first}
 use Rattle.inorder.specs.Unit.{Sizes, UpdateUnit}
 use Rattle.unit.specs.declared.bench.Turn.{Turn}
@@ -22,7 +22,7 @@ use Rattle.unit.specs.declared.station.Stage.TheVariants.{Open, Addr, Miss as Mi
 use Rattle.unit.specs.declared.station.Station.{Station}
 use Rattle.unit.specs.Changes.{NextOf}
 use Rattle.unit.specs.Leavers.{leaver}
-use Rattle.unit.specs.Blocked.{AreBlocked, IsUnblocked}
+use Rattle.unit.specs.Blocked.{IsUnblocked}
 use Rattle.unit.specs.StandsFor.{HasStopped, NoStopRetired, StandsFor, sizes}
 use Rattle.inorder.specs.Moves.{IsDeliver, IsLink, IsReached, IsSquash, Leads}
 use Rattle.inorder.specs.Still.{AreStill}
@@ -30,14 +30,6 @@ use Rattle.inorder.specs.Still.{AreStill}
 -- A tenant that is no live miss
 abbrev pub IsNoMiss : Tenant → Type 0
 IsNoMiss t = t.standing ≡ Live → (x : ℕ) → t.fate ≢ Miss x
-
--- A tenant that nobody may claim
-abbrev pub IsUnclaimable : Program → Tenant → Type 0
-IsUnclaimable P t = MayClaim P t → ⊥
-
--- No let is legal
-abbrev pub NoLet : Program → Sizes → UpdateUnit → Type 0
-NoLet P C U = (index predicted : ℕ) (first second : Supply) → MayLet P C U index predicted first second → ⊥
 
 -- The tenant t stands in the unit, with ys after it and ts before it
 abbrev pub IsIn : UpdateUnit → List Tenant → Tenant → List Tenant → Type 0
@@ -61,7 +53,6 @@ pub record Recovers (P : Program) (C : Sizes) (U V : UpdateUnit) : Type 0 where
 -- A tenant is let, with its links
 pub record Lets (P : Program) (C : Sizes) (U V : UpdateUnit) : Type 0 where
   pub goes_on : NoStopRetired U.tenants
-  pub no_miss : AllByRecursion IsNoMiss U.tenants
   pub index : ℕ
   pub predicted : ℕ
   pub first : Supply
@@ -70,32 +61,25 @@ pub record Lets (P : Program) (C : Sizes) (U V : UpdateUnit) : Type 0 where
   pub are : AllByRecursion IsLink links
   pub leads : Leads P C 0 U (links ++ LetStep index predicted first second ∷ []) V
 
--- The oldest tenant that can be claimed is claimed and finished, and every delivery that is due is made
+-- A tenant is claimed and finished, and every delivery that is due is made
 pub record Runs (P : Program) (C : Sizes) (U V : UpdateUnit) : Type 0 where
   pub goes_on : NoStopRetired U.tenants
-  pub no_miss : AllByRecursion IsNoMiss U.tenants
-  pub no_let : NoLet P C U
   pub ys : List Tenant
   pub tenant : Tenant
   pub ts : List Tenant
   pub stands : IsIn U ys tenant ts
-  pub oldest : AllByRecursion (IsUnclaimable P) ts
   pub delivers : List Step
   pub are : AllByRecursion IsDeliver delivers
   pub leads : Leads P C 0 U (delivers ++ On (length ts) Finish ∷ On (length ts) Claim ∷ []) V
   pub every : AreStill V.tenants
 
--- The oldest load with its address that no store blocks gets its value, and every delivery that is due is made
+-- A load with its address that no store blocks gets its value, and every delivery that is due is made
 pub record LoadsOne (P : Program) (C : Sizes) (U V : UpdateUnit) : Type 0 where
   pub goes_on : NoStopRetired U.tenants
-  pub no_miss : AllByRecursion IsNoMiss U.tenants
-  pub no_let : NoLet P C U
-  pub no_claim : AllByRecursion (IsUnclaimable P) U.tenants
   pub ys : List Tenant
   pub tenant : Tenant
   pub ts : List Tenant
   pub stands : IsIn U ys tenant ts
-  pub oldest : AreBlocked P ts
   pub unblocked : IsUnblocked P ts tenant
   pub delivers : List Step
   pub are : AllByRecursion IsDeliver delivers
@@ -105,10 +89,6 @@ pub record LoadsOne (P : Program) (C : Sizes) (U V : UpdateUnit) : Type 0 where
 -- The oldest live tenant retires
 pub record Retires (P : Program) (C : Sizes) (U V : UpdateUnit) : Type 0 where
   pub goes_on : NoStopRetired U.tenants
-  pub no_miss : AllByRecursion IsNoMiss U.tenants
-  pub no_let : NoLet P C U
-  pub no_claim : AllByRecursion (IsUnclaimable P) U.tenants
-  pub no_load : AreBlocked P U.tenants
   pub ys : List Tenant
   pub tenant : Tenant
   pub ts : List Tenant
@@ -147,7 +127,7 @@ Does P C U V Halved = Halves P C U V
 Does P C U V Retired = Retires P C U V
 Does P C U V (Over c) = EndsHere P C U V c
 
--- From the unit U the turn makes steps that lead to one that the later fields stand for
+-- From the unit U a turn makes steps that lead to one that the later fields stand for
 pub record Moved (b : Pipeline) (U : UpdateUnit) (answer : Turn) (later : Pipeline) : Type 0 where
   pub unit : UpdateUnit
   pub reached : IsReached b.program.now (sizes b) unit
@@ -237,17 +217,11 @@ module _ {S : Type 0} (Predicts : S → ℕ → Instr → ℕ → S → Type 0) 
   Trains P U V Let old new = TrainsAtLet P U V old new
   Trains P U V _ old new = new ≡ old
 
-  -- From the unit U the turn makes steps that lead to one that the bench stands for then, and changes the
+  -- From the unit U a turn makes steps that lead to one that the bench stands for then, and changes the
   -- predictor by them
-  pub record Turned (b : BenchFields S) (U : UpdateUnit) (answer : Turn) (later : BenchFields S) : Type 0 where
+  pub record Made (b : BenchFields S) (U : UpdateUnit) (answer : Turn) (later : BenchFields S) : Type 0 where
     pub unit : UpdateUnit
     pub reached : IsReached b.pipeline.program.now (sizes b.pipeline) unit
     pub stands : StandsFor later.pipeline unit
     pub does : Does b.pipeline.program.now (sizes b.pipeline) U unit answer
     pub trains : Trains b.pipeline.program.now U unit answer b.predictor later.predictor
-
-  -- It is so for each unit that the bench stands for
-  abbrev pub IsTurn : BenchFields S → Turn → BenchFields S → Type 0
-  IsTurn b answer later =
-      (U : UpdateUnit) → IsReached b.pipeline.program.now (sizes b.pipeline) U → StandsFor b.pipeline U →
-      Turned b U answer later

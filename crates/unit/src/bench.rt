@@ -5,7 +5,8 @@ ghost use Rattle.inorder.specs.Runs.{end_state};
 ghost use Rattle.unit.specs.Changes.{RetiresOne, run_from};
 ghost use Rattle.unit.specs.StandsFor.{StandsFor, StandsForSome};
 ghost use Rattle.inorder.specs.Unit.{empty_unit};
-ghost use Rattle.unit.specs.Turns.{Falls, IsTurn, SizesStay, stalled_after};
+ghost use Rattle.unit.specs.Order.{IsTurn};
+ghost use Rattle.unit.specs.Turns.{Falls, SizesStay, stalled_after};
 
 use crate::pipeline::Pipeline;
 use crate::station::Station;
@@ -45,10 +46,10 @@ fn stalls(turn: Turn) -> bool
 /// it has retired.
 #[derive(Drop)]
 pub struct Bench<'a, P: Predictor + Drop> {
-    pipeline: Pipeline<'a>,
-    predictor: P,
+    pub(crate) pipeline: Pipeline<'a>,
+    pub(crate) predictor: P,
     // nothing can be let before a tenant leaves
-    stalled: bool,
+    pub(crate) stalled: bool,
 }
 
 impl<'a, P: Predictor + Drop> Model for Bench<'a, P> {

@@ -9,7 +9,10 @@ ghost use Rattle.unit.specs.Changes.{NextOf, NoneRecovers, next_place};
 ghost use Rattle.unit.specs.Decoding.{IsDecoded};
 ghost use Rattle.unit.specs.Givers.{Chosen};
 ghost use Rattle.unit.specs.StandsFor.{StandsForSome};
-ghost use Rattle.unit.specs.Turns.{Falls, IsStalled, IsTurn, SizesStay, fields};
+ghost use Rattle.unit.specs.Order.{IsTurn};
+ghost use Rattle.unit.specs.Steps.{Makes};
+ghost use Rattle.unit.specs.Turns.{Falls, IsStalled, SizesStay, fields};
+ghost use Rattle.unit.specs.declared.possible.Step.TheVariants.{Let as LetStep};
 ghost use Rattle.unit.specs.Window.{further_on, half_in, let_at, next_in};
 
 use crate::decoded::Decoded;
@@ -175,10 +178,9 @@ impl<'a> Pipeline<'a> {
         requires station { station ≡ next_place self.old }
         requires unit { StandsForSome self.old }
         requires open { self.old.over ≡ None }
-        requires miss { NoneRecovers self.old }
         requires can { NextOf self.old (Some next) }
-        ensures turn { IsTurn P.Predicts P.Learns
-            (fields self.old predictor.old) Let (fields self.new predictor.new) }
+        ensures turn { Makes P.Predicts P.Learns
+            (fields self.old predictor.old) (LetStep next) Let (fields self.new predictor.new) }
         ensures falls { Falls Let self.old self.new }
         ensures unit { StandsForSome self.new }
         ensures same { SizesStay self.old self.new }

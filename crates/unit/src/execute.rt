@@ -57,9 +57,9 @@ fn sources(window: &Window, ahead: &Ahead, i: usize, station: &Station) -> Optio
     needed(station.instr.kind(), a, b)
 }
 
-// What the station at `i` needs, if it can be claimed.
+/// What the station at `i` needs, if it can be claimed.
 #[inline(always)]
-fn sources_at(window: &Window, ahead: &Ahead, i: usize) -> Option<Operands>
+pub fn sources_at(window: &Window, ahead: &Ahead, i: usize) -> Option<Operands>
     requires { i ≤ length window.now }
     ensures { result ≡ gives (operands_in ahead.now.registers) window.now i }
 {
@@ -95,8 +95,9 @@ fn settles(kind: Kind, stage: Stage) -> bool
     }
 }
 
+/// A tenant at `i` has ended, or is a store with its address.
 #[inline(always)]
-fn is_settled_at(window: &Window, i: usize) -> bool
+pub fn is_settled_at(window: &Window, i: usize) -> bool
     ensures { result ≡ settled_at (slice_get window.now i) }
 {
     match window.peek(i) {

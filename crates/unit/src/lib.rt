@@ -4,6 +4,8 @@
 mod ahead;
 mod arrival;
 mod bench;
+mod choices;
+mod chooser;
 mod creators;
 mod decoded;
 mod dispatch;
@@ -14,8 +16,10 @@ mod future;
 mod leaver;
 mod memory_port;
 mod mending;
+mod order;
 mod pipeline;
 mod places;
+mod possible;
 mod recovery;
 mod retire;
 mod source;
@@ -25,5 +29,7 @@ mod window;
 mod writers;
 
 pub use bench::{Bench, Turn};
+pub use chooser::{Chooser, Seeded};
 pub use decoded::Decoded;
+pub use order::Order;
 pub use station::{Stage, Station};

@@ -4,7 +4,8 @@ ghost use Rattle.inorder.specs.Machine.{start};
 ghost use Rattle.unit.specs.Changes.{NextOf, NoneRecovers, ahead_of};
 ghost use Rattle.unit.specs.StandsFor.{StandsFor, StandsForSome};
 ghost use Rattle.inorder.specs.Unit.{empty_unit};
-ghost use Rattle.unit.specs.Turns.{Falls, StaysOpen, IsPlain, IsStalled, Moves, SizesStay, stalled_after};
+ghost use Rattle.unit.specs.Order.{MovesFirst};
+ghost use Rattle.unit.specs.Turns.{Falls, StaysOpen, IsPlain, IsStalled, SizesStay, stalled_after};
 
 use crate::ahead::Ahead;
 use crate::bench::Turn;
@@ -87,7 +88,7 @@ impl<'a> Pipeline<'a> {
         requires open { self.old.over ≡ None }
         requires miss { NoneRecovers self.old }
         requires lets { NextOf self.old None }
-        ensures turn { Moves self.old result self.new }
+        ensures turn { MovesFirst self.old result self.new }
         ensures falls { Falls result self.old self.new }
         ensures unit { StandsForSome self.new }
         ensures same { SizesStay self.old self.new }

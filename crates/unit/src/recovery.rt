@@ -1,5 +1,5 @@
 //! Recovery from a miss.
-ghost use Rattle.std.specs.Prelude.{⊤, ◌≡◌, ◌<◌, ◌≤◌, [], ◌∷◌, ◌++◌, length, take, slice_get, None};
+ghost use Rattle.std.specs.Prelude.{⊤, ◌≡◌, ◌<◌, ◌≤◌, [], ◌∷◌, ◌++◌, length, take, slice_get, Some, None};
 ghost use Rattle.unit.specs.Changes.{NoneRecovers, RecoversOldest, with_window};
 ghost use Rattle.unit.specs.Givers.{Chosen, gives};
 ghost use Rattle.unit.specs.Notes.{AreNoted, AreSettled, miss_in};
@@ -26,8 +26,8 @@ fn next_at(window: &Window, i: usize) -> Option<u32>
     }
 }
 
-// The oldest miss; it is none of those before `from`.
-fn oldest_miss(window: &Window, from: usize) -> Option<Missed>
+/// The oldest miss; it is none of those before `from`.
+pub fn oldest_miss(window: &Window, from: usize) -> Option<Missed>
     requires { AreSettled from window.now }
     ensures { FirstMiss window.now result }
 {
@@ -60,7 +60,6 @@ impl<'a> Pipeline<'a> {
     // The same where a station may be a miss, apart from the way that nearly every turn takes.
     #[cold]
     #[inline(never)]
-    #[tactic(auto, using(std::proofs::lemmas::List::take_more_set))]
     fn recovers_oldest(&mut self) -> bool
         requires room { length self.old.window ≤ 32 }
         requires noted { AreNoted self.old.missed self.old.settled self.old.window }
@@ -73,9 +72,22 @@ impl<'a> Pipeline<'a> {
         let Some(miss) = oldest_miss(&self.window, self.settled) else {
             return false;
         };
-        let Some(station) = self.window.at(miss.at) else {
-            return false;
-        };
+        self.recovers_from(miss);
+        true
+    }
+
+    /// Squashes all tenants behind the oldest miss, and mends it.
+    #[tactic(auto, using(std::proofs::lemmas::List::take_more_set))]
+    pub fn recovers_from(&mut self, miss: Missed)
+        requires room { length self.old.window ≤ 32 }
+        requires first { FirstMiss self.old.window (Some miss) }
+        requires noted { AreNoted self.old.missed self.old.settled self.old.window }
+        ensures window { RecoversOldest self.old self.new }
+        ensures rest { self.new ≡
+            with_window self.old self.new.window self.new.missed self.new.settled }
+        ensures noted { AreNoted self.new.missed self.new.settled self.new.window }
+    {
+        let station = self.window.get(miss.at);
         self.window.put(
             miss.at,
             Station {
@@ -87,6 +99,5 @@ impl<'a> Pipeline<'a> {
         self.window.cut(miss.at + 1);
         self.missed = false;
         self.settled = self.settled.min(miss.at);
-        true
     }
 }

@@ -87,6 +87,15 @@ impl Window {
         self.peek(i).copied()
     }
 
+    /// The tenant at `i`, where there is one.
+    pub fn get(&self, i: usize) -> Station
+        requires { i < length self.now }
+        ensures { slice_get self.now i ≡ Some result }
+    {
+        let slot = slot_of(self.start, i);
+        self.stations[slot]
+    }
+
     #[inline(always)]
     pub fn peek(&self, i: usize) -> Option<&Station>
         ensures { option_copied result ≡ slice_get self.now i }

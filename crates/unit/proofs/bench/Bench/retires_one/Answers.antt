@@ -2,9 +2,10 @@
 use Rattle.std.proofs.Common.{◌≡◌, ◌<◌, suc, Some, refl, sym, ap, ◌∙◌, subst, true≢false, arith}
 use Rattle.unit.specs.Changes.{RetiresOne}
 use Rattle.unit.specs.Turns.{SizesStay}
-use Rattle.unit.specs.declared.bench.Turn.TheVariants.{Recovered}
+use Rattle.unit.specs.declared.bench.Turn.TheVariants.{Over, Recovered, Retired}
+use Rattle.unit.proofs.Moved.{moves_first}
 use Rattle.unit.proofs.BenchTurns.{before_moves, recovered_shows}
-use Rattle.unit.proofs.EndTurns.{window_room}
+use Rattle.unit.proofs.Inside.{window_room}
 use Rattle.unit.proofs.Ends.{left, left_falls, one_over, one_retired}
 use Rattle.unit.proofs.bench.Bench.retires_one.Goals as goal
 
@@ -14,7 +15,7 @@ returns-in-Some-clause-ends g c =
     let code = c.in-Some.code in
     let same : SizesStay b b = record { program = refl; code = refl; ring = refl; queue = refl; first_tag = refl } in
     subst (λ x. RetiresOne (Some code) x.pipeline b) c.self.view_is
-    (one_over b b b code c.self.invariant.0 (before_moves b code c.in-Some.is) same refl refl refl)
+    (one_over b b b code c.self.invariant.0 (moves_first b b (Over code) (before_moves b code c.in-Some.is)) same refl refl refl)
 
 pub recovers-requires-clause-room : goal.recovers-requires-clause-room
 recovers-requires-clause-room g c = window_room c.loop-self.self-inside.pipeline c.loop-self.invariant.unit
@@ -50,7 +51,7 @@ returns-in-Over-clause-ends g c =
     let b = c.lets.new.self in
     let same : b ≡ c.loop-self.self-inside.pipeline = c.if-lets.ensures.falls ∙ c.if-recovers.ensures.same in
     let kept = c.loop-self.invariant in
-    one_over c.args.self.now.pipeline b c.moves.new.self c.in-Over.code c.lets.ensures.unit c.in-Over.ensures.turn c.in-Over.ensures.same
+    one_over c.args.self.now.pipeline b c.moves.new.self c.in-Over.code c.lets.ensures.unit (moves_first b c.moves.new.self (Over c.in-Over.code) c.in-Over.ensures.turn) c.in-Over.ensures.same
     (ap (λ x. x.program) same ∙ kept.program) (ap (λ x. x.committed) same ∙ kept.committed) c.in-Over.ensures.falls
 
 pub invariant_of-self-in-Retired : goal.invariant_of-self-in-Retired
@@ -61,7 +62,7 @@ returns-in-Retired-clause-ends g c =
     let b = c.lets.new.self in
     let same : b ≡ c.loop-self.self-inside.pipeline = c.if-lets.ensures.falls ∙ c.if-recovers.ensures.same in
     let kept = c.loop-self.invariant in
-    one_retired c.args.self.now.pipeline b c.moves.new.self c.lets.ensures.unit c.in-Retired.ensures.turn c.in-Retired.ensures.same
+    one_retired c.args.self.now.pipeline b c.moves.new.self c.lets.ensures.unit (moves_first b c.moves.new.self Retired c.in-Retired.ensures.turn) c.in-Retired.ensures.same
     (ap (λ x. x.program) same ∙ kept.program) (ap (λ x. x.committed) same ∙ kept.committed) c.in-Retired.ensures.falls
 
 pub loop-self-smaller : goal.loop-self-smaller

@@ -2,10 +2,11 @@
 use Rattle.std.proofs.Common.{refl, sym, ◌∙◌, subst}
 use Rattle.unit.specs.Changes.{NoneRecovers}
 use Rattle.unit.specs.StandsFor.{StandsForSome}
-use Rattle.unit.specs.Turns.{Falls, IsTurn, fields}
-use Rattle.unit.specs.declared.bench.Turn.TheVariants.{Let, Recovered}
-use Rattle.unit.proofs.BenchTurns.{plain_turn, recovered_shows}
-use Rattle.unit.proofs.EndTurns.{window_room}
+use Rattle.unit.specs.Turns.{Falls, fields}
+use Rattle.unit.specs.Order.{IsTurn}
+use Rattle.unit.specs.declared.bench.Turn.TheVariants.{Let, Over, Recovered}
+use Rattle.unit.proofs.BenchTurns.{before_moves, plain_turn, recovered_shows}
+use Rattle.unit.proofs.Inside.{window_room}
 use Rattle.unit.proofs.bench.Bench.turn.Goals as goal
 
 pub recovers-requires-clause-room : goal.recovers-requires-clause-room
@@ -57,3 +58,9 @@ returns-clause-turn g c =
     subst (λ x. IsTurn g.P.Predictor.Predicts g.P.Predictor.Learns x c.moves-turn.result (fields c.moves-turn.new.self c.lets.new.predictor)) c.self.view_is
     (subst (λ p. IsTurn g.P.Predictor.Predicts g.P.Predictor.Learns (fields c.self.inside.pipeline p) c.moves-turn.result (fields c.moves-turn.new.self c.lets.new.predictor))
     c.if-lets.ensures.kept before)
+
+pub returns-in-Some-clause-turn : goal.returns-in-Some-clause-turn
+returns-in-Some-clause-turn g c =
+    subst (λ b. IsTurn g.P.Predictor.Predicts g.P.Predictor.Learns b (Over c.in-Some.code) b) c.self.view_is
+    (plain_turn g.P.Predictor.Predicts g.P.Predictor.Learns (fields c.self.inside.pipeline c.self.inside.predictor) (fields c.self.inside.pipeline c.self.inside.predictor) (Over c.in-Some.code) tt
+    (before_moves c.self.inside.pipeline c.in-Some.code c.in-Some.is) refl)

@@ -2,7 +2,7 @@ use Rattle.std.proofs.Common.{ap, ◌∙◌}
 use Rattle.unit.specs.Changes.{NoneRecovers, RecoversOldest}
 use Rattle.unit.specs.Steady.{ComesBack}
 use Rattle.unit.proofs.Awaiting.{chosen_first}
-use Rattle.unit.proofs.EndTurns.{window_room}
+use Rattle.unit.proofs.Inside.{window_room}
 use Rattle.unit.proofs.Idle.{idle, ran_shows}
 use Rattle.unit.proofs.Mended.{recovered_unit}
 use Rattle.unit.proofs.pipeline.Pipeline.comes_back.Goals as goal

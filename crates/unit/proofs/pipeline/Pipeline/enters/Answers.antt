@@ -10,7 +10,7 @@ returns-clause-turn g c =
     let b = c.args.self.now in
     let next = c.args.next in
     let_bench g.P.Predictor.Predicts g.P.Predictor.Learns (fields b c.args.predictor.now) (fields c.let_out.new.self c.guess-predicted.new.predictor) next c.guess-predicted.result
-    c.leaver-left.result c.requires.unit c.requires.open c.requires.miss c.requires.can c.guess-predicted.type_inv
+    c.leaver-left.result c.requires.unit c.requires.open c.requires.can c.guess-predicted.type_inv
     (ap (slice_get b.leavers) (sym c.requires.station) ∙ c.leaver-left.ensures) c.guess-predicted.ensures c.let_out.ensures.window
     (c.let_out.ensures.leavers ∙ ap (λ k. slice_set b.leavers k None) c.requires.station) c.let_out.ensures.rest
 
@@ -20,7 +20,7 @@ returns-clause-falls g c =
     let next = c.args.next in
     let guess = c.guess-predicted.ensures in
     let fixed = guess_fixed g.P.Predictor.Predicts g.P.Predictor.Learns _ next.pc next.instr c.guess-predicted.result guess.middle c.guess-predicted.new.predictor guess.asked in
-    let shows = let_shows b c.let_out.new.self next c.guess-predicted.result c.requires.unit c.requires.open c.requires.miss c.requires.can c.guess-predicted.type_inv fixed c.let_out.ensures.window
+    let shows = let_shows b c.let_out.new.self next c.guess-predicted.result c.requires.unit c.requires.open c.requires.can c.guess-predicted.type_inv fixed c.let_out.ensures.window
     (c.let_out.ensures.leavers ∙ ap (λ k. slice_set b.leavers k None) c.requires.station) c.let_out.ensures.rest in
     shows.falls
 
@@ -30,7 +30,7 @@ returns-clause-unit g c =
     let next = c.args.next in
     let guess = c.guess-predicted.ensures in
     let fixed = guess_fixed g.P.Predictor.Predicts g.P.Predictor.Learns _ next.pc next.instr c.guess-predicted.result guess.middle c.guess-predicted.new.predictor guess.asked in
-    let shows = let_shows b c.let_out.new.self next c.guess-predicted.result c.requires.unit c.requires.open c.requires.miss c.requires.can c.guess-predicted.type_inv fixed c.let_out.ensures.window
+    let shows = let_shows b c.let_out.new.self next c.guess-predicted.result c.requires.unit c.requires.open c.requires.can c.guess-predicted.type_inv fixed c.let_out.ensures.window
     (c.let_out.ensures.leavers ∙ ap (λ k. slice_set b.leavers k None) c.requires.station) c.let_out.ensures.rest in
     shows.unit
 

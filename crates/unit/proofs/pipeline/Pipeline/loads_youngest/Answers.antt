@@ -7,7 +7,7 @@ use Rattle.unit.specs.Steady.{reopened}
 use Rattle.unit.specs.Window.{further_on}
 use Rattle.unit.specs.declared.station.Stage.TheVariants.{Done}
 use Rattle.unit.proofs.Reopened.{reopened_set}
-use Rattle.unit.proofs.EndTurns.{are_inside, stores_write_none}
+use Rattle.unit.proofs.Inside.{are_inside, stores_write_none}
 use Rattle.unit.proofs.StreamsLoads.{loaded_ends, loaded_youngest}
 use Rattle.unit.proofs.pipeline.Pipeline.loads_youngest.Goals as goal
 

@@ -3,7 +3,7 @@ use Rattle.std.proofs.Common.{sym, ap, ◌∙◌, subst, true≢false}
 use Rattle.unit.specs.Changes.{registers_of}
 use Rattle.unit.specs.Givers.{NoneGives}
 use Rattle.unit.specs.Loads.{load_in}
-use Rattle.unit.proofs.EndTurns.{are_inside, stores_write_none}
+use Rattle.unit.proofs.Inside.{are_inside, stores_write_none}
 use Rattle.unit.proofs.Idle.{Idle, idle, leaves_after, loaded_shows, ran_shows, retired_open, retired_plain, retired_shows}
 use Rattle.unit.proofs.Stalls.{loaded_stalls, ran_stalls, retired_unstalled}
 use Rattle.unit.proofs.pipeline.Pipeline.moves.Goals as goal

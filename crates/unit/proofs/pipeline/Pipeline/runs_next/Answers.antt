@@ -33,7 +33,7 @@ returns-clause-unit g c =
     let mid : Pipeline = record b { window = b.window ++ w ∷ []; leavers = slice_set b.leavers c.station_at-station.result None } in
     let guess = c.guess-predicted.ensures in
     let fixed = guess_fixed g.P.Predictor.Predicts g.P.Predictor.Learns _ next.pc next.instr predicted guess.middle c.guess-predicted.new.predictor guess.asked in
-    let lets = let_shows b mid next predicted c.requires.unit c.requires.steady.goes_on (passed_no_miss b.window c.requires.steady.passed) c.requires.next c.guess-predicted.type_inv fixed refl
+    let lets = let_shows b mid next predicted c.requires.unit c.requires.steady.goes_on c.requires.next c.guess-predicted.type_inv fixed refl
     (ap (λ k. slice_set b.leavers k None) (c.station_at-station.ensures.value ∙ ap (λ n. (b.oldest + n) % b.ring) c.len.ensures.value)) refl in
     let reads = c.operands-a.ensures in
     let outcome = c.outcome_of-outcome.result in

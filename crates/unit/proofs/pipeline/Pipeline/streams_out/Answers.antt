@@ -3,6 +3,8 @@ use Rattle.unit.specs.declared.pipeline.Pipeline.{Pipeline}
 use Rattle.unit.proofs.Ends.{one_retired}
 use Rattle.unit.proofs.StreamsOut.{IsDue, due_ended, due_shows, due_steady}
 use Rattle.unit.proofs.Untold.{oldest_untold}
+use Rattle.unit.proofs.Moved.{moves_first}
+use Rattle.unit.specs.declared.bench.Turn.TheVariants.{Retired}
 use Rattle.unit.proofs.pipeline.Pipeline.streams_out.Goals as goal
 
 pub leaves_settled-requires-clause-can : goal.leaves_settled-requires-clause-can
@@ -31,7 +33,7 @@ returns-clause-retires c =
     let due : IsDue b = record { unit = r.unit; goes_on = r.goes_on; whole = r.whole; full = r.full; passed = r.passed; settled = r.settled } in
     let now : Pipeline = record b { settled = suc b.settled } in
     let shows = due_shows b now c.leaves_settled.new.self c.oldest-oldest.result due refl c.oldest-oldest.ensures c.leaves_settled.ensures in
-    one_retired b b c.leaves_settled.new.self r.unit shows.turn shows.same refl refl shows.falls
+    one_retired b b c.leaves_settled.new.self r.unit (moves_first b c.leaves_settled.new.self Retired shows.turn) shows.same refl refl shows.falls
 
 pub returns-clause-steady : goal.returns-clause-steady
 returns-clause-steady c f s =

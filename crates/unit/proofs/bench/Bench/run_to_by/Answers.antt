@@ -1,0 +1,40 @@
+-- A run by choice goes on as the in-order machine does.
+use Rattle.std.proofs.Common.{◌≡◌, ◌<◌, ◌-◌, ap, ◌∙◌, subst, arith}
+use Rattle.inorder.specs.Runs.{end_from}
+use Rattle.unit.specs.StandsFor.{StandsForSome}
+use Rattle.unit.specs.declared.bench.Turn.TheVariants.{Over}
+use Rattle.unit.proofs.ChosenTurns.{moves_by}
+use Rattle.unit.proofs.Ends.{ends_over, ends_same, left_falls}
+use Rattle.unit.proofs.bench.Bench.run_to_by.Goals as goal
+
+pub returns-in-Over : goal.returns-in-Over
+returns-in-Over g c =
+    let b = c.loop-self.self in
+    let later = c.turn_by.new.self in
+    let unit : StandsForSome b.pipeline = subst (λ x. StandsForSome x.pipeline) c.self.view_is c.self.invariant.0 in
+    let count = ap (λ x. x.pipeline.committed.count) c.self.view_is in
+    let below : b.pipeline.committed.count < c.args.limit = omega (arith, count, c.count.ensures, c.if-limit-count.false) in
+    let moves = moves_by g.P.Predictor.Predicts g.P.Predictor.Learns g.C.Chooser.Chooses b later c.loop-self.chooser c.turn_by.new.chooser (Over c.in-Over.code) c.in-Over.ensures.turn in
+    ends_over c.args.limit b.pipeline later.pipeline c.in-Over.code unit moves c.in-Over.ensures.same below c.in-Over.ensures.falls ∙ c.loop-self.invariant.ends
+
+pub loop-self-smaller : goal.loop-self-smaller
+loop-self-smaller g c =
+    let b = c.loop-self.self in
+    let count = ap (λ x. x.pipeline.committed.count) c.self.view_is in
+    let below : b.pipeline.committed.count < c.args.limit = omega (arith, count, c.count.ensures, c.if-limit-count.false) in
+    left_falls c.args.limit b.pipeline c.turn_by.new.self.pipeline c.turn_by.result below c.in_default.not-Over c.turn_by.ensures.falls
+
+pub loop-self-preserved : goal.loop-self-preserved
+loop-self-preserved g c =
+    let b = c.loop-self.self in
+    let later = c.turn_by.new.self in
+    let unit : StandsForSome b.pipeline = subst (λ x. StandsForSome x.pipeline) c.self.view_is c.self.invariant.0 in
+    let count = ap (λ x. x.pipeline.committed.count) c.self.view_is in
+    let below : b.pipeline.committed.count < c.args.limit = omega (arith, count, c.count.ensures, c.if-limit-count.false) in
+    let moves = moves_by g.P.Predictor.Predicts g.P.Predictor.Learns g.C.Chooser.Chooses b later c.loop-self.chooser c.turn_by.new.chooser c.turn_by.result c.turn_by.ensures.turn in
+    record {
+      program = c.turn_by.ensures.same.program ∙ c.loop-self.invariant.program;
+      ends = ap (λ P. end_from P.now (c.args.limit - later.pipeline.committed.count) later.pipeline.committed) c.turn_by.ensures.same.program
+          ∙ ends_same c.args.limit b.pipeline later.pipeline c.turn_by.result unit moves c.turn_by.ensures.same below c.in_default.not-Over c.turn_by.ensures.falls
+          ∙ c.loop-self.invariant.ends;
+    }

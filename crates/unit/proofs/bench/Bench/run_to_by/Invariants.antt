@@ -1,0 +1,14 @@
+use Rattle.std.proofs.Common.{◌≡◌}
+use Rattle.unit.specs.Changes.{run_from}
+use Rattle.unit.proofs.Ends.{left}
+use Rattle.unit.proofs.bench.Bench.run_to_by.Given as goal
+
+abbrev pub invariant-loop-self : goal.invariant-loop-self
+invariant-loop-self g l =
+    record {
+      program : l.self.pipeline.program ≡ l.fn.self.pipeline.program;
+      ends : run_from l.self.pipeline l.limit ≡ run_from l.fn.self.pipeline l.limit;
+    }
+
+abbrev pub decreases-loop-self : goal.decreases-loop-self
+decreases-loop-self g l = left l.limit l.self.pipeline

@@ -1,0 +1,56 @@
+-- Turns by choice: one of the possible steps is made, that which a chooser names.
+use Rattle.std.specs.Prelude.{◌≡◌, ◌%◌, ◌<◌, ℕ, List, [], length, Option, Some, None, slice_get}
+use Rattle.instructions.specs.Programs.{Program}
+use Rattle.instructions.specs.declared.instr.Instr.{Instr}
+use Rattle.instructions.specs.declared.stop.Stop.{Stop}
+use Rattle.inorder.specs.Moves.{IsReached}
+use Rattle.inorder.specs.Tenants.{is_live}
+use Rattle.inorder.specs.Unit.{Sizes, UpdateUnit, how_many}
+use Rattle.unit.specs.declared.bench.Turn.{Turn}
+use Rattle.unit.specs.declared.bench.Turn.TheVariants.{Halved, Let, Loaded, Over, Ran, Recovered, Retired}
+use Rattle.unit.specs.Possible.{Possible, ToLet, ToLoad, ToRecover, ToRetire, ToRun, possible}
+use Rattle.unit.specs.StandsFor.{StandsFor, sizes}
+use Rattle.unit.specs.Turns.{Before, BenchFields, Does, EndsHere, Made, Now, Nowhere}
+
+-- The step that comes with the end of a unit: the retirement of a stop, if there is one
+abbrev pub step_at_end : (P : Program) (C : Sizes) (U V : UpdateUnit) (c : Stop) → EndsHere P C U V c →
+    Option Possible
+step_at_end P C U V c (Before stopped same) = None
+step_at_end P C U V c (Now retires stopped) = Some ToRetire
+step_at_end P C U V c (Nowhere bad nowhere same) = None
+
+-- The step that a turn makes, by what it does
+abbrev pub step_made : (P : Program) (C : Sizes) (U V : UpdateUnit) (answer : Turn) → Does P C U V answer →
+    Option Possible
+step_made P C U V Recovered does = Some (ToRecover (how_many is_live does.ts))
+step_made P C U V Let does = Some ToLet
+step_made P C U V Ran does = Some (ToRun (how_many is_live does.ts))
+step_made P C U V Loaded does = Some (ToLoad (how_many is_live does.ts))
+step_made P C U V Halved does = Some ToRetire
+step_made P C U V Retired does = Some ToRetire
+step_made P C U V (Over c) does = step_at_end P C U V c does
+
+-- A chooser, which was this one and is that one now, picks a step by what it says of being asked: where some are
+-- possible it is asked once, by their number, and its answer names one of them, modulo that number
+pub data Picks {Q : Type 0} (Chooses : Q → ℕ → ℕ → Q → Type 0) (steps : List Possible) (step : Option Possible)
+    (old new : Q) : Type 0 where
+  Nothing : steps ≡ [] → step ≡ None → new ≡ old → Picks Chooses steps step old new
+  OneOf : (answer : ℕ) → Chooses old (length steps) answer new → 0 < length steps →
+      step ≡ slice_get steps (answer % length steps) → Picks Chooses steps step old new
+
+-- Turns by the choices of a chooser
+module _ {S Q : Type 0} (Predicts : S → ℕ → Instr → ℕ → S → Type 0) (Learns : S → ℕ → ℕ → S → Type 0)
+    (Chooses : Q → ℕ → ℕ → Q → Type 0) where
+  -- From the unit U a turn makes the step that the chooser picks of those that are possible
+  pub record TurnedBy (b : BenchFields S) (U : UpdateUnit) (q : Q) (answer : Turn) (later : BenchFields S)
+      (r : Q) : Type 0 where
+    pub made : Made Predicts Learns b U answer later
+    pub picks :
+        Picks Chooses (possible b.pipeline.program.now (sizes b.pipeline) U)
+        (step_made b.pipeline.program.now (sizes b.pipeline) U made.unit answer made.does) q r
+
+  -- So it is for each unit that the bench stands for
+  abbrev pub IsTurnBy : BenchFields S → Q → Turn → BenchFields S → Q → Type 0
+  IsTurnBy b q answer later r =
+      (U : UpdateUnit) → IsReached b.pipeline.program.now (sizes b.pipeline) U → StandsFor b.pipeline U →
+      TurnedBy b U q answer later r

@@ -1,0 +1,110 @@
+-- The steps that are possible, by the stations of the live tenants.
+use Rattle.std.specs.Prelude.{◌≡◌, ℕ, zero, suc, true, List, [], ◌∷◌, ◌++◌, length, Option, Some, None, slice_get, if◌then◌else◌}
+use Rattle.instructions.specs.declared.instr.Instr.{Instr}
+use Rattle.inorder.specs.Moves.{IsReached}
+use Rattle.inorder.specs.Unit.{UpdateUnit}
+use Rattle.unit.specs.declared.bench.Turn.{Turn}
+use Rattle.unit.specs.declared.dispatch.Fetched.{Fetched}
+use Rattle.unit.specs.declared.execute.Operands.{Operands}
+use Rattle.unit.specs.declared.pipeline.Pipeline.{Pipeline}
+use Rattle.unit.specs.declared.possible.Step.{Step}
+use Rattle.unit.specs.declared.possible.Step.TheVariants.{Let, Load, Recover, Retire, Run}
+use Rattle.unit.specs.declared.recovery.Missed.{Missed}
+use Rattle.unit.specs.declared.station.Station.{Station}
+use Rattle.unit.specs.Changes.{CanClaim, LoadGives, NextOf, registers_of}
+use Rattle.unit.specs.Choices.{step_made}
+use Rattle.unit.specs.Givers.{gives}
+use Rattle.unit.specs.Loads.{load_in}
+use Rattle.unit.specs.Notes.{settled_at}
+use Rattle.unit.specs.Possible.{Possible, ToLet, ToLoad, ToRecover, ToRetire, ToRun}
+use Rattle.unit.specs.Stages.{FirstMiss}
+use Rattle.unit.specs.StandsFor.{StandsFor, sizes}
+use Rattle.unit.specs.Turns.{BenchFields, Made}
+use Rattle.unit.specs.Window.{operands_in}
+
+-- A step by its name in a unit
+abbrev pub named : Step → Possible
+named (Recover m) = ToRecover m.at
+named (Let f) = ToLet
+named (Run r) = ToRun r.at
+named (Load l) = ToLoad l.at
+named Retire = ToRetire
+
+-- The fields permit a step
+abbrev pub Permits : Pipeline → Step → Type 0
+Permits b (Recover m) = FirstMiss b.window (Some m)
+Permits b (Let f) = NextOf b (Some f)
+Permits b (Run r) = CanClaim b r
+Permits b (Load l) = LoadGives b l
+Permits b Retire = settled_at (slice_get b.window 0) ≡ true
+
+-- The recovery of a miss, if there is one
+abbrev pub recovery : Option Missed → List Step
+recovery None = []
+recovery (Some m) = Recover m ∷ []
+
+-- The let of what can be let, if there is something
+abbrev pub next_let : Option Fetched → List Step
+next_let None = []
+next_let (Some f) = Let f ∷ []
+
+-- The step of a station, if that gives something
+abbrev pub given_step : {X : Type 0} → (ℕ → X → Step) → ℕ → Option X → List Step
+given_step step k None = []
+given_step step k (Some x) = step k x ∷ []
+
+-- A step for each of the first k stations that gives something
+abbrev pub given_steps : {X : Type 0} → (List Station → Station → Option X) → (ℕ → X → Step) → List Station → ℕ →
+    List Step
+given_steps give step W zero = []
+given_steps give step W (suc k) = given_steps give step W k ++ given_step step k (gives give W k)
+
+-- The execution of a station with these sources
+abbrev pub run_at : ℕ → Operands → Step
+run_at k o = Run (record { at = k; operands = o })
+
+-- The load of a station with this value
+abbrev pub load_at : ℕ → ℕ → Step
+load_at k v = Load (record { at = k; value = v })
+
+-- The executions of the first k stations that can be claimed
+abbrev pub runs_of : List ℕ → List Station → ℕ → List Step
+runs_of registers W k = given_steps (operands_in registers) run_at W k
+
+-- The loads of the first k stations that are not blocked
+abbrev pub loads_of : List ℕ → List ℕ → List Station → ℕ → List Step
+loads_of registers memory W k = given_steps (load_in registers memory) load_at W k
+
+-- The retirement of the oldest station, if that can retire
+abbrev pub retirement_of : Option Station → List Step
+retirement_of w = if settled_at w then Retire ∷ [] else []
+
+-- All steps that the fields permit, in their order
+abbrev pub all_steps : Pipeline → Option Missed → Option Fetched → List Step
+all_steps b miss next =
+    recovery miss ++ next_let next ++ runs_of (registers_of b) b.window (length b.window)
+    ++ loads_of (registers_of b) b.committed.memory b.window (length b.window)
+    ++ retirement_of (slice_get b.window 0)
+
+-- These are all of them
+pub record ArePossible (b : Pipeline) (steps : List Step) : Type 0 where
+  pub miss : Option Missed
+  pub is_miss : FirstMiss b.window miss
+  pub next : Option Fetched
+  pub is_next : NextOf b next
+  pub list : steps ≡ all_steps b miss next
+
+-- Turns that make a step, with what they do to a predictor
+module _ {S : Type 0} (Predicts : S → ℕ → Instr → ℕ → S → Type 0) (Learns : S → ℕ → ℕ → S → Type 0) where
+  -- From the unit U the turn makes this step
+  pub record MadeAs (b : BenchFields S) (U : UpdateUnit) (step : Step) (answer : Turn) (later : BenchFields S)
+      : Type 0 where
+    pub made : Made Predicts Learns b U answer later
+    pub is :
+        step_made b.pipeline.program.now (sizes b.pipeline) U made.unit answer made.does ≡ Some (named step)
+
+  -- So it is for each unit that the bench stands for
+  abbrev pub Makes : BenchFields S → Step → Turn → BenchFields S → Type 0
+  Makes b step answer later =
+      (U : UpdateUnit) → IsReached b.pipeline.program.now (sizes b.pipeline) U → StandsFor b.pipeline U →
+      MadeAs b U step answer later
