@@ -18,7 +18,7 @@ abbrev pub times : ℕ → List ℕ → List ℕ
 times zero text = []
 times (suc n) text = text ++ times n text
 
--- Which half of an instruction a tenant is, where that has two
+-- The label of a half, where an instruction has two
 abbrev pub half_label : Instr → Half → List ℕ
 half_label i High = codes " hi"
 half_label i Low = if is_first_half i.op Low then codes " lo" else []
@@ -27,7 +27,7 @@ half_label i Low = if is_first_half i.op Low then codes " lo" else []
 abbrev pub tenant_text : Station → List ℕ
 tenant_text w = instr_text w.instr ++ half_label w.instr w.half
 
--- In this many columns
+-- The columns that an instruction takes
 abbrev pub columns : ℕ
 columns = 26
 
@@ -35,34 +35,34 @@ columns = 26
 abbrev pub padded : List ℕ → List ℕ
 padded text = text ++ times (columns - length text) (codes " ")
 
--- A picture begins this far from the left: a turn's column, in rounds of 64
+-- The blanks before the picture of a tenant: its turn's column, in rounds of 64
 abbrev pub indent : (turn : ℕ) → ℕ
 indent turn = (turn - 1) % 64
 
--- A mark, so many turns behind another one; what stands between them
+-- A mark, and what stands between it and the mark of an earlier turn
 abbrev pub mark_behind : (between : List ℕ) → (before turn : ℕ) → (mark : List ℕ) → List ℕ
 mark_behind between before turn mark = times (turn - before - 1) between ++ mark
 
--- A load got its value, any other was mended
+-- The mark of a load that got its value, or of a miss that was mended
 abbrev pub settled_mark : Kind → List ℕ
 settled_mark Loads = codes "V"
 settled_mark _ = codes "M"
 
--- From the turn at which a tenant ran
+-- The picture from the turn on at which a tenant was claimed and finished
 abbrev pub behind_ran : Kind → (ran : ℕ) → Option ℕ → (turn : ℕ) → (mark : List ℕ) → List ℕ
 behind_ran k ran None turn mark = mark_behind (codes "-") ran turn mark
 behind_ran k ran (Some settled) turn mark =
     mark_behind (codes "-") ran settled (settled_mark k)
     ++ mark_behind (codes "=") settled turn mark
 
--- From the turn of its let
+-- The picture behind the turn of the let
 abbrev pub behind_let : Kind → (let_at : ℕ) → Option ℕ → Option ℕ → (turn : ℕ) → (mark : List ℕ)
     → List ℕ
 behind_let k let_at None settled turn mark = mark_behind (codes ".") let_at turn mark
 behind_let k let_at (Some ran) settled turn mark =
     mark_behind (codes ".") let_at ran (codes "X") ++ behind_ran k ran settled turn mark
 
--- What became of a tenant, up to a turn and with a mark for it
+-- The picture of a tenant, up to a turn and with a mark for that
 abbrev pub picture : Row → (turn : ℕ) → (mark : List ℕ) → List ℕ
 picture r turn mark =
     times (indent r.let_at) (codes " ")
@@ -75,12 +75,12 @@ line r turn mark =
     ++ (hexadecimal r.station.pc ++ codes " ")))))
     ++ (padded (tenant_text r.station) ++ (codes " " ++ (picture r turn mark ++ newline)))
 
--- How a tenant has left
+-- The mark of the way in which a tenant has left
 abbrev pub way_mark : Way → List ℕ
 way_mark (Retired before) = codes "R"
 way_mark Squashed = codes "S"
 
--- The lines of those that are still live behind a turn
+-- The lines of the tenants that are still live behind a turn
 abbrev pub live_lines : (turn : ℕ) → List Row → List ℕ
 live_lines turn [] = []
 live_lines turn (r ∷ rs) = line r turn (codes ">") ++ live_lines turn rs

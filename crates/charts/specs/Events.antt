@@ -12,23 +12,23 @@ use Rattle.charts.specs.declared.row.Row.{Row}
 use Rattle.charts.specs.Rows.{SoFar, all_seen, awaited, is_recovery, newcomer, phase_of, retires, staying}
 use Rattle.devices.specs.Counted.{raised}
 
--- A tenant was squashed, if there is one
+-- The squash of a tenant, if there is one
 abbrev pub squash : Option Row → List Event
 squash None = []
 squash (Some r) = Left r Squashed ∷ []
 
--- Of the first n, those behind the first `live` were squashed, the youngest first
+-- The squashes of those of the first n tenants that are behind the first `live`, the youngest first
 abbrev pub squashes : (live : ℕ) → List Row → (n : ℕ) → List Event
 squashes live rows zero = []
 squashes live rows (suc n) =
     if nat_lt n live then [] else squash (slice_get rows n) ++ squashes live rows n
 
--- The oldest retired, behind so many others
+-- The retirement of the oldest tenant, behind so many others
 abbrev pub retirement : (before : ℕ) → List Row → List Event
 retirement before [] = []
 retirement before (r ∷ rs) = Left r (Retired before) ∷ []
 
--- Who has left at a turn that leaves so many
+-- The tenants that have left at a turn that leaves so many
 abbrev pub left_events : Turn → (live before : ℕ) → List Row → List Event
 left_events answer live before rows =
     if is_recovery answer then squashes live rows (length rows)
@@ -43,14 +43,14 @@ is_same Miss Miss = true
 is_same Stop Stop = true
 is_same _ _ = false
 
--- A tenant has gone on, if its station says so
+-- A tenant has gone on to another phase, if its station says so
 abbrev pub went_on : Row → Option Station → List Event
 went_on r None = []
 went_on r (Some w) =
     if is_same (phase_of r.station.stage) (phase_of w.stage) then []
     else Moved r.position (phase_of r.station.stage) (phase_of w.stage) ∷ []
 
--- Who has gone on, where the first of these is at place i of the window
+-- The tenants that have gone on, where the first of these is at position i of the window
 abbrev pub moved_events : List Station → (i : ℕ) → List Row → List Event
 moved_events W i [] = []
 moved_events W i (r ∷ rs) = went_on r (slice_get W i) ++ moved_events W (i + 1) rs
@@ -60,13 +60,13 @@ abbrev pub let_event : List Row → Row → Event
 let_event rows r =
     Let r (awaited (first_of r.station.instr) rows) (awaited (second_of r.station.instr) rows)
 
--- Who was let, if anybody was
+-- The tenant that was let, if one was
 abbrev pub entry_events : List Row → Option Row → List Event
 entry_events rows None = []
 entry_events rows (Some r) = let_event rows r ∷ []
 
--- What became of the tenants at a turn that left this window: who has left, then who has gone on,
--- then who was let
+-- The events of a turn that left this window: the tenants that have left, then those that have gone on, then the one
+-- that was let
 abbrev pub events : SoFar → Turn → List Station → List Event
 events k answer W =
     left_events answer (length W) k.retirements k.rows

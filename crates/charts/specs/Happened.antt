@@ -19,12 +19,12 @@ pub record StandsAs (ts : List Tenant) (position : ℕ) (standing : Standing) : 
   pub is : at ts position ≡ Some tenant
   pub stands : tenant.standing ≡ standing
 
--- It was let: there were as many tenants before it as its position says
+-- The tenant of a row was let: there were as many tenants before it as its position says
 pub record WasLet (P : Program) (before behind : List Tenant) (r : Row) : Type 0 where
   pub position : r.position ≡ length before
   pub stands : IsRowOf P behind r
 
--- It has gone on, from one phase to another
+-- The tenant at a position has gone on, from one phase to another
 pub record HasGoneOn (P : Program) (before behind : List Tenant) (position : ℕ) (from to : Phase) : Type 0 where
   pub old : Station
   pub new : Station
@@ -33,7 +33,7 @@ pub record HasGoneOn (P : Program) (before behind : List Tenant) (position : ℕ
   pub from_is : from ≡ phase_of old.stage
   pub to_is : to ≡ phase_of new.stage
 
--- It was live, and has left
+-- The tenant of a row was live, and has left
 pub record HasGone (P : Program) (before behind : List Tenant) (r : Row) (standing : Standing) : Type 0 where
   pub stood : IsRowOf P before r
   pub left : StandsAs behind r.position standing

@@ -40,7 +40,7 @@ let_lines r =
     ++ (decimal r.position ++ (codes "\t0\t" ++ (hexadecimal r.station.pc ++ (codes " "
     ++ (tenant_text r.station ++ (codes "\nS\t" ++ (decimal r.position ++ codes "\t0\tDs\n")))))))))))
 
--- How a tenant has left
+-- The end of a line that tells how a tenant has left
 abbrev pub way_text : Way → List ℕ
 way_text (Retired before) = decimal before ++ codes "\t0\n"
 way_text Squashed = codes "0\t1\n"

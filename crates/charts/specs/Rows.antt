@@ -1,5 +1,5 @@
--- What is kept of the live tenants of a run, from turn to turn.
-use Rattle.std.specs.Prelude.{ℕ, ◌+◌, ◌-◌, ◌^◌, min, Bool, true, false, List, [], ◌∷◌, ◌++◌, length, take, drop, Option, Some, None, is_some, ◌==◌, nat_lt, if◌then◌else◌, slice_get}
+-- The rows of the live tenants of a run, from turn to turn.
+use Rattle.std.specs.Prelude.{ℕ, ◌+◌, Bool, true, false, List, [], ◌∷◌, ◌++◌, length, take, drop, Option, Some, None, is_some, ◌==◌, nat_lt, if◌then◌else◌, slice_get}
 use Rattle.unit.specs.declared.bench.Turn.{Turn}
 use Rattle.unit.specs.declared.bench.Turn.TheVariants.{Halved, Let, Over, Recovered, Retired}
 use Rattle.unit.specs.declared.station.Stage.{Stage}
@@ -11,7 +11,7 @@ use Rattle.charts.specs.declared.row.Row.{Row}
 use Rattle.charts.specs.declared.books.Books.{Books}
 use Rattle.devices.specs.Counted.{counted, raised}
 
--- How far a tenant has come
+-- The phase of a tenant, by the stage of its station
 abbrev pub phase_of : Stage → Phase
 phase_of Open = Waiting
 phase_of (Addr a) = Address
@@ -19,7 +19,7 @@ phase_of IsDone = Done
 phase_of (Misses x) = Miss
 phase_of (Stops c) = Stop
 
--- The turn at which it was claimed and finished: the one behind which it waits no more
+-- The turn at which a tenant was claimed and finished: the one behind which it waits no more
 abbrev pub ran_by : (turn : ℕ) → (before behind : Phase) → Option ℕ → Option ℕ
 ran_by turn Waiting Waiting ran = ran
 ran_by turn Waiting _ ran = Some turn
@@ -31,7 +31,7 @@ settled_turn turn Address Done settled = Some turn
 settled_turn turn Miss Done settled = Some turn
 settled_turn turn _ _ settled = settled
 
--- A tenant behind a turn that left it in this station
+-- The row of a tenant behind a turn that left it in this station
 abbrev pub seen : (turn : ℕ) → Row → Station → Row
 seen turn r w =
     record {
@@ -42,37 +42,37 @@ seen turn r w =
       station = w;
     }
 
--- The same, where there is a station
+-- The row of a tenant behind a turn, where a station is left
 abbrev pub seen_in : (turn : ℕ) → Row → Option Station → Row
 seen_in turn r None = r
 seen_in turn r (Some w) = seen turn r w
 
--- Each tenant behind a turn, where the first of them is at place i of the window
+-- The rows behind a turn, where the first of them is that of position i of the window
 abbrev pub all_seen : (turn : ℕ) → List Station → (i : ℕ) → List Row → List Row
 all_seen turn W i [] = []
 all_seen turn W i (r ∷ rs) = seen_in turn r (slice_get W i) ∷ all_seen turn W (i + 1) rs
 
--- Who has left
+-- Tenants that leave
 
--- The oldest miss was mended
+-- A turn that recovers: the oldest miss was mended
 abbrev pub is_recovery : Turn → Bool
 is_recovery Recovered = true
 is_recovery _ = false
 
--- The oldest tenant retired: the turn says so, and there is one tenant less
+-- A turn that retires the oldest tenant: the turn says so, and there is one tenant less
 abbrev pub retires : Turn → (live before : ℕ) → Bool
 retires Halved live before = nat_lt live before
 retires Retired live before = nat_lt live before
 retires (Over c) live before = nat_lt live before
 retires _ live before = false
 
--- Who stays live through a turn that leaves so many
+-- The rows of the tenants that stay live through a turn that leaves so many
 abbrev pub staying : Turn → (live : ℕ) → List Row → List Row
 staying answer live rows =
     if is_recovery answer then take live rows
     else if retires answer live (length rows) then drop 1 rows else rows
 
--- Who has come
+-- Tenants that come
 
 -- The row of a tenant that was let, by the station behind those before it
 abbrev pub let_row : Turn → Option Station → (position turn : ℕ) → Option Row
@@ -85,15 +85,15 @@ abbrev pub with_row : List Row → Option Row → List Row
 with_row rows None = rows
 with_row rows (Some r) = rows ++ r ∷ []
 
--- Whom a new tenant waits for
+-- Producers that a new tenant waits for
 
--- The youngest of these that writes a register, or who was found before them
+-- The youngest of these tenants that writes a register, or the one that was found before them
 abbrev pub writer_from : (register : ℕ) → Option Row → List Row → Option Row
 writer_from register found [] = found
 writer_from register found (r ∷ rs) =
     writer_from register (if r.station.destination == register then Some r else found) rs
 
--- The youngest that writes a register
+-- The youngest tenant that writes a register
 abbrev pub writer_of : (register : ℕ) → List Row → Option Row
 writer_of register rows = writer_from register None rows
 
@@ -107,7 +107,7 @@ abbrev pub unmade : Option Row → Option ℕ
 unmade None = None
 unmade (Some r) = unmade_by r.station.made r.position
 
--- Who has still to make what a new tenant reads from a register; register 0 nobody makes
+-- The producer that has still to make what a new tenant reads from a register; none makes register 0
 abbrev pub awaited : (register : ℕ) → List Row → Option ℕ
 awaited register rows = if register == 0 then None else unmade (writer_of register rows)
 
@@ -118,26 +118,27 @@ listed (Some w) = w ∷ []
 
 -- The books
 
--- How many turns were made, tenants let and retired; and the live ones, the oldest first
+-- Counts of the turns that were made, the tenants that were let and those that have retired; and the rows of the live
+-- ones, the oldest first
 pub record SoFar : Type 0 where
   pub turns : ℕ
   pub lets : ℕ
   pub retirements : ℕ
   pub rows : List Row
 
--- What the books hold
+-- The content of the books
 abbrev pub kept : Books → SoFar
 kept b = record { turns = b.turns; lets = b.lets; retirements = b.retirements; rows = b.rows.items }
 
--- Before the first turn
+-- The content before the first turn
 abbrev pub start_kept : SoFar
 start_kept = record { turns = 0; lets = 0; retirements = 0; rows = [] }
 
--- Who was let at a turn that left this window
+-- The row of the tenant that was let at a turn that left this window
 abbrev pub newcomer : SoFar → Turn → List Station → Option Row
 newcomer k answer W = let_row answer (slice_get W (length k.rows)) k.lets (raised k.turns)
 
--- The books behind a turn that left this window
+-- The content behind a turn that left this window
 abbrev pub next_kept : SoFar → Turn → List Station → SoFar
 next_kept k answer W =
     record {

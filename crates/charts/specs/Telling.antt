@@ -9,36 +9,36 @@ use Rattle.charts.specs.Kanata.{event_lines, head, tick}
 use Rattle.charts.specs.Rows.{SoFar}
 use Rattle.devices.specs.Counted.{raised}
 
--- Before the first turn
+-- The text before the first turn
 abbrev pub first_text : Format → List ℕ
 first_text Chart = []
 first_text Kanata = head
 
--- What a chart says of an event: a line of who has left
+-- The text of an event in a chart: a line of the tenant that has left
 abbrev pub drawn : (turn : ℕ) → Event → List ℕ
 drawn turn (Left r way) = line r turn (way_mark way)
 drawn turn _ = []
 
--- What is said of an event
+-- The text of an event
 abbrev pub event_text : Format → (turn : ℕ) → Event → List ℕ
 event_text Chart turn e = drawn turn e
 event_text Kanata turn e = event_lines e
 
--- What is said of several
+-- The text of several events
 abbrev pub events_text : Format → (turn : ℕ) → List Event → List ℕ
 events_text f turn [] = []
 events_text f turn (e ∷ es) = event_text f turn e ++ events_text f turn es
 
--- At the begin of a turn
+-- The text at the begin of a turn
 abbrev pub tick_text : Format → List ℕ
 tick_text Chart = []
 tick_text Kanata = tick
 
--- What is said of a turn with these events
+-- The text of a turn with these events
 abbrev pub turn_text : Format → (turn : ℕ) → List Event → List ℕ
 turn_text f turn es = tick_text f ++ events_text f turn es
 
--- Behind the last turn
+-- The text behind the last turn
 abbrev pub last_text : Format → SoFar → List ℕ
 last_text Chart k = live_lines (raised k.turns) k.rows
 last_text Kanata k = []

@@ -1,4 +1,4 @@
--- A run, turn by turn, and what is said of it.
+-- A run that is told turn by turn.
 use Rattle.std.specs.Prelude.{⊤, ◌≡◌, ◌≤◌, ◌<◌, length, ℕ, List, [], ◌∷◌, ◌++◌, take, Option}
 use Rattle.std.specs.Io.KnownBytes.{Appends}
 use Rattle.devices.specs.Counted.{Gives, raised}
@@ -16,6 +16,8 @@ use Rattle.unit.specs.declared.bench.Turn.{Turn}
 use Rattle.unit.specs.declared.bench.Turn.TheVariants.{Over}
 use Rattle.unit.specs.Changes.{run_from}
 use Rattle.unit.specs.StandsFor.{StandsFor, sizes}
+use Rattle.unit.specs.declared.order.Order.{Order}
+use Rattle.unit.specs.Ordered.{AsksFor}
 use Rattle.unit.specs.Turns.{BenchFields, Does, Trains}
 use Rattle.unit.specs.Window.{window}
 use Rattle.inorder.specs.Moves.{IsReached}
@@ -35,13 +37,12 @@ abbrev pub unit_behind : List Passed → UpdateUnit
 unit_behind [] = empty_unit
 unit_behind (t ∷ ts) = t.unit
 
--- Each is a turn from the unit that the turns before it have left: legal steps, and the first that
--- are possible
+-- Each is a turn from the unit that the turns before it have left: legal steps
 abbrev pub AreTurns : Program → Sizes → List Passed → Type 0
 AreTurns P C [] = ⊤
 AreTurns P C (t ∷ ts) = AreTurns P C ts × Does P C (unit_behind ts) t.unit t.answer
 
--- How many instructions are counted behind these turns
+-- The count of instructions behind these turns
 abbrev pub count_behind : Program → List Passed → ℕ
 count_behind P ts = (committed P (unit_behind ts).tenants).count
 
@@ -65,21 +66,21 @@ abbrev pub IsOver : Program → (limit : ℕ) → List Passed → Ending → Typ
 IsOver P limit ts (ByStop code) = HasEnded ts code
 IsOver P limit ts ByLimit = count_behind P ts ≡ limit
 
--- What is kept of the tenants behind these turns
+-- The rows and counts behind these turns
 abbrev pub kept_behind : Program → List Passed → SoFar
 kept_behind P [] = start_kept
 kept_behind P (t ∷ ts) = next_kept (kept_behind P ts) t.answer (window P t.unit.tenants)
 
--- What became of the tenants at a turn behind others
+-- The events of a turn behind others
 abbrev pub events_at : Program → List Passed → Passed → List Event
 events_at P ts t = events (kept_behind P ts) t.answer (window P t.unit.tenants)
 
--- What is said of these turns
+-- The text of these turns
 abbrev pub told : Format → Program → List Passed → List ℕ
 told f P [] = first_text f
 told f P (t ∷ ts) = told f P ts ++ turn_text f (raised (kept_behind P ts).turns) (events_at P ts t)
 
--- What is said of a whole run
+-- The text of a whole run
 abbrev pub text : Format → Program → List Passed → List ℕ
 text f P ts = told f P ts ++ last_text f (kept_behind P ts)
 
@@ -87,7 +88,7 @@ text f P ts = told f P ts ++ last_text f (kept_behind P ts)
 abbrev pub sizes_by : Settings → Sizes
 sizes_by c = record { ring = c.ring; queue = c.queue; first_tag = c.first_tag }
 
--- What is said of runs, by what a predictor says of being asked and told
+-- Guesses of a predictor, by what it says of being asked and told
 module _ {S : Type 0} (Predicts : S → ℕ → Instr → ℕ → S → Type 0) (Learns : S → ℕ → ℕ → S → Type 0) where
   -- The predictor was this one before these turns, and is that one behind them: at each let it was told of who
   -- has left, and then asked
@@ -97,53 +98,79 @@ module _ {S : Type 0} (Predicts : S → ℕ → Instr → ℕ → S → Type 0) 
       (before : S) × HasGuessed P first ts before
       × Trains Predicts Learns P (unit_behind ts) t.unit t.answer before last
 
+-- The order of turns, by what a chooser says of being asked
+module _ {Q : Type 0} (Chooses : Q → ℕ → ℕ → Q → Type 0) where
+  -- The order was this one before these turns, and is that one behind them: each turn does what it asks for
+  abbrev pub AreOrdered : (P : Program) (C : Sizes) (first : Order Q) (ts : List Passed) → AreTurns P C ts →
+      (last : Order Q) → Type 0
+  AreOrdered P C first [] are last = last ≡ first
+  AreOrdered P C first (t ∷ ts) are last =
+      (before : Order Q) × AreOrdered P C first ts are.0 before
+      × AsksFor Chooses P C (unit_behind ts) t.unit t.answer are.1 before last
+
+-- A predictor and an order of turns
+pub record Guides (S Q : Type 0) : Type 0 where
+  pub predictor : S
+  pub order : Order Q
+
+-- A predictor and an order by their parts
+abbrev pub guides : {S Q : Type 0} → S → Order Q → Guides S Q
+guides predictor order = record { predictor = predictor; order = order }
+
+-- Runs that are told, by what their predictor and their chooser say of being asked
+module _ {S Q : Type 0} (Predicts : S → ℕ → Instr → ℕ → S → Type 0) (Learns : S → ℕ → ℕ → S → Type 0)
+    (Chooses : Q → ℕ → ℕ → Q → Type 0) where
   -- The bench stands for the unit behind some turns, and these were told
-  pub record Stood (f : Format) (P : Program) (C : Sizes) (limit : ℕ) (b : BenchFields S) (k : SoFar)
-      (first : S) (start now : Option (List ℕ)) : Type 0 where
+  pub record Stood (f : Format) (P : Program) (C : Sizes) (limit : ℕ) (b : BenchFields S) (order : Order Q)
+      (k : SoFar) (first : Guides S Q) (start now : Option (List ℕ)) : Type 0 where
     pub program : b.pipeline.program.now ≡ P
     pub sizes : sizes b.pipeline ≡ C
     pub turns : List Passed
     pub are : AreTurns P C turns
     pub due : AreDue P limit turns
-    pub guessed : HasGuessed P first turns b.predictor
+    pub guessed : HasGuessed Predicts Learns P first.predictor turns b.predictor
+    pub ordered : AreOrdered Chooses P C first.order turns are order
     pub reached : IsReached P C (unit_behind turns)
     pub stands : StandsFor b.pipeline (unit_behind turns)
     pub kept : k ≡ kept_behind P turns
     pub says : Appends start now (told f P turns)
 
-  -- Its unit has not ended, and its count is no more than the limit
-  pub record GoesOn (f : Format) (P : Program) (C : Sizes) (limit : ℕ) (b : BenchFields S) (k : SoFar)
-      (first : S) (start now : Option (List ℕ)) : Type 0 where
-    pub stood : Stood f P C limit b k first start now
+  -- The bench stood so, its unit has not ended, and its count is no more than the limit
+  pub record GoesOn (f : Format) (P : Program) (C : Sizes) (limit : ℕ) (b : BenchFields S) (order : Order Q)
+      (k : SoFar) (first : Guides S Q) (start now : Option (List ℕ)) : Type 0 where
+    pub stood : Stood f P C limit b order k first start now
     pub going : (code : Stop) → HasEnded stood.turns code → ⊥
     pub within : b.pipeline.committed.count ≤ limit
 
-  -- All turns of its run were told
-  pub record IsThrough (f : Format) (P : Program) (C : Sizes) (limit : ℕ) (b : BenchFields S) (k : SoFar)
-      (first : S) (start now : Option (List ℕ)) : Type 0 where
-    pub stood : Stood f P C limit b k first start now
+  -- The bench stood so, and all turns of its run were told
+  pub record IsThrough (f : Format) (P : Program) (C : Sizes) (limit : ℕ) (b : BenchFields S) (order : Order Q)
+      (k : SoFar) (first : Guides S Q) (start now : Option (List ℕ)) : Type 0 where
+    pub stood : Stood f P C limit b order k first start now
     pub over : IsOver P limit stood.turns (run_from b.pipeline limit).0
 
   -- A run up to a limit was told from its first turn to its last one: legal turns by the guesses of this
-  -- predictor, each of which was due, until none was. They lead to how and where the run ends
-  pub record IsTold (f : Format) (P : Program) (C : Sizes) (limit : ℕ) (first : S) (end : Ending × State)
+  -- predictor and in this order, each of which was due, until none was. The last of them leaves the state in which
+  -- the run ends
+  pub record IsTold (f : Format) (P : Program) (C : Sizes) (limit : ℕ) (first : Guides S Q) (end : Ending × State)
       (before after : Option (List ℕ)) : Type 0 where
     pub turns : List Passed
     pub are : AreTurns P C turns
     pub due : AreDue P limit turns
     pub over : IsOver P limit turns end.0
-    pub last : S
-    pub guessed : HasGuessed P first turns last
+    pub last : Guides S Q
+    pub guessed : HasGuessed Predicts Learns P first.predictor turns last.predictor
+    pub ordered : AreOrdered Chooses P C first.order turns are last.order
     pub ends : committed P (unit_behind turns).tenants ≡ end.1
     pub says : Appends before after (text f P turns)
 
-  -- Only a beginning was told of legal turns by its guesses
-  pub record IsBegun (f : Format) (P : Program) (C : Sizes) (first : S) (before after : Option (List ℕ))
+  -- A beginning was told of legal turns by the guesses of this predictor and in this order
+  pub record IsBegun (f : Format) (P : Program) (C : Sizes) (first : Guides S Q) (before after : Option (List ℕ))
       : Type 0 where
     pub turns : List Passed
     pub are : AreTurns P C turns
-    pub last : S
-    pub guessed : HasGuessed P first turns last
+    pub last : Guides S Q
+    pub guessed : HasGuessed Predicts Learns P first.predictor turns last.predictor
+    pub ordered : AreOrdered Chooses P C first.order turns are last.order
     pub n : ℕ
     pub says : Appends before after (take n (text f P turns))
 

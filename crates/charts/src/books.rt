@@ -13,8 +13,8 @@ use crate::waits::entry;
 use std::alloc::{AllocError, Global};
 use unit::{Station, Turn};
 
-/// How many turns were made, how many tenants were let and how many have retired; and the live
-/// ones, the oldest first.
+/// Counts of the turns that were made, the tenants that were let and those that have retired; and a row for each live
+/// tenant, the oldest first.
 #[derive(Drop)]
 pub(crate) struct Books {
     pub(crate) turns: u64,
@@ -23,14 +23,14 @@ pub(crate) struct Books {
     pub(crate) rows: Vec<Row>,
 }
 
-// One more, up to the greatest number.
+// A count and one more, up to the greatest number.
 pub(crate) fn raised(n: u64) -> u64
     ensures { result ≡ raised_of n }
 {
     n.saturating_add(1)
 }
 
-// One more, if there is one.
+// A count, and one more if there is one.
 fn counted(more: bool, n: u64) -> u64
     ensures { result ≡ counted_of more n }
 {
@@ -49,7 +49,7 @@ fn station_at(window: &[Station], i: usize) -> Option<Station>
     window.get(i).copied()
 }
 
-// A tenant has gone on, if its station says so.
+// Adds the event of a tenant whose station says that it has gone on.
 fn push_moved(
     events: &mut Vec<Event>,
     row: &Row,
@@ -71,7 +71,7 @@ fn push_moved(
     Ok(())
 }
 
-// Who has gone on.
+// Adds the events of the tenants that have gone on.
 fn push_moves(events: &mut Vec<Event>, rows: &[Row], window: &[Station]) -> Result<(), AllocError>
     ensures { OnOk result (events.new.items
         ≡ events.old.items ++ moved_events window.now 0 rows.now) }
@@ -82,7 +82,7 @@ fn push_moves(events: &mut Vec<Event>, rows: &[Row], window: &[Station]) -> Resu
     Ok(())
 }
 
-// A tenant as a turn left it.
+// The row of a tenant as a turn left it.
 fn seen(row: &Row, turn: u64, station: Option<Station>) -> Row
     ensures { result ≡ seen_in turn row.now station }
 {
@@ -92,7 +92,7 @@ fn seen(row: &Row, turn: u64, station: Option<Station>) -> Row
     }
 }
 
-// Each as a turn left it.
+// The rows as a turn left their tenants.
 fn all_seen(
     alloc: Global,
     rows: &[Row],
@@ -124,7 +124,7 @@ fn let_row(answer: Turn, station: Option<Station>, position: u64, turn: u64) -> 
     }
 }
 
-// Who was let, if anybody was.
+// Adds the event of the tenant that was let, if one was.
 fn push_entry(events: &mut Vec<Event>, rows: &[Row], new: &Option<Row>) -> Result<(), AllocError>
     ensures { OnOk result (events.new.items
         ≡ events.old.items ++ entry_events rows.now new.now) }
@@ -156,7 +156,7 @@ impl Books {
         }
     }
 
-    /// What became of the tenants at a turn that has left this window.
+    /// Keeps the rows through a turn that has left this window, and gives what became of the tenants.
     pub(crate) fn turn(
         &mut self,
         alloc: Global,

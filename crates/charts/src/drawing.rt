@@ -12,10 +12,10 @@ use isa::{Hexadecimal, InstrText};
 use std::alloc::{AllocError, Global};
 use unit::Station;
 
-/// In how many columns an instruction stands.
+/// The columns that an instruction takes.
 const COLUMNS: usize = 26;
 
-// A text so many times.
+// Adds a text so many times.
 fn push_times(out: &mut String, n: u64, text: &str) -> Result<(), AllocError>
     ensures { OnOk result (string_bytes out.new ≡ string_bytes out.old ++ times n text.now) }
 {
@@ -27,7 +27,7 @@ fn push_times(out: &mut String, n: u64, text: &str) -> Result<(), AllocError>
     Ok(())
 }
 
-/// Which half of an instruction a tenant is, where that has two.
+/// The label of a half, where an instruction has two.
 pub(crate) fn half_text(instr: &Instr, half: Half) -> &'static str
     ensures { result.now ≡ half_label instr.now half }
 {
@@ -51,7 +51,7 @@ fn push_instr(alloc: Global, out: &mut String, station: &Station) -> Result<(), 
     push_times(out, blanks as u64, " ")
 }
 
-// A mark, behind what stands between it and the mark before it.
+// Adds a mark, and what stands between it and the mark before it.
 fn push_mark(
     out: &mut String,
     between: &str,
@@ -112,7 +112,7 @@ fn push_picture(out: &mut String, row: &Row, turn: u64, mark: &str) -> Result<()
     }
 }
 
-/// The line of a tenant, up to a turn and with a mark for it.
+/// Adds the line of a tenant, up to a turn and with a mark for that.
 pub(crate) fn push_line(
     alloc: Global,
     out: &mut String,
@@ -132,7 +132,7 @@ pub(crate) fn push_line(
     out.push_str("\n")
 }
 
-/// The lines of those that are still live.
+/// Adds the lines of the tenants that are still live.
 pub(crate) fn push_live(
     alloc: Global,
     out: &mut String,

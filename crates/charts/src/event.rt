@@ -4,16 +4,16 @@ use crate::row::{Phase, Row};
 /// How a tenant has left.
 #[derive(Clone, Copy, Debug, PartialEq, Eq)]
 pub enum Way {
-    /// It has retired, behind so many others.
+    /// The tenant has retired, behind so many others.
     Retired(u64),
-    /// It was on a wrong path.
+    /// The tenant was squashed, since it was on a wrong path.
     Squashed,
 }
 
 /// What became of a tenant at a turn.
 #[derive(Clone, Copy)]
 pub enum Event {
-    /// It was let, and waits for what these tenants make for its sources.
+    /// The tenant of this row was let, and waits for the values that the tenants at these positions make.
     Let {
         row: Row,
         first: Option<u64>,
@@ -25,7 +25,7 @@ pub enum Event {
         from: Phase,
         to: Phase,
     },
-    /// It has left.
+    /// The tenant of this row has left.
     Left {
         row: Row,
         way: Way,

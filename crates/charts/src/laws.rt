@@ -1,4 +1,4 @@
-//! What a chart and a log tell of tenants, as laws.
+//! Laws of charts and logs: whom a row and an event tell of.
 ghost use Rattle.std.specs.Prelude.{◌<◌, ◌^◌, List, ◌∷◌, length};
 ghost use Rattle.std.specs.List.{AllByRecursion};
 ghost use Rattle.instructions.specs.Programs.{Program};

@@ -14,7 +14,7 @@ fn row_at(rows: &[Row], i: usize) -> Option<Row>
     rows.get(i).copied()
 }
 
-/// The oldest retired: the turn says so, and there is one tenant less.
+/// Whether the oldest tenant retired: the turn says so, and there is one tenant less.
 pub(crate) fn retires(answer: Turn, live: usize, rows: usize) -> bool
     ensures { result ≡ retires_by answer live rows }
 {
@@ -24,7 +24,7 @@ pub(crate) fn retires(answer: Turn, live: usize, rows: usize) -> bool
     }
 }
 
-// A tenant was squashed, if there is one.
+// Adds the squash of a tenant, if there is one.
 fn push_squash(events: &mut Vec<Event>, row: Option<Row>) -> Result<(), AllocError>
     ensures { OnOk result (events.new.items ≡ events.old.items ++ squash row) }
 {
@@ -37,7 +37,7 @@ fn push_squash(events: &mut Vec<Event>, row: Option<Row>) -> Result<(), AllocErr
     Ok(())
 }
 
-// Those behind the first `live` were squashed, the youngest first.
+// Adds the squash of each tenant behind the first `live`, the youngest first.
 #[tactic(auto, using(crate::proofs::Lists::squashes_more, crate::proofs::Lists::squashes_none))]
 fn push_squashes(events: &mut Vec<Event>, rows: &[Row], live: usize) -> Result<(), AllocError>
     ensures { OnOk result (events.new.items
@@ -51,7 +51,7 @@ fn push_squashes(events: &mut Vec<Event>, rows: &[Row], live: usize) -> Result<(
     Ok(())
 }
 
-/// Takes out who has left.
+/// Takes out the rows of the tenants that have left, and adds the events of these.
 pub(crate) fn leave(
     rows: &mut Vec<Row>,
     events: &mut Vec<Event>,

@@ -1,4 +1,4 @@
-//! What is kept of a live tenant.
+//! The row of a live tenant.
 ghost use Rattle.std.specs.Prelude.{◌≡◌};
 ghost use Rattle.charts.specs.Events.{is_same as is_same_in};
 ghost use Rattle.charts.specs.Rows.{phase_of as phase_in, ran_by as ran_in, settled_turn, seen};
@@ -8,15 +8,15 @@ use unit::{Stage, Station};
 /// How far a tenant has come.
 #[derive(Clone, Copy, Debug, PartialEq, Eq)]
 pub enum Phase {
-    /// It waits for its operands, or for its turn.
+    /// The tenant waits for its operands, or for its turn.
     Waiting,
     /// A load or store has its address.
     Address,
-    /// It has its value, or its next pc as predicted.
+    /// The tenant has its value, or its next pc as predicted.
     Done,
-    /// Its next pc was predicted wrong.
+    /// The next pc of a branch or jump was mispredicted.
     Miss,
-    /// It stops the program, should it retire.
+    /// The tenant stops the program, should it retire.
     Stop,
 }
 
@@ -48,7 +48,7 @@ pub(crate) fn phase_of(stage: Stage) -> Phase
     }
 }
 
-/// Two phases are one.
+/// Whether two phases are one.
 pub(crate) fn is_same(one: Phase, other: Phase) -> bool
     ensures { result ≡ is_same_in one other }
 {

@@ -8,7 +8,7 @@ use crate::event::{Event, Way};
 use crate::kanata::{push_event, push_head, push_tick};
 use std::alloc::{AllocError, Global};
 
-/// How a run is told.
+/// The format in which a run is told.
 #[derive(Clone, Copy, Debug, PartialEq, Eq)]
 pub enum Format {
     /// A line for each tenant, once it has left.
@@ -17,7 +17,7 @@ pub enum Format {
     Kanata,
 }
 
-// What stands before the first turn.
+// Adds the text before the first turn.
 pub(crate) fn push_first(out: &mut String, format: Format) -> Result<(), AllocError>
     ensures { OnOk result (string_bytes out.new ≡ string_bytes out.old ++ first_text format) }
 {
@@ -27,7 +27,7 @@ pub(crate) fn push_first(out: &mut String, format: Format) -> Result<(), AllocEr
     }
 }
 
-// What stands at the begin of a turn.
+// Adds the text at the begin of a turn.
 pub(crate) fn push_turn(out: &mut String, format: Format) -> Result<(), AllocError>
     ensures { OnOk result (string_bytes out.new ≡ string_bytes out.old ++ tick_text format) }
 {
@@ -65,7 +65,7 @@ fn push_told(
     }
 }
 
-// What is said of the events of a turn.
+// Adds the text of the events of a turn.
 pub(crate) fn push_events(
     alloc: Global,
     out: &mut String,

@@ -1,4 +1,4 @@
-//! Whom a new tenant waits for.
+//! The producers that a new tenant waits for.
 ghost use Rattle.std.specs.Prelude.{◌≡◌};
 ghost use Rattle.charts.specs.Events.{let_event};
 ghost use Rattle.charts.specs.Rows.{awaited as awaited_of, unmade as unmade_of};
@@ -8,7 +8,7 @@ use crate::event::Event;
 use crate::row::Row;
 use instructions::Reg;
 
-// The youngest that writes a register.
+// The youngest tenant that writes a register.
 fn writer_of(register: Reg, rows: &[Row]) -> Option<Row>
     ensures { result ≡ writer_in register rows.now }
 {
@@ -32,7 +32,7 @@ fn unmade(writer: Option<Row>) -> Option<u64>
     }
 }
 
-// Who has still to make what a new tenant reads from a register.
+// The position of the producer that has still to make what a new tenant reads from a register.
 fn awaited(register: Reg, rows: &[Row]) -> Option<u64>
     ensures { result ≡ awaited_of register rows.now }
 {
@@ -42,7 +42,7 @@ fn awaited(register: Reg, rows: &[Row]) -> Option<u64>
     unmade(writer_of(register, rows))
 }
 
-/// It was let behind these.
+/// The event of a tenant that was let behind the tenants of these rows.
 pub(crate) fn entry(rows: &[Row], row: &Row) -> Event
     ensures { result ≡ let_event rows.now row.now }
 {

@@ -2,7 +2,7 @@
 ghost use Rattle.std.specs.Prelude.{◌≡◌, ◌<◌, ◌+◌, ◌-◌, ◌^◌, IfErr, IfOk, OnErr, OnOk};
 ghost use Rattle.devices.specs.Counted.{failures_of, known_by};
 ghost use Rattle.inorder.specs.Runs.{end_of, end_state};
-ghost use Rattle.charts.specs.Watched.{IsBegun, IsTold, sizes_by};
+ghost use Rattle.charts.specs.Watched.{IsBegun, IsTold, guides, sizes_by};
 ghost use Rattle.charts.specs.declared.watched.Fault.TheVariants.{Memory as NoRoom, Write as Unwritten};
 
 use crate::books::Books;
@@ -12,7 +12,7 @@ use devices::{Counted, WriteFailed};
 use instructions::{Config, End, Memory, Predictor, Program};
 use std::alloc::{AllocError, Global};
 use std::io::Write;
-use unit::Bench;
+use unit::{Bench, Chooser, Order};
 
 /// Why a run was not told to its end. There is no second try.
 #[derive(Clone, Copy, Debug, PartialEq, Eq)]
@@ -47,27 +47,28 @@ impl From<WriteFailed> for Fault {
     }
 }
 
-/// Runs a program on the one-thread unit, up to the limit of the configuration, and tells each turn
-/// before the next one is made. What is kept of the run is a row for each live tenant.
-pub fn watch<P: Predictor + Drop, W: Write>(
+/// Runs a program on the one-thread unit, up to the limit of the configuration and in an order, and tells each turn
+/// before the next one is made. A row for each live tenant is all that is kept of the run.
+pub fn watch<P: Predictor + Drop, C: Chooser + Drop, W: Write>(
     alloc: Global,
     program: &Program,
     config: &Config,
     predictor: P,
+    order: Order<C>,
     format: Format,
     writer: &mut Counted<W>,
 ) -> Result<End, Fault>
     requires { failures_of writer.old < 2 ^ 64 - 1 }
     // The run ends as the in-order machine does, and what was written is told of all its turns, which
-    // are legal ones by this predictor's guesses.
+    // are legal ones by this predictor's guesses, and those that the order asks for.
     ensures end { IfOk result (λ end. end_state end ≡ end_of program.now config.now.limit) }
-    ensures told { IfOk result (λ end. IsTold P.Predicts P.Learns format program.now
-        (sizes_by config.now) config.now.limit predictor (end_state end)
+    ensures told { IfOk result (λ end. IsTold P.Predicts P.Learns C.Chooses format program.now
+        (sizes_by config.now) config.now.limit (guides predictor order) (end_state end)
         (known_by W.contents writer.old) (known_by W.contents writer.new)) }
     ensures quiet { OnOk result (failures_of writer.new ≡ failures_of writer.old) }
-    // What was written before a fault is a beginning of what is told of legal turns.
-    ensures begun { OnErr result (IsBegun P.Predicts P.Learns format program.now
-        (sizes_by config.now) predictor
+    // The text that was written before a fault is a beginning of what is told of such turns.
+    ensures begun { OnErr result (IsBegun P.Predicts P.Learns C.Chooses format program.now
+        (sizes_by config.now) (guides predictor order)
         (known_by W.contents writer.old) (known_by W.contents writer.new)) }
     ensures write { IfErr result (λ fault. fault ≡ Fault.Write →
         failures_of writer.new ≡ failures_of writer.old + 1) }
@@ -75,10 +76,13 @@ pub fn watch<P: Predictor + Drop, W: Write>(
         failures_of writer.new ≡ failures_of writer.old) }
 {
     let mut bench = Bench::new(alloc, program, config, predictor)?;
+    let mut order = order;
     let mut books = Books::new(alloc);
     let limit = u64::from(config.limit());
     tell_first(alloc, format, writer)?;
-    tell_turns(alloc, &mut bench, &mut books, format, limit, writer)?;
+    tell_turns(
+        alloc, &mut bench, &mut order, &mut books, format, limit, writer,
+    )?;
     tell_last(alloc, &books, format, writer)?;
     Ok(bench.run(limit))
 }

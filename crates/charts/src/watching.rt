@@ -9,7 +9,7 @@ ghost use Rattle.charts.specs.Events.{events};
 ghost use Rattle.charts.specs.Rows.{kept, listed, next_kept};
 ghost use Rattle.devices.specs.Counted.{raised as raised_of};
 ghost use Rattle.charts.specs.Telling.{first_text, last_text, turn_text};
-ghost use Rattle.charts.specs.Watched.{GivesUpTo, GoesOn, IsBegun, IsThrough};
+ghost use Rattle.charts.specs.Watched.{GivesUpTo, GoesOn, Guides, IsBegun, IsThrough};
 
 use crate::books::{Books, raised};
 use crate::drawing::push_live;
@@ -19,9 +19,9 @@ use devices::{Counted, write_whole};
 use instructions::Predictor;
 use std::alloc::{AllocError, Global};
 use std::io::Write;
-use unit::{Bench, Station, Turn};
+use unit::{Bench, Chooser, Order, Station, Turn};
 
-// One station more, if there is one.
+// Adds a station, if there is one.
 fn push_station(window: &mut Vec<Station>, station: Option<Station>) -> Result<(), AllocError>
     ensures { OnOk result (window.new.items ≡ window.old.items ++ listed station) }
 {
@@ -46,7 +46,7 @@ fn window_of<P: Predictor + Drop>(
     Ok(window)
 }
 
-// What is said of a turn that left this window.
+// The text of a turn that left this window.
 fn turn_text(
     alloc: Global,
     books: &mut Books,
@@ -66,7 +66,7 @@ fn turn_text(
     Ok(out)
 }
 
-// What is said of a turn that a bench has made.
+// The text of a turn that a bench has made.
 fn bench_text<P: Predictor + Drop>(
     alloc: Global,
     bench: &Bench<'_, P>,
@@ -84,7 +84,7 @@ fn bench_text<P: Predictor + Drop>(
     turn_text(alloc, books, format, answer, window.as_slice())
 }
 
-// Tells a text, if there was room for it.
+// Writes a text, if there was room for it.
 fn tell<W: Write>(text: Result<String, AllocError>, writer: &mut Counted<W>) -> Result<(), Fault>
     requires { failures_of writer.old < 2 ^ 64 - 1 }
     ensures ok { OnOk result (IsOk text) }
@@ -108,7 +108,7 @@ fn tell<W: Write>(text: Result<String, AllocError>, writer: &mut Counted<W>) -> 
     }
 }
 
-// Tells a turn.
+// Writes the text of a turn.
 fn tell_turn<P: Predictor + Drop, W: Write>(
     alloc: Global,
     bench: &Bench<'_, P>,
@@ -144,7 +144,7 @@ fn first(alloc: Global, format: Format) -> Result<String, AllocError>
     Ok(out)
 }
 
-/// Tells what stands before the first turn.
+/// Writes the text before the first turn.
 pub(crate) fn tell_first<W: Write>(
     alloc: Global,
     format: Format,
@@ -173,7 +173,7 @@ fn last(alloc: Global, books: &Books, format: Format) -> Result<String, AllocErr
     Ok(out)
 }
 
-/// Tells what stands behind the last turn.
+/// Writes the text behind the last turn.
 pub(crate) fn tell_last<W: Write>(
     alloc: Global,
     books: &Books,
@@ -194,21 +194,23 @@ pub(crate) fn tell_last<W: Write>(
     tell(last(alloc, books, format), writer)
 }
 
-/// Turns until the unit has ended, or its count has reached a limit, and tells each turn.
-pub(crate) fn tell_turns<P: Predictor + Drop, W: Write>(
+/// Makes turns in an order until the unit has ended, or its count has reached a limit, and writes the text of each.
+pub(crate) fn tell_turns<P: Predictor + Drop, C: Chooser + Drop, W: Write>(
     alloc: Global,
     bench: &mut Bench<'_, P>,
+    order: &mut Order<C>,
     books: &mut Books,
     format: Format,
     limit: u64,
     writer: &mut Counted<W>,
 ) -> Result<(), Fault>
     requires { failures_of writer.old < 2 ^ 64 - 1 }
-    ensures through { OnOk result ((Q : Program) (C : Sizes) (first : P) (start : Option (List ℕ)) →
-        GoesOn P.Predicts P.Learns format Q C limit bench.old (kept books.old) first start
-        (known_by W.contents writer.old) →
-        IsThrough P.Predicts P.Learns format Q C limit bench.new (kept books.new) first start
-        (known_by W.contents writer.new)) }
+    ensures through { OnOk result ((Q : Program) (D : Sizes) (first : Guides P C)
+        (start : Option (List ℕ)) →
+        GoesOn P.Predicts P.Learns C.Chooses format Q D limit bench.old order.old (kept books.old)
+        first start (known_by W.contents writer.old) →
+        IsThrough P.Predicts P.Learns C.Chooses format Q D limit bench.new order.new
+        (kept books.new) first start (known_by W.contents writer.new)) }
     ensures ends { OnOk result
         (run_from bench.new.pipeline limit ≡ run_from bench.old.pipeline limit) }
     ensures stays { OnOk result
@@ -218,13 +220,15 @@ pub(crate) fn tell_turns<P: Predictor + Drop, W: Write>(
         failures_of writer.new ≡ failures_of writer.old + 1) }
     ensures quiet_memory { IfErr result (λ fault. fault ≡ Fault.Memory →
         failures_of writer.new ≡ failures_of writer.old) }
-    ensures begun { OnErr result ((Q : Program) (C : Sizes) (first : P) (start : Option (List ℕ)) →
-        GoesOn P.Predicts P.Learns format Q C limit bench.old (kept books.old) first start
-        (known_by W.contents writer.old) →
-        IsBegun P.Predicts P.Learns format Q C first start (known_by W.contents writer.new)) }
+    ensures begun { OnErr result ((Q : Program) (D : Sizes) (first : Guides P C)
+        (start : Option (List ℕ)) →
+        GoesOn P.Predicts P.Learns C.Chooses format Q D limit bench.old order.old (kept books.old)
+        first start (known_by W.contents writer.old) →
+        IsBegun P.Predicts P.Learns C.Chooses format Q D first start
+        (known_by W.contents writer.new)) }
 {
     'turns: while bench.count() < limit {
-        let answer = bench.turn();
+        let answer = bench.turn_in(order);
         tell_turn(alloc, bench, books, format, answer, writer)?;
         if let Turn::Over(_) = answer {
             return Ok(());

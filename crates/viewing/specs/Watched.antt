@@ -1,5 +1,5 @@
 -- What is written where the turns of a run are told.
-use Rattle.std.specs.Prelude.{◌≡◌, ◌<◌, ℕ, Bool, true, false, is_some, List, Option, Result, Ok, Err, length, take}
+use Rattle.std.specs.Prelude.{◌≡◌, ◌<◌, ℕ, Bool, true, false, is_some, List, Option, None, Result, Ok, Err, length, take}
 use Rattle.std.specs.Io.KnownBytes.{Appends}
 use Rattle.isa.specs.declared.listing.fault.FaultKind.{FaultKind}
 use Rattle.instructions.specs.Programs.{Program}
@@ -9,13 +9,14 @@ use Rattle.charts.specs.declared.telling.Format.{Format}
 use Rattle.charts.specs.declared.telling.Format.TheVariants.{Chart, Kanata}
 use Rattle.charts.specs.declared.watched.Fault.{Fault}
 use Rattle.charts.specs.declared.watched.Fault.TheVariants as fault
-use Rattle.charts.specs.Watched.{IsTold, IsBegun as IsPartOf, sizes_by}
+use Rattle.charts.specs.Watched.{IsTold, IsBegun as IsPartOf, guides, sizes_by}
 use Rattle.requests.specs.Predictors.{IsChosen, LearnsAs, PredictsAs}
 use Rattle.requests.specs.declared.chosen.Chosen.{Chosen}
 use Rattle.requests.specs.declared.request.Asked.{Asked}
 use Rattle.without_threads.specs.declared.went.Refusal.{Refusal}
 use Rattle.without_threads.specs.declared.went.Refusal.TheVariants.{Memory, Trace, Write}
 use Rattle.without_threads.specs.Went.{status_number}
+use Rattle.unit.specs.Seeds.{ChoosesNext, order_by}
 
 -- what is known of the bytes of the writer and of the log
 pub record Outputs : Type 0 where
@@ -30,13 +31,15 @@ outputs text log = record { text = text; log = log }
 pub record HasToldWhole (f : Format) (asked : Asked) (P : Program) (before after : Option (List ℕ)) : Type 0 where
   pub first : Chosen
   pub chosen : IsChosen asked.predictor first
-  pub told : IsTold PredictsAs LearnsAs f P (sizes_by asked.config) asked.config.limit first (end_of P asked.config.limit) before after
+  pub told :
+      IsTold PredictsAs LearnsAs ChoosesNext f P (sizes_by asked.config) asked.config.limit (guides first (order_by None))
+      (end_of P asked.config.limit) before after
 
 -- only a beginning of that
 pub record HasBegun (f : Format) (asked : Asked) (P : Program) (before after : Option (List ℕ)) : Type 0 where
   pub first : Chosen
   pub chosen : IsChosen asked.predictor first
-  pub begun : IsPartOf PredictsAs LearnsAs f P (sizes_by asked.config) first before after
+  pub begun : IsPartOf PredictsAs LearnsAs ChoosesNext f P (sizes_by asked.config) (guides first (order_by None)) before after
 
 -- it was told where that is wanted, and nothing was written where it is not
 abbrev pub IsPicture : (is_wanted : Bool) → Format → Asked → Program → (before after : Option (List ℕ)) → Type 0

@@ -12,6 +12,7 @@ use instructions::Program;
 use requests::{Asked, choose};
 use std::alloc::Global;
 use std::io::Write;
+use unit::Order;
 use without_threads::Refusal;
 
 /// The chart, where it is wanted.
@@ -94,7 +95,16 @@ fn picture<W: Write>(
         failures_of writer.new ≡ failures_of writer.old) }
 {
     let predictor = choose(asked.predictor);
-    watch(alloc, program, &asked.config, predictor, format, writer)?;
+    let order = Order::by_seed(None);
+    watch(
+        alloc,
+        program,
+        &asked.config,
+        predictor,
+        order,
+        format,
+        writer,
+    )?;
     Ok(())
 }
 

@@ -5,7 +5,7 @@ use Rattle.inorder.specs.Unit.{Sizes}
 use Rattle.unit.specs.Changes.{run_from}
 use Rattle.unit.proofs.Ends.{left}
 use Rattle.charts.specs.Rows.{kept}
-use Rattle.charts.specs.Watched.{GoesOn}
+use Rattle.charts.specs.Watched.{GoesOn, Guides}
 use Rattle.charts.proofs.watching.tell_turns.Given as goal
 
 -- each turn was told and was due, no call failed, and the run ends as it would have
@@ -13,10 +13,10 @@ abbrev pub invariant-turns : goal.invariant-turns
 invariant-turns g l = record {
   quiet : failures_of l.writer ≡ failures_of l.fn.writer;
   ends : run_from l.bench.pipeline l.limit ≡ run_from l.fn.bench.pipeline l.limit;
-  goes_on : (Q : Program) (C : Sizes) (first : g.row.P.Denot) (start : Option (List ℕ)) →
-      GoesOn g.P.Predictor.Predicts g.P.Predictor.Learns l.format Q C l.limit l.fn.bench (kept l.fn.books) first start
+  goes_on : (Q : Program) (D : Sizes) (first : Guides g.row.P.Denot g.row.C.Denot) (start : Option (List ℕ)) →
+      GoesOn g.P.Predictor.Predicts g.P.Predictor.Learns g.C.Chooser.Chooses l.format Q D l.limit l.fn.bench l.fn.order (kept l.fn.books) first start
       (known_by g.W.Write.contents l.fn.writer) →
-      GoesOn g.P.Predictor.Predicts g.P.Predictor.Learns l.format Q C l.limit l.bench (kept l.books) first start
+      GoesOn g.P.Predictor.Predicts g.P.Predictor.Learns g.C.Chooser.Chooses l.format Q D l.limit l.bench l.order (kept l.books) first start
       (known_by g.W.Write.contents l.writer);
 }
 
