@@ -12,6 +12,7 @@ mod port;
 mod refresh;
 mod seats;
 mod show;
+mod state;
 mod still;
 
 pub use answers::{Commit, Refresh};

@@ -1,14 +1,14 @@
 //! What the back's seat sees and is told.
 ghost use Rattle.std.specs.Prelude.{◌≡◌, ◌<◌};
 ghost use Rattle.inorder.specs.History.{StartsWith};
-ghost use Rattle.station.specs.Looking.{SeesInfo, SeesOperand, SeesStation};
+ghost use Rattle.station.specs.Looking.{SeesInfo, SeesLink, SeesOperand, SeesStation};
 ghost use Rattle.station.specs.Seats.{IsSameSeat};
 ghost use Rattle.back.specs.Backs.{IsSameBack, SeesMore};
 
 use crate::backs::Back;
 use instructions::Half;
 use snapshots::Naming;
-use station::{Core, Part, SeatOf, Seen, Source, SourceState, StationState};
+use station::{Core, LinkWord, Part, SeatOf, Seen, Source, SourceState, StationState};
 
 impl<J: Naming> Back<J> {
     /// The word of a station.
@@ -46,6 +46,27 @@ impl<J: Naming> Back<J> {
         ensures reply { SeesOperand core.now.program core.now.sizes self.new.seen station k result }
     {
         core.operand(&mut self.seat, station, k)
+    }
+
+    /// The link word from a station to source k of another one: the tags of the tenant whose value is awaited and
+    /// of the one that waits.
+    pub fn link(
+        &mut self,
+        core: &Core,
+        producer: usize,
+        consumer: usize,
+        k: Source,
+    ) -> Option<LinkWord>
+        requires core { self.old.core ≡ core.now }
+        requires producer { producer < core.now.sizes.ring }
+        requires consumer { consumer < core.now.sizes.ring }
+        ensures kept { IsSameBack self.old self.new }
+        ensures woken { self.new.woken ≡ self.old.woken }
+        ensures history { SeesMore core.now self.old.by self.old.seen self.new.seen }
+        ensures reply { SeesLink core.now.program core.now.sizes self.new.seen producer consumer
+            k result }
+    {
+        core.link(&mut self.seat, producer, consumer, k)
     }
 
     /// Afterwards each has seen what either had seen. The back can meet any seat.

@@ -156,6 +156,6 @@ module _ (core : TheCore) (predicted : ℕ) (set : IsSetUp core predicted) where
               let w = (works5 g4.all g4.done).reply 1 c.tag ready4 in
               let f = w.fields_are in
               let half : w.job.half ≡ Low = ap (λ (z : JobFields). z.half) f ∙ next_half P C chain ring queue tags in
-              let first : w.job.a ≡ v = ap (λ (z : JobFields). z.first) f ∙ (ap (λ x. cond x (unwrap_or c.first.value 0) 0) (needs_first (kind_of P c)) ∙ ap (λ o. unwrap_or o 0) value4) in
-              let second : w.job.b ≡ 0 = ap (λ (z : JobFields). z.second) f ∙ either (needs (kind_of P c) Second) 0 in
+              let first : w.job.first ≡ v = ap (λ (z : JobFields). z.first) f ∙ (ap (λ x. cond x (unwrap_or c.first.value 0) 0) (needs_first (kind_of P c)) ∙ ap (λ o. unwrap_or o 0) value4) in
+              let second : w.job.second ≡ 0 = ap (λ (z : JobFields). z.second) f ∙ either (needs (kind_of P c) Second) 0 in
               w.outcome_is ∙ (λ i. outcome_of (instr_of P (f i).index) (half i) (f i).pc (first i) (second i) (length P.bytes))

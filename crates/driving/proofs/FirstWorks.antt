@@ -58,8 +58,8 @@ module _ (core : TheCore) (predicted : ℕ) (set : IsSetUp core predicted) where
     computes : job_outcome P w.job ≡ Value v
     computes =
         let f = w.fields_are in
-        let first : w.job.a ≡ 0 = ap (λ (z : JobFields). z.first) f ∙ either (needs (kind_of P (a_of P C)) First) 0 in
-        let second : w.job.b ≡ 0 = ap (λ (z : JobFields). z.second) f ∙ either (needs (kind_of P (a_of P C)) Second) 0 in
+        let first : w.job.first ≡ 0 = ap (λ (z : JobFields). z.first) f ∙ either (needs (kind_of P (a_of P C)) First) 0 in
+        let second : w.job.second ≡ 0 = ap (λ (z : JobFields). z.second) f ∙ either (needs (kind_of P (a_of P C)) Second) 0 in
         (λ i. outcome_of (instr_of P (f i).index) (f i).half (f i).pc (first i) (second i) (length P.bytes)) ∙ makes
 
     alone_mid : (n : ℕ) → n ≢ by → own n new ≡ own n w.mid

@@ -18,9 +18,9 @@ use Rattle.ruu_words.specs.Views.{IsHeir}
 use Rattle.station.specs.declared.answers.Claim.{Claim}
 use Rattle.station.specs.declared.answers.Claim.TheVariants.{Job as Claimed}
 use Rattle.station.specs.declared.answers.Finish.{Finish}
-use Rattle.station.specs.declared.answers.Job.{Job}
+use Rattle.station.specs.declared.job.Job.{Job}
 use Rattle.station.specs.declared.answers.Tenant.{Tenant as NewTenant}
-use Rattle.station.specs.Claiming.{ClaimAnswers, Holds, IsClaimed, fields_of}
+use Rattle.station.specs.Claiming.{ClaimAnswers, Holds, IsClaimed}
 use Rattle.station.specs.Finishing.{ClaimedAreInFlight, HasFinished, HasOutcome, IsInFlight, JobsAreFinished, JobsStayInFlight, OnlyUnits}
 use Rattle.station.specs.Laws.{JobsStaySeen}
 use Rattle.station.specs.Letting.{MayLetOut, let_of, supply_of}
@@ -42,15 +42,15 @@ pub record HasItsFields (P : Program) (t : NewTenant) (values : HasBothValues t)
   pub index_is : j.index ≡ t.index
   pub half_is : j.half ≡ t.half
   pub pc_is : j.pc ≡ pc
-  pub first_is : j.a ≡ values.a
-  pub second_is : j.b ≡ cond (needs (kind (instr_of P t.index).op) Second) values.b 0
+  pub first_is : j.first ≡ values.a
+  pub second_is : j.second ≡ cond (needs (kind (instr_of P t.index).op) Second) values.b 0
 
 pub record IsItsJob (P : Program) (t : NewTenant) (values : HasBothValues t) (tag pc : ℕ) (answer : Claim) : Type 0 where
   pub job : Job
   pub is : answer ≡ Claimed job
   pub fields : HasItsFields P t values tag pc job
 
-its_fields : (P : Program) (t : NewTenant) (values : HasBothValues t) (tag pc : ℕ) (u : Tenant) (j : Job) → u.tag ≡ tag → IsLetAs t pc u → fields_of j ≡ job_of P u → HasItsFields P t values tag pc j
+its_fields : (P : Program) (t : NewTenant) (values : HasBothValues t) (tag pc : ℕ) (u : Tenant) (j : Job) → u.tag ≡ tag → IsLetAs t pc u → j ≡ job_of P u → HasItsFields P t values tag pc j
 its_fields P t values tag pc u j tag_is its f =
     let first : u.first.value ≡ Some values.a = its.first_is values.a values.first in
     let second : u.second.value ≡ Some values.b = its.second_is values.b values.second in
@@ -85,12 +85,12 @@ one_value v w e = cc e
 
 -- and so it comes to what the definitions say
 pub is_right : (P : Program) (C : Sizes) (U : UpdateUnit) (t : NewTenant) (values : HasBothValues t) (tag named : ℕ) (j : Job) (outcome : Outcome) → MayLetOut P C U t →
-    HasItsFields P t values named (front_pc U.tenants) j → outcome ≡ job_outcome P j → IsWorkedRight P U t (record { tag = tag; pc = j.pc; a = j.a; b = j.b; outcome = outcome })
+    HasItsFields P t values named (front_pc U.tenants) j → outcome ≡ job_outcome P j → IsWorkedRight P U t (record { tag = tag; pc = j.pc; a = j.first; b = j.second; outcome = outcome })
 is_right P C U t values tag named j outcome may f is = record {
   pc = f.pc_is;
   first = λ v e. f.first_is ∙ one_value values.a v (sym (first_value P C U t values may) ∙ e);
   second = λ v e. f.second_is ∙ ap (λ x. cond (needs (kind (instr_of P t.index).op) Second) x 0) (one_value values.b v (sym (second_value P C U t values may) ∙ e));
-  outcome = is ∙ (λ i. outcome_of_half (instr_of P (f.index_is i)) (f.half_is i) j.pc j.a j.b (length P.bytes));
+  outcome = is ∙ (λ i. outcome_of_half (instr_of P (f.index_is i)) (f.half_is i) j.pc j.first j.second (length P.bytes));
 }
 
 module _ (core : TheCore) where

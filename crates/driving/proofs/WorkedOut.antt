@@ -7,8 +7,7 @@ use Rattle.ruu_words.specs.Kinds.{IsTenant}
 use Rattle.station.specs.declared.answers.Claim.{Claim}
 use Rattle.station.specs.declared.answers.Claim.TheVariants.{Job as Claimed}
 use Rattle.station.specs.declared.answers.Finish.{Finish}
-use Rattle.station.specs.declared.answers.Job.{Job}
-use Rattle.station.specs.Claiming.{fields_of}
+use Rattle.station.specs.declared.job.Job.{Job}
 use Rattle.station.specs.Quiet.{ClaimsGiveJobs, IsClaimable, IsJobOf}
 use Rattle.station.specs.Seats.{TheCore}
 use Rattle.station.specs.Writeback.{job_outcome}
@@ -41,7 +40,7 @@ works_out core t u by unit station job outcome is old claimed same answer there 
           let j = is_job core t by unit station (Claimed job) old claimed p tag x law in
           record {
             job = job;
-            fields_are = subst (λ i. fields_of i ≡ job_of core.program x.tenant) (same_job j.job job (sym j.is)) j.fields_are;
+            fields_are = subst (λ i. i ≡ job_of core.program x.tenant) (same_job j.job job (sym j.is)) j.fields_are;
             outcome_is = is;
             mid = claimed.all;
             claimed = claimed.reply;

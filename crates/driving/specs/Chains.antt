@@ -13,8 +13,8 @@ use Rattle.inorder.specs.Replies.{job_of}
 use Rattle.inorder.specs.Tenants.{Tenant}
 use Rattle.ruu_words.specs.Kinds.{IsTenant}
 use Rattle.station.specs.declared.answers.Finish.{Finish}
-use Rattle.station.specs.declared.answers.Job.{Job}
-use Rattle.station.specs.Claiming.{IsClaimed, fields_of}
+use Rattle.station.specs.declared.job.Job.{Job}
+use Rattle.station.specs.Claiming.{IsClaimed}
 use Rattle.station.specs.Quiet.{IsClaimable}
 use Rattle.station.specs.Seats.{TheCore}
 use Rattle.station.specs.Writeback.{FinishAnswers, job_outcome}
@@ -52,7 +52,7 @@ IsSecondOutcome P found =
 pub record IsWorkedOut (core : TheCore) (by : ℕ) (t : Tenant) (station : ℕ) (outcome : Outcome)
     (old new : List Entry) : Type 0 where
   pub job : Job
-  pub fields_are : fields_of job ≡ job_of core.program t
+  pub fields_are : job ≡ job_of core.program t
   pub outcome_is : outcome ≡ job_outcome core.program job
   pub mid : List Entry
   pub claimed : IsClaimed core.program core.sizes by old mid station job

@@ -9,7 +9,7 @@ use Rattle.ruu_words.specs.Kinds.{IsTenant}
 use Rattle.station.specs.declared.answers.Ask.{Ask}
 use Rattle.station.specs.declared.answers.Claim.{Claim}
 use Rattle.station.specs.declared.answers.Finish.{Finish}
-use Rattle.station.specs.declared.answers.Job.{Job}
+use Rattle.station.specs.declared.job.Job.{Job}
 use Rattle.station.specs.declared.answers.Tenant.{Tenant}
 use Rattle.station.specs.Asking.{AskAnswers, MayAsk}
 use Rattle.station.specs.Claiming.{ClaimAnswers, Holds}

@@ -48,8 +48,7 @@ fn work_at(core: &Core, program: &Program, seats: &mut Seats, station: usize) ->
     match answer {
         Claim::Job(job) => {
             a_job_is_of_the_program();
-            let instr = program.instr(job.index as usize);
-            let outcome = outcome_of(instr, job.half, job.pc, job.a, job.b, program.size());
+            let outcome = job.outcome(program);
             finish_next(core, seats, job, outcome);
             outcome
         }

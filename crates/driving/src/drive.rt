@@ -6,7 +6,7 @@ ghost use Rattle.driving.specs.Hands.{AreAll, KnowsUnits};
 ghost use Rattle.driving.specs.Works.{HasBothValues, IsFirstOutcome, IsWorked, unit_at};
 
 use crate::seats::{Seats, gather, make};
-use instructions::{Config, Half, Memory, Outcome, Program, outcome_of};
+use instructions::{Config, Half, Memory, Outcome, Program};
 use station::{
     Claim, Core, Supply, Tenant, a_job_is_finished, a_job_is_of_the_program, a_let_is_out,
     a_ready_tenant_is_claimed, jobs_stay,
@@ -53,9 +53,8 @@ pub fn work(
             jobs_stay();
             a_job_is_of_the_program();
             a_job_is_finished();
-            let (pc, a, b) = (job.pc, job.a, job.b);
-            let instr = program.instr(job.index as usize);
-            let outcome = outcome_of(instr, job.half, pc, a, b, program.size());
+            let (pc, a, b) = (job.pc(), job.a(), job.b());
+            let outcome = job.outcome(program);
             core.finish(&mut seats.one, job, outcome);
             gather(core, seats);
             Worked {

@@ -42,3 +42,4 @@ pub mod Idling
 pub mod Fronts
 pub mod Entering
 pub mod Behind
+pub mod GoingOn

@@ -7,6 +7,7 @@ use Rattle.inorder.specs.declared.history.Entry.{Entry}
 use Rattle.inorder.specs.History.{IsLegal, front, own, unit_of}
 use Rattle.inorder.specs.OneHistory.{Adds}
 use Rattle.inorder.specs.Tenants.{IsNotLive}
+use Rattle.inorder.specs.Unit.{UpdateUnit}
 use Rattle.station.specs.Seats.{Caller, TheCore}
 use Rattle.front.specs.declared.answers.Made.{Made}
 use Rattle.front.specs.declared.answers.Recovery.{Recovery}
@@ -84,3 +85,7 @@ RestsTo Learns core old new rest =
 -- The creator of register r, by what the front has seen
 abbrev pub CreatorOf : {S : Type 0} → TheFront S → ℕ → Made → Type 0
 CreatorOf f r made = IsCreatorAnswer f.core.program (unit_of f.core.program f.core.sizes f.seen) f.told r made
+
+-- The unit of what the front has seen
+abbrev pub unit_seen : {S : Type 0} → TheFront S → UpdateUnit
+unit_seen f = unit_of f.core.program f.core.sizes f.seen

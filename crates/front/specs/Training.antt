@@ -1,7 +1,8 @@
 -- Who leaves, as the predictor is told of it.
-use Rattle.std.specs.Prelude.{ℕ, Bool, true, false, ◌&&◌, ◌-◌, List, length, Option, Some, None}
+use Rattle.std.specs.Prelude.{◌≡◌, ℕ, Bool, true, false, ◌&&◌, ◌-◌, List, length, Option, Some, None}
 use Rattle.instructions.specs.declared.guessing.Leaver.{Leaver}
 use Rattle.instructions.specs.Programs.{Program}
+use Rattle.instructions.specs.declared.instr.Instr.{Instr}
 use Rattle.inorder.specs.Callers.{is_retired}
 use Rattle.inorder.specs.Tenants.{Tenant, computed_next}
 use Rattle.inorder.specs.Unit.{newest_of}
@@ -26,3 +27,13 @@ leaver_in P (Some t) = leaver_if (is_retired t && is_guessed P t) t.pc (computed
 abbrev pub leaver_of : Option Record → Option Leaver
 leaver_of None = None
 leaver_of (Some x) = leaver_if x.guessed x.pc x.next
+
+-- A predictor that answers this, and does not change by it
+abbrev pub gives : {S : Type 0} → ℕ → S → ℕ → Instr → ℕ → S → Type 0
+gives next old pc i answer new = (answer ≡ next) × (new ≡ old)
+
+-- A given answer in place of the predictor's, if there is one
+abbrev pub given_or : {S : Type 0} → Option ℕ → (S → ℕ → Instr → ℕ → S → Type 0) →
+    S → ℕ → Instr → ℕ → S → Type 0
+given_or None Predicts = Predicts
+given_or (Some next) Predicts = gives next

@@ -1,24 +1,21 @@
 //! The front, as its callers see it.
 ghost use Rattle.std.specs.Prelude.{◌≡◌, ◌<◌, ◌*◌, []};
-ghost use Rattle.inorder.specs.History.{IsLegal, StartsWith, front};
+ghost use Rattle.inorder.specs.History.{StartsWith};
 ghost use Rattle.inorder.specs.OneHistory.{Adds};
 ghost use Rattle.front.specs.CreateTable.{IsTouched};
-ghost use Rattle.front.specs.Fronts.{AddsNothing, CreatorOf, IsUnused, KnowsPath, KnowsTable, FrontRecoversTo, RestsTo, TurnsTo};
-ghost use Rattle.front.specs.Path.{rested_at};
+ghost use Rattle.front.specs.Fronts.{AddsNothing, CreatorOf, FrontRecoversTo, IsUnused, RestsTo, TurnsTo};
 ghost use Rattle.front.specs.Recoveries.{squashed_by};
 ghost use Rattle.front.specs.Rests.{rested_after, told_after};
-ghost use Rattle.front.specs.Turns.{TurnAnswers};
+ghost use Rattle.front.specs.Training.{gives};
 ghost use Rattle.station.specs.Looking.{SeesStation};
 ghost use Rattle.station.specs.Seats.{IsSameSeat};
 
 use crate::answers::{Made, Recovery, Rest, Turn};
-use crate::dispatch::dispatch;
-use crate::fetch::fetch;
-use crate::path::{Base, Counted, Creators, Path};
+use crate::path::{Base, Creators, Path};
 use crate::recovery::recover_on;
 use crate::rest::rest_on;
-use crate::training::leaver;
-use instructions::{Predictor, Program, Reg, guess};
+use crate::turning::turn_on;
+use instructions::{Predictor, Program, Reg};
 use station::{Core, FrontSeat, Part, SeatOf, Seen, StationState, what_is_seen_is_legal};
 use std::marker::Model;
 
@@ -45,44 +42,6 @@ impl<'a, P: Predictor + Drop> Model for Front<'a, P> {
     ghost view = { λ f. record { core = f.seat.core; seen = f.seat.seen; predictor = f.predictor; touched = f.creators.counted.touched; told = rested_at f.path.base; rested = f.rested } };
 
     ghost invariant = { λ f. IsFront f.program.now f.seat f.path f.creators.counted f.rested };
-}
-
-// Lets the next instruction, if that can be let.
-fn turn_on<P: Predictor>(
-    core: &Core,
-    seat: &mut FrontSeat,
-    path: &mut Path,
-    creators: &mut Counted,
-    program: &Program,
-    predictor: &mut P,
-) -> Turn
-    requires core { seat.old.core ≡ core.now }
-    requires by { seat.old.by ≡ front }
-    requires legal { IsLegal core.now.program core.now.sizes seat.old.seen }
-    requires program { program.now ≡ core.now.program }
-    requires knows { KnowsPath core.now seat.old.seen path.old }
-    requires table { KnowsTable core.now seat.old.seen path.old.base creators.old }
-    ensures kept { IsSameSeat seat.old seat.new }
-    ensures reply { TurnAnswers P.Predicts P.Learns core.now.program core.now.sizes
-        (rested_at path.old.base) seat.old.seen seat.new.seen predictor.old predictor.new result }
-    ensures told { rested_at path.new.base ≡ rested_at path.old.base }
-    ensures knows { KnowsPath core.now seat.new.seen path.new }
-    ensures table { KnowsTable core.now seat.new.seen path.new.base creators.new }
-    ensures touched { IsTouched 9 creators.old.touched creators.new.touched }
-{
-    let next = match fetch(core, seat, path, program) {
-        Ok(next) => next,
-        Err(turn) => return turn,
-    };
-    let left = path.release(creators, core.ring(), next.left);
-    let leaver = leaver(left);
-    let predicted = guess(predictor, leaver, &next.instr, next.half, next.pc);
-    let tag = dispatch(core, seat, path, creators, &next, predicted);
-    Turn::Let {
-        station: next.station,
-        tag,
-        pc: next.pc,
-    }
 }
 
 impl<'a, P: Predictor + Drop> Front<'a, P> {
@@ -126,6 +85,28 @@ impl<'a, P: Predictor + Drop> Front<'a, P> {
             &mut self.creators.counted,
             self.program,
             &mut self.predictor,
+            None,
+        )
+    }
+
+    /// A turn whose guess is given: where the predictor would be asked for the next pc, it is `next`. The predictor is
+    /// told of who leaves as in any turn, and a guess may be any number, as a predictor's answer may.
+    pub fn turn_to(&mut self, core: &Core, next: u32) -> Turn
+        requires { self.old.core ≡ core.now }
+        ensures core { self.new.core ≡ core.now }
+        ensures reply { TurnsTo (gives next) P.Learns core.now self.old self.new result }
+        ensures told { self.new.told ≡ self.old.told }
+        ensures touched { IsTouched 16 self.old.touched self.new.touched }
+    {
+        self.rested = false;
+        turn_on(
+            core,
+            &mut self.seat,
+            &mut self.path,
+            &mut self.creators.counted,
+            self.program,
+            &mut self.predictor,
+            Some(next),
         )
     }
 

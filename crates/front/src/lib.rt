@@ -2,6 +2,7 @@
 //! from its misses.
 #![tactic(auto)]
 
+mod ahead;
 mod answers;
 mod dispatch;
 mod dispatcher;
@@ -14,6 +15,7 @@ mod rest;
 mod still;
 mod supply;
 mod training;
+mod turning;
 
 pub use answers::{Made, Recovery, Rest, Turn};
 pub use dispatcher::Front;

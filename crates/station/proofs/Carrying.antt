@@ -59,7 +59,7 @@ all_append Q [] ys a b = b
 all_append Q (x ∷ xs) ys a b = (a.0, all_append Q xs ys a.1 b)
 
 -- no tag is before the first one
-from_first : (C : Sizes) (us : List Tenant) → AreTagged C us → (p : ℕ) (t : Tenant) → at us p ≡ Some t → C.first_tag ≤ t.tag
+pub from_first : (C : Sizes) (us : List Tenant) → AreTagged C us → (p : ℕ) (t : Tenant) → at us p ≡ Some t → C.first_tag ≤ t.tag
 from_first C [] tags p t is = absurd (cc is)
 from_first C (u ∷ us) tags p t is = go (eqb p (length us)) refl (from_first C us tags.1 p t)
   where

@@ -27,7 +27,7 @@ use Rattle.ruu_words.proofs.StationWords.{one_at, one_tag}
 use Rattle.ruu_words.proofs.Stays.{place_stays}
 use Rattle.station.specs.declared.answers.Finish.{Finish as Answer}
 use Rattle.station.specs.declared.answers.Finish.TheVariants.{Finished, Stale}
-use Rattle.station.specs.declared.answers.Job.{Job}
+use Rattle.station.specs.declared.job.Job.{Job}
 use Rattle.station.specs.Claiming.{Holds, IsClaimed}
 use Rattle.station.specs.Finishing.{ClaimedAreInFlight, HasFinished, HasOutcome, IsInFlight, IsLive, JobsAreFinished, JobsStayInFlight, OnlyUnits}
 use Rattle.station.specs.Writeback.{FinishAnswers, HasTenant, IsWritten, WasStale, job_outcome}

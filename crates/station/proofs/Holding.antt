@@ -33,8 +33,8 @@ use Rattle.station.specs.declared.answers.Finish.{Finish as FinishAnswer}
 use Rattle.station.specs.declared.answers.Finish.TheVariants.{Finished, Stale as WasStale}
 use Rattle.station.specs.declared.answers.Claim.{Claim as ClaimAnswer}
 use Rattle.station.specs.declared.answers.Claim.TheVariants.{Job as Claimed, Moved, NotOpen, Waiting}
-use Rattle.station.specs.declared.answers.Job.{Job}
-use Rattle.station.specs.Claiming.{ClaimAnswers, Holds, IsJob, fields_of}
+use Rattle.station.specs.declared.job.Job.{Job}
+use Rattle.station.specs.Claiming.{ClaimAnswers, Holds, IsJob}
 use Rattle.station.specs.Laws.{AreTwo, IsNoFinish}
 use Rattle.station.specs.Writeback.{FinishAnswers, IsCarried, IsDeliveryOf}
 use Rattle.station.proofs.Carrying.{all_append}
@@ -154,7 +154,7 @@ module _ (P : Program) (C : Sizes) (by : ℕ) where
       let all = all_no_end h.p more (subst (AllByRecursion (λ e. IsNoFinish h.p e.event)) (sym these) (events_no_end h.p es none)) in
       record {
         p = h.p;
-        tenant = subst (λ z. IsHeldAs (fields_of j) h.p (unit_of P C z)) (sym a.begins.is) (job_lasts (fields_of j) h.p more old (subst (IsLegal P C) a.begins.is a.legal) all h.tenant);
+        tenant = subst (λ z. IsHeldAs j h.p (unit_of P C z)) (sym a.begins.is) (job_lasts j h.p more old (subst (IsLegal P C) a.begins.is a.legal) all h.tenant);
         new = old_since P C new old a.begins a.legal a.one_table h.p ∙ h.new;
       }
 

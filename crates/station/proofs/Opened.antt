@@ -38,8 +38,8 @@ use Rattle.ruu_words.proofs.StationWords.{one_at}
 use Rattle.ruu_words.proofs.Stays.{named_of, named_on, one_named, same_before, tenant_stays, with_fact}
 use Rattle.station.specs.declared.answers.Claim.{Claim as Answer}
 use Rattle.station.specs.declared.answers.Claim.TheVariants.{Job as Claimed, Moved, NotOpen, Waiting}
-use Rattle.station.specs.declared.answers.Job.{Job}
-use Rattle.station.specs.Claiming.{ClaimAnswers, HasSeen, HasSource, IsClaimed, IsJob, IsNext, IsOpenAs, IsRefused, HasRefusal, SourceAnswers, SourceIs, SourceSays, fields_of}
+use Rattle.station.specs.declared.job.Job.{Job}
+use Rattle.station.specs.Claiming.{ClaimAnswers, HasSeen, HasSource, IsClaimed, IsJob, IsNext, IsOpenAs, IsRefused, HasRefusal, SourceAnswers, SourceIs, SourceSays}
 use Rattle.station.specs.Moments.{WasOpenOnce}
 use Rattle.station.proofs.Adding.{adds_these}
 use Rattle.station.proofs.LettingOut.{adds_none}
@@ -338,7 +338,7 @@ module _ (P : Program) (C : Sizes) where
           y.kind
 
       job_fields : (t : Tenant) (j : Job) → HasBoth d i x a both b t → t.pc ≡ j.pc → t.station ≡ s → t.tag ≡ g
-          → j.station ≡ s → j.tag ≡ g → j.index ≡ i → j.half ≡ d → j.predicted ≡ x → j.a ≡ a → j.b ≡ b → job_of P t ≡ fields_of j
+          → j.station ≡ s → j.tag ≡ g → j.index ≡ i → j.half ≡ d → j.predicted ≡ x → j.first ≡ a → j.second ≡ b → job_of P t ≡ j
       job_fields t j f pc station tag js jg ji jd jx ja jb =
           let first : needed P First t ≡ a =
           ap (λ z. Rattle.std.proofs.Common.cond z (operand_value t.first) 0) (needs_first (kind_of P t)) ∙ ap (λ z. Rattle.std.specs.Prelude.unwrap_or z 0) f.its.first in
@@ -356,7 +356,7 @@ module _ (P : Program) (C : Sizes) where
           }
 
       pub claimed : (v w : View) (word n : ℕ) (y : Grows P C by v w (Claims P C s g word n)) → Ready (HasBoth d i x a both b) v.seen → n ≡ word → (j : Job)
-          → j.station ≡ s → j.tag ≡ g → j.index ≡ i → j.half ≡ d → j.pc ≡ address i → j.predicted ≡ x → j.a ≡ a → j.b ≡ b → IsClaimed P C by old w.seen s j
+          → j.station ≡ s → j.tag ≡ g → j.index ≡ i → j.half ≡ d → j.pc ≡ address i → j.predicted ≡ x → j.first ≡ a → j.second ≡ b → IsClaimed P C by old w.seen s j
       claimed v w word n y r hit j js jg ji jd jpc jx ja jb = ⊎_elim
           (λ here.
           let f = here.1 in
@@ -374,7 +374,7 @@ module _ (P : Program) (C : Sizes) where
           let at_p : at (applied P C (U h) by e).tenants f.p ≡ Some now = ap (λ o. at (change_at P (U h).tenants by f.p ClaimIt o) f.p) f.tenant.is ∙
           at_replaced_here (U h).tenants f.p t now f.tenant.is in
           let pc : t.pc ≡ j.pc = (its_own h legal.0 f.p t f.tenant.is).place ∙ (ap address fact.its.its.index_is ∙ sym jpc) in
-          let has : Has (applied P C (U h) by e) f.p (IsJob P by (fields_of j)) = record {
+          let has : Has (applied P C (U h) by e) f.p (IsJob P by j) = record {
             tenant = now;
             is = at_p;
             fact = record {
@@ -387,7 +387,7 @@ module _ (P : Program) (C : Sizes) where
             station = js;
             holds = record {
               p = f.p;
-              tenant = subst (λ z. Has (U z) f.p (IsJob P by (fields_of j))) (sym seen) has;
+              tenant = subst (λ z. Has (U z) f.p (IsJob P by j)) (sym seen) has;
               new = subst (λ z. is_old (U z) f.p ≡ false) (sym seen) (old_kept P C (U h) by e (λ x. cc x) legal.1.1 f.p ∙ f.tenant.new);
             };
             adds = adds_on P C by old v.seen w.seen [] (Does e ∷ []) r.adds (adds_these P C by v w (Claims P C s g word n) (Does e ∷ []) y f.added);

@@ -33,9 +33,9 @@ use Rattle.ruu_words.proofs.Drafting.{still_let}
 use Rattle.ruu_words.proofs.Stays.{named_of, named_on, named_stays, place_stays, ready_stays, tenant_stays}
 use Rattle.station.specs.declared.answers.Claim.{Claim as Answer}
 use Rattle.station.specs.declared.answers.Claim.TheVariants.{Job as Claimed, Moved, NotOpen, Waiting}
-use Rattle.station.specs.declared.answers.Job.{Job}
+use Rattle.station.specs.declared.job.Job.{Job}
 use Rattle.station.specs.declared.answers.Tenant.{Tenant as NewTenant}
-use Rattle.station.specs.Claiming.{ClaimAnswers, IsClaimed, fields_of}
+use Rattle.station.specs.Claiming.{ClaimAnswers, IsClaimed}
 use Rattle.station.specs.Letting.{let_of, supply_of}
 use Rattle.station.specs.Moments.{WasOpenOnce}
 use Rattle.station.specs.Quiet.{ClaimsGiveJobs, IsClaimable, IsJobOf, IsLetAs, IsQuiet, IsStill, LetsAreOut, ReadyTenantsStay}
@@ -184,7 +184,7 @@ module _ (P : Program) (C : Sizes) where
             sym now.fact.0 ∙ (ap (λ (z : Tenant). z.station) same ∙ named.station_is)
 
     -- the tenant that was claimed is this one
-    claimed : (j : Job) → (a : IsClaimed P C by old new s j) → fields_of j ≡ job_of P t.tenant
+    claimed : (j : Job) → (a : IsClaimed P C by old new s j) → j ≡ job_of P t.tenant
     claimed j a =
         let q : ℕ = a.holds.p in
         let e : Event = Does (On q Claim) in

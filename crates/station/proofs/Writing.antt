@@ -43,11 +43,11 @@ use Rattle.ruu_words.specs.Telling.{Grows}
 use Rattle.ruu_words.proofs.Settling.{load_lasts}
 use Rattle.ruu_words.proofs.StationWords.{its_word, one_at}
 use Rattle.ruu_words.proofs.Stays.{named_of, named_on, named_stays, one_named, same_before}
-use Rattle.station.specs.declared.answers.Job.{Job}
+use Rattle.station.specs.declared.job.Job.{Job}
 use Rattle.station.specs.declared.answers.Settle.{Settle}
 use Rattle.station.specs.declared.answers.Settle.TheVariants.{Settled, Stale as StaleLoad}
 use Rattle.station.specs.Carrying.{HasCarried, HasMadeOf, HasValueOf, HasWalked, Makes, OfTenant}
-use Rattle.station.specs.Claiming.{Holds, IsJob, fields_of}
+use Rattle.station.specs.Claiming.{Holds, IsJob}
 use Rattle.station.specs.Seats.{IsSeated}
 use Rattle.station.specs.Steps.{Sees}
 use Rattle.station.specs.Writeback.{CanSettle, HasTenant, IsCarried, IsDeliveryOf, IsWalk, IsWritten, MaySettle, SettleAnswers, WasStale, job_outcome}
@@ -67,7 +67,7 @@ same_outcome Loads i half pc a b size = refl
 same_outcome Stores i half pc a b size = refl
 
 -- so a job has what its tenant comes to
-pub is_job : (P : Program) (by : ℕ) (j : Job) (o : Outcome) (t : Tenant) → IsJob P by (fields_of j) t → o ≡ job_outcome P j → HasJob P by j.predicted o t
+pub is_job : (P : Program) (by : ℕ) (j : Job) (o : Outcome) (t : Tenant) → IsJob P by j t → o ≡ job_outcome P j → HasJob P by j.predicted o t
 is_job P by j o t is e = record {
   held = is.held;
   ready = is.ready;

@@ -6,7 +6,7 @@ use Rattle.inorder.specs.Unit.{UpdateUnit}
 use Rattle.station.specs.declared.answers.Ask.{Ask}
 use Rattle.station.specs.declared.answers.Claim.{Claim}
 use Rattle.station.specs.declared.answers.Finish.{Finish}
-use Rattle.station.specs.declared.answers.Job.{Job}
+use Rattle.station.specs.declared.job.Job.{Job}
 use Rattle.station.specs.declared.answers.Retire.{Retire}
 use Rattle.station.specs.declared.answers.Settle.{Settle}
 use Rattle.station.specs.declared.answers.Tenant.{Tenant as Letting}

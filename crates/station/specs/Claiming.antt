@@ -22,7 +22,7 @@ use Rattle.ruu_words.specs.Fields.{state_of, tag_of, word_value}
 use Rattle.ruu_words.specs.Kinds.{IsNamed, IsTenant}
 use Rattle.station.specs.declared.answers.Claim.{Claim}
 use Rattle.station.specs.declared.answers.Claim.TheVariants.{Job as Claimed, Moved, NotOpen, Waiting}
-use Rattle.station.specs.declared.answers.Job.{Job}
+use Rattle.station.specs.declared.job.Job.{Job}
 use Rattle.station.specs.Moments.{WasOpenOnce}
 
 -- In what was seen there is a tenant of this station and tag, which was open, and this is true of it
@@ -36,20 +36,6 @@ abbrev pub IsNext : Program → Source → Tenant → Type 0
 IsNext P First t = ⊤
 IsNext P Second t = (needs (kind_of P t) Second ≡ true) × IsThere t.first.value
 
--- The fields of a job
-abbrev pub fields_of : Job → JobFields
-fields_of j =
-    record {
-      station = j.station;
-      tag = j.tag;
-      index = j.index;
-      half = j.half;
-      pc = j.pc;
-      predicted = j.predicted;
-      first = j.a;
-      second = j.b;
-    }
-
 -- The caller has claimed the tenant with these fields, and not finished it
 pub record IsJob (P : Program) (by : ℕ) (fields : JobFields) (t : Tenant) : Type 0 where
   pub held : IsHeld by t
@@ -59,7 +45,7 @@ pub record IsJob (P : Program) (by : ℕ) (fields : JobFields) (t : Tenant) : Ty
 -- In what the caller has seen it holds this job, of a tenant let since the last renewal
 pub record Holds (P : Program) (C : Sizes) (by : ℕ) (seen : List Entry) (j : Job) : Type 0 where
   pub p : ℕ
-  pub tenant : Has (unit_of P C seen) p (IsJob P by (fields_of j))
+  pub tenant : Has (unit_of P C seen) p (IsJob P by j)
   pub new : is_old (unit_of P C seen) p ≡ false
 
 -- The tenant was claimed

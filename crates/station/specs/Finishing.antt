@@ -10,7 +10,7 @@ use Rattle.inorder.specs.Unit.{Sizes}
 use Rattle.ruu_words.specs.Kinds.{fate_of}
 use Rattle.station.specs.declared.answers.Finish.{Finish}
 use Rattle.station.specs.declared.answers.Finish.TheVariants.{Finished}
-use Rattle.station.specs.declared.answers.Job.{Job}
+use Rattle.station.specs.declared.job.Job.{Job}
 use Rattle.station.specs.Claiming.{Holds, IsClaimed}
 use Rattle.station.specs.Writeback.{FinishAnswers, HasTenant, job_outcome}
 

@@ -1,5 +1,5 @@
 -- What the reading calls answer.
-use Rattle.std.specs.Prelude.{◌≡◌, ℕ, List, Option, Some, None, ◌==◌, if◌then◌else◌}
+use Rattle.std.specs.Prelude.{◌≡◌, ℕ, List, Option, Some, None, IfSome, ◌==◌, if◌then◌else◌}
 use Rattle.instructions.specs.Programs.{Program}
 use Rattle.instructions.specs.declared.op.Half.{Half}
 use Rattle.instructions.specs.declared.op.Half.TheVariants.{Low}
@@ -9,11 +9,13 @@ use Rattle.inorder.specs.declared.history.Source.{Source}
 use Rattle.inorder.specs.OperandWords.{OperandWord, operand_word}
 use Rattle.inorder.specs.StationWords.{StationWord, last_of, station_word}
 use Rattle.inorder.specs.Tenants.{Live, Tenant, operand}
-use Rattle.inorder.specs.Unit.{Sizes, at, recent}
+use Rattle.inorder.specs.Unit.{Sizes, UpdateUnit, at, recent}
+use Rattle.ruu_words.specs.declared.link.LinkWord.{LinkWord}
 use Rattle.ruu_words.specs.declared.place.Place.{Place}
 use Rattle.ruu_words.specs.declared.rule.Draft.{Draft}
 use Rattle.ruu_words.specs.declared.station.StationState.{StationState}
-use Rattle.ruu_words.specs.Content.{Content, HasValue, IsDraft, code, info_unit, operand_unit, value_field}
+use Rattle.ruu_words.specs.Content.{Content, HasValue, IsDraft, IsLinked, code, info_unit, operand_unit, value_field}
+use Rattle.ruu_words.specs.Kinds.{HasLink, IsNamed, IsTenant}
 use Rattle.ruu_words.specs.States.{state_code}
 use Rattle.station.specs.declared.answers.Seen.{Seen}
 use Rattle.station.specs.declared.answers.SourceState.{SourceState}
@@ -76,3 +78,20 @@ pub record SeesOperand (P : Program) (C : Sizes) (h : List Entry) (s : ℕ) (k :
   -- the word is that of each live tenant of the station
   pub its : (p : ℕ) (t : Tenant) → at (unit_of P C h).tenants p ≡ Some t → t.station ≡ s →
       t.standing ≡ Live → ShowsOperand (Some (record { tag = t.tag; value = (operand k t).value })) seen.tag seen.state seen.value
+
+-- Source k of the tenant that is named by one station and tag was asked for from the tenant that is
+-- named by the other, its creator
+pub record IsLinkOf (U : UpdateUnit) (producer_station producer_tag consumer_station consumer_tag : ℕ) (k : Source) : Type 0 where
+  pub q : ℕ
+  pub r : ℕ
+  pub producer : IsNamed U q producer_station producer_tag
+  pub consumer : IsTenant U r consumer_station consumer_tag (HasLink k q)
+
+-- A link word from station p to source k of station c
+pub record SeesLink (P : Program) (C : Sizes) (h : List Entry) (p c : ℕ) (k : Source) (seen : Option LinkWord) : Type 0 where
+  pub names : IfSome seen (λ l. IsLinkOf (unit_of P C h) p l.producer c l.consumer k)
+  -- a linked source of a live tenant stands in its word
+  pub stands : (q r : ℕ) (producer consumer : Tenant) →
+      IsLinked (unit_of P C h).tenants q r k producer consumer → consumer.standing ≡ Live →
+      producer.station ≡ p → consumer.station ≡ c →
+      seen ≡ Some (record { producer = producer.tag; consumer = consumer.tag })

@@ -13,10 +13,10 @@ use Rattle.ruu_words.specs.Kinds.{IsTenant}
 use Rattle.ruu_words.specs.Views.{IsHeir, half, other_half}
 use Rattle.station.specs.declared.answers.Claim.{Claim}
 use Rattle.station.specs.declared.answers.Claim.TheVariants.{Job as Claimed}
-use Rattle.station.specs.declared.answers.Job.{Job}
+use Rattle.station.specs.declared.job.Job.{Job}
 use Rattle.station.specs.declared.answers.Supply.TheVariants.{Known}
 use Rattle.station.specs.declared.answers.Tenant.{Tenant as NewTenant}
-use Rattle.station.specs.Claiming.{ClaimAnswers, fields_of}
+use Rattle.station.specs.Claiming.{ClaimAnswers}
 use Rattle.station.specs.Letting.{MayLetOut, let_of}
 use Rattle.station.specs.Making.{first_unit, other_units}
 
@@ -33,7 +33,7 @@ IsQuiet by old new = (n : ℕ) → n ≢ by → n ≢ back → own n new ≡ own
 pub record IsJobOf (P : Program) (answer : Claim) (t : Tenant) : Type 0 where
   pub job : Job
   pub is : answer ≡ Claimed job
-  pub fields_are : fields_of job ≡ job_of P t
+  pub fields_are : job ≡ job_of P t
 
 -- A claim at the station of a tenant that is open and ready is a job, where no other unit and not
 -- the front does anything

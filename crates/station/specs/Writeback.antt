@@ -28,7 +28,7 @@ use Rattle.ruu_words.specs.Kinds.{HasLink, IsNamed, IsTenant}
 use Rattle.inorder.specs.Callers.{HasMade}
 use Rattle.station.specs.declared.answers.Finish.{Finish}
 use Rattle.station.specs.declared.answers.Finish.TheVariants.{Finished, Stale}
-use Rattle.station.specs.declared.answers.Job.{Job}
+use Rattle.station.specs.declared.job.Job.{Job}
 use Rattle.station.specs.declared.answers.Settle.{Settle}
 use Rattle.station.specs.declared.answers.Settle.TheVariants.{Settled, Stale as StaleLoad}
 
@@ -70,7 +70,7 @@ pub record AreOperands (old new : ℕ) : Type 0 where
 
 -- The outcome that a unit has to compute for a job
 abbrev pub job_outcome : Program → Job → Outcome
-job_outcome P j = outcome_of_half (instr_of P j.index) j.half j.pc j.a j.b (length P.bytes)
+job_outcome P j = outcome_of_half (instr_of P j.index) j.half j.pc j.first j.second (length P.bytes)
 
 -- The load may be answered with this value, unless it was squashed
 pub record MaySettle (P : Program) (C : Sizes) (seen : List Entry) (station tag value : ℕ) : Type 0 where

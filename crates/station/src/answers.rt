@@ -1,4 +1,5 @@
 //! The arguments and answers of the calls.
+use crate::job::Job;
 use inorder::history::Source;
 use instructions::{Half, Stop};
 
@@ -37,21 +38,6 @@ pub struct Tenant {
     pub half: Half,
     pub predicted: u32,
     pub sources: (Supply, Supply),
-}
-
-/// A claimed tenant, with what its unit needs. `Core::finish` takes it. A job is not `Drop`, so it is
-/// never lost by oversight: whoever keeps one as plain data names each of its fields.
-pub struct Job {
-    pub station: usize,
-    pub tag: u32,
-    pub index: u32,
-    pub half: Half,
-    pub pc: u32,
-    pub predicted: u32,
-    /// Source 1; 0 where the claim did not need it.
-    pub a: u32,
-    /// Source 2; 0 where the claim did not need it.
-    pub b: u32,
 }
 
 /// The answer of a unit's claim.

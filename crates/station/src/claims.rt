@@ -8,9 +8,10 @@ ghost use Rattle.station.specs.Answers.{AnswersClaim};
 ghost use Rattle.station.specs.Claiming.{ClaimAnswers, IsNext, IsOpenAs, SourceSays};
 ghost use Rattle.station.specs.Seats.{IsSameSeat};
 
-use crate::answers::{Claim, Job};
+use crate::answers::Claim;
 use crate::call::Call;
 use crate::cores::Core;
+use crate::job::Job;
 use crate::seat::{UnitPart, UnitSeat};
 use crate::words::{busy_word, has_value, is_open, open_word, tag_in, value_in};
 use atomic_table::Seat;

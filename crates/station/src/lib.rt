@@ -10,6 +10,7 @@ mod call;
 mod claims;
 mod cores;
 mod dispatch;
+mod job;
 mod laws;
 mod look;
 mod meet;
@@ -24,11 +25,10 @@ mod walk;
 mod words;
 mod writeback;
 
-pub use answers::{
-    Ask, Claim, Finish, Job, Last, Retire, Seen, Settle, SourceState, Supply, Tenant,
-};
+pub use answers::{Ask, Claim, Finish, Last, Retire, Seen, Settle, SourceState, Supply, Tenant};
 pub use cores::Core;
 pub use inorder::history::Source;
+pub use job::{Job, abandon};
 pub use laws::{
     a_job_ends_at_a_renewal, a_job_is_finished, a_job_is_of_the_program, a_let_can_be_asked,
     a_let_is_out, a_let_leads_on, a_number_is_of_its_part, a_path_stays,
@@ -36,5 +36,5 @@ pub use laws::{
     a_renewal_goes_on, a_squash_goes_on, an_empty_core_may_be_renewed, an_info_is_the_last_tenants,
     jobs_stay, mays_stay, no_seat_no_entry, numbers_are_given_once, what_is_seen_is_legal,
 };
-pub use ruu_words::StationState;
+pub use ruu_words::{LinkWord, StationState};
 pub use seat::{BackSeat, FrontSeat, Part, SeatOf, UnitSeat, Writer};

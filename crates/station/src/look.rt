@@ -3,7 +3,7 @@ ghost use Rattle.std.specs.Prelude.{◌<◌, ◌≡◌, ◌≤◌, []};
 ghost use Rattle.inorder.specs.Replies.{last_tag};
 ghost use Rattle.ruu_words.specs.Places.{IsPlace};
 ghost use Rattle.ruu_words.specs.Views.{IsCaller};
-ghost use Rattle.station.specs.Looking.{SeesInfo, SeesOperand, SeesStation, SeesWord};
+ghost use Rattle.station.specs.Looking.{SeesInfo, SeesLink, SeesOperand, SeesStation, SeesWord};
 ghost use Rattle.station.specs.Renewals.{HasLooked};
 ghost use Rattle.station.specs.Seats.{IsSameSeat};
 ghost use Rattle.inorder.specs.OneHistory.{Adds};
@@ -17,7 +17,7 @@ use atomic_table::Seat;
 use inorder::history::Source;
 use instructions::Half;
 use ruu_words::rule::View;
-use ruu_words::{InfoWord, Place, StationState, StationWord};
+use ruu_words::{InfoWord, LinkWord, Place, StationState, StationWord};
 
 impl Core {
     // Looks at any word.
@@ -91,5 +91,29 @@ impl Core {
             state,
             value: value_in(word),
         }
+    }
+
+    /// The link word from a station to source k of another one: whose value is awaited there, by the tags of
+    /// both. There is none where no source was linked so.
+    pub fn link(
+        &self,
+        seat: &mut BackSeat,
+        producer: usize,
+        consumer: usize,
+        k: Source,
+    ) -> Option<LinkWord>
+        requires core { seat.old.core ≡ self.now }
+        requires producer { producer < self.now.sizes.ring }
+        requires consumer { consumer < self.now.sizes.ring }
+        ensures kept { IsSameSeat seat.old seat.new }
+        ensures woken { seat.new.woken ≡ seat.old.woken }
+        ensures history { Adds self.now.program self.now.sizes seat.old.by seat.old.seen
+            seat.new.seen [] }
+        ensures reply { SeesLink self.now.program self.now.sizes seat.new.seen producer consumer
+            k result }
+    {
+        let _ = &self.first_tag;
+        let word = self.read(seat, Place::Link(producer, consumer, k));
+        LinkWord::unpack(word)
     }
 }

@@ -7,9 +7,10 @@ ghost use Rattle.station.specs.Seats.{IsSameSeat};
 ghost use Rattle.station.specs.Waking.{HasWoken, IsSet};
 ghost use Rattle.station.specs.Writeback.{FinishAnswers, MaySettle, SettleAnswers, job_outcome};
 
-use crate::answers::{Finish, Job, Settle};
+use crate::answers::{Finish, Settle};
 use crate::call::Call;
 use crate::cores::Core;
+use crate::job::Job;
 use crate::results::{address_word, outcome_word};
 use crate::seat::{BackPart, BackSeat, UnitPart, UnitSeat};
 use crate::words::{busy_word, done_word, value_in};

@@ -1,14 +1,13 @@
 use Rattle.std.proofs.Common.{◌≡◌, ◌<◌, length, sym, ap, ◌∙◌, subst}
-use Rattle.instructions.specs.Operations.{outcome_of as outcome_of_half}
-use Rattle.instructions.specs.Programs.{Program, instr_of}
+use Rattle.instructions.specs.Programs.{Program}
 use Rattle.station.specs.declared.answers.Claim.TheVariants.{Job as Claimed, NotOpen}
 use Rattle.station.specs.Writeback.{job_outcome}
 use Rattle.driving.specs.Done.{HoldsNext}
 use Rattle.driving.proofs.WorkedOut.{is_job, works_out}
 use Rattle.driving.proofs.chain.work_at.Goals as goal
 
-pub instr-instr-requires : goal.instr-instr-requires
-instr-instr-requires c =
+pub outcome-outcome-requires : goal.outcome-outcome-requires
+outcome-outcome-requires c =
     let core = c.args.core.now in
     let ready = c.requires.ready in
     let claimed = c.in-Job.ensures.done ready.all ready.done in
@@ -43,13 +42,12 @@ pub returns-clause-done : goal.returns-clause-done
 returns-clause-done c =
     let core = c.args.core.now in
     let job = c.in-Job.job in
-    let outcome : c.outcome_of-outcome.result ≡ job_outcome core.program job = c.outcome_of-outcome.ensures.value
-    ∙ ((λ i. outcome_of_half (c.instr-instr.ensures i) job.half job.pc job.a job.b (c.size.ensures.value i))
-    ∙ ap (λ (p : Program). outcome_of_half (instr_of p job.index) job.half job.pc job.a job.b (length p.bytes)) c.requires.program) in
+    let outcome : c.outcome-outcome.result ≡ job_outcome core.program job =
+    c.outcome-outcome.ensures ∙ ap (λ (p : Program). job_outcome p job) c.requires.program in
     λ all done.
     let claimed = c.in-Job.ensures.done all done in
     works_out core c.claim_next-answer.new.seats c.finish_next.new.seats c.args.seats.now.one.by c.requires.all.one_by c.args.station job
-    c.outcome_of-outcome.result outcome all claimed c.in-Job.ensures.by
+    c.outcome-outcome.result outcome all claimed c.in-Job.ensures.by
     c.finish_next.result (c.finish_next.ensures.done claimed.all claimed.done) c.a_ready_tenant_is_claimed.ensures
 
 pub finish_next-requires-clause-job : goal.finish_next-requires-clause-job

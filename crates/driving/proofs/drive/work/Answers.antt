@@ -1,17 +1,17 @@
-use Rattle.std.proofs.Common.{◌≡◌, ◌<◌, length, refl, sym, ap, ◌∙◌, subst}
-use Rattle.instructions.specs.Operations.{outcome_of as outcome_of_half}
-use Rattle.instructions.specs.Programs.{Program, instr_of}
+use Rattle.std.proofs.Common.{◌≡◌, ◌<◌, ℕ, length, refl, sym, ap, ◌∙◌, subst}
+use Rattle.instructions.specs.Programs.{Program}
 use Rattle.inorder.specs.History.{unit_of}
 use Rattle.inorder.specs.Unit.{front_pc}
 use Rattle.station.specs.declared.answers.Claim.TheVariants.{Job as Claimed, NotOpen}
 use Rattle.station.specs.Writeback.{job_outcome}
+use Rattle.driving.specs.Works.{IsWorkedRight}
 use Rattle.driving.proofs.Begins.{claim_begins, finish_begins}
 use Rattle.driving.proofs.Same.{on, same_all, stays}
 use Rattle.driving.proofs.Way.{comes_to, finishes, has_its_fields, is_right, its_job}
 use Rattle.driving.proofs.drive.work.Goals as goal
 
-pub instr-instr-requires : goal.instr-instr-requires
-instr-instr-requires c =
+pub outcome-outcome-requires : goal.outcome-outcome-requires
+outcome-outcome-requires c =
     let core = c.args.core.now in
     let claimed = c.in-Job.ensures.reply in
     let inside = c.a_job_is_of_the_program.ensures core.program core.sizes c.gather.new.seats.one.by c.claim-answer.new.seat.seen c.in-Job.job claimed.adds.legal claimed.holds in
@@ -58,9 +58,8 @@ returns-clause-worked c =
     c.claim-answer.new.seat c.claim-answer.ensures.heirs c.args.station c.requires.station c.claim-answer.result c.claim-answer.ensures.reply
     c.gather-2.new.seats c.gather-2.ensures.met c.a_let_is_out.ensures c.a_ready_tenant_is_claimed.ensures in
     let fields = has_its_fields core.program t c.requires.values _ (front_pc U.tenants) c.claim-answer.result job j c.in-Job.is in
-    let outcome : c.outcome_of-outcome.result ≡ job_outcome core.program job = c.outcome_of-outcome.ensures.value
-    ∙ ((λ i. outcome_of_half (c.instr-instr.ensures i) job.half job.pc job.a job.b (c.size.ensures.value i))
-    ∙ ap (λ (p : Program). outcome_of_half (instr_of p job.index) job.half job.pc job.a job.b (length p.bytes)) c.requires.program) in
+    let outcome : c.outcome-outcome.result ≡ job_outcome core.program job =
+    c.outcome-outcome.ensures ∙ ap (λ (p : Program). job_outcome p job) c.requires.program in
     let law = c.a_job_is_finished.ensures in
     let done = finishes core s c.requires.all c.requires.knows t c.requires.values c.requires.may
     c.let_out-tag.new.seat c.let_out-tag.ensures.kept c.let_out-tag.ensures.history m c.gather.ensures.all c.gather.ensures.met
@@ -69,12 +68,14 @@ returns-clause-worked c =
     c.gather-in-Job.new.seats c.gather-in-Job.ensures.met law.claimed law.stays law.finished c.jobs_stay.ensures.seen in
     record {
       tag = c.let_out-tag.ensures.reply;
-      right = is_right core.program core.sizes U t c.requires.values tag _ job c.outcome_of-outcome.result c.requires.may fields outcome;
+      right = subst (λ (z : ℕ × ℕ × ℕ). IsWorkedRight core.program U t (record { tag = tag; pc = z.0; a = z.1; b = z.2; outcome = c.outcome-outcome.result }))
+          (λ i. (sym c.pc-pc.ensures i, sym c.a-a.ensures i, sym c.b-b.ensures i))
+          (is_right core.program core.sizes U t c.requires.values tag _ job c.outcome-outcome.result c.requires.may fields outcome);
       written = comes_to core s c.requires.all c.requires.knows t c.requires.values c.requires.may
           c.let_out-tag.new.seat c.let_out-tag.ensures.kept c.let_out-tag.ensures.history m c.gather.ensures.all c.gather.ensures.met
           c.claim-answer.new.seat c.claim-answer.ensures.kept c.claim-answer.ensures.heirs c.args.station job c.in-Job.ensures.reply
           c.gather-2.new.seats c.gather-2.ensures.met c.finish.new.seat c.finish.ensures.heirs c.finish.result c.finish.ensures.reply
-          c.gather-in-Job.new.seats c.gather-in-Job.ensures.met tag c.outcome_of-outcome.result (fields.tag_is ∙ sym c.let_out-tag.ensures.reply) outcome done;
+          c.gather-in-Job.new.seats c.gather-in-Job.ensures.met tag c.outcome-outcome.result (fields.tag_is ∙ sym c.let_out-tag.ensures.reply) outcome done;
     }
 
 pub gather-requires : goal.gather-requires

@@ -9,8 +9,9 @@ use Rattle.front.proofs.Tables.{table_stable, touched_more, touched_none}
 use Rattle.front.proofs.Turned.{is_let}
 use Rattle.front.specs.CreateTable.{HasTable}
 use Rattle.front.specs.Path.{Releases, rested_at}
+use Rattle.front.specs.Training.{given_or}
 use Rattle.front.specs.declared.path.counted.Table.{Table}
-use Rattle.front.proofs.dispatcher.turn_on.Goals as goal
+use Rattle.front.proofs.turning.turn_on.Goals as goal
 
 pub returns-in-Err-clause-knows : goal.returns-in-Err-clause-knows
 returns-in-Err-clause-knows g c =
@@ -37,11 +38,11 @@ pub returns-clause-reply : goal.returns-clause-reply
 returns-clause-reply g c =
     let P = c.args.core.now.program in
     let C = c.args.core.now.sizes in
-    is_let g.P.Predictor.Predicts g.P.Predictor.Learns P C c.args.seat.now.seen c.fetch.new.seat.seen c.dispatch-tag.new.seat.seen c.args.path.now.records c.args.path.now.base c.requires.knows
-    c.fetch.ensures.history c.in-Ok.next c.in-Ok.ensures.ok.oldest c.ring.result c.ring.ensures.value c.args.path.now c.release-left.new.self refl c.guess-predicted.result c.dispatch-tag.result
-    c.dispatch-tag.ensures.reply c.release-left.result c.release-left.ensures.reply c.args.predictor.now c.guess-predicted.new.predictor
-    (subst (λ l. Guesses g.P.Predictor.Predicts g.P.Predictor.Learns l c.in-Ok.next.instr c.in-Ok.next.half c.in-Ok.next.pc c.guess-predicted.result c.args.predictor.now
-    c.guess-predicted.new.predictor) c.leaver-leaver.ensures c.guess-predicted.ensures)
+    is_let (given_or c.args.given g.P.Predictor.Predicts) g.P.Predictor.Learns P C c.args.seat.now.seen c.fetch.new.seat.seen c.dispatch-tag.new.seat.seen c.args.path.now.records c.args.path.now.base c.requires.knows
+    c.fetch.ensures.history c.in-Ok.next c.in-Ok.ensures.ok.oldest c.ring.result c.ring.ensures.value c.args.path.now c.release-left.new.self refl c.predict-predicted.result c.dispatch-tag.result
+    c.dispatch-tag.ensures.reply c.release-left.result c.release-left.ensures.reply c.args.predictor.now c.predict-predicted.new.predictor
+    (subst (λ l. Guesses (given_or c.args.given g.P.Predictor.Predicts) g.P.Predictor.Learns l c.in-Ok.next.instr c.in-Ok.next.half c.in-Ok.next.pc c.predict-predicted.result c.args.predictor.now
+    c.predict-predicted.new.predictor) c.leaver-leaver.ensures c.predict-predicted.ensures)
 
 pub returns-in-Err-clause-table : goal.returns-in-Err-clause-table
 returns-in-Err-clause-table g c =
