@@ -4,7 +4,7 @@ use Rattle.inorder.specs.declared.history.Entry.{Entry}
 use Rattle.inorder.specs.OneHistory.{Adds}
 use Rattle.station.specs.declared.answers.Claim.{Claim}
 use Rattle.station.specs.declared.answers.Claim.TheVariants.{Job as Claimed, Moved, NotOpen, Waiting}
-use Rattle.station.specs.declared.answers.Job.{Job}
+use Rattle.station.specs.declared.job.Job.{Job}
 use Rattle.station.specs.Claiming.{ClaimAnswers, Holds}
 use Rattle.station.specs.Laws.{JobsStaySeen}
 use Rattle.station.specs.Seats.{Caller, TheCore}

@@ -1,21 +1,21 @@
 -- The units of a session, one of which is taken and put back.
 use Rattle.std.proofs.Common.{◌≡◌, ◌≢◌, ◌⊎◌, ◌<◌, ℕ, zero, suc, List, [], ◌∷◌, ◌++◌}
-use Rattle.std.proofs.Common.{Option, Some, None, length, get_or, set, inl, inr, refl, sym, ap, ◌∙◌, subst, get_or-set_same, get_or-set_other, length-set}
+use Rattle.std.proofs.Common.{Option, Some, None, option_map, length, get_or, set, inl, inr, refl, sym, ap, ◌∙◌, subst, get_or-set_same, get_or-set_other, length-set}
 use Rattle.std.proofs.lemmas.Bool.{cases_eq}
 use Rattle.std.proofs.lemmas.List.{append-nil, get_or_default}
 use Rattle.inorder.specs.declared.history.Entry.{Entry}
 use Rattle.inorder.specs.History.{StartsWith}
 use Rattle.inorder.specs.OneHistory.{Adds}
 use Rattle.drive.specs.declared.units.Claimed.{Claimed}
-use Rattle.drive.specs.declared.units.Claimed.TheVariants.{Job, Moved, NotOpen, Waiting}
-use Rattle.drive.specs.declared.units.Held.{Held}
+use Rattle.drive.specs.declared.units.Claimed.TheVariants as claimed
 use Rattle.drive.specs.declared.units.Worker.{Worker}
 use Rattle.drive.specs.Held.{claim_of, held_job}
 use Rattle.drive.specs.Replies.{HoldsWhatIs}
-use Rattle.drive.specs.Workers.{AreWorkers, HasNone, UnitHasSeen, HasUnit, IsHolder, IsWorker, StaySeen, job_at, job_from, job_in, seen_at, seen_by_unit, worker_at}
+use Rattle.drive.specs.Workers.{AreAtWork, AreWorkers, HasNone, IsAtWork, UnitHasSeen, HasUnit, IsHolder, IsWorker, StaySeen, job_at, job_from, job_in, seen_at, seen_by_unit, station_held, worker_at}
 use Rattle.drive.proofs.Histories.{starts_same}
 use Rattle.drive.proofs.Jobs.{job_later}
 use Rattle.station.specs.declared.answers.Claim.{Claim}
+use Rattle.station.specs.declared.job.Job.{Job}
 use Rattle.station.specs.Laws.{JobsStaySeen}
 use Rattle.station.specs.Seats.{Caller, IsSameSeat, TheCore}
 
@@ -40,6 +40,38 @@ none_is_some core w e = cc
 pub none_works : (core : TheCore) (units : List (Option Worker)) → HasNone units → AreWorkers core units
 none_works core units none place w here = none_is_some core w (sym (none place) ∙ here)
 
+none_at_work : (w : Worker) → ◌≡◌ {A = Option Worker} None (Some w) → IsAtWork w
+none_at_work w e = cc
+
+-- who is of a core holds its job there
+pub at_work : (core : TheCore) (w : Worker) → IsWorker core w → IsAtWork w
+at_work core w is job e = subst (λ (k : TheCore). IsHolder k w.seat job) (sym is.core_is) (is.holds job e)
+
+pub all_at_work : (core : TheCore) (units : List (Option Worker)) → AreWorkers core units → AreAtWork units
+all_at_work core units are place w here = at_work core w (are place w here)
+
+-- where no unit is made, each that is made holds its job
+pub nobody_at_work : (units : List (Option Worker)) → HasNone units → AreAtWork units
+nobody_at_work units none place w here = none_at_work w (sym (none place) ∙ here)
+
+-- the others hold their jobs where one is forgotten
+pub forgets_one : (units : List (Option Worker)) (at : ℕ) → at < length units → AreAtWork units → AreAtWork (set units at None)
+forgets_one units at within are place w here = go (cases_eq place at)
+  where
+    go : (place ≡ at) ⊎ (place ≢ at) → IsAtWork w
+    go (inl e) = none_at_work w (sym (ap (λ k. get_or (set units at None) k None) e ∙ get_or-set_same units at None None within) ∙ here)
+    go (inr ne) = are place w (sym (get_or-set_other units at place None None ne) ∙ here)
+
+-- of a list with one more, those before it and that one hold their jobs
+pub last_at_work : (units : List (Option Worker)) (x : Option Worker) → AreAtWork (units ++ x ∷ []) → (w : Worker) → x ≡ Some w → IsAtWork w
+last_at_work [] x are w e = are 0 w e
+last_at_work (u ∷ units) x are w e = last_at_work units x (λ place v here. are (suc place) v here) w e
+
+pub front_at_work : (units : List (Option Worker)) (x : Option Worker) → AreAtWork (units ++ x ∷ []) → AreAtWork units
+front_at_work [] x are place w here = none_at_work w here
+front_at_work (u ∷ units) x are zero w here = are 0 w here
+front_at_work (u ∷ units) x are (suc place) w here = front_at_work units x (λ at v e. are (suc at) v e) place w here
+
 its_own : (core : TheCore) (v w : Worker) → IsWorker core v → ◌≡◌ {A = Option Worker} (Some v) (Some w) → IsWorker core w
 its_own core v w is e = let same : v ≡ w = cc in subst (λ (u : Worker). IsWorker core u) same is
 
@@ -57,7 +89,7 @@ module _ (units taken : List (Option Worker)) (at : ℕ) (w : Worker) (within : 
   there : (k : ℕ) → k ≢ at → worker_at (set taken at (Some w)) k ≡ worker_at units k
   there k ne = get_or-set_other taken at k (Some w) None ne ∙ (ap (λ xs. get_or xs k None) is ∙ get_or-set_other units at k None None ne)
 
-  pub has_unit : (by : ℕ) (job : Option Held) → w.seat.by ≡ by → w.job ≡ job → ((v : Worker) → worker_at units at ≡ Some v → v.seat.by ≡ by) → HasUnit units (set taken at (Some w)) at by job
+  pub has_unit : (by : ℕ) (job : Option Job) → w.seat.by ≡ by → w.job ≡ job → ((v : Worker) → worker_at units at ≡ Some v → v.seat.by ≡ by) → HasUnit units (set taken at (Some w)) at by job
   has_unit by job by_is job_is number = record { worker = w; is = here; by_is = by_is; job_is = job_is; number = number; others = there }
 
   -- It is put back with the same job, and has seen more
@@ -81,6 +113,22 @@ module _ (units taken : List (Option Worker)) (at : ℕ) (w : Worker) (within : 
     tells = subst (λ (x : Option Worker). StartsWith new (seen_by_unit x)) (sym here) tells;
   }
 
+-- the station of a job that is held
+pub held_is : (units : List (Option Worker)) (at station : ℕ) (job : Job) → job_at units at ≡ Some job → station_held units at ≡ Some station → job.station ≡ station
+held_is units at station job held is =
+    let both : ◌≡◌ {A = Option ℕ} (Some job.station) (Some station) = sym (ap (option_map (λ (j : Job). j.station)) held) ∙ is in
+    cc
+
+-- who is at a station holds a job
+pub holds_one : (units : List (Option Worker)) (at station : ℕ) → job_at units at ≡ None → station_held units at ≡ Some station → ⊥
+holds_one units at station none is =
+    let both : ◌≡◌ {A = Option ℕ} None (Some station) = sym (ap (option_map (λ (j : Job). j.station)) none) ∙ is in
+    cc
+
+-- where a unit was taken from nobody is
+pub free_now : (units taken : List (Option Worker)) (at : ℕ) → at < length units → taken ≡ set units at None → worker_at taken at ≡ None
+free_now units taken at within is = ap (λ xs. get_or xs at None) is ∙ get_or-set_same units at None None within
+
 -- Who is taken has seen what the one there had seen
 pub taken_seen : (units : List (Option Worker)) (at : ℕ) (w : Worker) → ((v : Worker) → worker_at units at ≡ Some v → w ≡ v) → StartsWith w.seat.seen (seen_at units at)
 taken_seen units at w same = go (worker_at units at) same
@@ -94,18 +142,18 @@ pub still_works : (core : TheCore) (stay : JobsStaySeen) (w : Worker) (seat : Ca
     IsWorker core (record { seat = seat; job = w.job })
 still_works core stay w seat is same adds = record {
   core_is = same.core ∙ is.core_is;
-  holds = λ held e. job_later core stay w.seat seat (held_job held) (is.holds held e) same.by adds;
+  holds = λ job e. job_later core stay w.seat seat job (is.holds job e) same.by adds;
 }
 
 -- The job of a claim is held
-holds_by : (core : TheCore) (seat : Caller) (answer : Claimed) → HoldsWhatIs core seat (claim_of answer) → (held : Held) → job_from answer ≡ Some held → IsHolder core seat held
-holds_by core seat (Job h) holds held e = let same : h ≡ held = cc in subst (λ (x : Held). IsHolder core seat x) same holds
-holds_by core seat NotOpen holds held e = absurd (cc)
-holds_by core seat (Waiting tag k) holds held e = absurd (cc)
-holds_by core seat (Moved tag) holds held e = absurd (cc)
+holds_by : (core : TheCore) (seat : Caller) (answer : Claimed) → HoldsWhatIs core seat (claim_of answer) → (job : Job) → job_from answer ≡ Some job → IsHolder core seat job
+holds_by core seat (claimed.Job h) holds job e = let same : held_job h ≡ job = cc in subst (λ (j : Job). IsHolder core seat j) same holds
+holds_by core seat claimed.NotOpen holds job e = absurd (cc)
+holds_by core seat (claimed.Waiting tag k) holds job e = absurd (cc)
+holds_by core seat (claimed.Moved tag) holds job e = absurd (cc)
 
-pub claimed_holds : (core : TheCore) (seat : Caller) (answer : Claimed) (claim : Claim) (job : Option Held) →
-    claim_of answer ≡ claim → HoldsWhatIs core seat claim → job ≡ job_from answer → (held : Held) → job ≡ Some held → IsHolder core seat held
+pub claimed_holds : (core : TheCore) (seat : Caller) (answer : Claimed) (claim : Claim) (job : Option Job) →
+    claim_of answer ≡ claim → HoldsWhatIs core seat claim → job ≡ job_from answer → (held : Job) → job ≡ Some held → IsHolder core seat held
 claimed_holds core seat answer claim job e holds from held is = holds_by core seat answer (subst (λ (c : Claim). HoldsWhatIs core seat c) (sym e) holds) held (sym from ∙ is)
 
 -- One more that was not made

@@ -4,7 +4,7 @@ use Rattle.drive.specs.declared.units.Claimed.TheVariants as told
 use Rattle.drive.specs.declared.units.Held.{Held}
 use Rattle.station.specs.declared.answers.Claim.{Claim}
 use Rattle.station.specs.declared.answers.Claim.TheVariants as claim
-use Rattle.station.specs.declared.answers.Job.{Job}
+use Rattle.station.specs.declared.job.Job.{Job}
 
 -- The job with these fields
 abbrev pub held_job : Held → Job
@@ -16,8 +16,8 @@ held_job h =
       half = h.half;
       pc = h.pc;
       predicted = h.predicted;
-      a = h.a;
-      b = h.b;
+      first = h.a;
+      second = h.b;
     }
 
 -- The answer of a claim, with its job

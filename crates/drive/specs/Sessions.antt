@@ -14,7 +14,6 @@ use Rattle.front.specs.Rests.{rested_after}
 use Rattle.snapshots.specs.declared.mark.Mark.{Mark}
 use Rattle.snapshots.specs.declared.snap.Snap.{Snap}
 use Rattle.snapshots.specs.Snapshots.{IsSnapshotOf}
-use Rattle.station.specs.declared.answers.Finish.{Finish}
 use Rattle.station.specs.Seats.{Caller, TheCore}
 use Rattle.drive.specs.declared.commands.Command.{Command}
 use Rattle.drive.specs.declared.commands.Command.TheVariants as ask
@@ -24,12 +23,11 @@ use Rattle.drive.specs.declared.replies.Refusal.{Refusal}
 use Rattle.drive.specs.declared.replies.Refusal.TheVariants as no
 use Rattle.drive.specs.declared.replies.Reply.{Reply}
 use Rattle.drive.specs.declared.replies.Reply.TheVariants as say
-use Rattle.drive.specs.declared.units.Held.{Held}
 use Rattle.drive.specs.declared.units.Worker.{Worker}
 use Rattle.drive.specs.Units.{unit_count}
 use Rattle.drive.specs.Replies.{IsCommit, IsCreatorNow, IsInfoSeen, IsLook, IsOperandSeen, IsRecovery, IsRefresh, IsRest, IsShown, IsTurn, source_at}
 use Rattle.drive.specs.Renewals.{HasBegunAgain, HasStayed}
-use Rattle.drive.specs.Workers.{AreWorkers, HasClaimed, UnitHasFinished, HasNone, StaySeen, job_at, seen_at}
+use Rattle.drive.specs.Workers.{AreWorkers, HasClaimed, UnitHasFinished, HasNone, StaySeen, job_at, seen_at, station_held}
 
 -- A session: its core, the one history that its seats have seen together, its units, its back, the
 -- greatest count of its snapper, the mark that was shown last, what the front has seen, what its create
@@ -72,12 +70,6 @@ pub record IsStartOfSession (P : Program) (config : Settings) (s : TheSession) :
   pub mark : s.mark ≡ None
   pub told : s.told ≡ 0
   pub rested : s.rested ≡ false
-
--- A unit has finished the job that it held of this station
-pub record HasFinishedAt (old new : TheSession) (unit station : ℕ) (answer : Finish) : Type 0 where
-  pub held : Held
-  pub station_is : held.station ≡ station
-  pub finishes : UnitHasFinished old.core old.seen new.seen old.units new.units unit held answer
 
 -- A snapshot of the machine in order, behind every mark and every snapshot before it
 pub record HasTaken (old new : TheSession) (snap : Snap) : Type 0 where
@@ -176,7 +168,7 @@ MayRefuseCommand s (ask.Claim unit station) no.NoStation = s.core.sizes.ring ≤
 MayRefuseCommand s (ask.Claim unit station) no.HoldsJob = IsSome (job_at s.units unit)
 MayRefuseCommand s (ask.Finish unit station) no.NoUnit = unit_count ≤ unit
 MayRefuseCommand s (ask.Finish unit station) no.HoldsNone =
-    (held : Held) → job_at s.units unit ≡ Some held → held.station ≢ station
+    (held : ℕ) → station_held s.units unit ≡ Some held → held ≢ station
 MayRefuseCommand s (ask.Look station) no.NoStation = s.core.sizes.ring ≤ station
 MayRefuseCommand s (ask.Info station) no.NoStation = s.core.sizes.ring ≤ station
 MayRefuseCommand s (ask.Operand station which) no.NoStation = s.core.sizes.ring ≤ station
@@ -197,7 +189,7 @@ Answers old new ask.Recover (say.Recovery recovery) = IsRecovery old.core old.se
 Answers old new (ask.Claim unit station) (say.Claim answer) =
     HasClaimed old.core old.seen new.seen old.units new.units unit station answer
 Answers old new (ask.Finish unit station) (say.Finish answer) =
-    HasFinishedAt old new unit station answer
+    UnitHasFinished old.core old.seen new.seen old.units new.units unit station answer
 Answers old new ask.Refresh (say.Refresh refresh) =
     IsRefresh old.core back old.seen new.seen refresh × KeepsCommits old new
 Answers old new ask.Commit (say.Commit commit) =

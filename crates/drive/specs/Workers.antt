@@ -1,25 +1,29 @@
 -- The units of a session.
-use Rattle.std.specs.Prelude.{◌≡◌, ◌≢◌, ℕ, List, [], Option, Some, None, slice_index_or}
+use Rattle.std.specs.Prelude.{◌≡◌, ◌≢◌, ℕ, List, [], Option, Some, None, option_map, slice_index_or}
 use Rattle.inorder.specs.History.{StartsWith}
 use Rattle.inorder.specs.declared.history.Entry.{Entry}
 use Rattle.drive.specs.declared.units.Claimed.{Claimed}
-use Rattle.drive.specs.declared.units.Claimed.TheVariants.{Job}
-use Rattle.drive.specs.declared.units.Held.{Held}
+use Rattle.drive.specs.declared.units.Claimed.TheVariants as claimed
 use Rattle.drive.specs.declared.units.Worker.{Worker}
 use Rattle.drive.specs.Held.{claim_of, held_job}
 use Rattle.drive.specs.Replies.{IsClaim, IsFinish}
 use Rattle.station.specs.declared.answers.Finish.{Finish}
+use Rattle.station.specs.declared.job.Job.{Job}
 use Rattle.station.specs.Claiming.{Holds}
 use Rattle.station.specs.Seats.{Caller, TheCore}
 
 -- The seat's caller holds this job
-abbrev pub IsHolder : TheCore → Caller → Held → Type 0
-IsHolder core seat held = Holds core.program core.sizes seat.by seat.seen (held_job held)
+abbrev pub IsHolder : TheCore → Caller → Job → Type 0
+IsHolder core seat job = Holds core.program core.sizes seat.by seat.seen job
 
 -- A unit of this core holds the job that is kept for it
 pub record IsWorker (core : TheCore) (w : Worker) : Type 0 where
   pub core_is : w.seat.core ≡ core
-  pub holds : (held : Held) → w.job ≡ Some held → IsHolder core w.seat held
+  pub holds : (job : Job) → w.job ≡ Some job → IsHolder core w.seat job
+
+-- A unit holds the job that is kept for it, at the core of its seat
+abbrev pub IsAtWork : Worker → Type 0
+IsAtWork w = (job : Job) → w.job ≡ Some job → IsHolder w.seat.core w.seat job
 
 -- The unit at a place, if it was made
 abbrev pub worker_at : List (Option Worker) → ℕ → Option Worker
@@ -30,18 +34,26 @@ abbrev pub AreWorkers : TheCore → List (Option Worker) → Type 0
 AreWorkers core units =
     (at : ℕ) (w : Worker) → worker_at units at ≡ Some w → IsWorker core w
 
+-- Each unit that was made holds the job that is kept for it
+abbrev pub AreAtWork : List (Option Worker) → Type 0
+AreAtWork units = (at : ℕ) (w : Worker) → worker_at units at ≡ Some w → IsAtWork w
+
 -- The job of a unit, if it was made and holds one
-abbrev pub job_in : Option Worker → Option Held
+abbrev pub job_in : Option Worker → Option Job
 job_in None = None
 job_in (Some w) = w.job
 
 -- The job of the unit at a place
-abbrev pub job_at : List (Option Worker) → ℕ → Option Held
+abbrev pub job_at : List (Option Worker) → ℕ → Option Job
 job_at units at = job_in (worker_at units at)
+
+-- The station of the job of the unit at a place
+abbrev pub station_held : List (Option Worker) → ℕ → Option ℕ
+station_held units at = option_map (λ j. j.station) (job_at units at)
 
 -- One unit is there now, with this number as a caller, which it had before if it was there, and this
 -- job. The others are as they were
-pub record HasUnit (old new : List (Option Worker)) (unit by : ℕ) (job : Option Held) : Type 0 where
+pub record HasUnit (old new : List (Option Worker)) (unit by : ℕ) (job : Option Job) : Type 0 where
   pub worker : Worker
   pub is : worker_at new unit ≡ Some worker
   pub by_is : worker.seat.by ≡ by
@@ -50,8 +62,8 @@ pub record HasUnit (old new : List (Option Worker)) (unit by : ℕ) (job : Optio
   pub others : (at : ℕ) → at ≢ unit → worker_at new at ≡ worker_at old at
 
 -- The job that a claim gave
-abbrev pub job_from : Claimed → Option Held
-job_from (Job held) = Some held
+abbrev pub job_from : Claimed → Option Job
+job_from (claimed.Job held) = Some (held_job held)
 job_from answer = None
 
 -- A unit that held no job has claimed
@@ -62,13 +74,15 @@ pub record HasClaimed (core : TheCore) (old new : List Entry) (before after : Li
   pub unit_is : HasUnit before after unit by (job_from answer)
   pub says : IsClaim core by old new station (claim_of answer)
 
--- A unit has finished the job that it held, and holds none
+-- A unit has finished the job that it held of this station, and holds none
 pub record UnitHasFinished (core : TheCore) (old new : List Entry) (before after : List (Option Worker))
-    (unit : ℕ) (held : Held) (answer : Finish) : Type 0 where
-  pub held_it : job_at before unit ≡ Some held
+    (unit station : ℕ) (answer : Finish) : Type 0 where
+  pub job : Job
+  pub held_it : job_at before unit ≡ Some job
+  pub station_is : job.station ≡ station
   pub by : ℕ
   pub unit_is : HasUnit before after unit by None
-  pub says : IsFinish core by old new (held_job held) answer
+  pub says : IsFinish core by old new job answer
 
 -- None of them was made
 abbrev pub HasNone : List (Option Worker) → Type 0

@@ -9,7 +9,7 @@ ghost use Rattle.station.specs.Seats.{IsSameSeat};
 
 use back::{Back, Commit, Mark, Naming, Refresh};
 use front::{Front, Made, Recovery, Rest, Turn};
-use instructions::{Memory, Predictor, Program, Reg, outcome_of};
+use instructions::{Memory, Predictor, Program, Reg};
 use station::{
     Claim, Core, Finish, Job, Seen, StationState, UnitSeat, a_job_is_of_the_program, jobs_stay,
 };
@@ -104,8 +104,7 @@ pub fn finish(
     core.meet(seat, all);
     a_job_is_of_the_program();
     jobs_stay();
-    let instr = program.instr(job.index as usize);
-    let found = outcome_of(instr, job.half, job.pc, job.a, job.b, program.size());
+    let found = job.outcome(program);
     let answer = core.finish(seat, job, found);
     core.meet(seat, all);
     answer

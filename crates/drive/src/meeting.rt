@@ -4,7 +4,7 @@ ghost use Rattle.station.specs.Seats.{IsSameSeat};
 ghost use Rattle.drive.specs.Moments.{GrowsLegally};
 ghost use Rattle.drive.specs.Workers.{AreWorkers, UnitHasSeen};
 
-use crate::units::{Worker, take_worker};
+use crate::units::{Worker, put_worker, take_worker};
 use station::{Core, UnitSeat, jobs_stay};
 
 /// The unit at a place, which is made if it is not there yet, learns all, and tells what it has seen.
@@ -26,5 +26,5 @@ pub(crate) fn tell_all(
     let Worker { mut seat, job } = take_worker(core, all, units, unit);
     jobs_stay();
     core.meet(&mut seat, all);
-    units[unit] = Some(Worker { seat, job });
+    put_worker(units, unit, Worker { seat, job });
 }

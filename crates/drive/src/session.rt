@@ -10,7 +10,7 @@ use crate::calls;
 use crate::commands::Command;
 use crate::names::UNITS;
 use crate::replies::{Refusal, Reply};
-use crate::units::{Worker, claim_by, finish_by, job_of, no_units};
+use crate::units::{Worker, claim_by, end_units, finish_by, held_station, no_units};
 use back::{Back, Mark, Naming, Snapper};
 use front::Front;
 use instructions::{Config, End, Memory, Predictor, Program};
@@ -91,7 +91,10 @@ impl<'a, P: Predictor + Drop, J: Naming> Session<'a, P, J> {
                 rested: false,
                 units,
             }),
-            Err((memory, _)) => Err(memory),
+            Err((memory, _)) => {
+                end_units(units);
+                Err(memory)
+            }
         }
     }
 
@@ -128,7 +131,7 @@ impl<'a, P: Predictor + Drop, J: Naming> Session<'a, P, J> {
         if ring <= station as usize {
             return Reply::Refused(Refusal::NoStation);
         }
-        if job_of(&self.units, unit).is_some() {
+        if held_station(&self.units, unit).is_some() {
             return Reply::Refused(Refusal::HoldsJob);
         }
         let (core, all, units) = (&self.core, &mut self.all, &mut self.units);
@@ -145,8 +148,8 @@ impl<'a, P: Predictor + Drop, J: Naming> Session<'a, P, J> {
         if units.len() <= unit {
             return Reply::Refused(Refusal::NoUnit);
         }
-        match job_of(units, unit) {
-            Some(held) if held.station == station as usize => {
+        match held_station(units, unit) {
+            Some(held) if held == station as usize => {
                 let (core, all, units) = (&self.core, &mut self.all, &mut self.units);
                 Reply::Finish(finish_by(core, self.program, all, units, unit, held))
             }
@@ -226,8 +229,9 @@ impl<'a, P: Predictor + Drop, J: Naming> Session<'a, P, J> {
             snapper: _,
             mark: _,
             rested: _,
-            units: _,
+            units,
         } = self;
+        end_units(units);
         back.end(wait)
     }
 }

@@ -3,17 +3,17 @@ ghost use Rattle.std.specs.Prelude.{◌≡◌, ◌<◌, IfOk, None, Some, slice_
 ghost use Rattle.station.specs.Seats.{IsSameSeat};
 ghost use Rattle.drive.specs.Held.{claim_of, held_job};
 ghost use Rattle.drive.specs.Moments.{GrowsLegally};
-ghost use Rattle.drive.specs.Workers.{AreWorkers, HasClaimed, UnitHasFinished, HasNone, IsWorker, job_at, job_from, worker_at};
+ghost use Rattle.drive.specs.Workers.{AreAtWork, AreWorkers, HasClaimed, HasNone, IsAtWork, IsWorker, UnitHasFinished, job_at, job_from, station_held, worker_at};
 ghost use Rattle.drive.specs.declared.units.Worker.{Worker};
 
 use crate::calls;
 use crate::names::UNITS;
 use core::mem::replace_with;
 use instructions::{Half, Memory, Program};
-use station::{Claim, Core, Finish, Job, Source, UnitSeat};
+use station::{Claim, Core, Finish, Job, Source, UnitSeat, abandon};
 use std::alloc::Global;
 
-/// The fields of a job that a unit holds.
+/// What is told of a job.
 #[derive(Clone, Copy)]
 pub struct Held {
     pub station: usize,
@@ -36,83 +36,53 @@ pub enum Claimed {
 }
 
 /// A unit: its seat, and the job that it has claimed and not finished.
-#[derive(Drop)]
 pub struct Worker {
     pub(crate) seat: UnitSeat,
-    pub(crate) job: Option<Held>,
+    pub(crate) job: Option<Job>,
 }
 
-fn fields_of(job: Job) -> Held
-    ensures { held_job result ≡ job }
+// What a job says.
+fn fields_of(job: &Job) -> Held
+    ensures { held_job result ≡ job.now }
 {
-    let Job {
-        station,
-        tag,
-        index,
-        half,
-        pc,
-        predicted,
-        a,
-        b,
-    } = job;
     Held {
-        station,
-        tag,
-        index,
-        half,
-        pc,
-        predicted,
-        a,
-        b,
+        station: job.station(),
+        tag: job.tag(),
+        index: job.index(),
+        half: job.half(),
+        pc: job.pc(),
+        predicted: job.predicted(),
+        a: job.a(),
+        b: job.b(),
     }
 }
 
-// The job with these fields.
-fn job_with(held: Held) -> Job
-    ensures { result ≡ held_job held }
-{
-    Job {
-        station: held.station,
-        tag: held.tag,
-        index: held.index,
-        half: held.half,
-        pc: held.pc,
-        predicted: held.predicted,
-        a: held.a,
-        b: held.b,
-    }
-}
-
-// The answer of a claim, with the fields of its job.
-fn answer_of(claim: Claim) -> Claimed
-    ensures { claim_of result ≡ claim }
+// The answer of a claim, and its job.
+fn answer_of(claim: Claim) -> (Claimed, Option<Job>)
+    ensures answer { claim_of result.0 ≡ claim }
+    ensures job { result.1 ≡ job_from result.0 }
 {
     match claim {
-        Claim::Job(job) => Claimed::Job(fields_of(job)),
-        Claim::NotOpen => Claimed::NotOpen,
-        Claim::Waiting { tag, k } => Claimed::Waiting { tag, k },
-        Claim::Moved { tag } => Claimed::Moved { tag },
+        Claim::Job(job) => (Claimed::Job(fields_of(&job)), Some(job)),
+        Claim::NotOpen => (Claimed::NotOpen, None),
+        Claim::Waiting { tag, k } => (Claimed::Waiting { tag, k }, None),
+        Claim::Moved { tag } => (Claimed::Moved { tag }, None),
     }
 }
 
-// The job that a claim gave.
-fn job_from(answer: Claimed) -> Option<Held>
-    ensures { result ≡ job_from answer }
-{
-    match answer {
-        Claimed::Job(held) => Some(held),
-        _ => None,
-    }
-}
-
-/// The job of the unit at a place, if it was made and holds one.
-pub(crate) fn job_of(units: &Vec<Option<Worker>>, unit: usize) -> Option<Held>
+/// The station of the job that the unit at a place holds, if it was made and holds one.
+pub(crate) fn held_station(units: &Vec<Option<Worker>>, unit: usize) -> Option<usize>
     requires { unit < vec_len units.now }
-    ensures { result ≡ job_at units.now.items unit }
+    ensures { result ≡ station_held units.now.items unit }
 {
     match &units[unit] {
-        Some(worker) => worker.job,
-        None => None,
+        Some(
+            Worker {
+                seat: _,
+                job: Some(job),
+            },
+        ) => Some(job.station()),
+        _ => None,
     }
 }
 
@@ -123,20 +93,50 @@ pub(crate) fn no_units(alloc: Global) -> Result<Vec<Option<Worker>>, Memory>
     ensures none { IfOk result (λ units. HasNone units.items) }
 {
     let mut units = Vec::new(alloc);
+    if units.reserve(UNITS).is_err() {
+        units.destroy_empty();
+        return Err(Memory);
+    }
     for _ in 0..UNITS {
-        units.push(None)?;
+        units.push_reserved(None);
     }
     Ok(units)
 }
 
+// A unit is no more, and its job with it.
+fn give_up(worker: Worker)
+    requires { IsAtWork worker }
+{
+    let Worker { seat, job } = worker;
+    if let Some(job) = job {
+        abandon(seat, job);
+    }
+}
+
 /// No unit is made any more.
 pub(crate) fn forget_units(units: &mut Vec<Option<Worker>>)
+    requires { AreAtWork units.old.items }
     ensures places { vec_len units.new ≡ vec_len units.old }
     ensures none { HasNone units.new.items }
 {
     for at in 0..units.len() {
-        units[at] = None;
+        if let Some(worker) = units[at].take() {
+            give_up(worker);
+        }
     }
+}
+
+/// The units are no more.
+pub(crate) fn end_units(units: Vec<Option<Worker>>)
+    requires { AreAtWork units.items }
+{
+    let mut units = units;
+    while let Some(unit) = units.pop() {
+        if let Some(worker) = unit {
+            give_up(worker);
+        }
+    }
+    units.destroy_empty();
 }
 
 fn part(seat: UnitSeat, core: &Core) -> (UnitSeat, UnitSeat)
@@ -174,6 +174,32 @@ pub(crate) fn take_worker(
     }
 }
 
+// Puts a unit to its place, where none is.
+pub(crate) fn put_worker(units: &mut Vec<Option<Worker>>, unit: usize, worker: Worker)
+    requires unit { unit < vec_len units.old }
+    requires free { worker_at units.old.items unit ≡ None }
+    ensures { units.new.items ≡ slice_set units.old.items unit (Some worker) }
+{
+    if let Some(other) = units[unit].replace(worker) {
+        give_up(other);
+    }
+}
+
+// The seat of a unit that holds no job.
+fn free_seat(worker: Worker) -> UnitSeat
+    requires { worker.job ≡ None }
+    ensures { result ≡ worker.seat }
+{
+    let Worker { seat, job } = worker;
+    match job {
+        None => seat,
+        Some(job) => {
+            abandon(seat, job);
+            unreachable!()
+        }
+    }
+}
+
 /// A claim by the unit at a place, which holds no job.
 pub(crate) fn claim_by(
     core: &Core,
@@ -194,37 +220,36 @@ pub(crate) fn claim_by(
     ensures reply { HasClaimed core.now all.old.seen all.new.seen units.old.items units.new.items
         unit station result }
 {
-    let Worker { mut seat, job: _ } = take_worker(core, all, units, unit);
-    let answer = answer_of(calls::claim(core, all, &mut seat, station));
-    let job = job_from(answer);
-    units[unit] = Some(Worker { seat, job });
+    let mut seat = free_seat(take_worker(core, all, units, unit));
+    let (answer, job) = answer_of(calls::claim(core, all, &mut seat, station));
+    put_worker(units, unit, Worker { seat, job });
     answer
 }
 
-/// The finish of the job that the unit at a place holds.
+/// The finish of the job of a station that the unit at a place holds.
 pub(crate) fn finish_by(
     core: &Core,
     program: &Program,
     all: &mut UnitSeat,
     units: &mut Vec<Option<Worker>>,
     unit: usize,
-    held: Held,
+    station: usize,
 ) -> Finish
     requires all { all.old.core ≡ core.now }
     requires program { program.now ≡ core.now.program }
     requires unit { unit < vec_len units.old }
     requires workers { AreWorkers core.now units.old.items }
-    requires holds { job_at units.old.items unit ≡ Some held }
+    requires holds { station_held units.old.items unit ≡ Some station }
     ensures all { IsSameSeat all.old all.new }
     ensures grows { GrowsLegally core.now all.old.seen all.new.seen }
     ensures workers { AreWorkers core.now units.new.items }
     ensures places { vec_len units.new ≡ vec_len units.old }
     ensures reply { UnitHasFinished core.now all.old.seen all.new.seen
-        units.old.items units.new.items
-        unit held result }
+        units.old.items units.new.items unit station result }
 {
-    let Worker { mut seat, job: _ } = take_worker(core, all, units, unit);
-    let answer = calls::finish(core, program, all, &mut seat, job_with(held));
-    units[unit] = Some(Worker { seat, job: None });
+    let Worker { mut seat, job } = take_worker(core, all, units, unit);
+    let Some(job) = job else { unreachable!() };
+    let answer = calls::finish(core, program, all, &mut seat, job);
+    put_worker(units, unit, Worker { seat, job: None });
     answer
 }

@@ -5,8 +5,8 @@ use Rattle.drive.proofs.Histories.{between, grows_twice}
 use Rattle.drive.proofs.Jobs.{job_later}
 use Rattle.drive.proofs.calls.finish.Goals as goal
 
-pub instr-instr-requires : goal.instr-instr-requires
-instr-instr-requires c =
+pub outcome-found-requires : goal.outcome-found-requires
+outcome-found-requires c =
     let core = c.args.core.now in
     let seat = c.meet.new.one in
     let job = c.args.job in

@@ -1,7 +1,7 @@
 use Rattle.std.proofs.Common.{◌≡◌, ◌<◌, ℕ, None, vec_len}
-use Rattle.drive.specs.Workers.{worker_at}
+use Rattle.drive.specs.Workers.{AreAtWork, worker_at}
 use Rattle.drive.proofs.units.forget_units.Given as goal
 
--- all units so far are forgotten
+-- all units so far are forgotten, and the others hold their jobs
 abbrev pub invariant-loop-at : goal.invariant-loop-at
-invariant-loop-at l = (vec_len l.units ≡ vec_len l.fn.units) × ((k : ℕ) → k < l.at → worker_at l.units.items k ≡ None)
+invariant-loop-at l = (vec_len l.units ≡ vec_len l.fn.units) × ((k : ℕ) → k < l.at → worker_at l.units.items k ≡ None) × AreAtWork l.units.items

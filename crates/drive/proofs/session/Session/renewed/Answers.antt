@@ -4,9 +4,12 @@ use Rattle.drive.specs.Renewals.{HasBegunAgain}
 use Rattle.drive.specs.Sessions.{TheSession}
 use Rattle.drive.specs.Workers.{AreWorkers, HasNone}
 use Rattle.drive.proofs.Renewing.{begun_grows}
-use Rattle.drive.proofs.Workers.{none_works}
+use Rattle.drive.proofs.Workers.{all_at_work, none_works}
 use Rattle.station.specs.Seats.{TheCore}
 use Rattle.drive.proofs.session.Session.renewed.Goals as goal
+
+pub forget_units-requires : goal.forget_units-requires
+forget_units-requires g c = all_at_work c.self.inside.core c.self.inside.units.items c.self.invariant.workers
 
 pub at-session-requires-clause-workers : goal.at-session-requires-clause-workers
 at-session-requires-clause-workers g c = none_works c.in-Ok.stage.0 c.forget_units.new.units.items c.forget_units.ensures.none
