@@ -1,5 +1,7 @@
+pub mod CommitDeeds
+pub mod Committers
 pub mod Counted
-pub mod Deeds
-pub mod Gathering
-pub mod HintsPut
+pub mod DispatchDeeds
+pub mod Ended
+pub mod Renewed
 pub mod Sends

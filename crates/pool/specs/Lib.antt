@@ -1,9 +1,6 @@
 pub mod Committing
-pub mod Deeds
-pub mod Gathering
-pub mod HintsPut
-pub mod Making
+pub mod Dispatching
+pub mod Ended
+pub mod Records
 pub mod Runs
 pub mod Terms
-pub mod Turns
-pub mod Units

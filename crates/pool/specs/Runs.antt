@@ -1,25 +1,29 @@
 -- What is told of a run beside its answer.
-use Rattle.std.specs.Prelude.{⊤, ◌≡◌, ◌+◌, ◌≤◌, ◌⊎◌, ℕ}
-use Rattle.pool.specs.Turns.{TheTurns}
+use Rattle.std.specs.Prelude.{⊤, ◌≡◌, ◌+◌, ◌≤◌, ◌⊎◌, ℕ, None, Some}
+use Rattle.instructions.specs.Settings.{Settings}
 use Rattle.run_ends.specs.declared.answer.Refusal.TheVariants.{Memory, Thread}
 use Rattle.run_ends.specs.declared.answer.Run.{Run}
 use Rattle.run_ends.specs.declared.answer.Run.TheVariants.{Ended, LimitReached, Refused}
+use Rattle.pool.specs.Records.{TheRan, configured_term}
 
 -- Each instruction took the commit thread a turn, and it has the others left. Without all its threads a run takes none,
--- unless it has begun and its core was renewed
-abbrev pub LeavesTurns : TheTurns → (renewals : ℕ) → Run → Type 0
-LeavesTurns turns renewals (Ended end tally) = end.n + turns.left ≤ turns.all
-LeavesTurns turns renewals (LimitReached end tally) = end.n + turns.left ≤ turns.all
-LeavesTurns turns renewals (Refused Memory) = ⊤
-LeavesTurns turns renewals (Refused Thread) = renewals ≡ 0 → turns.left ≡ turns.all
+-- unless a term of it has come to an end
+abbrev pub LeavesTurns : TheRan → Run → Type 0
+LeavesTurns ran (Ended end tally) = end.n + (ran.turns).left ≤ (ran.turns).all
+LeavesTurns ran (LimitReached end tally) = end.n + (ran.turns).left ≤ (ran.turns).all
+LeavesTurns ran (Refused Memory) = ⊤
+LeavesTurns ran (Refused Thread) = ran.last ≡ None → (ran.turns).left ≡ (ran.turns).all
 
--- The tally tells how often the core was renewed
-abbrev pub TellsRenewals : (renewals : ℕ) → Run → Type 0
-TellsRenewals renewals (Ended end tally) = tally.renewals ≡ renewals
-TellsRenewals renewals (LimitReached end tally) = tally.renewals ≡ renewals
-TellsRenewals renewals (Refused why) = ⊤
+-- The last term was at a core and with threads as they are configured, where as many instructions were committed as are
+-- told, and the core had been renewed as often as the tally tells
+abbrev pub IsCarriedOut : Settings → TheRan → Run → Type 0
+IsCarriedOut config ran (Ended end tally) =
+    ran.last ≡ Some (configured_term config end.n tally.renewals)
+IsCarriedOut config ran (LimitReached end tally) =
+    ran.last ≡ Some (configured_term config end.n tally.renewals)
+IsCarriedOut config ran (Refused why) = ⊤
 
 -- The limit is told only where so many instructions were run, or no turn was left
-abbrev pub IsLimit : (limit left : ℕ) → Run → Type 0
-IsLimit limit left (LimitReached end tally) = (end.n ≡ limit) ⊎ (left ≡ 0)
-IsLimit limit left _ = ⊤
+abbrev pub IsLimit : (limit : ℕ) → TheRan → Run → Type 0
+IsLimit limit ran (LimitReached end tally) = (end.n ≡ limit) ⊎ ((ran.turns).left ≡ 0)
+IsLimit limit ran _ = ⊤

@@ -1,19 +1,21 @@
 -- What a term of a run begins with, and how it ends.
-use Rattle.std.specs.Prelude.{◌≡◌, ℕ, List, Err}
+use Rattle.std.specs.Prelude.{◌≡◌, List, Err}
 use Rattle.atomic_table.specs.Seated.{TableId}
-use Rattle.inorder.specs.declared.history.Entry.{Entry}
-use Rattle.inorder.specs.History.{unit_of}
+use Rattle.counts.specs.Seats.{Counter}
 use Rattle.front.specs.Fronts.{IsUnused}
 use Rattle.front.specs.Stills.{FrontMayEnter, TheStillFront}
-use Rattle.pool.specs.Committing.{IsAtRest, TheCommitter}
+use Rattle.inorder.specs.declared.history.Entry.{Entry}
+use Rattle.inorder.specs.History.{unit_of}
+use Rattle.instructions.specs.Settings.{Settings}
 use Rattle.run_ends.specs.declared.answer.Refusal.TheVariants.{Thread}
+use Rattle.station.specs.Renewals.{HasNobody}
+use Rattle.station.specs.Seats.{Caller, TheCore}
+use Rattle.workers.specs.Configured.{configured_sizes}
 use Rattle.pool.specs.declared.dispatch.Begin.{Begin}
 use Rattle.pool.specs.declared.dispatch.Begin.TheVariants.{Again, Fresh}
-use Rattle.pool.specs.declared.terms.Given.{Given}
-use Rattle.pool.specs.declared.terms.Hands.{Hands}
+use Rattle.pool.specs.declared.dispatch.Dispatcher.{Dispatcher}
 use Rattle.pool.specs.declared.terms.Term.{Term}
-use Rattle.station.specs.Seats.{Caller, TheCore}
-use Rattle.station.specs.Renewals.{HasNobody}
+use Rattle.pool.specs.Committing.{MayRenew, TheCommitter}
 
 -- The seat is of this core, and the front enters with it
 pub record Enters (core : TheCore) (left : TheCore) (seen : List Entry) (seat : Caller) : Type 0 where
@@ -31,36 +33,45 @@ pub record MayCommit (core : TheCore) (committer : TheCommitter) : Type 0 where
   pub begun : committer.over ≡ Err Thread
 
 -- What the threads of a term own is at this core, and they add to these totals
-pub record AreHandsAt {S : Type 0} (core : TheCore) (counts : TableId) (hands : Hands S) : Type 0 where
-  pub begins : Begins core hands.dispatcher.begin hands.dispatcher.seat
-  pub front_count : hands.dispatcher.count.of ≡ counts
-  pub unit_is : hands.unit.core ≡ core
-  pub count_is : hands.count.of ≡ counts
+pub record AreAt {S : Type 0} (core : TheCore) (counts : TableId) (dispatcher : Dispatcher S)
+    (unit : Caller) (count : Counter) : Type 0 where
+  pub begins : Begins core dispatcher.begin dispatcher.seat
+  pub front_count : dispatcher.count.of ≡ counts
+  pub unit_is : unit.core ≡ core
+  pub count_is : count.of ≡ counts
 
--- A term may begin: its parts and the commit side are at its core, for whose ring the hints are made, and its threads
--- add to these totals
-pub record MayBegin {S : Type 0} (ring : ℕ) (counts : TableId) (term : Term S)
-    (committer : TheCommitter) : Type 0 where
-  pub ring_is : ring ≡ term.core.sizes.ring
-  pub begins : Begins term.core term.begin term.seat
-  pub unit_is : term.unit.core ≡ term.core
-  pub count_is : term.count.of ≡ counts
+-- A term may begin: the commit side is at its core, which has the sizes that are configured, and what its threads own
+-- is there, and adds to these totals
+pub record MayBegin {S : Type 0} (counts : TableId) (config : Settings) (committer : TheCommitter)
+    (term : Term S) : Type 0 where
+  pub sizes_are : term.core.sizes ≡ configured_sizes config
+  pub owned : AreAt term.core counts term.dispatcher term.unit term.count
   pub commits : MayCommit term.core committer
 
 -- The front has left this core, with a seat that has seen that nobody is live
-pub record GivesBack {S : Type 0} (core : TheCore) (seat : Caller) (still : TheStillFront S) : Type 0 where
+pub record HasLeft {S : Type 0} (core : TheCore) (seat : Caller) (still : TheStillFront S) : Type 0 where
   pub core_is : seat.core ≡ core
   pub nobody : HasNobody (unit_of core.program core.sizes seat.seen)
   pub still_core : still.core ≡ core
   pub still_seen : still.seen ≡ seat.seen
 
--- What a term gives back is at this core, and so is the commit side, which is at rest
-pub record IsGivenBack {S : Type 0} (core : TheCore) (given : Given S)
-    (committer : TheCommitter) : Type 0 where
-  pub left : GivesBack core given.left.seat given.left.still
-  pub unit_is : given.unit.core ≡ core
+-- The front begins again where it has left this core
+abbrev pub BeginsAgain : {S : Type 0} → TheCore → Caller → Begin S → Type 0
+BeginsAgain core seat (Fresh predictor) = ⊥
+BeginsAgain core seat (Again still) = HasLeft core seat still
+
+-- What a dispatch thread gives back: its front has left this core, and it adds to these totals
+pub record IsGivenBack {S : Type 0} (core : TheCore) (counts : TableId) (dispatcher : Dispatcher S) : Type 0 where
+  pub left : BeginsAgain core dispatcher.seat dispatcher.begin
+  pub count_is : dispatcher.count.of ≡ counts
+
+-- What the threads of a term give back is at this core, and so is the commit side, which may renew it
+pub record IsReturned {S : Type 0} (core : TheCore) (counts : TableId) (dispatcher : Dispatcher S)
+    (unit : Caller) (committer : TheCommitter) : Type 0 where
+  pub given : IsGivenBack core counts dispatcher
+  pub unit_is : unit.core ≡ core
   pub back_is : committer.back.core ≡ core
-  pub rests : IsAtRest committer
+  pub may : MayRenew committer
 
 -- Another core of the same program and sizes, the front's seat and a unit's at it, and the back there
 pub record AreRenewed (old : TheCore) (seen : List Entry) (core : TheCore) (seat unit : Caller)

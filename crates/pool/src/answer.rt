@@ -1,25 +1,20 @@
-//! What a run answers whose turns are asked for.
+//! What a run answers that tells how it was carried out.
 ghost use Rattle.std.specs.Prelude.{◌≡◌};
 
-use crate::turns::Turns;
+use crate::ran::Ran;
 use run_ends::Run;
 
-/// How a run ended, what its commit thread has left of its turns, and how often its core was renewed.
+/// How a run ended, and how it was carried out.
 #[derive(Drop)]
 pub struct RunInTurns {
     pub run: Run,
-    pub turns: Turns,
-    pub renewals: u32,
+    pub ran: Ran,
 }
 
 impl RunInTurns {
-    pub(crate) fn of(run: Run, turns: Turns, renewals: u32) -> RunInTurns
-        ensures { result ≡ record { run = run; turns = turns; renewals = renewals } }
+    pub(crate) fn of(run: Run, ran: Ran) -> RunInTurns
+        ensures { result ≡ record { run = run; ran = ran } }
     {
-        RunInTurns {
-            run,
-            turns,
-            renewals,
-        }
+        RunInTurns { run, ran }
     }
 }

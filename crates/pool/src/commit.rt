@@ -1,14 +1,13 @@
 //! What the commit thread does.
 ghost use Rattle.std.specs.Prelude.{◌≡◌};
 ghost use Rattle.back.specs.Backs.{back_state};
+ghost use Rattle.workers.specs.Deeds.{deeds};
 
 mod renewal;
 mod turning;
 
 use crate::answer::RunInTurns;
-use crate::bounds::Bounds;
-use crate::floor::Floor;
-use crate::turns::Turns;
+use crate::ran::{Ran, TermRecord};
 use back::{Back, Naming};
 use counts::CountSeat;
 use hints::Ring;
@@ -16,6 +15,7 @@ use instructions::Ending;
 use run_ends::{Refusal, Run};
 use std::marker::{Model, PhantomData};
 use std::sync::Wait;
+use workers::{Bounds, RunState, Turns};
 
 /// Why the commit thread commits no more.
 #[derive(Clone, Copy)]
@@ -37,41 +37,36 @@ pub(crate) struct Committer<J: Naming, K: Bounds + Ring> {
     renewals: u32,
     // why it commits no more; in each term a thread is wanting until it has begun, and then memory until it is over
     over: Result<Why, Refusal>,
+    last_term: Option<TermRecord>,
     bounds: PhantomData<K>,
 }
 
 impl<J: Naming, K: Bounds + Ring> Model for Committer<J, K> {
-    ghost use Rattle.std.specs.Prelude.{◌≡◌, Err, IfOk};
-    ghost use Rattle.pool.specs.Committing.{Because, HasCounted, KeepsLimit, TheCommitter};
-    ghost use Rattle.run_ends.specs.declared.answer.Refusal.TheVariants.{Thread};
+    ghost use Rattle.pool.specs.Committing.{IsCommitter, TheCommitter, committer_of};
 
     ghost Value = { TheCommitter };
 
-    ghost view = { λ c. record { back = c.back; turns = c.turns; renewals = c.renewals; over = c.over } };
+    ghost view = { λ c. committer_of c.back c.turns c.renewals c.over c.last_term };
 
     ghost invariant = { λ c.
-        HasCounted K.counts c.back c.renewals c.count × (c.limit ≡ K.limit) × KeepsLimit K.limit c.back c.renewals c.turns
-        × (c.turns.all ≡ K.turns) × IfOk c.over (Because K.limit c.back c.turns.left)
-        × (c.over ≡ Err Thread → c.renewals ≡ 0 → c.turns.left ≡ c.turns.all) };
+        IsCommitter K.counts K.config (committer_of c.back c.turns c.renewals c.over c.last_term) c.count c.limit };
 }
 
 impl<J: Naming, K: Bounds + Ring> Committer<J, K> {
     ghost use Rattle.std.specs.Prelude.{◌≡◌, Err, IfErr, None};
-    ghost use Rattle.pool.specs.Committing.{HasCounted};
-    ghost use Rattle.pool.specs.Turns.{untaken};
-    ghost use Rattle.pool.specs.Runs.{IsLimit, LeavesTurns, TellsRenewals};
-    ghost use Rattle.run_ends.specs.Runs.{RunIsRight, IsWithinLimit};
+    ghost use Rattle.pool.specs.Committing.{HasCounted, committer_of};
+    ghost use Rattle.pool.specs.Ended.{HasRun};
+    ghost use Rattle.workers.specs.Turns.{untaken};
+    ghost use Rattle.inorder.specs.History.{renewals as renewals_in};
 
     pub(crate) fn new(back: Back<J>, count: CountSeat, limit: u32, turns: u32) -> Self
-        requires count { HasCounted K.counts back 0 count }
-        requires limit { limit ≡ K.limit }
-        requires turns { turns ≡ K.turns }
+        requires count { HasCounted K.counts back count }
+        requires none { renewals_in back.seen ≡ 0 }
+        requires limit { limit ≡ (K.config).limit }
+        requires turns { turns ≡ (K.config).turns }
         requires start { (back_state back).count ≡ 0 }
         requires going { back.ended ≡ None }
-        ensures back { result.back ≡ back }
-        ensures over { result.over ≡ Err Refusal.Thread }
-        ensures turns { result.turns ≡ untaken turns }
-        ensures none { result.renewals ≡ 0 }
+        ensures { result ≡ committer_of back (untaken turns) 0 (Err Refusal.Thread) None }
     {
         Committer {
             back,
@@ -80,43 +75,35 @@ impl<J: Naming, K: Bounds + Ring> Committer<J, K> {
             turns: Turns::new(turns),
             renewals: 0,
             over: Err(Refusal::Thread),
+            last_term: None,
             bounds: PhantomData,
         }
     }
 
     /// How the run ended, where all other threads have ended. It is refused where not all of them
     /// could be started.
-    pub(crate) fn end<R: Wait>(self, wait: &R, floor: &Floor<K>) -> RunInTurns
-        requires counts { floor.now.counts ≡ K.counts }
-        ensures right { RunIsRight J.program result.run }
-        ensures within { IsWithinLimit K.limit result.run }
+    pub(crate) fn end<R: Wait>(self, wait: &R, state: &RunState<K>) -> RunInTurns
+        ensures run { HasRun J.program K.config result }
         ensures refused { IfErr self.over (λ refusal. result.run ≡ Run.Refused refusal) }
-        ensures counted { result.renewals ≡ self.renewals }
-        ensures turns { result.turns ≡ self.turns }
-        ensures all { result.turns.all ≡ K.turns }
-        ensures left { LeavesTurns result.turns result.renewals result.run }
-        ensures renewals { TellsRenewals result.renewals result.run }
-        ensures limit { IsLimit K.limit result.turns.left result.run }
+        ensures ran { result.ran ≡ record { turns = self.turns; last = self.last } }
     {
         let Committer {
             back,
             mut count,
             limit: _,
             turns,
-            renewals,
+            renewals: _,
             over,
+            last_term,
             bounds: _,
         } = self;
         let end = back.end(wait);
-        let tally = floor.counts.read(&mut count);
+        let tally = state.counts.read(&mut count);
+        let ran = Ran::of(turns, last_term);
         match (over, end.outcome) {
-            (Err(refusal), _) => RunInTurns::of(Run::Refused(refusal), turns, renewals),
-            (Ok(_), Ending::Stop(_)) => RunInTurns::of(Run::Ended(end, tally), turns, renewals),
-            (Ok(_), Ending::Limit) => RunInTurns::of(
-                Run::LimitReached(end, tally),
-                turns,
-                renewals,
-            ),
+            (Err(refusal), _) => RunInTurns::of(Run::Refused(refusal), ran),
+            (Ok(_), Ending::Stop(_)) => RunInTurns::of(Run::Ended(end, tally), ran),
+            (Ok(_), Ending::Limit) => RunInTurns::of(Run::LimitReached(end, tally), ran),
         }
     }
 }

@@ -1,23 +1,19 @@
 //! What the dispatch thread does.
 ghost use Rattle.std.specs.Prelude.{◌≡◌, IfSome, true};
 ghost use Rattle.hints.specs.Hinted.{IsEndOf};
-ghost use Rattle.pool.specs.Deeds.{CountsFrontDeeds};
-ghost use Rattle.pool.specs.HintsPut.{HintsLet};
-ghost use Rattle.pool.specs.Terms.{Begins, GivesBack};
-ghost use Rattle.pool.specs.Turns.{AreTaken, IsTakenFrom};
-ghost use Rattle.pool.specs.declared.dispatch.Stepped.TheVariants.{Rested};
+ghost use Rattle.pool.specs.Dispatching.{HintsLet};
+ghost use Rattle.pool.specs.Terms.{Begins, IsGivenBack};
+ghost use Rattle.pool.specs.declared.dispatch.Stepped.TheVariants.{Ended};
+ghost use Rattle.workers.specs.Deeds.{CountsFrontDeeds};
+ghost use Rattle.workers.specs.Turns.{AreTaken, IsTakenFrom};
 
-use crate::bounds::Bounds;
-use crate::crew::Crew;
-use crate::gathered::Gathered;
-use crate::rest::Rest;
-use crate::turns::Turns;
 use counts::{Total, WorkerSeat};
-use front::{Front, FrontStill, Recovery, Rest as Rests, Turn};
+use front::{Front, FrontStill, Recovery, Rest, Turn};
 use hints::{Hinter, Ring};
 use instructions::Predictor;
 use station::{Core, FrontSeat};
 use std::sync::Wait;
+use workers::{Backoff, Bounds, Gathered, TermShared, Turns};
 
 // After so many fruitless turns it lets another thread run.
 const PATIENCE: u32 = 4;
@@ -28,38 +24,38 @@ enum Stepped {
     Worked,
     Idle,
     // all tags of the next station are spent, and nobody is live
-    Rested,
+    Ended,
 }
 
 // Lets the next instruction, and hints its station. Where the tags of the station are spent it looks whether
 // anybody is live.
 fn let_next<K: Bounds + Ring, P: Predictor + Drop, G, R: Wait>(
-    crew: &Crew<'_, K, G, R>,
+    shared: &TermShared<'_, K, G, R>,
     front: &mut Front<P>,
     count: &mut Gathered,
     hinter: &mut Hinter,
 ) -> Stepped
-    requires core { front.old.core ≡ crew.now.core.now }
-    requires count { count.old.seat.of ≡ crew.now.floor.now.counts }
-    requires hinter { IsEndOf crew.now.floor.now.hints hinter.old }
-    ensures core { front.new.core ≡ crew.now.core.now }
-    ensures count { count.new.seat.of ≡ crew.now.floor.now.counts }
+    requires core { front.old.core ≡ shared.now.core.now }
+    requires count { count.old.seat.of ≡ shared.now.state.now.counts }
+    requires hinter { IsEndOf shared.now.state.now.hints hinter.old }
+    ensures core { front.new.core ≡ shared.now.core.now }
+    ensures count { count.new.seat.of ≡ shared.now.state.now.counts }
     ensures counted { CountsFrontDeeds front.old.seen front.new.seen count.old count.new }
-    ensures hinter { IsEndOf crew.now.floor.now.hints hinter.new }
-    ensures hinted { HintsLet crew.now.core.now front.old.seen front.new.seen result
+    ensures hinter { IsEndOf shared.now.state.now.hints hinter.new }
+    ensures hinted { HintsLet shared.now.core.now front.old.seen front.new.seen result
         hinter.old hinter.new }
-    ensures rested { result ≡ Rested → front.new.rested ≡ true }
+    ensures ended { result ≡ Ended → front.new.rested ≡ true }
 {
-    let _ring = crew.core.ring();
-    match front.turn(crew.core) {
+    let _ring = shared.core.ring();
+    match front.turn(shared.core) {
         Turn::Let { station, .. } => {
-            count.count(&crew.floor.counts, Total::Lets, 1);
-            let _is_put = crew.floor.hints.push(crew.wait, hinter, station as u32);
+            count.count(&shared.state.counts, Total::Lets, 1);
+            let _is_put = shared.state.hints.push(shared.wait, hinter, station as u32);
             Stepped::Worked
         }
-        Turn::Spent => match front.rest(crew.core) {
-            Rests::Idle => Stepped::Rested,
-            Rests::Live => Stepped::Idle,
+        Turn::Spent => match front.rest(shared.core) {
+            Rest::Idle => Stepped::Ended,
+            Rest::Live => Stepped::Idle,
         },
         Turn::Full | Turn::NoInstr | Turn::QueueFull => Stepped::Idle,
     }
@@ -67,26 +63,26 @@ fn let_next<K: Bounds + Ring, P: Predictor + Drop, G, R: Wait>(
 
 // One recovery, and one let where there is no miss.
 fn step<K: Bounds + Ring, P: Predictor + Drop, G, R: Wait>(
-    crew: &Crew<'_, K, G, R>,
+    shared: &TermShared<'_, K, G, R>,
     front: &mut Front<P>,
     count: &mut Gathered,
     hinter: &mut Hinter,
 ) -> Stepped
-    requires core { front.old.core ≡ crew.now.core.now }
-    requires count { count.old.seat.of ≡ crew.now.floor.now.counts }
-    requires hinter { IsEndOf crew.now.floor.now.hints hinter.old }
-    ensures core { front.new.core ≡ crew.now.core.now }
-    ensures count { count.new.seat.of ≡ crew.now.floor.now.counts }
+    requires core { front.old.core ≡ shared.now.core.now }
+    requires count { count.old.seat.of ≡ shared.now.state.now.counts }
+    requires hinter { IsEndOf shared.now.state.now.hints hinter.old }
+    ensures core { front.new.core ≡ shared.now.core.now }
+    ensures count { count.new.seat.of ≡ shared.now.state.now.counts }
     ensures counted { CountsFrontDeeds front.old.seen front.new.seen count.old count.new }
-    ensures hinter { IsEndOf crew.now.floor.now.hints hinter.new }
-    ensures rested { result ≡ Rested → front.new.rested ≡ true }
+    ensures hinter { IsEndOf shared.now.state.now.hints hinter.new }
+    ensures ended { result ≡ Ended → front.new.rested ≡ true }
 {
-    if let Recovery::Mended { squashed, .. } = front.recover(crew.core) {
-        count.count(&crew.floor.counts, Total::Squashes, squashed as u64);
-        count.count(&crew.floor.counts, Total::Mends, 1);
+    if let Recovery::Mended { squashed, .. } = front.recover(shared.core) {
+        count.count(&shared.state.counts, Total::Squashes, squashed as u64);
+        count.count(&shared.state.counts, Total::Mends, 1);
         return Stepped::Worked;
     }
-    let_next(crew, front, count, hinter)
+    let_next(shared, front, count, hinter)
 }
 
 /// How the front of a term begins.
@@ -98,20 +94,13 @@ pub(crate) enum Begin<P: Predictor + Drop> {
     Again(FrontStill<P>),
 }
 
-/// What the dispatch thread owns: the front's seat, its beginning, the seat that it counts with, and its turns.
+/// What the dispatch thread owns, and gives back where the core is to be renewed: the front's seat, its beginning,
+/// the seat that it counts with, and its turns.
 #[derive(Drop)]
 pub(crate) struct Dispatcher<P: Predictor + Drop> {
     pub seat: FrontSeat,
     pub begin: Begin<P>,
     pub count: WorkerSeat,
-    pub turns: Turns,
-}
-
-/// What the dispatch thread gives back where the core is to be renewed.
-#[derive(Drop)]
-pub(crate) struct Left<P: Predictor + Drop> {
-    pub seat: FrontSeat,
-    pub still: FrontStill<P>,
     pub turns: Turns,
 }
 
@@ -126,42 +115,31 @@ fn enter<'x, P: Predictor + Drop>(core: &'x Core, seat: FrontSeat, begin: Begin<
     }
 }
 
-// The front has left, with the turns that it has left.
-fn leave<P: Predictor + Drop>(core: &Core, front: Front<P>, turns: Turns) -> Left<P>
-    requires core { front.core ≡ core.now }
-    requires rested { front.rested ≡ true }
-    ensures gives { GivesBack core.now result.seat result.still }
-    ensures turns { result.turns ≡ turns }
-{
-    let (seat, still) = front.leave();
-    Left { seat, still, turns }
-}
-
 // The turns of a term. True where the tags of a station are spent and nobody is live, with which they end.
 fn take_turns<K: Bounds + Ring, P: Predictor + Drop, G, R: Wait>(
-    crew: &Crew<'_, K, G, R>,
+    shared: &TermShared<'_, K, G, R>,
     front: &mut Front<P>,
     count: &mut Gathered,
     turns: &mut Turns,
 ) -> bool
-    requires core { front.old.core ≡ crew.now.core.now }
-    requires count { count.old.seat.of ≡ crew.now.floor.now.counts }
-    ensures core { front.new.core ≡ crew.now.core.now }
-    ensures count { count.new.seat.of ≡ crew.now.floor.now.counts }
+    requires core { front.old.core ≡ shared.now.core.now }
+    requires count { count.old.seat.of ≡ shared.now.state.now.counts }
+    ensures core { front.new.core ≡ shared.now.core.now }
+    ensures count { count.new.seat.of ≡ shared.now.state.now.counts }
     ensures counted { CountsFrontDeeds front.old.seen front.new.seen count.old count.new }
     ensures turns { AreTaken turns.old turns.new }
-    ensures rested { result ≡ true → front.new.rested ≡ true }
+    ensures ended { result ≡ true → front.new.rested ≡ true }
     ensures taken { result ≡ true → IsTakenFrom turns.old turns.new }
 {
-    let mut hinter = crew.floor.hints.hinter();
-    let mut rest = Rest::after(PATIENCE);
+    let mut hinter = shared.state.hints.hinter();
+    let mut backoff = Backoff::after(PATIENCE);
     while turns.take() {
-        match step(crew, front, count, &mut hinter) {
-            Stepped::Worked => rest.begin_again(),
-            Stepped::Idle => rest.rest(),
-            Stepped::Rested => return true,
+        match step(shared, front, count, &mut hinter) {
+            Stepped::Worked => backoff.reset(),
+            Stepped::Idle => backoff.snooze(),
+            Stepped::Ended => return true,
         }
-        if crew.floor.is_closed() {
+        if shared.state.has_run_ended() {
             break;
         }
     }
@@ -169,15 +147,15 @@ fn take_turns<K: Bounds + Ring, P: Predictor + Drop, G, R: Wait>(
 }
 
 /// Lets instructions out, and recovers from misses. Where the tags of a station are spent and nobody is live, the
-/// term is over, and the front leaves. It has taken a turn at least.
+/// term is over, and the front leaves the core. It has taken a turn at least.
 pub(crate) fn dispatch<K: Bounds + Ring, P: Predictor + Drop, G, R: Wait>(
-    crew: &Crew<'_, K, G, R>,
+    shared: &TermShared<'_, K, G, R>,
     dispatcher: Dispatcher<P>,
-) -> Option<Left<P>>
-    requires begins { Begins crew.now.core.now dispatcher.begin dispatcher.seat }
-    requires count { dispatcher.count.of ≡ crew.now.floor.now.counts }
-    ensures gives { IfSome result (λ left. GivesBack crew.now.core.now left.seat left.still) }
-    ensures turns { IfSome result (λ left. IsTakenFrom dispatcher.turns left.turns) }
+) -> Option<Dispatcher<P>>
+    requires begins { Begins shared.now.core.now dispatcher.begin dispatcher.seat }
+    requires count { dispatcher.count.of ≡ shared.now.state.now.counts }
+    ensures gives { IfSome result (IsGivenBack shared.now.core.now shared.now.state.now.counts) }
+    ensures turns { IfSome result (λ next. IsTakenFrom dispatcher.turns next.turns) }
 {
     let Dispatcher {
         seat,
@@ -185,13 +163,19 @@ pub(crate) fn dispatch<K: Bounds + Ring, P: Predictor + Drop, G, R: Wait>(
         count,
         mut turns,
     } = dispatcher;
-    let mut front = enter(crew.core, seat, begin);
-    let mut count = Gathered::new(count);
-    let rested = take_turns(crew, &mut front, &mut count, &mut turns);
-    let _count = count.end(&crew.floor.counts);
-    if !rested {
+    let mut front = enter(shared.core, seat, begin);
+    let mut gathered = Gathered::new(count);
+    let has_ended = take_turns(shared, &mut front, &mut gathered, &mut turns);
+    let count = gathered.end(&shared.state.counts);
+    if !has_ended {
         return None;
     }
-    crew.floor.rest();
-    Some(leave(crew.core, front, turns))
+    shared.state.end_term();
+    let (seat, still) = front.leave();
+    Some(Dispatcher {
+        seat,
+        begin: Begin::Again(still),
+        count,
+        turns,
+    })
 }

@@ -3,25 +3,18 @@
 #![tactic(auto)]
 
 mod answer;
-mod bounds;
 mod commit;
-mod compute;
-mod crew;
 mod dispatch;
-mod floor;
-mod gathered;
-mod hinting;
 mod making;
-mod rest;
+mod ran;
 mod running;
-mod search;
+mod snappers;
+mod starting;
 mod terms;
-mod threads;
-mod turns;
 mod watch;
 
 pub use answer::RunInTurns;
-pub use bounds::Bounds;
+pub use ran::{Ran, TermRecord};
 pub use run_ends::{Gate, Open, Refusal, Run, Tally};
 pub use running::{run, run_in_turns};
-pub use turns::Turns;
+pub use workers::Bounds;

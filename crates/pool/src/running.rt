@@ -1,29 +1,28 @@
 //! Runs a program in threads, and joins them.
 ghost use Rattle.std.specs.Prelude.{◌≡◌, [], IfOk};
 ghost use Rattle.counts.specs.Shares.{all_parts};
-ghost use Rattle.pool.specs.Making.{HasRun};
-ghost use Rattle.pool.specs.Runs.{IsLimit, LeavesTurns, TellsRenewals};
+ghost use Rattle.pool.specs.Ended.{HasRun};
+ghost use Rattle.pool.specs.Runs.{IsCarriedOut, IsLimit, LeavesTurns};
 ghost use Rattle.pool.specs.Terms.{MayBegin};
 ghost use Rattle.run_ends.specs.Runs.{RunIsRight, IsWithinLimit, TakesTurns};
 
 use crate::answer::RunInTurns;
-use crate::bounds::Bounds;
 use crate::commit::Committer;
-use crate::crew::Hall;
-use crate::making::{Made, Task, make};
+use crate::making::{Parts, Task, make};
+use crate::ran::Ran;
+use crate::snappers::start_snappers;
 use crate::terms::{Term, run_terms};
-use crate::threads::start_snappers;
-use crate::turns::Turns;
 use back::{Naming, Snapper};
 use counts::{CountSeat, Counts};
 use hints::Ring;
 use instructions::{Config, Memory, Predictor, Program};
-use run_ends::{Gate, Refusal, Run};
+use run_ends::{Refusal, Run};
 use std::alloc::Global;
 use std::marker::Brand;
 use std::sync::Wait;
 use std::thread;
 use std::thread::Threads;
+use workers::{Bounds, Gate, RunState, Turns};
 
 // Starts the snapshot threads, runs all terms, and returns when each thread has ended.
 fn in_threads<
@@ -34,32 +33,33 @@ fn in_threads<
     G: Gate + Sync,
     R: Threads + Wait + Sync,
 >(
-    hall: &'x Hall<'x, K, G, R>,
-    alloc: Global,
-    places: u32,
+    task: &'x Task<'x, G, R>,
+    state: &'x RunState<K>,
     term: Term<P>,
-    first: Snapper<J>,
+    snapper: Snapper<J>,
     committer: &'x mut Committer<J, K>,
 )
-    requires { MayBegin hall.now.floor.now.hints.ring hall.now.floor.now.counts
-        term committer.old }
+    requires config { task.now.config.now ≡ K.config }
+    requires begins { MayBegin state.now.counts K.config committer.old term }
 {
     thread::scope(
         thread::scope_env(),
-        hall.wait,
+        task.wait,
         move |scope|
-            requires { MayBegin hall.now.floor.now.hints.ring hall.now.floor.now.counts
-                term committer.now }
+            requires config { task.now.config.now ≡ K.config }
+            requires begins { MayBegin state.now.counts K.config committer.now term }
         {
-            if start_snappers(scope, hall, places, first) {
-                run_terms(hall, alloc, term, committer);
+            let (wait, gate) = (task.wait, task.gate);
+            let places = task.config.places();
+            if let Some(places) = start_snappers(scope, wait, state, gate, places, snapper) {
+                run_terms(task, state, &places, term, committer);
             }
-            hall.floor.close();
+            state.end_run();
         },
     )
 }
 
-// Makes a run, starts its snapshot threads, runs all terms, and tells how it ended when each thread has.
+// Makes a run, runs it in threads, and tells how it ended when each thread has.
 fn run_named<
     J: Naming + Send + Sync,
     K: Bounds + Ring + Send + Sync,
@@ -67,8 +67,7 @@ fn run_named<
     G: Gate + Sync,
     R: Threads + Wait + Sync,
 >(
-    task: &Task<'_, R>,
-    gate: &G,
+    task: &Task<'_, G, R>,
     counts: Counts,
     count: CountSeat,
     predictor: P,
@@ -76,39 +75,33 @@ fn run_named<
     requires counts { counts ≡ K.counts }
     requires count { count ≡ record { of = counts; shares = all_parts; seen = [] } }
     requires program { task.now.program.now ≡ J.program }
-    requires limit { task.now.config.now.limit ≡ K.limit }
-    requires turns { task.now.config.now.turns ≡ K.turns }
+    requires config { task.now.config.now ≡ K.config }
     requires ring { task.now.config.now.ring ≡ K.ring }
-    ensures { IfOk result (HasRun J.program K.limit K.turns) }
+    ensures { IfOk result (HasRun J.program K.config) }
 {
-    let made = make::<J, K, P, R>(task, counts, count, predictor)?;
-    let Made {
-        floor,
+    let Parts {
+        state,
         mut committer,
         term,
         snapper,
-    } = made;
-    let hall = Hall {
-        wait: task.wait,
-        floor: &floor,
-        gate,
-    };
-    let places = task.config.places();
-    in_threads(&hall, task.alloc, places, term, snapper, &mut committer);
-    Ok(committer.end(task.wait, &floor))
+    } = make::<J, K, P, G, R>(task, counts, count, predictor)?;
+    in_threads(&*task, &state, term, snapper, &mut committer);
+    Ok(committer.end(task.wait, &state))
 }
 
 // What is answered where memory is wanting before a thread has begun.
 fn wants_memory(config: &Config) -> RunInTurns
     ensures run { result.run ≡ Run.Refused Refusal.Memory }
-    ensures turns { result.turns.all ≡ config.now.turns }
+    ensures turns { ((result.ran).turns).all ≡ config.now.turns }
 {
-    RunInTurns::of(Run::Refused(Refusal::Memory), Turns::new(config.turns()), 0)
+    let ran = Ran::of(Turns::new(config.turns()), None);
+    RunInTurns::of(Run::Refused(Refusal::Memory), ran)
 }
 
 /// Runs a program on as many unit threads as the configuration says, beside one that dispatches, one
 /// that commits (the caller's own) and those that take snapshots. All have ended when it returns. What
-/// the commit thread has left of its turns says whether a limit was the limit of instructions.
+/// the run tells beside its end says on which core and with how many threads that was, and whether a
+/// limit was the limit of instructions.
 pub fn run_in_turns<'x, P: Predictor + Drop + Send, G: Gate + Sync, R: Threads + Wait + Sync>(
     wait: &'x R,
     alloc: Global,
@@ -119,10 +112,10 @@ pub fn run_in_turns<'x, P: Predictor + Drop + Send, G: Gate + Sync, R: Threads +
 ) -> RunInTurns
     ensures right { RunIsRight program.now result.run }
     ensures within { IsWithinLimit config.now.limit result.run }
-    ensures all { result.turns.all ≡ config.now.turns }
-    ensures left { LeavesTurns result.turns result.renewals result.run }
-    ensures renewals { TellsRenewals result.renewals result.run }
-    ensures limit { IsLimit config.now.limit result.turns.left result.run }
+    ensures all { ((result.ran).turns).all ≡ config.now.turns }
+    ensures left { LeavesTurns result.ran result.run }
+    ensures carried { IsCarriedOut config.now result.ran result.run }
+    ensures limit { IsLimit config.now.limit result.ran result.run }
 {
     let Ok((counts, count)) = Counts::make(alloc) else {
         return wants_memory(config);
@@ -132,14 +125,15 @@ pub fn run_in_turns<'x, P: Predictor + Drop + Send, G: Gate + Sync, R: Threads +
         alloc,
         program,
         config,
+        gate,
     };
-    match run_named::<Brand, Brand, P, G, R>(&task, gate, counts, count, predictor) {
+    match run_named::<Brand, Brand, P, G, R>(&task, counts, count, predictor) {
         Ok(run) => run,
         Err(_) => wants_memory(config),
     }
 }
 
-/// The same, where the turns that are left are not asked for.
+/// Runs a program as `run_in_turns` does, and tells only how the run ended.
 pub fn run<'x, P: Predictor + Drop + Send, G: Gate + Sync, R: Threads + Wait + Sync>(
     wait: &'x R,
     alloc: Global,
@@ -152,10 +146,6 @@ pub fn run<'x, P: Predictor + Drop + Send, G: Gate + Sync, R: Threads + Wait + S
     ensures within { IsWithinLimit config.now.limit result }
     ensures turns { TakesTurns config.now.turns result }
 {
-    let RunInTurns {
-        run,
-        turns: _,
-        renewals: _,
-    } = run_in_turns(wait, alloc, program, config, predictor, gate);
+    let RunInTurns { run, ran: _ } = run_in_turns(wait, alloc, program, config, predictor, gate);
     run
 }

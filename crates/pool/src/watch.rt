@@ -1,37 +1,36 @@
 //! What a snapshot thread does.
 ghost use Rattle.snapshots.specs.Snapshots.{IsSnapshotOf};
 
-use crate::bounds::Bounds;
-use crate::crew::Hall;
 use hints::Ring;
-use run_ends::Gate;
 use snapshots::{Naming, Snap, Snapper};
 use std::sync::Wait;
+use workers::{Bounds, Gate, RunState};
 
-// The gate is told nothing but snapshots of the program.
-fn tell<J: Naming, G: Gate>(gate: &G, place: u32, snap: &Snap)
+// Nothing but snapshots of the program is passed to the gate.
+fn pass_snapshot<J: Naming, G: Gate>(gate: &G, place: u32, snap: &Snap)
     requires { IsSnapshotOf J.program snap.now }
 {
     gate.seen(place, snap);
 }
 
-/// Takes snapshots and tells the gate of them, once at least: the first at once, and one more each time that a
+/// Takes snapshots and passes them to the gate, once at least: the first at once, and one more each time that a
 /// snapshot was shown, or the run is over.
 pub(crate) fn watch<K: Bounds + Ring, J: Naming, G: Gate, R: Wait>(
-    hall: &Hall<'_, K, G, R>,
+    wait: &R,
+    state: &RunState<K>,
+    gate: &G,
     place: u32,
     mut snapper: Snapper<J>,
 ) {
-    let floor = hall.floor;
-    for _ in 0..floor.turns {
-        let news = floor.news();
-        let closed = floor.is_closed();
+    for _ in 0..state.turns {
+        let news = state.news();
+        let has_ended = state.has_run_ended();
         if let Ok(snap) = snapper.take() {
-            tell::<J, G>(hall.gate, place, &snap);
+            pass_snapshot::<J, G>(gate, place, &snap);
         }
-        if closed {
+        if has_ended {
             break;
         }
-        floor.wait_for_more(hall.wait, news);
+        state.wait_for_news(wait, news);
     }
 }

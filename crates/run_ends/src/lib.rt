@@ -2,8 +2,7 @@
 #![tactic(auto)]
 
 mod answer;
-mod gate;
 
 pub use answer::{Refusal, Run};
 pub use counts::Tally;
-pub use gate::{Gate, Open};
+pub use workers::{Gate, Open};

@@ -1,35 +1,33 @@
 //! The turns of the commit thread.
-ghost use Rattle.std.specs.Prelude.{◌≡◌, ◌≢◌, ◌+◌, ◌<◌, ◌≤◌, Err, IfOk, true};
+ghost use Rattle.std.specs.Prelude.{◌≡◌, ◌≢◌, ◌+◌, ◌<◌, ◌≤◌, Err, IfOk, None, true};
 ghost use Rattle.back.specs.Backs.{IsSameBack, back_state};
 ghost use Rattle.counts.specs.Reads.{WasTotal};
 ghost use Rattle.counts.specs.Totals.{tallied};
 ghost use Rattle.hints.specs.Hinted.{IsEndOf};
-ghost use Rattle.pool.specs.Committing.{Because, IsReason, IsAtRest};
-ghost use Rattle.pool.specs.HintsPut.{HintsLoaded};
+ghost use Rattle.pool.specs.Committing.{Because, HintsLoaded, IsReason, MayRenew};
 ghost use Rattle.pool.specs.declared.commit.turning.Turned.TheVariants.{Over};
 ghost use Rattle.pool.specs.declared.commit.Why.{Why};
 
 use super::{Committer, Why};
-use crate::bounds::Bounds;
-use crate::crew::Crew;
-use crate::hinting::hint_each;
-use crate::rest::Rest;
+use crate::ran::TermRecord;
+use crate::snappers::Places;
 use back::{Commit, Mark, Naming, Refresh};
 use counts::{CountSeat, Tally, Total};
 use hints::{Hinter, Ring};
 use instructions::Memory;
-use run_ends::{Gate, Refusal};
+use run_ends::Refusal;
 use std::snapshot::Snapshot;
 use std::sync::Wait;
+use workers::{Backoff, Bounds, Gate, StartedUnits, TermShared, hint_each};
 
-// It shows each so many instructions.
+// The commit thread shows each so many instructions.
 const SHOWN_EACH: u64 = 64;
 
 // After so many fruitless turns it lets another thread run.
 const PATIENCE: u32 = 4;
 
 // The gate is told the retirements that are shown, and of each total what that was at a moment since `before`.
-fn tell<G: Gate>(
+fn pass_tally<G: Gate>(
     gate: &G,
     shown: &Mark,
     before: Snapshot<CountSeat>,
@@ -53,44 +51,46 @@ enum Turned {
 }
 
 impl<J: Naming, K: Bounds + Ring> Committer<J, K> {
-    // Shows the state, and tells the gate what was counted until then.
-    fn show<G: Gate, R: Wait>(&mut self, crew: &Crew<'_, K, G, R>) -> Result<(), Memory>
+    // Shows the state, and passes what was counted until then to the gate.
+    fn show<G: Gate, R: Wait>(&mut self, shared: &TermShared<'_, K, G, R>) -> Result<(), Memory>
         ensures back { IsSameBack self.old.back (record self.new.back
             { shown = self.old.back.shown }) }
         ensures turns { self.new.turns ≡ self.old.turns }
         ensures renewals { self.new.renewals ≡ self.old.renewals }
         ensures over { self.new.over ≡ self.old.over }
+        ensures last { self.new.last ≡ self.old.last }
     {
-        let mark = self.back.show(crew.wait)?;
+        let mark = self.back.show(shared.wait)?;
         let before = Snapshot::of(&self.count);
-        let tally = crew.floor.counts.read(&mut self.count);
-        tell(crew.gate, &mark, before, &self.count, &tally);
+        let tally = shared.state.counts.read(&mut self.count);
+        pass_tally(shared.gate, &mark, before, &self.count, &tally);
         Ok(())
     }
 
     // One refresh. Hints whom a load woke. False where nothing was loaded.
-    fn refresh<G, R: Wait>(&mut self, crew: &Crew<'_, K, G, R>, hinter: &mut Hinter) -> bool
-        requires core { self.old.back.core ≡ crew.now.core.now }
-        requires hinter { IsEndOf crew.now.floor.now.hints hinter.old }
-        ensures core { self.new.back.core ≡ crew.now.core.now }
+    fn refresh<G, R: Wait>(&mut self, shared: &TermShared<'_, K, G, R>, hinter: &mut Hinter) -> bool
+        requires core { self.old.back.core ≡ shared.now.core.now }
+        requires hinter { IsEndOf shared.now.state.now.hints hinter.old }
+        ensures core { self.new.back.core ≡ shared.now.core.now }
         ensures ended { self.new.back.ended ≡ self.old.back.ended }
         ensures turns { self.new.turns ≡ self.old.turns }
         ensures renewals { self.new.renewals ≡ self.old.renewals }
         ensures over { self.new.over ≡ self.old.over }
-        ensures hinter { IsEndOf crew.now.floor.now.hints hinter.new }
-        ensures hinted { HintsLoaded crew.now.core.now.sizes.ring self.new.back.woken result
+        ensures last { self.new.last ≡ self.old.last }
+        ensures hinter { IsEndOf shared.now.state.now.hints hinter.new }
+        ensures hinted { HintsLoaded shared.now.core.now.sizes.ring self.new.back.woken result
             hinter.old hinter.new }
     {
-        let Refresh::Loaded { .. } = self.back.refresh(crew.core) else {
+        let Refresh::Loaded { .. } = self.back.refresh(shared.core) else {
             return false;
         };
-        crew.floor.counts.add(&mut self.count, Total::Loads, 1);
+        shared.state.counts.add(&mut self.count, Total::Loads, 1);
         let woken = self.back.woken();
         hint_each(
-            crew.wait,
-            &crew.floor.hints,
+            shared.wait,
+            &shared.state.hints,
             hinter,
-            crew.core.ring(),
+            shared.core.ring(),
             woken,
         );
         true
@@ -99,33 +99,34 @@ impl<J: Naming, K: Bounds + Ring> Committer<J, K> {
     // One commit and one refresh. A refused snapshot is want of memory.
     fn turn<G: Gate, R: Wait>(
         &mut self,
-        crew: &Crew<'_, K, G, R>,
+        shared: &TermShared<'_, K, G, R>,
         hinter: &mut Hinter,
     ) -> Result<Turned, Memory>
-        requires core { self.old.back.core ≡ crew.now.core.now }
-        requires hinter { IsEndOf crew.now.floor.now.hints hinter.old }
+        requires core { self.old.back.core ≡ shared.now.core.now }
+        requires hinter { IsEndOf shared.now.state.now.hints hinter.old }
         requires begun { self.old.over ≡ Err Refusal.Memory }
         requires taken { (back_state self.old.back).count +
             self.old.turns.left < self.old.turns.all }
-        ensures core { self.new.back.core ≡ crew.now.core.now }
+        ensures core { self.new.back.core ≡ shared.now.core.now }
         ensures begun { self.new.over ≡ Err Refusal.Memory }
         ensures turns { self.new.turns ≡ self.old.turns }
         ensures renewals { self.new.renewals ≡ self.old.renewals }
-        ensures hinter { IsEndOf crew.now.floor.now.hints hinter.new }
+        ensures last { self.new.last ≡ self.old.last }
+        ensures hinter { IsEndOf shared.now.state.now.hints hinter.new }
         ensures over { IfOk result (λ turned. (why : Why) → turned ≡ Over why →
-            Because K.limit self.new.back self.new.turns.left why) }
+            Because (K.config).limit self.new.back self.new.turns.left why) }
     {
         if self.limit as u64 <= self.back.n() {
             return Ok(Turned::Over(Why::AtLimit));
         }
         let mut turned = Turned::Idle;
-        match self.back.commit(crew.core) {
+        match self.back.commit(shared.core) {
             Commit::Ended(_) => return Ok(Turned::Over(Why::AtEnd)),
             Commit::Retired { n, .. } => {
-                crew.floor.counts.add(&mut self.count, Total::Retires, 1);
+                shared.state.counts.add(&mut self.count, Total::Retires, 1);
                 if n % SHOWN_EACH == 0 {
-                    self.show(crew)?;
-                    crew.floor.tell();
+                    self.show(shared)?;
+                    shared.state.wake_watchers();
                 }
                 turned = Turned::Worked;
             }
@@ -133,7 +134,7 @@ impl<J: Naming, K: Bounds + Ring> Committer<J, K> {
             Commit::Half { .. } => turned = Turned::Worked,
             Commit::NotDone | Commit::Empty => {}
         }
-        if self.refresh(crew, hinter) {
+        if self.refresh(shared, hinter) {
             turned = Turned::Worked;
         }
         Ok(turned)
@@ -141,54 +142,59 @@ impl<J: Naming, K: Bounds + Ring> Committer<J, K> {
 
     // Commits until the program has ended, the limit is reached or no turn is left, and then says which. It says
     // nothing where the core is to be renewed.
-    fn turns<G: Gate, R: Wait>(&mut self, crew: &Crew<'_, K, G, R>) -> Result<Option<Why>, Memory>
-        requires core { self.old.back.core ≡ crew.now.core.now }
+    fn turns<G: Gate, R: Wait>(
+        &mut self,
+        shared: &TermShared<'_, K, G, R>,
+    ) -> Result<Option<Why>, Memory>
+        requires core { self.old.back.core ≡ shared.now.core.now }
         requires begun { self.old.over ≡ Err Refusal.Memory }
-        ensures core { self.new.back.core ≡ crew.now.core.now }
+        ensures core { self.new.back.core ≡ shared.now.core.now }
         ensures begun { self.new.over ≡ Err Refusal.Memory }
-        ensures over { IfOk result (IsReason K.limit self.new) }
+        ensures over { IfOk result (IsReason (K.config).limit self.new) }
     {
-        let mut hinter = crew.floor.hints.hinter();
-        let mut rest = Rest::after(PATIENCE);
+        let mut hinter = shared.state.hints.hinter();
+        let mut backoff = Backoff::after(PATIENCE);
         while self.turns.take() {
-            match self.turn(crew, &mut hinter)? {
-                Turned::Worked => rest.begin_again(),
-                Turned::Idle if crew.floor.has_rested() => return Ok(None),
-                Turned::Idle => rest.rest(),
+            match self.turn(shared, &mut hinter)? {
+                Turned::Worked => backoff.reset(),
+                Turned::Idle if shared.state.has_term_ended() => return Ok(None),
+                Turned::Idle => backoff.snooze(),
                 Turned::Over(why) => return Ok(Some(why)),
             }
         }
         Ok(Some(Why::Spent))
     }
 
-    // The same, and shows the last state where the run is over.
-    fn shown<G: Gate, R: Wait>(&mut self, crew: &Crew<'_, K, G, R>) -> Result<Option<Why>, Memory>
-        requires core { self.old.back.core ≡ crew.now.core.now }
-        requires begun { self.old.over ≡ Err Refusal.Memory }
-        ensures core { self.new.back.core ≡ crew.now.core.now }
-        ensures begun { self.new.over ≡ Err Refusal.Memory }
-        ensures over { IfOk result (IsReason K.limit self.new) }
-    {
-        let why = self.turns(crew)?;
-        if why.is_some() {
-            self.show(crew)?;
-        }
-        Ok(why)
-    }
-
     /// Commits until there is no more to commit. Where the run is over it shows the last state, and keeps why it is
     /// over. True where it is not, and the core is to be renewed.
-    pub(crate) fn run<G: Gate, R: Wait>(&mut self, crew: &Crew<'_, K, G, R>) -> bool
-        requires core { self.old.back.core ≡ crew.now.core.now }
+    pub(crate) fn run<G: Gate, R: Wait>(
+        &mut self,
+        shared: &TermShared<'_, K, G, R>,
+        units: &StartedUnits,
+        places: &Places,
+    ) -> bool
+        requires core { self.old.back.core ≡ shared.now.core.now }
         requires fresh { self.old.over ≡ Err Refusal.Thread }
-        ensures core { self.new.back.core ≡ crew.now.core.now }
+        requires units { units.now ≡ (K.config).units }
+        requires places { places.now ≡ (K.config).places }
+        ensures core { self.new.back.core ≡ shared.now.core.now }
         ensures has_run { self.new.over ≢ Err Refusal.Thread }
-        ensures rested { result ≡ true → IsAtRest self.new }
+        ensures goes_on { result ≡ true → MayRenew self.new }
     {
         self.over = Err(Refusal::Memory);
-        let Ok(reason) = self.shown(crew) else {
+        let Ok(reason) = self.turns(shared) else {
             return false;
         };
+        if reason.is_some() && self.show(shared).is_err() {
+            return false;
+        }
+        self.last_term = Some(TermRecord::of(
+            shared.core,
+            &self.back,
+            self.renewals,
+            units,
+            places,
+        ));
         if let Some(why) = reason {
             self.over = Ok(why);
             return false;

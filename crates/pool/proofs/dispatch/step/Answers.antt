@@ -1,5 +1,5 @@
 use Rattle.std.proofs.Common.{arith}
-use Rattle.pool.proofs.Deeds.{mended_done}
+use Rattle.pool.proofs.DispatchDeeds.{mended_done}
 use Rattle.pool.proofs.dispatch.step.Goals as goal
 
 pub returns-in-Mended-clause-counted : goal.returns-in-Mended-clause-counted

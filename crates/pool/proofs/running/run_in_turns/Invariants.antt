@@ -4,7 +4,7 @@ abbrev pub ghosts-run_named-J-Naming : goal.ghosts-run_named-J-Naming
 ghosts-run_named-J-Naming g a = record { program = a.task.now.program.now }
 
 abbrev pub ghosts-run_named-K-Bounds : goal.ghosts-run_named-K-Bounds
-ghosts-run_named-K-Bounds g a = record { counts = a.counts; limit = a.task.now.config.now.limit; turns = a.task.now.config.now.turns }
+ghosts-run_named-K-Bounds g a = record { counts = a.counts; config = a.task.now.config.now }
 
 abbrev pub ghosts-run_named-K-Ring : goal.ghosts-run_named-K-Ring
 ghosts-run_named-K-Ring g a = record { ring = a.task.now.config.now.ring }

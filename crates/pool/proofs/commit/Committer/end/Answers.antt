@@ -1,31 +1,44 @@
-use Rattle.std.proofs.Common.{rules, ap, refl}
+use Rattle.std.proofs.Common.{Result, ap, rules, subst, sym, ◌∙◌}
 use Rattle.inorder.specs.Machine.{State}
 use Rattle.counts.specs.declared.tally.Total.TheVariants.{Renewals, Retires}
+use Rattle.run_ends.specs.declared.answer.Refusal.{Refusal}
+use Rattle.run_ends.specs.declared.answer.Run.TheVariants.{Ended, LimitReached}
+use Rattle.pool.specs.declared.commit.Why.{Why}
+use Rattle.pool.specs.Committing.{IsCommitter, committer_of}
+use Rattle.pool.specs.Ended.{HasRun}
+use Rattle.pool.specs.Records.{TheRan}
 use Rattle.pool.proofs.Counted.{whole}
+use Rattle.pool.proofs.Ended.{ended, has_not_stopped, has_stopped, limit_reached}
 use Rattle.pool.proofs.commit.Committer.end.Goals as goal
 
-pub returns-in-Ok-Stop-clause-right : goal.returns-in-Ok-Stop-clause-right
-returns-in-Ok-Stop-clause-right g c =
-    let has = c.self.invariant.0 in
+pub returns-in-Ok-Stop-clause-run : goal.returns-in-Ok-Stop-clause-run
+returns-in-Ok-Stop-clause-run g c =
+    let i = c.self.inside in
+    let has = c.self.invariant.counted in
+    let end = c.end-end.result in
+    let tally = c.read-tally.result in
+    let committer = subst (λ (over : Result Why Refusal). IsCommitter g.K.Bounds.counts g.K.Bounds.config (committer_of i.back i.turns i.renewals over i.last_term) i.count i.limit) c.in-Ok-Stop.is-0 c.self.invariant in
     let count = ap (λ (s : State). s.count) c.end-end.ensures.state in
-    let told = whole c.read-tally.result.retires _ _ c.end-end.result.n (c.read-tally.ensures.exact Retires has.all) has.retires count (search rules) in
-    rw c.of-in-Ok-Stop.ensures (record { in_order = c.end-end.ensures.in_order; retires = told }, search rules)
+    let retires = whole tally.retires _ _ end.n (c.read-tally.ensures.exact Retires has.all) has.retires count (search rules) in
+    let times = whole tally.renewals _ _ i.renewals (c.read-tally.ensures.exact Renewals has.all_renewals) has.renewals c.self.invariant.times (search rules) in
+    let over = has_stopped i.back.ended c.in-Ok-Stop.field-0-1 (sym c.end-end.ensures.outcome ∙ c.in-Ok-Stop.is-1) in
+    rw c.of-in-Ok-Stop.ensures
+    (subst (λ (ran : TheRan). HasRun g.J.Naming.program g.K.Bounds.config (record { run = Ended end tally; ran = ran })) (sym c.of-ran.ensures)
+    (ended g.J.Naming.program g.K.Bounds.counts g.K.Bounds.config i.back i.turns i.renewals c.in-Ok-Stop.field-0-0 i.last_term i.count i.limit committer end tally c.end-end.ensures.in_order count retires times
+    c.in-Ok-Stop.field-0-1 c.in-Ok-Stop.is-1 over))
 
-pub returns-clause-right : goal.returns-clause-right
-returns-clause-right g c =
-    let has = c.self.invariant.0 in
+pub returns-clause-run : goal.returns-clause-run
+returns-clause-run g c =
+    let i = c.self.inside in
+    let has = c.self.invariant.counted in
+    let end = c.end-end.result in
+    let tally = c.read-tally.result in
+    let committer = subst (λ (over : Result Why Refusal). IsCommitter g.K.Bounds.counts g.K.Bounds.config (committer_of i.back i.turns i.renewals over i.last_term) i.count i.limit) c.in-Ok-Limit.is-0 c.self.invariant in
     let count = ap (λ (s : State). s.count) c.end-end.ensures.state in
-    let told = whole c.read-tally.result.retires _ _ c.end-end.result.n (c.read-tally.ensures.exact Retires has.all) has.retires count (search rules) in
-    rw c.of-in-Ok-Limit.ensures (record { in_order = c.end-end.ensures.in_order; retires = told }, c.in-Ok-Limit.is-1)
-
-pub returns-in-Ok-Stop-clause-renewals : goal.returns-in-Ok-Stop-clause-renewals
-returns-in-Ok-Stop-clause-renewals g c =
-    let has = c.self.invariant.0 in
-    let told = whole c.read-tally.result.renewals _ _ c.self.inside.renewals (c.read-tally.ensures.exact Renewals has.all_renewals) has.renewals refl (search rules) in
-    rw c.of-in-Ok-Stop.ensures told
-
-pub returns-clause-renewals : goal.returns-clause-renewals
-returns-clause-renewals g c =
-    let has = c.self.invariant.0 in
-    let told = whole c.read-tally.result.renewals _ _ c.self.inside.renewals (c.read-tally.ensures.exact Renewals has.all_renewals) has.renewals refl (search rules) in
-    rw c.of-in-Ok-Limit.ensures told
+    let retires = whole tally.retires _ _ end.n (c.read-tally.ensures.exact Retires has.all) has.retires count (search rules) in
+    let times = whole tally.renewals _ _ i.renewals (c.read-tally.ensures.exact Renewals has.all_renewals) has.renewals c.self.invariant.times (search rules) in
+    let going = has_not_stopped i.back.ended (sym c.end-end.ensures.outcome ∙ c.in-Ok-Limit.is-1) in
+    rw c.of-in-Ok-Limit.ensures
+    (subst (λ (ran : TheRan). HasRun g.J.Naming.program g.K.Bounds.config (record { run = LimitReached end tally; ran = ran })) (sym c.of-ran.ensures)
+    (limit_reached g.J.Naming.program g.K.Bounds.counts g.K.Bounds.config i.back i.turns i.renewals c.in-Ok-Limit.field-0-0 i.last_term i.count i.limit committer end tally c.end-end.ensures.in_order count retires times
+    c.in-Ok-Limit.is-1 going))

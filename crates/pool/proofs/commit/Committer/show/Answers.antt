@@ -3,8 +3,8 @@ use Rattle.counts.specs.declared.tally.Total.TheVariants.{Retires}
 use Rattle.pool.proofs.Counted.{whole}
 use Rattle.pool.proofs.commit.Committer.show.Goals as goal
 
-pub tell-requires-clause-retires : goal.tell-requires-clause-retires
-tell-requires-clause-retires g c =
-    let has = c.self.invariant.0 in
+pub pass_tally-requires-clause-retires : goal.pass_tally-requires-clause-retires
+pass_tally-requires-clause-retires g c =
+    let has = c.self.invariant.counted in
     let told : c.in_ok-mark.mark.n < 2 ^ 64 = search rules in
     whole c.read-tally.result.retires _ _ c.in_ok-mark.mark.n (c.read-tally.ensures.exact Retires has.all) has.retires c.in_ok-mark.ensures.mark told

@@ -1,0 +1,23 @@
+-- What the dispatch thread hints.
+use Rattle.std.specs.Prelude.{◌≡◌, ℕ, List}
+use Rattle.front.specs.Turns.{LetsOut}
+use Rattle.hints.specs.Hinted.{TheHinter}
+use Rattle.inorder.specs.declared.history.Entry.{Entry}
+use Rattle.pool.specs.declared.dispatch.Stepped.{Stepped}
+use Rattle.pool.specs.declared.dispatch.Stepped.TheVariants.{Worked}
+use Rattle.station.specs.Seats.{TheCore}
+use Rattle.workers.specs.Hinting.{HasHintedOne}
+
+-- A tenant was let, and its station was hinted
+pub record HasHintedLet (core : TheCore) (seen_old seen_new : List Entry) (old new : TheHinter) : Type 0 where
+  pub station : ℕ
+  pub tag : ℕ
+  pub pc : ℕ
+  pub predicted : ℕ
+  pub lets : LetsOut core.program core.sizes seen_old seen_new station tag pc predicted
+  pub hinted : HasHintedOne station old new
+
+-- The station of what was let is hinted, and where nothing was let none is
+abbrev pub HintsLet : TheCore → (seen_old seen_new : List Entry) → Stepped → TheHinter → TheHinter → Type 0
+HintsLet core seen_old seen_new Worked old new = HasHintedLet core seen_old seen_new old new
+HintsLet core seen_old seen_new _ old new = new ≡ old

@@ -1,0 +1,4 @@
+pub mod Deeds
+pub mod Gathering
+pub mod HintsPut
+pub mod Sends

@@ -1,0 +1,64 @@
+-- What is hinted to the units, and where a unit looks for work.
+use Rattle.std.specs.Prelude.{⊤, ◌≡◌, ◌⊎◌, ℕ, zero, suc, ◌+◌, ◌<◌, ◌≤◌, ◌%◌, ◌^◌, List, [], ◌∷◌, ◌++◌, All}
+use Rattle.std.specs.Int.{bit_at}
+use Rattle.hints.specs.Hinted.{HasOffered, IsEndOf, TheHinter, TheHints, hand, putting, taking}
+use Rattle.workers.specs.declared.search.Candidate.{Candidate}
+use Rattle.workers.specs.declared.search.Candidate.TheVariants.{Hinted, Next}
+use Rattle.workers.specs.declared.search.Search.{Search}
+use Rattle.station.specs.declared.answers.Finish.{Finish}
+use Rattle.station.specs.declared.answers.Finish.TheVariants.{Finished, Stale}
+use Rattle.station.specs.Waking.{IsSet}
+
+-- How many of the bits below `below` are set
+abbrev pub set_below : (woken below : ℕ) → ℕ
+set_below woken zero = 0
+set_below woken (suc below) = set_below woken below + bit_at woken below
+
+-- Each of these stations is at least `from`, and above the one before it
+abbrev pub Rises : (from : ℕ) → List ℕ → Type 0
+Rises from [] = ⊤
+Rises from (s ∷ ss) = (from ≤ s) × Rises (s + 1) ss
+
+-- Of the stations below `below` whose bit is set each was offered to the queue once, the lowest first; those that it
+-- took are hinted, and no other
+pub record HasHinted (woken below : ℕ) (old new : TheHinter) : Type 0 where
+  pub of : new.of ≡ old.of
+  pub stations : List ℕ
+  pub set : All (IsSet woken) stations
+  pub rising : Rises 0 stations
+  pub inside : All (λ s. s < below) stations
+  pub put : new.hand ≡ hand (old.hand.put ++ stations) old.hand.taken
+  pub offered : new.offered % 2 ^ 64 ≡ (old.offered + set_below woken below) % 2 ^ 64
+  pub asked : new.asked ≡ old.asked
+
+-- This station was offered to the queue once, which took it or was full
+pub record HasHintedOne (station : ℕ) (old new : TheHinter) : Type 0 where
+  pub of : new.of ≡ old.of
+  pub put : (new.hand ≡ putting station old.hand) ⊎ (new.hand ≡ old.hand)
+  pub offered : HasOffered old new
+
+-- A unit that has finished a job hints whom its result woke; one that came too late hints nobody
+abbrev pub HintsWoken : (ring woken : ℕ) → Finish → TheHinter → TheHinter → Type 0
+HintsWoken ring woken Finished old new = HasHinted woken ring old new
+HintsWoken ring woken Stale old new = new ≡ old
+
+-- The station at which a unit looks
+abbrev pub candidate_station : Candidate → ℕ
+candidate_station (Hinted station) = station
+candidate_station (Next station) = station
+
+-- A hint that was taken; or no hint was taken, and it is the next station in ring order
+abbrev pub LooksAt : (ring : ℕ) → Search → Search → Candidate → Type 0
+LooksAt ring old new (Hinted station) =
+    (new.hinter.hand ≡ taking station old.hinter.hand) × (new.next ≡ old.next)
+LooksAt ring old new (Next station) =
+    (station ≡ old.next) × (new.next ≡ (old.next + 1) % ring) × (new.hinter.hand ≡ old.hinter.hand)
+
+-- One hint was asked for, whether there was one or not
+abbrev pub AsksOnce : Search → Search → Type 0
+AsksOnce old new = new.hinter.asked ≡ (old.hinter.asked + 1) % 2 ^ 64
+
+-- The search is in this queue, and goes on from a station of its ring
+pub record Searches (hints : TheHints) (search : Search) : Type 0 where
+  pub of : IsEndOf hints search.hinter
+  pub next : search.next < hints.ring

@@ -1,0 +1,205 @@
+//! What a unit thread does.
+ghost use Rattle.std.specs.Prelude.{◌≡◌, ◌<◌, ◌^◌, IfNone};
+ghost use Rattle.inorder.specs.History.{IsLegal};
+ghost use Rattle.station.specs.Claiming.{ClaimAnswers, Holds};
+ghost use Rattle.station.specs.Seats.{IsSameSeat};
+ghost use Rattle.workers.specs.Deeds.{HasAddedDeeds, HasDone, HasFinishedAll, total_of_claim, total_of_finish};
+ghost use Rattle.workers.specs.Hinting.{AsksOnce, HintsWoken, candidate_station};
+ghost use Rattle.workers.specs.Turns.{AreTaken};
+ghost use Rattle.workers.specs.Units.{HasCountedDeeds, Works};
+
+use crate::bounds::Bounds;
+use crate::gate::Gate;
+use crate::hinting::hint_each;
+use crate::search::Candidate;
+use crate::shared::TermShared;
+use crate::state::{Activated, UnitTurns};
+use crate::unit::{Unit, Worker};
+use counts::Total;
+use hints::Ring;
+use station::{Claim, Core, Finish, Job, UnitSeat, a_job_is_of_the_program};
+use std::sync::Wait;
+use std::thread::yield_now;
+
+// Claims at the station where it looks.
+fn claim(core: &Core, seat: &mut UnitSeat, candidate: Candidate) -> Claim
+    requires core { seat.old.core ≡ core.now }
+    requires station { candidate_station candidate < core.now.sizes.ring }
+    ensures kept { IsSameSeat seat.old seat.new }
+    ensures reply { ClaimAnswers core.now.program core.now.sizes
+        seat.old.by seat.old.seen seat.new.seen (candidate_station candidate) result }
+    ensures done { HasDone seat.old.by seat.old.seen seat.new.seen (total_of_claim result) }
+{
+    let station = candidate.station();
+    core.claim(seat, station)
+}
+
+// Computes a claimed tenant, and writes its outcome.
+fn compute(core: &Core, seat: &mut UnitSeat, job: Job) -> Finish
+    requires core { seat.old.core ≡ core.now }
+    requires job { Holds core.now.program core.now.sizes seat.old.by seat.old.seen job }
+    requires legal { IsLegal core.now.program core.now.sizes seat.old.seen }
+    ensures kept { IsSameSeat seat.old seat.new }
+    ensures done { HasDone seat.old.by seat.old.seen seat.new.seen (total_of_finish result) }
+{
+    a_job_is_of_the_program();
+    let result = job.outcome(core.program());
+    core.finish(seat, job, result)
+}
+
+// Waits while the gate holds the unit that has this job, and it has turns left, of which each question takes one.
+// Another unit is active meanwhile.
+fn wait_at<K: Bounds + Ring, G: Gate, R>(
+    shared: &TermShared<'_, K, G, R>,
+    unit: &Unit,
+    job: &Job,
+    turns: &mut UnitTurns<K>,
+) -> Option<Activated>
+    requires { job.now.station < 2 ^ 32 }
+    ensures turns { AreTaken turns.old turns.new }
+    ensures other { IfNone result (turns.new.left ≡ turns.old.left) }
+{
+    let (gate, state) = (shared.gate, shared.state);
+    let (number, station) = (unit.number, job.station() as u32);
+    let mut other = None;
+    'questions: while gate.held(number, station) && !state.is_over() && turns.take() {
+        if other.is_none() {
+            other = Some(state.activate());
+        }
+        yield_now();
+    }
+    other
+}
+
+// Finishes a job, counts that, and hints whom its result woke.
+fn finish<K: Bounds + Ring, G, R: Wait>(
+    shared: &TermShared<'_, K, G, R>,
+    unit: &mut Unit,
+    job: Job,
+) -> Finish
+    requires works { Works shared.now.core.now shared.now.state.now.counts
+        shared.now.state.now.hints unit.old }
+    requires job { Holds shared.now.core.now.program shared.now.core.now.sizes
+        unit.old.seat.by unit.old.seat.seen job }
+    requires legal { IsLegal shared.now.core.now.program shared.now.core.now.sizes
+        unit.old.seat.seen }
+    ensures works { Works shared.now.core.now shared.now.state.now.counts
+        shared.now.state.now.hints unit.new }
+    ensures counted { HasCountedDeeds unit.old unit.new }
+    ensures done { HasDone unit.old.seat.by unit.old.seat.seen unit.new.seat.seen
+        (total_of_finish result) }
+    ensures hinted { HintsWoken shared.now.core.now.sizes.ring unit.new.seat.woken result
+        unit.old.search.hinter unit.new.search.hinter }
+    ensures asks { unit.new.search.hinter.asked ≡ unit.old.search.hinter.asked }
+{
+    if let Finish::Stale = compute(shared.core, &mut unit.seat, job) {
+        unit.count.count(&shared.state.counts, Total::Stale, 1);
+        return Finish::Stale;
+    }
+    unit.count.count(&shared.state.counts, Total::Finishes, 1);
+    let woken = unit.seat.woken();
+    hint_each(
+        shared.wait,
+        &shared.state.hints,
+        &mut unit.search.hinter,
+        shared.core.ring(),
+        woken,
+    );
+    Finish::Finished
+}
+
+// One turn, and as many more as the gate holds the unit: claims one station, and finishes the job that it gets.
+// Without one it backs off.
+fn turn<K: Bounds + Ring, G: Gate, R: Wait>(
+    shared: &TermShared<'_, K, G, R>,
+    unit: &mut Unit,
+    turns: &mut UnitTurns<K>,
+)
+    requires { Works shared.now.core.now shared.now.state.now.counts
+        shared.now.state.now.hints unit.old }
+    ensures works { Works shared.now.core.now shared.now.state.now.counts
+        shared.now.state.now.hints unit.new }
+    ensures counted { HasCountedDeeds unit.old unit.new }
+    ensures finished { HasFinishedAll unit.old.seat.by unit.old.seat.seen unit.new.seat.seen }
+    ensures asks { AsksOnce unit.old.search unit.new.search }
+    ensures turns { AreTaken turns.old turns.new }
+{
+    let candidate = unit
+        .search
+        .next(shared.wait, &shared.state.hints, shared.core.ring());
+    let job = match claim(shared.core, &mut unit.seat, candidate) {
+        Claim::Job(job) => job,
+        Claim::NotOpen | Claim::Waiting { tag: _, k: _ } | Claim::Moved { tag: _ } => {
+            unit.back_off(candidate);
+            return;
+        }
+    };
+    unit.count_claim(shared, candidate);
+    let _other = wait_at(shared, unit, &job, turns);
+    let _finished = finish(shared, unit, job);
+}
+
+// Turns, until none is left or the term is over.
+fn take_turns<K: Bounds + Ring, G: Gate, R: Wait>(
+    shared: &TermShared<'_, K, G, R>,
+    unit: &mut Unit,
+    turns: &mut UnitTurns<K>,
+)
+    requires { Works shared.now.core.now shared.now.state.now.counts
+        shared.now.state.now.hints unit.old }
+    ensures works { Works shared.now.core.now shared.now.state.now.counts
+        shared.now.state.now.hints unit.new }
+    ensures counted { HasCountedDeeds unit.old unit.new }
+    ensures finished { HasFinishedAll unit.old.seat.by unit.old.seat.seen unit.new.seat.seen }
+    ensures turns { AreTaken turns.old turns.new }
+{
+    'turns: while !shared.state.is_over() && turns.take() {
+        turn(shared, unit, turns);
+    }
+}
+
+// The unit works with its turns, and activates another when it has none left. What it has done is then in the totals.
+fn work_with<K: Bounds + Ring, G: Gate, R: Wait>(
+    shared: &TermShared<'_, K, G, R>,
+    worker: Worker,
+    turns: &mut UnitTurns<K>,
+) -> (Worker, Option<Activated>)
+    requires core { worker.seat.core ≡ shared.now.core.now }
+    requires count { worker.count.of ≡ shared.now.state.now.counts }
+    ensures added { HasAddedDeeds worker result.0 }
+    ensures finished { HasFinishedAll worker.seat.by worker.seat.seen result.0.seat.seen }
+    ensures turns { AreTaken turns.old turns.new }
+    ensures other { IfNone result.1 (0 < turns.new.left) }
+{
+    let mut unit = Unit::enter(shared, worker);
+    take_turns(shared, &mut unit, turns);
+    let other = if turns.left() == 0 {
+        Some(shared.state.activate())
+    } else {
+        None
+    };
+    (unit.stop(shared), other)
+}
+
+/// Looks for work at the stations that are hinted, and without a hint in ring order, one a turn, and finishes what
+/// it has claimed. The unit waits until it is active.
+pub(crate) fn work<K: Bounds + Ring, G: Gate, R: Wait>(
+    shared: &TermShared<'_, K, G, R>,
+    worker: Worker,
+) -> Worker
+    requires core { worker.seat.core ≡ shared.now.core.now }
+    requires count { worker.count.of ≡ shared.now.state.now.counts }
+    ensures added { HasAddedDeeds worker result }
+    ensures finished { HasFinishedAll worker.seat.by worker.seat.seen result.seat.seen }
+{
+    let state = shared.state;
+    if !state.wait_until_active(shared.wait, worker.number) {
+        return worker;
+    }
+    let Some(turns) = state.turns_of(worker.number) else {
+        return worker;
+    };
+    let mut turns = turns.lock(shared.wait);
+    let (worker, _other) = work_with(shared, worker, &mut *turns);
+    worker
+}

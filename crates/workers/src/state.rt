@@ -1,0 +1,223 @@
+//! What the threads of one run share.
+ghost use Rattle.std.specs.Prelude.{◌≡◌, ◌≤◌};
+
+use crate::bounds::Bounds;
+use crate::turns::Turns;
+use counts::Counts;
+use hints::{Hints, Ring};
+use instructions::Memory;
+use std::alloc::Global;
+use std::marker::{Model, PhantomData};
+use std::sync::atomic::Ordering::{Acquire, Release};
+use std::sync::atomic::{AtomicBool, AtomicU64};
+use std::sync::{Mutex, Wait};
+
+/// The turns of a unit: as many as each thread of its run has. They are made with the state of the run, and taken one by
+/// one.
+#[derive(Drop)]
+pub struct UnitTurns<K: Bounds> {
+    turns: Turns,
+    run: PhantomData<K>,
+}
+
+impl<K: Bounds> Model for UnitTurns<K> {
+    ghost use Rattle.std.specs.Prelude.{◌≡◌};
+    ghost use Rattle.workers.specs.Turns.{TheTurns};
+
+    ghost Value = { TheTurns };
+
+    ghost view = { λ unit. unit.turns };
+
+    ghost invariant = { λ unit. (unit.turns).all ≡ (K.config).turns };
+}
+
+impl<K: Bounds> UnitTurns<K> {
+    ghost use Rattle.std.specs.Prelude.{◌≡◌, ◌+◌, false, true};
+    ghost use Rattle.workers.specs.Turns.{untaken};
+
+    fn new(turns: u32) -> UnitTurns<K>
+        requires { turns ≡ (K.config).turns }
+        ensures { result ≡ untaken turns }
+    {
+        UnitTurns {
+            turns: Turns::new(turns),
+            run: PhantomData,
+        }
+    }
+
+    /// Takes one. False where none is left.
+    pub(crate) fn take(&mut self) -> bool
+        ensures all { self.new.all ≡ self.old.all }
+        ensures one { result ≡ true → self.new.left + 1 ≡ self.old.left }
+        ensures none { result ≡ false → (self.new.left ≡ 0) × (self.old.left ≡ 0) }
+    {
+        self.turns.take()
+    }
+
+    /// How many are left.
+    pub(crate) fn left(&self) -> u32
+        ensures { result ≡ self.now.left }
+    {
+        self.turns.left()
+    }
+}
+
+/// One unit more is to work: `RunState::activate` alone makes it.
+#[derive(Drop)]
+pub struct Activated(());
+
+/// What outlives a renewal of the core: the totals, the hints, the turns of each unit, and whether threads are to end.
+#[derive(Drop)]
+pub struct RunState<K: Bounds + Ring> {
+    pub counts: Counts,
+    pub hints: Hints<K>,
+    pub units: u32,
+    pub turns: u32,
+    run_ended: AtomicBool,
+    // tags are spent and nobody is live: the core is to be renewed
+    term_ended: AtomicBool,
+    // how often there was something new to see: a snapshot, or the end
+    news: AtomicU64,
+    // units up to this number are active, and those beyond it are parked
+    active: AtomicU64,
+    // so many are active at once at the most, where there is work for them
+    most_active: AtomicU64,
+    // each unit's own, which its threads take one term after another
+    unit_turns: Vec<Mutex<UnitTurns<K>>>,
+    pub ghost counts_are: { counts ≡ K.counts },
+    pub ghost ring: { hints.ring ≡ (K.config).ring },
+    pub ghost units_are: { units ≡ (K.config).units },
+    pub ghost turns_are: { turns ≡ (K.config).turns },
+    pub ghost few: { units ≤ 64 },
+}
+
+// So many units, none of which has taken a turn.
+fn unit_turns<K: Bounds>(
+    alloc: Global,
+    units: u32,
+    turns: u32,
+) -> Result<Vec<Mutex<UnitTurns<K>>>, Memory>
+    requires { turns ≡ (K.config).turns }
+{
+    let mut all = Vec::new(alloc);
+    for _ in 0..units {
+        all.push(Mutex::new(UnitTurns::new(turns)))?;
+    }
+    Ok(all)
+}
+
+impl<K: Bounds + Ring> RunState<K> {
+    ghost use Rattle.std.specs.Prelude.{◌≡◌, IfOk};
+
+    /// The state of a run before its first term: no unit is active, and nothing has ended.
+    pub fn new(
+        alloc: Global,
+        counts: Counts,
+        hints: Hints<K>,
+        units: u32,
+        turns: u32,
+    ) -> Result<Self, Memory>
+        requires counts { counts ≡ K.counts }
+        requires ring { hints.ring ≡ (K.config).ring }
+        requires units { units ≡ (K.config).units }
+        requires most { units ≤ 64 }
+        requires turns { turns ≡ (K.config).turns }
+        ensures { IfOk result (λ state. state.hints ≡ hints) }
+    {
+        let unit_turns = unit_turns::<K>(alloc, units, turns)?;
+        Ok(RunState {
+            counts,
+            hints,
+            units,
+            turns,
+            run_ended: AtomicBool::new(false),
+            term_ended: AtomicBool::new(false),
+            news: AtomicU64::new(0),
+            active: AtomicU64::new(0),
+            most_active: AtomicU64::new(0),
+            unit_turns,
+        })
+    }
+
+    /// Begins another term. One unit is active, and where there is work for more of them so many at once.
+    pub fn begin_term(&self, most_active: u64) {
+        self.term_ended.store(false, Release);
+        self.most_active.store(most_active, Release);
+        self.active.store(1, Release);
+    }
+
+    /// Ends the term for its threads: the core is to be renewed.
+    pub fn end_term(&self) {
+        self.term_ended.store(true, Release);
+        let _activated = self.activate();
+    }
+
+    /// The core is to be renewed.
+    pub fn has_term_ended(&self) -> bool {
+        self.term_ended.load(Acquire)
+    }
+
+    /// Ends the run for all its threads.
+    pub fn end_run(&self) {
+        self.run_ended.store(true, Release);
+        self.wake_watchers();
+        let _activated = self.activate();
+    }
+
+    /// All threads are to end.
+    pub fn has_run_ended(&self) -> bool {
+        self.run_ended.load(Acquire)
+    }
+
+    /// The threads of the term are to end.
+    pub fn is_over(&self) -> bool {
+        self.has_run_ended() || self.has_term_ended()
+    }
+
+    /// The turns of a unit. They stay here from term to term, and its thread takes them where they are.
+    pub fn turns_of(&self, unit: u32) -> Option<&Mutex<UnitTurns<K>>> {
+        self.unit_turns.get((unit as usize).saturating_sub(1))
+    }
+
+    /// Wakes those that wait for something new to see.
+    pub fn wake_watchers(&self) {
+        self.news.fetch_add(1, Release);
+        self.news.wake_all();
+    }
+
+    /// How often there was something new to see.
+    pub fn news(&self) -> u64 {
+        self.news.load(Acquire)
+    }
+
+    /// Waits until there is more that is new than this. It may also return for no reason.
+    pub fn wait_for_news<R: Wait>(&self, wait: &R, news: u64) {
+        self.news.park(wait, (news & 0xffff_ffff) as u32);
+    }
+
+    /// Activates one unit more.
+    pub fn activate(&self) -> Activated {
+        self.active.fetch_add(1, Release);
+        self.active.wake_all();
+        Activated(())
+    }
+
+    /// Activates one unit more, where that is not too many at once.
+    pub fn activate_for_work(&self) {
+        if self.active.load(Acquire) < self.most_active.load(Acquire) {
+            let _activated = self.activate();
+        }
+    }
+
+    /// Parks the unit until it is active, which takes no turn. False where the threads of the term are to end.
+    pub fn wait_until_active<R: Wait>(&self, wait: &R, unit: u32) -> bool {
+        for _ in wait.forever() {
+            let active = self.active.load(Acquire);
+            if unit as u64 <= active || self.is_over() {
+                break;
+            }
+            self.active.park(wait, (active & 0xffff_ffff) as u32);
+        }
+        !self.is_over()
+    }
+}
