@@ -1,0 +1,4 @@
+pub mod Issued
+pub mod StandsFor
+pub mod Moves
+pub mod Runs
