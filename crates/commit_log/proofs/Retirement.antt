@@ -32,7 +32,7 @@ use Rattle.unit.specs.Turns.{Falls, Halves, Moves, Retires, SizesStay}
 use Rattle.unit.specs.Window.{station_of, window}
 use Rattle.unit.proofs.Ends.{one_retired}
 use Rattle.unit.proofs.Found.{window_middle, window_none}
-use Rattle.unit.proofs.RunTurns.{ahead_stands}
+use Rattle.unit.proofs.Known.{ahead_stands}
 use Rattle.unit.proofs.Waiting.{first_writes}
 use Rattle.commit_log.specs.Retirements.{HasCommitted, registers_behind}
 

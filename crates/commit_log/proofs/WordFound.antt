@@ -10,7 +10,8 @@ use Rattle.instructions.specs.declared.op.Op.TheVariants.{Addiu, Addi, Slti, Slt
 use Rattle.instructions.specs.declared.op.Op.TheVariants.{Beq, Bne, Blez, Bgtz, Bltz, Bgez, J, Jal, Jr, Jalr, Break}
 use Rattle.instructions.specs.declared.instr.Instr.{Instr}
 use Rattle.inorder.proofs.Pairs.{and_left, and_right}
-use Rattle.machine_words.specs.Layouts.{has_layout, layout, operations}
+use Rattle.instructions.specs.Instruction.{operations}
+use Rattle.machine_words.specs.Layouts.{has_layout, layout}
 use Rattle.machine_words.specs.Words.{decode, packed}
 use Rattle.machine_words.proofs.Rebuilt.{packed_back}
 use Rattle.commit_log.specs.Words.{AWordSaysItsInstruction, IsWordOf, is_said, is_same, says, word_of}

@@ -16,6 +16,7 @@ use isa::{FaultKind, fault_text, parse};
 use requests::{Asked, choose};
 use std::alloc::Global;
 use std::io::{Read, Write};
+use unit::Order;
 use without_threads::{Line, Refusal, Went, refused, written};
 
 /// Reads the listing, runs it on the one-thread unit and writes a line for each instruction that it commits, before the next
@@ -135,6 +136,7 @@ fn told_of<W: Write>(
         (known_by W.contents writer.old) (known_by W.contents writer.new)) }
 {
     let predictor = choose(asked.predictor);
-    let ending = log_run(alloc, program, &asked.config, predictor, writer)?;
+    let order = Order::by_seed(None);
+    let ending = log_run(alloc, program, &asked.config, predictor, order, writer)?;
     Ok(Status::of(ending))
 }

@@ -15,7 +15,7 @@ use devices::{Counted, write_whole};
 use instructions::{Config, End, Ending, Predictor, Program};
 use std::alloc::{AllocError, Global};
 use std::io::Write;
-use unit::{Bench, Station};
+use unit::{Bench, Chooser, Order, Station};
 use without_threads::Refusal;
 
 // Writes a line, if there was room for it.
@@ -59,10 +59,11 @@ fn tell_commit<W: Write>(
     tell(line, writer)
 }
 
-// Turns until the unit has ended, or its count has reached a limit, and writes the line of each commit.
-fn tell_commits<P: Predictor + Drop, W: Write>(
+// Turns in an order until the unit has ended, or its count has reached a limit, and writes the line of each commit.
+fn tell_commits<P: Predictor + Drop, C: Chooser + Drop, W: Write>(
     alloc: Global,
     bench: &mut Bench<'_, P>,
+    order: &mut Order<C>,
     registers: &mut [u32; 34],
     limit: u64,
     writer: &mut Counted<W>,
@@ -81,7 +82,7 @@ fn tell_commits<P: Predictor + Drop, W: Write>(
     ensures write { IfErr result (λ refusal.
         failures_of writer.new ≡ failures_of writer.old + writer_failures refusal) }
 {
-    'commits: while let Some(station) = next_commit(bench, registers, limit) {
+    'commits: while let Some(station) = next_commit(bench, order, registers, limit) {
         tell_commit(alloc, &station, registers, writer)?;
     }
     Ok(())
@@ -108,13 +109,14 @@ fn tell_last<W: Write>(alloc: Global, end: &End, writer: &mut Counted<W>) -> Res
     }
 }
 
-/// Runs a program on the one-thread unit, up to the limit of the configuration, and writes the log of its commits while it
-/// runs. Kept beside the unit are the registers alone.
-pub(crate) fn log_run<P: Predictor + Drop, W: Write>(
+/// Runs a program on the one-thread unit, up to the limit of the configuration and in an order, and writes the log of its
+/// commits while it runs. Kept beside the unit are the registers alone.
+pub(crate) fn log_run<P: Predictor + Drop, C: Chooser + Drop, W: Write>(
     alloc: Global,
     program: &Program,
     config: &Config,
     predictor: P,
+    order: Order<C>,
     writer: &mut Counted<W>,
 ) -> Result<Ending, Refusal>
     requires { failures_of writer.old < 2 ^ 64 - 1 }
@@ -129,9 +131,10 @@ pub(crate) fn log_run<P: Predictor + Drop, W: Write>(
         failures_of writer.new ≡ failures_of writer.old + writer_failures refusal) }
 {
     let mut bench = Bench::new(alloc, program, config, predictor)?;
+    let mut order = order;
     let mut registers = [0; 34];
     let limit = u64::from(config.limit());
-    tell_commits(alloc, &mut bench, &mut registers, limit, writer)?;
+    tell_commits(alloc, &mut bench, &mut order, &mut registers, limit, writer)?;
     let end = bench.run(limit);
     tell_last(alloc, &end, writer)?;
     Ok(end.outcome)

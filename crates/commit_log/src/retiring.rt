@@ -5,7 +5,7 @@ ghost use Rattle.unit.specs.Changes.{registers_of};
 ghost use Rattle.commit_log.specs.Retirements.{HasCommitted, IsOver, registers_behind};
 
 use instructions::{Predictor, Reg};
-use unit::{Bench, Station, Turn};
+use unit::{Bench, Chooser, Order, Station, Turn};
 
 // A write to register 0 is dropped.
 fn write(registers: &mut [u32; 34], r: Reg, value: u32)
@@ -26,11 +26,12 @@ fn retire(registers: &mut [u32; 34], station: &Option<Station>)
     }
 }
 
-/// Turns until an instruction commits, and gives the station from which it did, which for a multiplication or division is
+/// Turns in an order until an instruction commits, and gives the station from which it did, which for a multiplication or division is
 /// that of the second half; none where the unit has ended, or its count has reached the limit. The registers are kept as the
 /// retirements write them.
-pub(crate) fn next_commit<P: Predictor + Drop>(
+pub(crate) fn next_commit<P: Predictor + Drop, C: Chooser + Drop>(
     bench: &mut Bench<'_, P>,
+    order: &mut Order<C>,
     registers: &mut [u32; 34],
     limit: u64,
 ) -> Option<Station>
@@ -44,7 +45,7 @@ pub(crate) fn next_commit<P: Predictor + Drop>(
 {
     'turns: while bench.count() < limit {
         let oldest = bench.tenant(0);
-        let turn = bench.turn();
+        let turn = bench.turn_in(order);
         match turn {
             Turn::Over(_) => return None,
             Turn::Retired => {
