@@ -7,7 +7,7 @@ ghost use Rattle.station.specs.Seats.{IsSameSeat};
 use crate::same::same;
 use back::{Back, Naming, Snapper};
 use front::{Front, Turn};
-use instructions::{Config, NotTaken, Outcome, Predictor, Program, outcome_of};
+use instructions::{Config, NotTaken, Outcome, Predictor, Program};
 use isa::parse;
 use station::{
     BackSeat, Claim, Core, Finish, Job, UnitSeat, a_job_is_of_the_program, what_is_seen_is_legal,
@@ -98,9 +98,8 @@ pub fn finish_job(core: &Core, program: &Program, seat: &mut UnitSeat, job: Job)
 {
     what_is_seen_is_legal(seat);
     a_job_is_of_the_program();
-    let instr = program.instr(job.index as usize);
-    let outcome = outcome_of(instr, job.half, job.pc, job.a, job.b, program.size());
-    let (a, b) = (job.a, job.b);
+    let outcome = job.outcome(program);
+    let (a, b) = (job.a(), job.b());
     let finish = core.finish(seat, job, outcome);
     Done {
         a,

@@ -30,6 +30,8 @@ mod operations;
 #[cfg(test)]
 mod passed_on;
 #[cfg(test)]
+mod pipeline;
+#[cfg(test)]
 mod programs;
 #[cfg(test)]
 mod reports;

@@ -7,6 +7,8 @@ mod asked;
 #[cfg(test)]
 mod bytes;
 #[cfg(test)]
+mod choices;
+#[cfg(test)]
 mod command_lines;
 #[cfg(test)]
 mod commands;

@@ -1,4 +1,5 @@
 //! Runs in threads.
+mod configured;
 mod counted;
 mod ends;
 mod gates;

@@ -36,12 +36,8 @@ fn the_commit_thread_tells_the_turns_that_it_has_left(rt: HostRuntime) -> Result
             turns,
             ..plain(2)
         };
-        let RunInTurns {
-            run,
-            turns: rest,
-            ..
-        } = run_listing_in_turns(&rt, rt.alloc(), LOOP, &shape, &Open)?;
-        let left = rest.left() as u64;
+        let RunInTurns { run, ran } = run_listing_in_turns(&rt, rt.alloc(), LOOP, &shape, &Open)?;
+        let left = ran.turns_left() as u64;
         match run {
             Run::LimitReached(end, _) => {
                 assert!(rt; end.n == limit || left == 0);

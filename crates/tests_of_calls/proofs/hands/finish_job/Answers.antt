@@ -4,8 +4,8 @@ use Rattle.inorder.specs.History.{IsLegal}
 use Rattle.station.specs.Seats.{TheCore}
 use Rattle.tests_of_calls.proofs.hands.finish_job.Goals as goal
 
-pub instr-instr-requires : goal.instr-instr-requires
-instr-instr-requires c =
+pub outcome-outcome-requires : goal.outcome-outcome-requires
+outcome-outcome-requires c =
     let core = c.args.core.now in
     let seat = c.args.seat.now in
     let legal = subst (λ (d : TheCore). IsLegal d.program d.sizes seat.seen) c.requires.core c.what_is_seen_is_legal.ensures in

@@ -1,0 +1,74 @@
+//! What a run tells of how it was carried out, and how many units are active.
+use super::{Shape, plain, run_listing, run_listing_in_turns};
+use crate::same::same;
+use pool::{Gate, Open, Run, Tally};
+use snapshots::Snap;
+use std::process::Abort;
+use std::sync::atomic::AtomicU64;
+use std::sync::atomic::Ordering::SeqCst;
+use std::test::*;
+use std::thread::available_parallelism;
+
+const LISTING: &[u8] = b"addiu $1,$0,5\naddu $2,$1,$1\nbreak\n";
+
+#[test]
+fn a_run_tells_its_last_term(rt: HostRuntime) -> Result<(), Fail> {
+    // two stations with two tags each: the third instruction is let behind a renewal
+    let shape = Shape {
+        ring: 2,
+        first_tag: 268_435_454,
+        places: 2,
+        turns: 50_000_000,
+        ..plain(3)
+    };
+    let told = run_listing_in_turns(&rt, rt.alloc(), LISTING, &shape, &Open)?;
+    let term = told.ran.last_term().ok_or("no term has ended")?;
+    same(&rt, &term.units(), &3);
+    same(&rt, &term.places(), &2);
+    same(&rt, &term.n(), &2);
+    same(&rt, &term.renewals(), &1);
+    assert!(rt; told.ran.turns_left() < 50_000_000);
+    Ok(())
+}
+
+/// Lets each unit wait for a while between claim and finish, and notes which have asked.
+#[derive(Drop)]
+struct Slow {
+    units: AtomicU64,
+}
+
+impl Gate for Slow {
+    fn held(&self, unit: u32, _station: u32) -> bool {
+        for _ in 0..2_000 {
+            self.units.fetch_or(1u64 << (unit % 64), SeqCst);
+        }
+        false
+    }
+
+    fn seen(&self, _place: u32, _snap: &Snap) {}
+
+    fn counted(&self, _tally: &Tally) {}
+}
+
+/// A long loop whose instructions wait for little.
+const LOOP: &[u8] =
+    b"ori $1,$0,400\nL: nop\nnop\nnop\nnop\nnop\nnop\naddiu $1,$1,-1\nbne $1,$0,L\nbreak\n";
+
+// A machine of few processors runs one unit alone beside the threads that dispatch and commit.
+#[test]
+fn more_units_are_active_where_there_is_work(rt: HostRuntime) -> Result<(), Fail> {
+    let processors = match available_parallelism(&rt) {
+        Ok(processors) => processors.get(),
+        Err(_) => 64,
+    };
+    let gate = Slow {
+        units: AtomicU64::new(0),
+    };
+    let run = run_listing(&rt, rt.alloc(), LOOP, &plain(4), &gate)?;
+    let Run::Ended(end, _) = run else {
+        return Err(Fail::from("no end"));
+    };
+    same(&rt, &end.n, &3_201);
+    assert!(rt; processors < 4 || 1 < gate.units.load(SeqCst).count_ones());
+    Ok(())
+}
