@@ -28,11 +28,12 @@ def table(left, top, heads, columns, fills, width, title):
 
 
 def arrow(points, label, x, y, broken=False):
+    """A link, with its label where no other line is."""
     path = " ".join(f"{a},{b}" for a, b in points)
     dash = ' stroke-dasharray="5 4"' if broken else ""
     return [
         f'<polyline points="{path}" fill="none" stroke="{INK}" stroke-width="1.4"{dash} marker-end="url(#head)"/>',
-        text(x, y, label, 12, "middle"),
+        text(x, y, label, 12),
     ]
 
 
@@ -46,8 +47,8 @@ def picture():
     ]
     out = table(20, 70, ["instruction", "station", "tag", "standing", "fate"], tenants, [DONE, LIVE, LIVE, GONE, LIVE], 128,
                 "All tenants ever let, the oldest first; a tenant's position is its number")
-    out += arrow([(164, 192), (164, 222), (548, 222), (548, 196)], "a link that died with its tenant: the value goes to position 3, and never to 4", 356, 238, True)
-    out += arrow([(292, 192), (292, 254), (676, 254), (676, 196)], "a link in use: position 4 waits for position 1", 484, 270)
+    out += arrow([(164, 192), (164, 222), (548, 222), (548, 196)], "a dead link: its value goes to position 3, never to 4", 304, 240, True)
+    out += arrow([(292, 192), (292, 254), (676, 254), (676, 196)], "a link in use: position 4 waits for position 1", 304, 272)
     ring = [("2", "FREE 1", "free"), ("1", "BUSY", "oldest live"), ("1", "DONE E", "live"), ("2", "OPEN", "youngest live")]
     out += table(20, 340, ["tag", "state", "which is"], ring, [FREE, LIVE, LIVE, LIVE], 104,
                  "The ring: each station belongs to its last tenant")
@@ -56,12 +57,13 @@ def picture():
     for row, (register, maker) in enumerate(makers):
         out.append(text(560, 352 + 22 * row, register, 13, weight="bold"))
         out.append(text(592, 352 + 22 * row, maker))
-    out.append(text(20, 445, "Colours: blue has retired, green is live, red is squashed, grey is free. The branch at position 2 was predicted not taken and is taken.", 12, fill=PALE))
+    out.append(text(20, 450, "Blue has retired, green is live, red is squashed, grey is free.", 12, fill=PALE))
+    out.append(text(20, 468, "The branch at position 2 was predicted not taken, and is taken.", 12, fill=PALE))
     head = '<defs><marker id="head" markerWidth="8" markerHeight="8" refX="6" refY="3" orient="auto"><path d="M0,0 L6,3 L0,6 z" fill="#222"/></marker></defs>'
     return "\n".join([
-        '<svg xmlns="http://www.w3.org/2000/svg" viewBox="0 0 800 460" width="800" height="460" font-family="sans-serif" role="img">',
+        '<svg xmlns="http://www.w3.org/2000/svg" viewBox="0 0 840 484" width="840" height="484" font-family="sans-serif" role="img">',
         "<title>A ring of four stations behind a branch that was predicted wrong</title>",
-        head, '<rect width="800" height="460" fill="white"/>', *out, "</svg>",
+        head, '<rect width="840" height="484" fill="white"/>', *out, "</svg>",
     ])
 
 

@@ -2,15 +2,17 @@
 
     tests/clauses.py [--text] [FOLDER]   of this repository, or of another checkout of it; with --text each clause whole
     tests/clauses.py --since FOLDER      which functions and clauses of that checkout are not here, or are others here
+    tests/clauses.py --page              writes docs/CLAUSES.md: the calls that other crates can make
 
 A line is `crate file function: requires NAME ..; ensures NAME ..`. A clause without a name has the name `-`. What is private
-to its crate is left out: a function counts if it is `pub`, or is of a trait that is."""
+to its file is left out: a function counts if it is `pub`, or is of a trait that is. The page leaves out what a library does
+not hand on, the tests, and what a trait asks for without a clause of its own."""
 import os
 import re
 import sys
 
 ROOT = os.path.dirname(os.path.dirname(os.path.realpath(__file__)))
-HEAD = re.compile(r"^( *)(pub )?(?:const )?(?:unsafe )?fn (\w+)")
+HEAD = re.compile(r'^( *)(pub )?(?:const )?(?:unsafe )?(?:extern "C" )?fn (\w+)')
 BLOCK = re.compile(r"^( *)(?:(pub) )?(?:unsafe )?(impl|trait)\b(.*)$")
 CLAUSE = re.compile(r"^\s+(requires|ensures)(?: \*)?(?: (\w+))? \{")
 
@@ -34,7 +36,7 @@ def owner_of(rest):
 
 
 def clauses_of(file):
-    """Of each function of a file that others can call, its clauses: pairs of a name and the text."""
+    """Of each function of a file that others can call, its clauses: the kind, the name and the text of each."""
     with open(file, encoding="utf-8") as it:
         lines = it.read().split("\n")
     found, block, at = {}, ("", 0, False), 0
@@ -63,6 +65,7 @@ def clauses_of(file):
 
 
 def promises(root):
+    """Of each public function of each file of each crate, its clauses."""
     found = {}
     for crate in sorted(os.listdir(f"{root}/crates")):
         for folder, _, files in sorted(os.walk(f"{root}/crates/{crate}/src")):
@@ -99,7 +102,71 @@ def compare(old, new):
     print("\n".join([*lost, f"before: {len(old)} functions, {count(old)} clauses; now: {len(new)}, {count(new)}"]))
 
 
+def crates():
+    """The crates in the order of crates.txt, in which each stands behind those that it calls."""
+    with open(f"{ROOT}/crates.txt", encoding="utf-8") as it:
+        return [line.split()[0].partition(":")[0] for line in it if line.split() and not line.startswith("#")]
+
+
+def handed_on(crate):
+    """What the root of a library hands on: names, and modules of which it hands on all that is public."""
+    src = f"{ROOT}/crates/{crate}/src"
+    with open(f"{src}/lib.rt", encoding="utf-8") as it:
+        text = it.read()
+    names = set()
+    for module, items in re.findall(r"^pub use (\w+)::([^;]*);", text, re.M):
+        if os.path.exists(f"{src}/{module}.rt"):
+            names.update(re.findall(r"\w+", items))
+    return names, set(re.findall(r"^pub mod (\w+);", text, re.M))
+
+
+def is_listed(crate, file, function, said):
+    """Whether the page lists a function: other crates can call it, and it has a clause or no trait asks for it."""
+    has_clause = any(kind == "ensures" for kind, _, _ in said)
+    if not os.path.exists(f"{ROOT}/crates/{crate}/src/lib.rt"):
+        return has_clause
+    names, modules = handed_on(crate)
+    module = re.match(r"\w+", file)[0]
+    with open(f"{ROOT}/crates/{crate}/src/{file}", encoding="utf-8") as it:
+        is_pub = re.search(rf"^ *pub .*\bfn {function.rpartition('::')[2]}\b", it.read(), re.M)
+    return bool(has_clause or is_pub) and (module == "lib" or module in modules or not names.isdisjoint(function.split("::")))
+
+
+def names_of(said, kind):
+    """The names of the conditions or clauses of a function, each once, in their order."""
+    names = [f"`{name}`" if name != "-" else "*result*" if kind == "ensures" else "*one*" for word, name, _ in said if word == kind]
+    return " ".join(dict.fromkeys(names))
+
+
+PAGE = """# Calls and their clauses
+
+Written by `tests/clauses.py --page` from the sources; [PROMISES.md](PROMISES.md) tells in words what the clauses come to. Each
+call that another crate can make stands here with the names of its conditions (`requires`) and of its clauses (`ensures`), as
+they stand in the crate's `src/`. *result* is a clause without a name, *one* a condition without a name. A call without any
+clause promises what each call does: it does nothing undefined, and it returns if it takes neither `Wait` nor `Threads`. The
+crates stand in the order of `crates.txt`; those of tests are left out, and of a program only functions with clauses stand here.
+"""
+
+
+def page():
+    found, lines = promises(ROOT), [PAGE]
+    for crate in crates():
+        of_crate = {key[1:]: said for key, said in found.items() if key[0] == crate}
+        calls = {}
+        for (file, function), said in of_crate.items():
+            if not crate.startswith("tests_") and is_listed(crate, file, function, said):
+                calls.setdefault(function.rpartition("::")[0], []).append((function, said))
+        if calls:
+            lines += [f"## {crate}\n", "| call | conditions | clauses |", "|---|---|---|"]
+            lines += [f"| `{it}` | {names_of(said, 'requires')} | {names_of(said, 'ensures')} |" for of in calls.values() for it, said in of]
+            lines.append("")
+    return "\n".join(lines).rstrip("\n")
+
+
 def main(words):
+    if words == ["--page"]:
+        print(page())
+        return 0
     if words[:1] == ["--since"] and len(words) == 2:
         compare(promises(words[1]), promises(ROOT))
         return 0

@@ -3,7 +3,9 @@
 In a page a block `console` has commands behind `$ ` and what each writes, standard error last. Of a line of the tally
 only the words and `retires` have to be right: the other numbers are those of one run. A block with `file=NAME` is a file
 that later commands of the page read. A block `sh` has commands that prove or build: they are not run, and only what they
-name has to be there. So has each file that a page links to or names in code, and each place in it.
+name has to be there. So has each file that a page links to or names in code, and each place in it: those of DECISIONS and
+KIT, the rows of ROWS, and the calls of PROMISES with their clauses. Pages that a script writes are compared with what it writes,
+and no page is longer or wider than its limits.
 """
 import os
 import re
@@ -11,10 +13,22 @@ import subprocess
 import sys
 import tempfile
 
+from clauses import promises
+
 ROOT = os.getcwd()
 PAGES = ["README.md", *sorted(f"docs/{it}" for it in os.listdir("docs") if it.endswith(".md"))]
 # what a command of a page may begin with, beside a file of the repository
 TOOLS = {"cd", "rm", "git", "grep", "time", "echo", "printf"}
+# what a script writes, by the words behind python3
+WRITTEN = {
+    "docs/MAP.md": ["tests/map.py"],
+    "docs/CLAUSES.md": ["tests/clauses.py", "--page"],
+    "docs/unit.svg": ["docs/picture.py"],
+}
+# how many lines a page may have
+MOST_LINES = {"README.md": 120, "docs/CONTRIBUTING.md": 120, "docs/DECISIONS.md": 350}
+# pages with blocks that are wider than a page
+WIDE = {"docs/LISTING.md", "docs/TEACHING.md"}
 found = []
 
 
@@ -142,38 +156,36 @@ def check_spans(page, known):
 
 
 def crates():
-    """What crates.txt says: each crate, and what it stands on."""
-    uses = {}
+    """The crates of crates.txt."""
     with open("crates.txt", encoding="utf-8") as it:
-        for line in it:
-            head, _, deps = line.partition("#")[0].partition(":")
-            if head.split():
-                uses[head.split()[0]] = deps.split()
-    return uses
+        heads = [line.partition("#")[0].partition(":")[0].split() for line in it]
+    return [head[0] for head in heads if head]
 
 
 def check_rooms(page, names):
-    """Each place below `src/`, `specs/`, `proofs/` or `must-fail/` is in the crate that is named before it, in that of its row on
-    the map, or else in some crate."""
+    """Each place below `src/`, `specs/`, `proofs/` or `must-fail/` is in the crate that is named before it, or else in some crate."""
     count = 0
     for line in prose(page).splitlines():
-        row = re.match(r"\| `(\w+)` \|", line) if page == "docs/MAP.md" else None
         for span in re.findall(r"`([^`]+)`", line):
             named = re.fullmatch(r"(?:(\w+)/)?((?:src|specs|proofs|must-fail)/[\w./-]+)", span)
             if not named or named[1] == "crates" or ".." in span or "FILE" in span:
                 continue
             count += 1
-            homes = [named[1]] if named[1] else [row[1]] if row else names
+            homes = [named[1]] if named[1] else names
             if not any(os.path.exists(f"crates/{home}/{named[2]}{ending}") for home in homes for ending in ("", ".antt")):
                 wrong(page, f"no place {span}")
     return count
 
 
 def check_places(page):
-    """Each place of a decision is a file below `crates/`, and has the names that stand in parentheses behind it."""
+    """Each entry ends with its places: files below `crates/`, or of the repository, which have the names behind them."""
     count = 0
-    for item in re.findall(r"^- \*where\*: (.*\n(?:  .*\n)*)", prose(page), re.M):
-        for span, names in re.findall(r"`([^`]+/[^`]+)`(?:\s*\(((?:`[^`]+`(?:,\s+)?)+)\))?", item):
+    for entry in re.findall(r"^- (.*\n(?:  .*\n)*)", prose(page), re.M):
+        text = " ".join(entry.split())
+        _, found_places, places = text.partition("*Where*: ")
+        if not found_places:
+            wrong(page, f"no place for {text[:60]}")
+        for span, names in re.findall(r"`([^`]+)`(?: \(((?:`[^`]+`(?:, )?)+)\))?", places):
             at = next((it for it in (f"crates/{span}", f"crates/{span}.antt", span) if os.path.exists(it)), None)
             count += 1
             if at is None:
@@ -252,16 +264,51 @@ def check_kit():
             wrong("README.md", f"the program says {named}")
 
 
-def check_map():
-    """The map says of each crate what crates.txt says."""
-    uses = crates()
-    rows = re.findall(r"^\| `(\w+)` \|.*\|([^|]*)\|$", prose("docs/MAP.md"), re.M)
-    said = {name: re.findall(r"`(\w+)`", calls) for name, calls in rows}
-    for name, deps in uses.items():
-        if name not in said:
-            wrong("docs/MAP.md", f"no row for {name}")
-        elif sorted(said[name]) != sorted(it for it in deps if it in uses):
-            wrong("docs/MAP.md", f"{name} calls {' '.join(it for it in deps if it in uses)}")
+def check_written():
+    """The pages that a script writes are as it writes them."""
+    for page, words in WRITTEN.items():
+        written = subprocess.run([sys.executable, *words], capture_output=True, text=True, check=False)
+        with open(page, encoding="utf-8") as it:
+            if it.read() != written.stdout:
+                wrong(page, f"python3 {' '.join(words)} writes another{': ' if written.stderr else ''}{written.stderr.strip()}")
+
+
+def check_shape(page):
+    """No page is longer than its limit, no line of a block is wider than 100 columns, and no cell has over 200 characters."""
+    with open(page, encoding="utf-8") as it:
+        lines = len(it.readlines())
+    if lines > MOST_LINES.get(page, lines):
+        wrong(page, f"{lines} lines")
+    for _, block in blocks(page):
+        for line in block:
+            if len(line.expandtabs(8)) > 100 and page not in WIDE:
+                wrong(page, f"{len(line.expandtabs(8))} columns: {line}")
+    for line in prose(page).splitlines():
+        for cell in line.split(" | ") if line.startswith("| ") else []:
+            if len(cell.strip("| ")) > 200:
+                wrong(page, f"a cell of {len(cell)} characters: {cell[:60]}")
+
+
+def check_promises():
+    """Each call of a table of the promises is a public function, and has the clauses that stand beside it."""
+    page, count, head, calls, clauses = "docs/PROMISES.md", 0, [], [], {}
+    for (_, _, function), said in promises(ROOT).items():
+        clauses.setdefault(function.rpartition("::")[2], set()).update(name for kind, name, _ in said if kind == "ensures")
+    for line in prose(page).splitlines():
+        row = [it.strip() for it in line.strip("|").split("|")] if line.startswith("| ") else []
+        if "clauses" in row:
+            head = row
+        elif row:
+            at = head.index("clauses")
+            # a row without a call is of the calls of the row before; behind `of` stands a crate
+            calls = re.findall(r"`([\w:]+)`", re.sub(r" of `\w+`", "", row[at - 1])) if row[at - 1] else calls
+            names = [it.rpartition("::")[2] for it in calls]
+            lost = [it for it in names if it not in clauses]
+            lost += [it for it in re.findall(r"`(\w+)`", row[at]) if names and not any(it in clauses.get(name, ()) for name in names)]
+            for it in lost:
+                wrong(page, f"{' '.join(calls)}: no {it}")
+            count += len(names)
+    return count
 
 
 def check_edits():
@@ -277,15 +324,8 @@ def check_edits():
     return count
 
 
-def check_picture():
-    drawn = subprocess.run([sys.executable, "docs/picture.py"], capture_output=True, text=True, check=False).stdout
-    with open("docs/unit.svg", encoding="utf-8") as it:
-        if it.read() != drawn:
-            wrong("docs/unit.svg", "docs/picture.py draws another")
-
-
 def main():
-    known, names, ran, looked = subcommands(), [*crates()], 0, 0
+    known, names, ran, looked = subcommands(), crates(), 0, 0
     for page in PAGES:
         with tempfile.TemporaryDirectory() as room:
             place(room)
@@ -300,15 +340,15 @@ def main():
                     looked += check_commands(page, lines, known)
             if page == "docs/LISTING.md":
                 ran += check_forms(room)
-            if page == "docs/DECISIONS.md":
+            if page in ("docs/DECISIONS.md", "docs/KIT.md"):
                 looked += check_places(page)
             if page == "docs/ROWS.md":
                 looked += check_rows(page)
         looked += check_links(page) + check_spans(page, known) + check_rooms(page, names)
+        check_shape(page)
     check_kit()
-    check_picture()
-    check_map()
-    looked += check_edits()
+    check_written()
+    looked += check_promises() + check_edits()
     for it in found:
         print(it)
     if ran < 60 or looked < 40:

@@ -1,0 +1,127 @@
+#!/usr/bin/env python3
+"""Writes docs/MAP.md: tests/map.py > docs/MAP.md
+
+Which crate stands on which is read from crates.txt, and what a crate is from the first sentence of its root. The layers
+below say where a crate stands on the page: each crate is in one, and stands on crates of its own layer and of those before.
+"""
+import os
+import re
+import sys
+
+ROOT = os.path.dirname(os.path.dirname(os.path.realpath(__file__)))
+
+LAYERS = [
+    ("The language, and bytes in and out", "text instructions isa machine_words executables conversion devices"),
+    ("The machine, and the unit as definitions", "lsq inorder lockstep ruu_step executable_runs"),
+    ("The unit by one thread", "unit bench charts"),
+    ("The unit that threads share", "ruu_words station snapshots front back driving drive"),
+    ("Threads", "hints counts run_ends pool"),
+    ("What a command line asks for", "requests checks without_threads viewing commit_log with_threads command by_hand"),
+    ("Programs", "alone ruu viewer driver commits listing"),
+    ("What is run to see that all is well", "examples tests_of_calls tests_of_runs speed"),
+]
+
+PICTURE = """\
+ alone    viewer   commits          ruu      driver             listing
+   |        |         |              |          |                  |
+ bench   charts   commit_log      command       |             conversion
+   |        |         |              |          |                  |
+   +--------+---------+            pool       drive           executables
+            |                        |          |
+          unit                       +----+-----+
+     by one thread                        |
+            |                       front   back -- snapshots
+            |                           \\   /
+            |                          station        seats and their calls
+            |                             |
+            |                         ruu_words       the shared words and their rule
+            |                             |
+            +--------------+--------------+
+                           |
+                        inorder -- lsq                the in-order machine, the unit as
+                           |                          definitions, and the theorem
+                     instructions -- isa -- text      operations; listings"""
+
+HEAD = """# Map of the code
+
+Written by `tests/map.py` from `crates.txt` and from the first sentence of each crate's root.
+
+```text
+{picture}
+```
+
+The picture has the crates that a run passes through, the lowest at its foot. The tables below have all crates, the lowest
+layer first: a crate stands on crates of its own layer and of those before it. The last column names those that it stands on
+directly; `crates.txt` lists them all.
+
+In a crate `src/` is the code with its contracts, `specs/` the definitions that the contracts cite, and `proofs/` what the
+check does not find by itself. `must-fail/` and `must-fail-more/` are edits of the code that the check has to refuse. Read
+`specs/` first. [UNIT.md](UNIT.md) and [SHARED.md](SHARED.md) name the files of the model and of the shared words, and
+[TERMS.md](TERMS.md) leads from a word to its file.
+
+Beside the crates, `ruu` runs the programs, `prove` proves crates side by side, and `check` is the gate. `tests/` has the
+scripts of the gate, `examples/` listings with their reports and programs in C, and `benchmarks/` what is timed.
+[CONTRIBUTING.md](CONTRIBUTING.md) says how a change is made.
+"""
+
+
+def uses():
+    """Of each crate the crates of the repository that it stands on."""
+    lines = {}
+    with open(f"{ROOT}/crates.txt", encoding="utf-8") as it:
+        for line in it:
+            head, _, deps = line.partition("#")[0].partition(":")
+            if head.split():
+                lines[head.split()[0]] = deps.split()
+    return {name: [it for it in deps if it in lines] for name, deps in lines.items()}
+
+
+def first_sentence(crate):
+    """What the root of a crate says of it, up to the first full stop. A long sentence ends at its colon or semicolon."""
+    src = f"{ROOT}/crates/{crate}/src"
+    root = next(it for it in (f"{src}/lib.rt", f"{src}/main.rt") if os.path.exists(it))
+    said = []
+    with open(root, encoding="utf-8") as it:
+        for line in it:
+            if not line.startswith("//!"):
+                break
+            said.append(line[3:].strip())
+    sentence = re.split(r"(?<=\.)\s", " ".join(said))[0].rstrip(".")
+    return sentence if len(sentence) <= 150 else re.split(r"[:;]", sentence)[0]
+
+
+def direct(name, lines):
+    """The crates that a crate stands on and that no other of these stands on."""
+    return [it for it in lines[name] if not any(it in below(other, lines) for other in lines[name] if other != it)]
+
+
+def below(name, lines):
+    """A crate and all that it stands on."""
+    return {name, *(it for dep in lines[name] for it in below(dep, lines))}
+
+
+def placed(lines):
+    """The layers with their crates, where each crate of crates.txt has its place."""
+    layers = [(title, names.split()) for title, names in LAYERS]
+    at = {name: level for level, (_, names) in enumerate(layers) for name in names}
+    wrong = [f"no layer for {it}" for it in lines if it not in at] + [f"no crate {it}" for it in at if it not in lines]
+    wrong += [f"{name} stands on {it} of a later layer" for name in lines for it in lines[name] if at.get(it, 0) > at.get(name, len(layers))]
+    if wrong:
+        sys.exit("tests/map.py: " + "; ".join(wrong))
+    return layers
+
+
+def main():
+    lines = uses()
+    page = [HEAD.format(picture=PICTURE)]
+    for title, names in placed(lines):
+        page += [f"## {title}\n", "| crate | what it is | stands on |", "|---|---|---|"]
+        for name in names:
+            stands_on = ", ".join(f"`{it}`" for it in direct(name, lines))
+            page.append(f"| [`{name}`](../crates/{name}) | {first_sentence(name)} | {stands_on} |")
+        page.append("")
+    print("\n".join(page).rstrip("\n"))
+
+
+if __name__ == "__main__":
+    main()
