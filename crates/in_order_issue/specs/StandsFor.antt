@@ -65,7 +65,7 @@ pub record StandsFor (b : Pipeline) (U : UpdateUnit) : Type 0 where
   pub pc : b.pc ≡ front_pc U.tenants
   pub half : half_after b.halfway ≡ front_half b.program.now U.tenants
 
--- It stands for some unit that allowed steps reach
+-- The pipeline stands for some unit that allowed steps reach
 pub record StandsForSome (b : Pipeline) : Type 0 where
   pub unit : UpdateUnit
   pub reached : IsReached b.program.now stations unit
