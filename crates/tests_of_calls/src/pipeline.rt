@@ -25,7 +25,12 @@ const CALLS: &[u8] = b".space 8\n\
     jr $ra\n";
 
 // Ends as the in-order machine.
-fn ends_in_order(rt: &impl Abort, alloc: Global, program: &Program, limit: u64) -> Result<(), Fail> {
+fn ends_in_order(
+    rt: &impl Abort,
+    alloc: Global,
+    program: &Program,
+    limit: u64,
+) -> Result<(), Fail> {
     let end = run(alloc, program, limit)?;
     let mut machine = Machine::new(alloc, program)?;
     let outcome = match machine.run(limit) {

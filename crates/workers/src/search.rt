@@ -9,9 +9,9 @@ use std::sync::Wait;
 /// A station at which a unit looks for work.
 #[derive(Clone, Copy)]
 pub(crate) enum Candidate {
-    /// It came as a hint.
+    /// The station was hinted.
     Hinted(usize),
-    /// There was no hint, and it is the next one in ring order.
+    /// The next station in ring order, where there was no hint.
     Next(usize),
 }
 
