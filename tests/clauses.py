@@ -10,6 +10,7 @@ not hand on, the tests, and what a trait asks for without a clause of its own.""
 import os
 import re
 import sys
+import textwrap
 
 ROOT = os.path.dirname(os.path.dirname(os.path.realpath(__file__)))
 HEAD = re.compile(r'^( *)(pub )?(?:const )?(?:unsafe )?(?:extern "C" )?fn (\w+)')
@@ -133,18 +134,26 @@ def is_listed(crate, file, function, said):
 
 
 def names_of(said, kind):
-    """The names of the conditions or clauses of a function, each once, in their order."""
-    names = [f"`{name}`" if name != "-" else "*result*" if kind == "ensures" else "*one*" for word, name, _ in said if word == kind]
-    return " ".join(dict.fromkeys(names))
+    """The names of the conditions or clauses of a function, each once, in their order; one without a name is `-`."""
+    return list(dict.fromkeys(name for word, name, _ in said if word == kind))
+
+
+def row_of(function, said):
+    """A line of the page: the call with its conditions, and its clauses unless the only one has no name."""
+    needs, gives = names_of(said, "requires"), names_of(said, "ensures")
+    call = f"{function} ({' '.join(needs)})" if needs else function
+    if gives == ["-"]:
+        return call
+    return textwrap.fill(f"{call:40} {' '.join(gives) or 'no clause'}", 100, subsequent_indent=" " * 41)
 
 
 PAGE = """# Calls and their clauses
 
-Written by `tests/clauses.py --page` from the sources; [PROMISES.md](PROMISES.md) tells in words what the clauses come to. Each
-call that another crate can make stands here with the names of its conditions (`requires`) and of its clauses (`ensures`), as
-they stand in the crate's `src/`. *result* is a clause without a name, *one* a condition without a name. A call without any
-clause promises what each call does: it does nothing undefined, and it returns if it takes neither `Wait` nor `Threads`. The
-crates stand in the order of `crates.txt`; those of tests are left out, and of a program only functions with clauses stand here.
+Written by `tests/clauses.py --page` from the sources; [PROMISES.md](PROMISES.md) tells what the clauses come to. Each call that
+another crate can make has a line: in parentheses its conditions (`requires`), then its clauses (`ensures`), by the names that
+they have in the crate's `src/`. What has no name is `-`, and a call that stands alone has one clause, without a name. A call
+with no clause promises what each call does: nothing undefined, and it returns if it takes neither `Wait` nor `Threads`. Crates
+stand in the order of `crates.txt`, without those of tests; of a program only functions with clauses are listed.
 """
 
 
@@ -157,9 +166,9 @@ def page():
             if not crate.startswith("tests_") and is_listed(crate, file, function, said):
                 calls.setdefault(function.rpartition("::")[0], []).append((function, said))
         if calls:
-            lines += [f"## {crate}\n", "| call | conditions | clauses |", "|---|---|---|"]
-            lines += [f"| `{it}` | {names_of(said, 'requires')} | {names_of(said, 'ensures')} |" for of in calls.values() for it, said in of]
-            lines.append("")
+            lines += [f"## {crate}\n", "```text"]
+            lines += [row_of(it, said) for of in calls.values() for it, said in of]
+            lines.append("```\n")
     return "\n".join(lines).rstrip("\n")
 
 

@@ -13,9 +13,9 @@ ROOT = os.path.dirname(os.path.dirname(os.path.realpath(__file__)))
 LAYERS = [
     ("The language, and bytes in and out", "text instructions isa machine_words executables conversion devices"),
     ("The machine, and the unit as definitions", "lsq inorder lockstep ruu_step executable_runs"),
-    ("The unit by one thread", "unit bench charts"),
+    ("The unit by one thread", "unit in_order_issue bench charts"),
     ("The unit that threads share", "ruu_words station snapshots front back driving drive"),
-    ("Threads", "hints counts run_ends pool"),
+    ("Threads", "hints counts workers run_ends pool"),
     ("What a command line asks for", "requests checks without_threads viewing commit_log with_threads command by_hand"),
     ("Programs", "alone ruu viewer driver commits listing"),
     ("What is run to see that all is well", "examples tests_of_calls tests_of_runs speed"),
@@ -44,24 +44,19 @@ PICTURE = """\
 
 HEAD = """# Map of the code
 
-Written by `tests/map.py` from `crates.txt` and from the first sentence of each crate's root.
+Written by `tests/map.py` from `crates.txt` and the first sentence of each crate's root.
 
 ```text
 {picture}
 ```
 
-The picture has the crates that a run passes through, the lowest at its foot. The tables below have all crates, the lowest
-layer first: a crate stands on crates of its own layer and of those before it. The last column names those that it stands on
-directly; `crates.txt` lists them all.
+The picture has the crates that a run passes through, the lowest at its foot. The list has all, the lowest layer first: a crate
+stands on crates of its own layer and of earlier ones, which `crates.txt` names.
 
-In a crate `src/` is the code with its contracts, `specs/` the definitions that the contracts cite, and `proofs/` what the
-check does not find by itself. `must-fail/` and `must-fail-more/` are edits of the code that the check has to refuse. Read
-`specs/` first. [UNIT.md](UNIT.md) and [SHARED.md](SHARED.md) name the files of the model and of the shared words, and
-[TERMS.md](TERMS.md) leads from a word to its file.
-
-Beside the crates, `ruu` runs the programs, `prove` proves crates side by side, and `check` is the gate. `tests/` has the
-scripts of the gate, `examples/` listings with their reports and programs in C, and `benchmarks/` what is timed.
-[CONTRIBUTING.md](CONTRIBUTING.md) says how a change is made.
+In a crate `src/` is the code with its contracts, `specs/` the definitions that contracts cite, `proofs/` what the check does not
+find by itself; read `specs/` first. `must-fail/` and `must-fail-more/` are edits of the code that the check has to refuse. Beside
+the crates, `ruu` runs the programs, `prove` proves crates side by side, `check` is the gate; `tests/` has its scripts,
+`examples/` listings with their reports and programs in C, `benchmarks/` what is timed.
 """
 
 
@@ -90,16 +85,6 @@ def first_sentence(crate):
     return sentence if len(sentence) <= 150 else re.split(r"[:;]", sentence)[0]
 
 
-def direct(name, lines):
-    """The crates that a crate stands on and that no other of these stands on."""
-    return [it for it in lines[name] if not any(it in below(other, lines) for other in lines[name] if other != it)]
-
-
-def below(name, lines):
-    """A crate and all that it stands on."""
-    return {name, *(it for dep in lines[name] for it in below(dep, lines))}
-
-
 def placed(lines):
     """The layers with their crates, where each crate of crates.txt has its place."""
     layers = [(title, names.split()) for title, names in LAYERS]
@@ -115,11 +100,7 @@ def main():
     lines = uses()
     page = [HEAD.format(picture=PICTURE)]
     for title, names in placed(lines):
-        page += [f"## {title}\n", "| crate | what it is | stands on |", "|---|---|---|"]
-        for name in names:
-            stands_on = ", ".join(f"`{it}`" for it in direct(name, lines))
-            page.append(f"| [`{name}`](../crates/{name}) | {first_sentence(name)} | {stands_on} |")
-        page.append("")
+        page += [f"## {title}\n", *(f"- [`{name}`](../crates/{name}): {first_sentence(name)}" for name in names), ""]
     print("\n".join(page).rstrip("\n"))
 
 
