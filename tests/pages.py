@@ -201,7 +201,7 @@ def check_places(page):
 
 def check_rows(page):
     """Each home of a row is a file, has what stands in parentheses behind it, and beside it what it is compared with."""
-    rows = re.findall(r"^\| (?!row \|)([^|]+) \| (`.*`\)?) \|$", prose(page), re.M)
+    rows = re.findall(r"^- (.+?): (`[^`]+/[^`]+`.*)$", prose(page), re.M)
     for row, homes in rows:
         for at, names in re.findall(r"`([^`]+/[^`]+)`(?: \(((?:`[^`]+`(?:, )?)+)\))?", homes):
             beside = re.sub(r"^(examples/drive/.*)\.txt$|^(tests/listings/check/.*)\.s$", r"\1\2.told", at)
@@ -214,7 +214,7 @@ def check_rows(page):
                 if (f"fn {name}(" if at.endswith(".rt") else name) not in text:
                     wrong(page, f"no {name} in {at}")
     with open(page, encoding="utf-8") as it:
-        lines = [line for line in it if line.startswith("| ") and line.strip() != "| row | where it is run |"]
+        lines = [line for line in it if line.startswith("- ")]
     if len(rows) != len(lines):
         wrong(page, f"{len(lines) - len(rows)} rows have no home that is a file")
     return len(rows)
