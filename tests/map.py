@@ -72,7 +72,7 @@ def uses():
 
 
 def first_sentence(crate):
-    """What the root of a crate says of it, up to the first full stop. A long sentence ends at its colon or semicolon."""
+    """What the root of a crate says of it, up to the first full stop, or to a colon or semicolon behind more than two words."""
     src = f"{ROOT}/crates/{crate}/src"
     root = next(it for it in (f"{src}/lib.rt", f"{src}/main.rt") if os.path.exists(it))
     said = []
@@ -82,7 +82,8 @@ def first_sentence(crate):
                 break
             said.append(line[3:].strip())
     sentence = re.split(r"(?<=\.)\s", " ".join(said))[0].rstrip(".")
-    return sentence if len(sentence) <= 150 else re.split(r"[:;]", sentence)[0]
+    title = re.split(r"[:;]", sentence)[0]
+    return title if len(title.split()) > 2 else sentence
 
 
 def placed(lines):

@@ -290,24 +290,23 @@ def check_shape(page):
 
 
 def check_promises():
-    """Each call of a table of the promises is a public function, and has the clauses that stand beside it."""
-    page, count, head, calls, clauses = "docs/PROMISES.md", 0, [], [], {}
+    """Each call that an entry of the promises names is a public function, and has the clauses that stand in parentheses behind it."""
+    page, count, clauses = "docs/PROMISES.md", 0, {}
     for (_, _, function), said in promises(ROOT).items():
         clauses.setdefault(function.rpartition("::")[2], set()).update(name for kind, name, _ in said if kind == "ensures")
     for line in prose(page).splitlines():
-        row = [it.strip() for it in line.strip("|").split("|")] if line.startswith("| ") else []
-        if "clauses" in row:
-            head = row
-        elif row:
-            at = head.index("clauses")
-            # a row without a call is of the calls of the row before; behind `of` stands a crate
-            calls = re.findall(r"`([\w:]+)`", re.sub(r" of `\w+`", "", row[at - 1])) if row[at - 1] else calls
-            names = [it.rpartition("::")[2] for it in calls]
+        entry = re.match(r"- (?:\*\*.*?\*\*.*?: )?(?:laws? )?((?:`[\w:]+`(?: of `\w+`)?(?:, )?)+)(?: \(|: )", line)
+        if entry:
+            # behind `of` stands a crate
+            names = [it.rpartition("::")[2] for it in re.findall(r"`([\w:]+)`", re.sub(r" of `\w+`", "", entry[1]))]
+            named = [it for of in re.findall(r"\(((?:(?:`\w+`|\*result\*)[, ]*)+)\):", line) for it in re.findall(r"`(\w+)`", of)]
             lost = [it for it in names if it not in clauses]
-            lost += [it for it in re.findall(r"`(\w+)`", row[at]) if names and not any(it in clauses.get(name, ()) for name in names)]
+            lost += [it for it in named if not any(it in clauses.get(name, ()) for name in names)]
             for it in lost:
-                wrong(page, f"{' '.join(calls)}: no {it}")
+                wrong(page, f"{' '.join(names)}: no {it}")
             count += len(names)
+    if count < 70:
+        wrong(page, f"{count} calls")
     return count
 
 
