@@ -53,10 +53,9 @@ Written by `tests/map.py` from `crates.txt` and the first sentence of each crate
 The picture has the crates that a run passes through, the lowest at its foot. The list has all, the lowest layer first: a crate
 stands on crates of its own layer and of earlier ones, which `crates.txt` names.
 
-In a crate `src/` is the code with its contracts, `specs/` the definitions that contracts cite, `proofs/` what the check does not
-find by itself; read `specs/` first. `must-fail/` and `must-fail-more/` are edits of the code that the check has to refuse. Beside
-the crates, `ruu` runs the programs, `prove` proves crates side by side, `check` is the gate; `tests/` has its scripts,
-`examples/` listings with their reports and programs in C, `benchmarks/` what is timed.
+[CONTRIBUTING.md](CONTRIBUTING.md) tells a crate's folders: read `specs/` first. Beside the crates, `ruu` runs the programs,
+`prove` proves crates side by side, `check` is the gate; `tests/` has its scripts, `examples/` listings with their reports and
+programs in C, `benchmarks/` what is timed.
 """
 
 
