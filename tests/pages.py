@@ -223,7 +223,7 @@ def check_rows(page):
 def forms():
     """The forms of the page on listings, each with operands that it allows, and with a number past its range."""
     with open("docs/LISTING.md", encoding="utf-8") as it:
-        rows = re.findall(r"^\| `([a-z]+(?: [^`]*)?)` \|", it.read().partition("## Operations")[2].partition("## Stops")[0], re.M)
+        rows = re.findall(r"^- `([a-z]+(?: [^`]*)?)`: ", it.read().partition("## Operations")[2].partition("## Stops")[0], re.M)
     past = {"S16": 32768, "U16": 65536, "U5": 32}
     good, bad = [], []
     for row in rows:
