@@ -182,10 +182,11 @@ def check_places(page):
     count = 0
     for entry in re.findall(r"^- (.*\n(?:  .*\n)*)", prose(page), re.M):
         text = " ".join(entry.split())
-        _, found_places, places = text.partition("*Where*: ")
-        if not found_places:
+        places = re.search(r"[.:] ((?:`[^`]+`(?: \((?:`[^`]+`(?:, )?)+\))?(?:, )?)+)\.$", text)
+        if not places:
             wrong(page, f"no place for {text[:60]}")
-        for span, names in re.findall(r"`([^`]+)`(?: \(((?:`[^`]+`(?:, )?)+)\))?", places):
+            continue
+        for span, names in re.findall(r"`([^`]+)`(?: \(((?:`[^`]+`(?:, )?)+)\))?", places[1]):
             at = next((it for it in (f"crates/{span}", f"crates/{span}.antt", span) if os.path.exists(it)), None)
             count += 1
             if at is None:
