@@ -138,22 +138,27 @@ def names_of(said, kind):
     return list(dict.fromkeys(name for word, name, _ in said if word == kind))
 
 
-def row_of(function, said):
-    """A line of the page: the call with its conditions, and its clauses unless the only one has no name."""
-    needs, gives = names_of(said, "requires"), names_of(said, "ensures")
-    call = f"{function} ({' '.join(needs)})" if needs else function
-    if gives == ["-"]:
-        return call
-    return textwrap.fill(f"{call:40} {' '.join(gives) or 'no clause'}", 100, subsequent_indent=" " * 41)
+def rows_of(owner, calls):
+    """The lines of the page on the calls of one type, or of none: those with the same conditions and clauses stand in one."""
+    alike = {}
+    for function, said in calls:
+        key = tuple(names_of(said, "requires")), tuple(names_of(said, "ensures"))
+        alike.setdefault(key, []).append(function.rpartition("::")[2])
+    for (needs, gives), names in alike.items():
+        of = ", ".join(names)
+        call = f"{owner}::{{{of}}}" if owner and len(names) > 1 else f"{owner}::{of}" if owner else of
+        head = f"{call} ({' '.join(needs)})" if needs else call
+        line = head if gives == ("-",) else f"{head}: {' '.join(gives) or 'no clause'}"
+        yield textwrap.fill(line, 100, initial_indent=" " * 4, subsequent_indent=" " * 8)
 
 
 PAGE = """# Calls and their clauses
 
-Written by `tests/clauses.py --page` from the sources; [PROMISES.md](PROMISES.md) tells what the clauses come to. Each call that
-another crate can make has a line: in parentheses its conditions (`requires`), then its clauses (`ensures`), by the names that
-they have in the crate's `src/`. What has no name is `-`, and a call that stands alone has one clause, without a name. A call
-with no clause promises what each call does: nothing undefined, and it returns if it takes neither `Wait` nor `Threads`. Crates
-stand in the order of `crates.txt`, without those of tests; of a program only functions with clauses are listed.
+Written by `tests/clauses.py --page` from the sources; [PROMISES.md](PROMISES.md) tells what the clauses come to. A line has the
+calls of one type, or functions of none, that other crates can make and that have one set of names: in parentheses their conditions
+(`requires`), behind the colon their clauses (`ensures`). What has no name is `-`; calls without a colon have one clause, without
+a name. A call with no clause promises what each call does: nothing undefined, and it returns if it takes neither `Wait` nor
+`Threads`. Crates stand in the order of `crates.txt`, without those of tests; of a program only functions with clauses are listed.
 """
 
 
@@ -166,9 +171,7 @@ def page():
             if not crate.startswith("tests_") and is_listed(crate, file, function, said):
                 calls.setdefault(function.rpartition("::")[0], []).append((function, said))
         if calls:
-            lines += [f"## {crate}\n", "```text"]
-            lines += [row_of(it, said) for of in calls.values() for it, said in of]
-            lines.append("```\n")
+            lines += [f"## {crate}\n", *(row for owner, of in calls.items() for row in rows_of(owner, of)), ""]
     return "\n".join(lines).rstrip("\n")
 
 
