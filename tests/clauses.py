@@ -139,26 +139,25 @@ def names_of(said, kind):
 
 
 def rows_of(owner, calls):
-    """The lines of the page on the calls of one type, or of none: those with the same conditions and clauses stand in one."""
+    """The lines of the page on the calls of one type, or of none: those with the same clauses stand in one."""
     alike = {}
     for function, said in calls:
-        key = tuple(names_of(said, "requires")), tuple(names_of(said, "ensures"))
-        alike.setdefault(key, []).append(function.rpartition("::")[2])
-    for (needs, gives), names in alike.items():
+        star = "*" if names_of(said, "requires") else ""
+        alike.setdefault(tuple(names_of(said, "ensures")), []).append(function.rpartition("::")[2] + star)
+    for gives, names in alike.items():
         of = ", ".join(names)
         call = f"{owner}::{{{of}}}" if owner and len(names) > 1 else f"{owner}::{of}" if owner else of
-        head = f"{call} ({' '.join(needs)})" if needs else call
-        line = head if gives == ("-",) else f"{head}: {' '.join(gives) or 'no clause'}"
+        line = call if gives == ("-",) else f"{call}: {' '.join(gives) or 'no clause'}"
         yield textwrap.fill(line, 100, initial_indent=" " * 4, subsequent_indent=" " * 8)
 
 
 PAGE = """# Calls and their clauses
 
 Written by `tests/clauses.py --page` from the sources; [PROMISES.md](PROMISES.md) tells what the clauses come to. A line has the
-calls of one type, or functions of none, that other crates can make and that have one set of names: in parentheses their conditions
-(`requires`), behind the colon their clauses (`ensures`). What has no name is `-`; calls without a colon have one clause, without
-a name. A call with no clause promises what each call does: nothing undefined, and it returns if it takes neither `Wait` nor
-`Threads`. Crates stand in the order of `crates.txt`, without those of tests; of a program only functions with clauses are listed.
+calls of one type, or functions of none, that other crates can make and whose clauses (`ensures`) have the same names; these stand
+behind the colon, `-` for one without a name. Calls without a colon have one clause, without a name. A call with no clause promises
+what each call does: nothing undefined, and it returns if it takes neither `Wait` nor `Threads`. A call with `*` has conditions
+(`requires`). Crates stand in the order of `crates.txt`, without those of tests; of a program only functions with clauses are listed.
 """
 
 

@@ -51,11 +51,8 @@ Written by `tests/map.py` from `crates.txt` and the first sentence of each crate
 ```
 
 The picture has the crates that a run passes through, the lowest at its foot. The list has all, the lowest layer first: a crate
-stands on crates of its own layer and of earlier ones, which `crates.txt` names.
-
-[CONTRIBUTING.md](CONTRIBUTING.md) tells a crate's folders: read `specs/` first. Beside the crates, `ruu` runs the programs,
-`prove` proves crates side by side, `check` is the gate; `tests/` has its scripts, `examples/` listings with their reports and
-programs in C, `benchmarks/` what is timed.
+stands on crates of its own layer and of earlier ones. [CONTRIBUTING.md](CONTRIBUTING.md) tells a crate's folders; `ruu` runs the
+programs, `prove` proves crates side by side, `check` with the scripts of `tests/` is the gate.
 """
 
 
@@ -71,7 +68,8 @@ def uses():
 
 
 def first_sentence(crate):
-    """What the root of a crate says of it, up to the first full stop, or to a colon or semicolon behind more than two words."""
+    """What the root of a crate says of it, up to the first full stop, or to a colon or semicolon behind more than two words, or to a
+    relative clause behind more than three."""
     src = f"{ROOT}/crates/{crate}/src"
     root = next(it for it in (f"{src}/lib.rt", f"{src}/main.rt") if os.path.exists(it))
     said = []
@@ -81,8 +79,10 @@ def first_sentence(crate):
                 break
             said.append(line[3:].strip())
     sentence = re.split(r"(?<=\.)\s", " ".join(said))[0].rstrip(".")
-    title = re.split(r"[:;]", sentence)[0]
-    return title if len(title.split()) > 2 else sentence
+    for end, least in ((r"[:;]", 3), (r", which ", 4)):
+        title = re.split(end, sentence)[0]
+        sentence = title if len(title.split()) >= least else sentence
+    return sentence
 
 
 def placed(lines):
