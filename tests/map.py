@@ -69,7 +69,7 @@ def uses():
 
 def first_sentence(crate):
     """What the root of a crate says of it, up to the first full stop, or to a colon or semicolon behind more than two words, or to a
-    relative clause behind more than three."""
+    comma behind more than seven."""
     src = f"{ROOT}/crates/{crate}/src"
     root = next(it for it in (f"{src}/lib.rt", f"{src}/main.rt") if os.path.exists(it))
     said = []
@@ -79,7 +79,7 @@ def first_sentence(crate):
                 break
             said.append(line[3:].strip())
     sentence = re.split(r"(?<=\.)\s", " ".join(said))[0].rstrip(".")
-    for end, least in ((r"[:;]", 3), (r", which ", 4)):
+    for end, least in (("[:;]", 3), (";", 3), (",", 8)):
         title = re.split(end, sentence)[0]
         sentence = title if len(title.split()) >= least else sentence
     return sentence
