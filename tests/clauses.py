@@ -6,7 +6,7 @@
 
 A line is `crate file function: requires NAME ..; ensures NAME ..`. A clause without a name has the name `-`. What is private
 to its file is left out: a function counts if it is `pub`, or is of a trait that is. The page leaves out what a library does
-not hand on, the tests, and what a trait asks for without a clause of its own."""
+not hand on, the tests, and what a trait asks for without a clause of its own; a call that has conditions has a `*` there."""
 import os
 import re
 import sys
