@@ -157,7 +157,7 @@ Written by `tests/clauses.py --page` from the sources; [PROMISES.md](PROMISES.md
 calls of one type, or functions of none, that other crates can make and whose clauses (`ensures`) have the same names; these stand
 behind the colon, `-` for one without a name. Calls without a colon have one clause, without a name. A call with no clause promises
 what each call does: nothing undefined, and it returns if it takes neither `Wait` nor `Threads`. A call with `*` has conditions
-(`requires`). Crates stand in the order of `crates.txt`, without those of tests; of a program only functions with clauses are listed.
+(`requires`). Crates of tests are left out, and of a program functions without clauses.
 """
 
 
