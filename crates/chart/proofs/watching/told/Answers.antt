@@ -1,7 +1,7 @@
 use Rattle.std.proofs.Common.{◌∙◌, refl, rules}
 use Rattle.isa.specs.Listing.{listing}
-use Rattle.viewing.proofs.Pictures.{fault_watched}
-use Rattle.viewing.proofs.watching.told.Goals as goal
+use Rattle.chart.proofs.Pictures.{fault_watched}
+use Rattle.chart.proofs.watching.told.Goals as goal
 
 pub returns-in_ok-write_whole-in-Err-2-clause-ok :
     goal.returns-in_ok-write_whole-in-Err-2-clause-ok
