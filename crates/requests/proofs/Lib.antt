@@ -1,6 +1,1 @@
-mod Building
-mod ByHands
-mod Entered
-mod NotAsked
-mod OddRings
-mod Watching
+pub mod Building
