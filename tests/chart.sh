@@ -136,13 +136,30 @@ for stored in examples/seeded/*.chart; do
   count=$((count + 1))
 done
 [ $count -ge 6 ] || fail "only $count charts with a seed"
-told=0
+echo "$count charts with seeds are those that are stored"
+
+# additions of registers at random: as a script draws them that was written after the definitions
+count=0
+for seed in {0..19} 9223372036854775807 18446744073709551615; do
+  python3 -c "
+import random
+draw = random.Random($seed)
+print(*(f'        addu \${draw.randint(1, 5)},\${draw.randint(0, 5)},\${draw.randint(0, 5)}' for _ in range(50)), '        break', sep='\n')" > "$work/additions.s"
+  ring=$((2 << count % 5)) count=$((count + 1))
+  "$chart" chart "$work/additions.s" --seed "$seed" --ruu-size $ring > "$work/out" 2> "$work/err" || fail "additions, seed $seed: status $?"
+  python3 tests/seeded.py "$work/additions.s" "$seed" $ring > "$work/drawn" 2> "$work/err" || fail "additions, seed $seed: no drawing"
+  grep -P '^\d+\t' "$work/out" | cmp -s - "$work/drawn" || fail "additions, seed $seed, $ring stations: another chart than by the definitions"
+done
+echo "$count charts of additions are those of the definitions"
+
+told=0 count=0
 for seed in {0..9} 18446744073709551615; do
   for listing in examples/*.s tests/listings/limit.s; do
-    tell "$listing" --limit 700 --ruu-size $((2 << seed % 5)) -- --seed "$seed"
+    tell "$listing" --limit 700 --ruu-size $((2 << count % 5)) -- --seed "$seed"
   done
+  count=$((count + 1))
 done
-echo "$count charts with seeds are those that are stored; with 11 seeds reports stay, and charts and logs agree on $told tenants"
+echo "with $count seeds the reports stay, and charts and logs agree on each of $told tenants"
 
 # A listing with a fault has no pictures.
 says() { # name, status, standard error

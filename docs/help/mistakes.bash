@@ -131,9 +131,17 @@ bad_values() { # command
             is_listed "${given[$name]}" "${takes[$name]}" || refused "$1" "--$name takes ${takes[$name]}"
         fi
     done
-    [[ ! -v given[chart] && ! -v given[trace] ]] || [[ -v given[alone] ]] || refused run '--chart and --trace need --alone'
-    [[ ! -v given[trace] || ${given[trace]} != "${given[FILE]}" ]] || refused run '--trace names the file of the listing'
-    [[ ! -v given[trace] || ${given[trace]} != - ]] || refused run '--trace takes a file'
+    case $1 in
+        run)
+            [[ ! -v given[seed] || -v given[alone] ]] || refused run '--seed needs --alone'
+            [[ ! -v given[shake] || ! -v given[alone] ]] || refused run '--shake cannot stand with --alone'
+            ;;
+        chart)
+            [[ ! -v given[trace] || ${given[trace]} != "${given[FILE]}" ]] || refused chart '--trace names the file of the listing'
+            [[ ! -v given[trace] || ${given[trace]} != - ]] || refused chart '--trace takes a file'
+            ;;
+        drive) [[ ! -v given[steps] || -v given[seed] ]] || refused drive '--steps needs --seed' ;;
+    esac
     [[ ! -v given[ruu-size] ]] || bad_ring "$1" "${given[ruu-size]}"
 }
 
@@ -143,7 +151,7 @@ bad_ring() { # command, value
     [ "$1" = drive ] || least=0 most=18446744073709551615
     is_within "$2" $least $most || refused "$1" "--ruu-size takes a number from $least to $most"
     ! is_listed $((10#${2#+})) "${takes[ruu-size]}" || return 0
-    [ "$1" = run ] || refused drive "--ruu-size takes ${takes[ruu-size]}"
+    [ "$1" != drive ] || refused drive "--ruu-size takes ${takes[ruu-size]}"
     echo "ruu: ruu-size must be ${takes[ruu-size]}" >&2
     exit 3
 }
