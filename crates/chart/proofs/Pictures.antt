@@ -21,7 +21,10 @@ pub fault_begun : (asked : Charted) (found : Result Program (ℕ × FaultKind)) 
     → Appends before.text after.text (take n bytes) → after.log ≡ before.log → IsBegun asked found Write before after
 fault_begun asked found line kind bytes before after n is same less wrote stays =
     rw is (record {
-      report = (n, subst (λ (text : List ℕ). n < length text) same less,
-          subst (λ (text : List ℕ). Appends before.text after.text (take n text)) same wrote);
+      report = (
+        n,
+        subst (λ (text : List ℕ). n < length text) same less,
+        subst (λ (text : List ℕ). Appends before.text after.text (take n text)) same wrote,
+      );
       log = stays;
     })

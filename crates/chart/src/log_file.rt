@@ -2,10 +2,9 @@
 ghost use Rattle.std.specs.Prelude.{◌≡◌};
 ghost use Rattle.chart.specs.Statuses.{status_without_log};
 
-use std::fmt;
 use std::fs::{File, Metadata};
-use std::io;
 use std::os::unix::fs::MetadataExt;
+use std::{fmt, io};
 
 /// Why there is no log.
 #[derive(Drop)]
