@@ -44,7 +44,7 @@ while read -r word text; do
     text=${text#* }
   done
   text=${text#"${text%%[! ]*}"}
-  [[ $(tr '\n' ' ' < "docs/help/$word.txt") == "$text"[\ :.]* ]] || fail "docs/help/ruu.txt tells otherwise of $word than its help"
+  [[ $(tr '\n' ' ' < "docs/help/$word.txt") == "$text"[\ :.,]* ]] || fail "docs/help/ruu.txt tells otherwise of $word than its help"
   named+=("$word")
 done < <(sed -n '/^Commands:/,/^$/s/^  //p' docs/help/ruu.txt)
 for word in "${words[@]}"; do
