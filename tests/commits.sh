@@ -92,8 +92,7 @@ for option in '--ruu-size 3' '--units 2' '--seed x'; do
   log examples/sum.s $option
   [ $status -eq 3 ] && [ ! -s "$work/out" ] || fail "$option: status $status"
 done
-log --help
-[ $status -eq 0 ] && grep -q 'Usage: ruu commits' "$work/out" || fail "help: status $status"
+(exec -a ruu "$commits" commits --help) | cmp -s - docs/help/commits.txt || fail 'help is another text than in docs/help'
 "$commits" commits - < examples/sum.s > "$work/again" 2> "$work/err"
 log examples/sum.s
 cmp -s "$work/out" "$work/again" || fail 'standard input has another log'

@@ -22,7 +22,7 @@ use without_threads::{Line, Refusal, Went, refused, written};
 /// it the chart of that run, and then its log, where one is wanted. For a listing with a fault its line is
 /// written, and nothing else. There is no reader where the file did not open. A failed read or write is not
 /// tried again.
-pub(crate) fn chart<R: Read + Drop, W: Write, L: Write>(
+pub fn chart<R: Read + Drop, W: Write, L: Write>(
     alloc: Global,
     asked: &Charted<'_>,
     reader: Option<Counted<R>>,
