@@ -1,15 +1,15 @@
 #!/usr/bin/env bash
-# Runs of the one-thread unit whose turns are told, by `--chart` and `--trace`, which the program viewer makes: of some
-# listings chart and log stand beside them, counted by hand; of each example the report is that of `--alone`, and the chart
-# behind it is drawn anew from the log, which says of each turn who was let, went on and left. Then what goes wrong:
-# devices that fail, files that do not open, a log over the listing, want of memory. And a run of 100,000 instructions is
-# told in the memory of one of 100.
+# Charts and logs of `./ruu chart`: of some listings they stand beside them, counted by hand; of each example the report is
+# that of `./ruu run --alone`, and the chart behind it is drawn anew from the log, which says of each turn who was let, went on
+# and left. In the order of a seed the report stays, and the charts are those that are stored for two seeds. Then what goes
+# wrong: devices that fail, files that do not open, a log over the listing, want of memory. And a run of 100,000 instructions
+# is told in the memory of one of 100.
 . "$(dirname "$0")/common.bash"
 build_refuse
 build run ruu
-build run viewer
+build run chart
 ruu=crates/ruu/out/ruu
-viewer=crates/viewer/out/viewer
+chart=crates/chart/out/chart
 
 # The options that the first line of a listing names.
 options_of() { # listing
@@ -20,13 +20,13 @@ options_of() { # listing
 }
 
 count=0
-for chart in examples/*.chart examples/rows/*.chart; do
-  of=${chart%.chart}
+for stored in examples/*.chart examples/rows/*.chart; do
+  of=${stored%.chart}
   options_of "$of.s"
-  "$viewer" run "$of.s" --alone --chart --trace "$work/log" "${options[@]}" > "$work/out" 2> "$work/err"
+  "$chart" chart "$of.s" --trace "$work/log" "${options[@]}" > "$work/out" 2> "$work/err"
   [ $? -eq "$(status_of "$of.report")" ] && [ ! -s "$work/err" ] || fail "$of.s: another status, or a line"
-  cat "$of.report" "$chart" > "$work/told"
-  cmp -s "$work/told" "$work/out" || { diff "$work/told" "$work/out"; fail "$chart is drawn otherwise"; }
+  cat "$of.report" "$stored" > "$work/told"
+  cmp -s "$work/told" "$work/out" || { diff "$work/told" "$work/out"; fail "$stored is drawn otherwise"; }
   [ ! -e "$of.kanata" ] || cmp -s "$of.kanata" "$work/log" || { diff "$of.kanata" "$work/log"; fail "$of.kanata is told otherwise"; }
   count=$((count + 1))
 done
@@ -93,24 +93,25 @@ assert told[-1] == "" and told[:-1] == wanted, "\n".join(t + "\n" + w for t, w i
 print(len(rows))
 DRAW
 
-# Runs a listing alone, with a chart, with a log and with both.
+# Runs a listing alone, and draws its chart with a log and without one. The report is that of any order.
 told=0
-tell() { # listing, options
-  local listing=$1 count
+tell() { # listing, options, -- and options of the chart alone
+  local listing=$1 count options=()
   shift
-  "$ruu" run "$listing" --alone "$@" > "$work/report" 2> "$work/err"
+  while [ $# -gt 0 ] && [ "$1" != -- ]; do
+    options+=("$1")
+    shift
+  done
+  [ $# -eq 0 ] || shift
+  "$ruu" run "$listing" --alone "${options[@]}" > "$work/report" 2> "$work/err"
   status=$?
-  "$viewer" run "$listing" --alone --chart --trace "$work/log" "$@" > "$work/out" 2> "$work/err"
-  [ $? -eq $status ] && [ ! -s "$work/err" ] || fail "$listing $*: another status, or a line"
-  head -c "$(stat -c %s "$work/report")" "$work/out" | cmp -s - "$work/report" || fail "$listing $*: another report"
+  "$chart" chart "$listing" --trace "$work/log" "${options[@]}" "$@" > "$work/out" 2> "$work/err"
+  [ $? -eq $status ] && [ ! -s "$work/err" ] || fail "$listing ${options[*]} $*: another status, or a line"
+  head -c "$(stat -c %s "$work/report")" "$work/out" | cmp -s - "$work/report" || fail "$listing ${options[*]} $*: another report"
   tail -c +$(($(stat -c %s "$work/report") + 1)) "$work/out" > "$work/chart"
-  "$viewer" run "$listing" --alone --chart "$@" > "$work/charted" 2> "$work/err"
-  [ $? -eq $status ] && cmp -s "$work/charted" "$work/out" || fail "$listing $*: another chart without a log"
-  "$viewer" run "$listing" --alone --trace "$work/again" "$@" > "$work/logged" 2> "$work/err"
-  [ $? -eq $status ] && cmp -s "$work/logged" "$work/report" && cmp -s "$work/again" "$work/log" \
-    || fail "$listing $*: another log without a chart"
-  [ "$(cat "$work/err")" = '' ] || fail "$listing $*: a line on standard error"
-  count=$(python3 "$work/draw.py" "$work/log" "$work/chart" 2> "$work/err") || fail "$listing $*: the log draws another chart"
+  "$chart" chart "$listing" "${options[@]}" "$@" > "$work/charted" 2> "$work/err"
+  [ $? -eq $status ] && cmp -s "$work/charted" "$work/out" && [ ! -s "$work/err" ] || fail "$listing ${options[*]} $*: another chart without a log"
+  count=$(python3 "$work/draw.py" "$work/log" "$work/chart" 2> "$work/err") || fail "$listing ${options[*]} $*: the log draws another chart"
   told=$((told + count))
 }
 
@@ -122,87 +123,120 @@ done
 [ $told -gt 5000 ] || fail "only $told tenants were told"
 echo "the charts and logs of the examples agree on each of $told tenants"
 
+# in the order of a seed: the charts that are stored, and the report of the run
+count=0
+for stored in examples/seeded/*.chart; do
+  of=${stored##*/} of=${of%.chart}
+  name=${of%.*} seed=${of##*.}
+  tell "examples/$name.s" -- --seed "$seed"
+  cmp -s "$work/chart" "$stored" || { diff "$stored" "$work/chart"; fail "$stored is drawn otherwise"; }
+  mv "$work/log" "$work/seeded"
+  tell "examples/$name.s"
+  ! cmp -s "$work/log" "$work/seeded" || fail "$name: the seed $seed changes no turn"
+  count=$((count + 1))
+done
+[ $count -ge 6 ] || fail "only $count charts with a seed"
+echo "$count charts with seeds are those that are stored"
+
+# additions of registers at random: as a script draws them that was written after the definitions
+count=0
+for seed in {0..19} 9223372036854775807 18446744073709551615; do
+  python3 -c "
+import random
+draw = random.Random($seed)
+print(*(f'        addu \${draw.randint(1, 5)},\${draw.randint(0, 5)},\${draw.randint(0, 5)}' for _ in range(50)), '        break', sep='\n')" > "$work/additions.s"
+  ring=$((2 << count % 5)) count=$((count + 1))
+  "$chart" chart "$work/additions.s" --seed "$seed" --ruu-size $ring > "$work/out" 2> "$work/err" || fail "additions, seed $seed: status $?"
+  python3 tests/seeded.py "$work/additions.s" "$seed" $ring > "$work/drawn" 2> "$work/err" || fail "additions, seed $seed: no drawing"
+  grep -P '^\d+\t' "$work/out" | cmp -s - "$work/drawn" || fail "additions, seed $seed, $ring stations: another chart than by the definitions"
+done
+echo "$count charts of additions are those of the definitions"
+
+told=0 count=0
+for seed in {0..5} 18446744073709551615; do
+  for listing in examples/*.s tests/listings/limit.s; do
+    tell "$listing" --limit 700 --ruu-size $((2 << count % 5)) -- --seed "$seed"
+  done
+  count=$((count + 1))
+done
+echo "with $count seeds the reports stay, and charts and logs agree on each of $told tenants"
+
 # A listing with a fault has no pictures.
 says() { # name, status, standard error
   [ "$status" -eq "$2" ] || fail "$1: status $status, and not $2"
   [ "$(cat "$work/err")" = "$3" ] || fail "$1: another line on standard error"
 }
 
-run() { # words
-  "$viewer" run "$@" > "$work/out" 2> "$work/err"
+draw() { # words
+  "$chart" chart "$@" > "$work/out" 2> "$work/err"
   status=$?
 }
 
-run tests/listings/fault.s --alone --chart --trace "$work/log"
+draw tests/listings/fault.s --trace "$work/log"
 says 'a listing with a fault' 2 ''
 cmp -s "$work/out" tests/listings/fault.report && [ ! -s "$work/log" ] || fail 'a listing with a fault has a picture'
 
 # devices that fail
 listing=examples/forwarding.s
-run $listing --alone --chart --trace /dev/full
+draw $listing --trace /dev/full
 says 'a full log' 5 'ruu: trace'
 cp "$work/out" "$work/beside"
 tell $listing
+cp "$work/log" "$work/again"
 cmp -s "$work/beside" "$work/charted" || fail 'a full log cuts the report or the chart'
-"$viewer" run $listing --alone --chart --trace "$work/log" > /dev/full 2> "$work/err"
+"$chart" chart $listing --trace "$work/log" > /dev/full 2> "$work/err"
 status=$?
 says 'a full standard output' 5 'ruu: write'
 [ ! -s "$work/log" ] || fail 'a log without its report'
-"$viewer" run - --alone --chart --trace "$work/log" < $listing >&- 2> "$work/err"
+"$chart" chart - --trace "$work/log" < $listing >&- 2> "$work/err"
 status=$?
 says 'a closed standard output' 5 'ruu: write'
 [ ! -s "$work/log" ] || fail 'the report is in the log'
-"$viewer" run - --alone --chart --trace "$work/log" <&- > "$work/out" 2> "$work/err"
+"$chart" chart - --trace "$work/log" <&- > "$work/out" 2> "$work/err"
 status=$?
 says 'a closed standard input' 5 'ruu: read'
 [ ! -s "$work/out" ] && [ ! -s "$work/log" ] || fail 'something was told of a closed standard input'
-"$viewer" run "$work/nowhere.s" --alone --trace "$work/log" 2>&- > "$work/out"
+"$chart" chart "$work/nowhere.s" --trace "$work/log" 2>&- > "$work/out"
 status=$?
 : > "$work/err"
 says 'a listing that is not there, and a closed standard error' 5 ''
-"$viewer" run - --alone --chart --trace "$work/beside.log" < $listing 2>&- > "$work/out"
+"$chart" chart - --trace "$work/beside.log" < $listing 2>&- > "$work/out"
 [ $? -eq 0 ] && cmp -s "$work/out" "$work/beside" && cmp -s "$work/beside.log" "$work/again" || fail 'a closed standard error changes what is told'
 
 # files that do not open
 rm -f "$work/log"
-run "$work/nowhere.s" --alone --chart --trace "$work/log"
+draw "$work/nowhere.s" --trace "$work/log"
 says 'a listing that is not there' 5 'ruu: open'
 [ ! -e "$work/log" ] || fail 'a log of a listing that is not there'
-run examples --alone --trace "$work/log"
+draw examples --trace "$work/log"
 says 'a folder as the listing' 5 'ruu: read'
-run $listing --alone --trace "$work/nowhere/log"
+draw $listing --trace "$work/nowhere/log"
 says 'a log in no folder' 5 "ruu: $work/nowhere/log: No such file or directory (os error 2)"
 [ ! -s "$work/out" ] || fail 'a report where the log did not open'
-run $listing --alone --trace examples
+draw $listing --trace examples
 says 'a folder as the log' 5 'ruu: examples: Is a directory (os error 21)'
 
 # the log is never the listing
 cp $listing "$work/own.s"
 ln -s own.s "$work/link.log"
 ln "$work/own.s" "$work/hard.log"
-run "$work/own.s" --alone --trace "$work/own.s"
+draw "$work/own.s" --trace "$work/own.s"
 [ $status -eq 3 ] && grep -qx 'error: --trace names the file of the listing' "$work/err" || fail "the listing as the log: status $status"
 for log in "$work/./own.s" "$work/link.log" "$work/hard.log"; do
-  run "$work/own.s" --alone --trace "$log"
+  draw "$work/own.s" --trace "$log"
   says 'the listing by another name' 3 "ruu: $log: it is the file of the listing"
-  "$viewer" run - --alone --trace "$log" < "$work/own.s" > "$work/out" 2> "$work/err"
+  "$chart" chart - --trace "$log" < "$work/own.s" > "$work/out" 2> "$work/err"
   status=$?
   says 'the listing from standard input' 3 "ruu: $log: it is the file of the listing"
 done
 cmp -s "$work/own.s" $listing || fail 'the listing was overwritten'
-"$viewer" run - --alone --trace "$work/log" < $listing > "$work/out" 2> "$work/err" && cmp -s "$work/log" "$work/again" \
+"$chart" chart - --trace "$work/log" < $listing > "$work/out" 2> "$work/err" && cmp -s "$work/log" "$work/again" \
   || fail 'standard input has another log'
 
 # `-` is no file
-run $listing --alone --trace -
+draw $listing --trace -
 [ $status -eq 3 ] && [ ! -e - ] && [ "$(head -n 1 "$work/err")" = 'error: --trace takes a file' ] || fail "--trace -: status $status"
 
-# without `--alone` they are mistakes
-for words in --chart "--trace $work/log" "--chart --units 1"; do
-  # shellcheck disable=SC2086
-  run $listing $words
-  [ $status -eq 3 ] && [ "$(head -n 1 "$work/err")" = 'error: --chart and --trace need --alone' ] || fail "$words: status $status"
-done
 echo 'what goes wrong has its word and its status, and no log overwrites the listing'
 
 # each allocation is refused in turn: the refusal is named behind a beginning of the report and the chart, and of the
@@ -218,7 +252,7 @@ n=0 refused=0
 while :; do
   n=$((n + 1))
   : > "$work/log"
-  run_under /dev/null REFUSED=$n "$viewer" run $listing --bpred nottaken --ruu-size 4 --alone --chart --trace "$work/log"
+  run_under /dev/null REFUSED=$n "$chart" chart $listing --bpred nottaken --ruu-size 4 --trace "$work/log"
   $was_refused || break
   ! $is_held || fail "allocation $n refused: a block was held at the end"
   for of in out log; do
@@ -236,7 +270,7 @@ echo "each of $((n - 1)) allocations was refused in turn, $refused told"
 
 # the least room in which 100 instructions are told has room for 100,000
 within() { # kilobytes, limit
-  (ulimit -v "$1"; exec "$viewer" run tests/listings/limit.s --alone --chart --trace "$work/log" --limit "$2") > /dev/null 2>&1
+  (ulimit -v "$1"; exec "$chart" chart tests/listings/limit.s --trace "$work/log" --limit "$2") > /dev/null 2>&1
   [ $? -eq 4 ]
 }
 low=0 high=1048576

@@ -1,8 +1,8 @@
 #!/usr/bin/env bash
 # The log of `./ruu commits`: of the examples, and of a hundred random listings with every operation, it says what the report
-# of the run says; it has the same bytes for every ring, queue and predictor; with a limit it is cut behind so many lines; the
-# simulator of examples/lockstep writes the same log, and with its mistake differs at one line. Then what goes wrong: devices,
-# files and want of memory. And 100,000 instructions are logged in the memory of 100.
+# of the run says; it has the same bytes for every ring, queue, predictor and seed; with a limit it is cut behind so many
+# lines; the simulator of examples/lockstep writes the same log, and with its mistake differs at one line. Then what goes
+# wrong: devices, files and want of memory. And 100,000 instructions are logged in the memory of 100.
 . "$(dirname "$0")/common.bash"
 build_refuse
 build run ruu
@@ -22,7 +22,7 @@ agrees() { # listing, its report, zeroed or nothing
   [ $status -eq "$(status_of "$2")" ] && [ ! -s "$work/err" ] || fail "$1: status $status"
   python3 tests/commits.py "$work/out" "$2" ${3:+"$3"} 2> "$work/err" || fail "$1: the log and the report differ"
   mv "$work/out" "$work/log"
-  for options in '--ruu-size 2 --lsq-size 2 --bpred nottaken' '--ruu-size 32 --bpred taken'; do
+  for options in '--ruu-size 2 --lsq-size 2 --bpred nottaken' '--ruu-size 32 --bpred taken' '--seed 0' '--seed 18446744073709551615 --ruu-size 8'; do
     # shellcheck disable=SC2086
     log "$1" $options
     cmp -s "$work/out" "$work/log" || fail "$1 $options: another log"
@@ -76,15 +76,23 @@ says() { # name, status, standard error
 "$commits" commits examples/sum.s > /dev/full 2> "$work/err"
 status=$?
 says 'a full standard output' 5 'ruu: write'
+"$commits" commits - < examples/sum.s >&- 2> "$work/err"
+status=$?
+says 'a closed standard output' 5 'ruu: write'
+"$commits" commits - <&- > "$work/out" 2> "$work/err"
+status=$?
+says 'a closed standard input' 5 'ruu: read'
 log "$work/nowhere.s"
 says 'a listing that is not there' 5 'ruu: open'
 log examples
 says 'a folder as the listing' 5 'ruu: read'
 [ ! -s "$work/out" ] || fail 'a log of a folder'
-log examples/sum.s --ruu-size 3
-[ $status -eq 3 ] || fail "a ring of 3: status $status"
-log --help
-[ $status -eq 0 ] && grep -q 'Usage: ruu commits' "$work/out" || fail "help: status $status"
+for option in '--ruu-size 3' '--units 2' '--seed x'; do
+  # shellcheck disable=SC2086
+  log examples/sum.s $option
+  [ $status -eq 3 ] && [ ! -s "$work/out" ] || fail "$option: status $status"
+done
+(exec -a ruu "$commits" commits --help) | cmp -s - docs/help/commits.txt || fail 'help is another text than in docs/help'
 "$commits" commits - < examples/sum.s > "$work/again" 2> "$work/err"
 log examples/sum.s
 cmp -s "$work/out" "$work/again" || fail 'standard input has another log'

@@ -76,13 +76,16 @@ for way in '' --alone; do
     || fail "$name, with --limit 3 $way"
 done
 
+build run chart
+chart=crates/chart/out/chart
+
 # each form, as the chart of its run writes it behind the address: up to two blanks or the picture
 count=0
 while IFS= read -r row; do
   [[ $row == *' => '* ]] || continue
   name=${row%% => *}
   printf '%b' "$name" > "$work/listing.s"
-  written=$("$viewer" run - --alone --chart --limit 1 < "$work/listing.s" 2> "$work/err" | sed -nE 's/^0\t1\t0x00400000 (.*[^ ]) +L.*/\1/p')
+  written=$("$chart" chart - --limit 1 < "$work/listing.s" 2> "$work/err" | sed -nE 's/^0\t1\t0x00400000 (.*[^ ]) +L.*/\1/p')
   [ "$written" = "${row#* => }" ] || fail "$name is written as $written"
   count=$((count + 1))
 done < tests/listings/forms.txt

@@ -3,27 +3,54 @@
 # of the programs; and how the work is told and foreseen, with a kit that proves nothing. With the word `renew` those texts are
 # written anew from the programs.
 . "$(dirname "$0")/common.bash"
-for program in ruu viewer driver listing commits; do
-  build run $program
+programs=(ruu check chart commits driver listing)
+words=(run check chart commits drive listing)
+for program in "${programs[@]}"; do
+  build run "$program"
 done
 
-told() { # text
-  local program=$PWD/crates/ruu/out/ruu
+# Sets `program` to the one that a word starts.
+start_by() { # word
   case $1 in
-    ruu) (exec -a ruu "$program" --help) ;;
-    version) (exec -a ruu "$program" --version) ;;
-    listing) (exec -a ruu crates/listing/out/listing --help) ;;
-    commits) (exec -a ruu crates/commits/out/commits commits --help) ;;
-    *) (exec -a ruu "$program" "$1" --help) ;;
+    run) program=$PWD/crates/ruu/out/ruu ;;
+    drive) program=$PWD/crates/driver/out/driver ;;
+    *) program=$PWD/crates/$1/out/$1 ;;
   esac
 }
 
-for text in ruu run check drive listing commits version; do
+told() { # text
+  local program
+  case $1 in
+    version) (exec -a ruu crates/ruu/out/ruu --version) ;;
+    listing) (exec -a ruu crates/listing/out/listing --help) ;;
+    *) start_by "$1" && (exec -a ruu "$program" "$1" --help) ;;
+  esac
+}
+
+for text in "${words[@]}" version; do
   told $text > "$work/text" || fail "no help of $text"
   [ "${1:-}" != renew ] || cp "$work/text" docs/help/$text.txt
   cmp -s "$work/text" docs/help/$text.txt || { diff docs/help/$text.txt "$work/text"; fail "docs/help/$text.txt is not what the program prints: tests/script.sh renew"; }
 done
 echo 'the texts of docs/help are those of the programs'
+
+# the help of all names each word as its own help begins
+named=()
+while read -r word text; do
+  case $word in
+    prove | help) continue ;;
+  esac
+  while [[ $text == [A-Z][A-Z]* ]]; do
+    text=${text#* }
+  done
+  text=${text#"${text%%[! ]*}"}
+  [[ $(tr '\n' ' ' < "docs/help/$word.txt") == "$text"[\ :.,]* ]] || fail "docs/help/ruu.txt tells otherwise of $word than its help"
+  named+=("$word")
+done < <(sed -n '/^Commands:/,/^$/s/^  //p' docs/help/ruu.txt)
+for word in "${words[@]}"; do
+  [[ " ${named[*]} " == *" $word "* ]] || fail "docs/help/ruu.txt does not name $word"
+done
+echo "${#named[@]} words are named as their own help begins"
 
 # a folder of the repository in which nothing is built, and one of commands without rt and python3
 fresh=$work/fresh bare=$work/bare
@@ -45,42 +72,75 @@ answer() { # words
   status=$?
 }
 
-is_answered() { # texts, words
-  local texts=$1
+is_answered() { # text, words
+  local text=$1
   shift
   answer "$@"
-  # shellcheck disable=SC2086
-  (cd docs/help && cat $texts) > "$work/wanted"
-  [ $status -eq 0 ] && cmp -s "$work/out" "$work/wanted" && [ ! -s "$work/err" ] || fail "ruu $*: status $status, not the texts $texts"
+  [ $status -eq 0 ] && cmp -s "$work/out" "docs/help/$text" && [ ! -s "$work/err" ] || fail "ruu $*: status $status, not the text $text"
 }
 
-top='ruu.txt script.txt'
-for words in -h --help help '--unproved --help'; do
+for of in -h --help help '--unproved --help'; do
   # shellcheck disable=SC2086
-  is_answered "$top" $words
+  is_answered ruu.txt $of
 done
 is_answered version.txt -V
 is_answered version.txt --version
 is_answered version.txt run --version
 is_answered version.txt drive nowhere.s -V
-for command in run check drive listing commits; do
+for command in "${words[@]}"; do
   is_answered $command.txt $command --help
   is_answered $command.txt $command -h
   is_answered $command.txt help $command
   is_answered $command.txt $command nowhere.s --help
   is_answered $command.txt --unproved $command --help
 done
-is_answered run.txt run nowhere.s --alone --chart --help
+is_answered chart.txt chart nowhere.s --trace sum.log --help
 echo 'help and the version are answered where nothing is built, without rt and python3'
 
+# no word, or an unknown one: the script names the words
+count=0
+while read -r of; do
+  # shellcheck disable=SC2086
+  answer $of
+  [ $status -eq 3 ] && [ ! -s "$work/out" ] || fail "ruu $of: status $status"
+  [[ $(head -n 1 "$work/err") == 'error: there is no command'* ]] || fail "ruu $of: another mistake"
+  for word in "${named[@]}"; do
+    grep -q "^  $word " "$work/err" || fail "ruu $of: $word is not named"
+  done
+  count=$((count + 1))
+done << 'END'
+
+rnu
+foo
+chek
+runn examples/sum.s
+hepl
+drve examples/sum.s
+help foo
+--helpp
+--versio
+--foo
+--
+-- run examples/sum.s
+--alone run examples/sum.s
+-x
+-x run examples/sum.s
+examples/sum.s
+END
+answer chrat examples/sum.s
+grep -qx "  tip: a similar command exists: 'chart'" "$work/err" || fail 'no similar command'
+answer ''
+[ $status -eq 3 ] && [ "$(head -n 1 "$work/err")" = "error: there is no command ''" ] || fail "an empty word: status $status"
+echo "$count times the words are named where none of them begins"
+
 # a mistake: by the script where nothing is built, and by the program
-mistake() { # program, words
-  local program=$PWD/crates/$1/out/$1
-  shift
+mistake() { # words
+  local program
+  start_by "$1"
   answer "$@"
   [ $status -eq 3 ] && [ ! -s "$work/out" ] || fail "ruu $*: status $status"
   cp "$work/err" "$work/script"
-  [ "${1:-}" != listing ] || shift
+  [ "$1" != listing ] || shift
   (exec -a ruu "$program" "$@") < /dev/null > "$work/out" 2> "$work/err"
   status=$?
   [ $status -eq 3 ] && [ ! -s "$work/out" ] || fail "the program, $*: status $status"
@@ -88,101 +148,111 @@ mistake() { # program, words
 }
 
 count=0
-while read -r program words; do
+while read -r of; do
   # shellcheck disable=SC2086
-  mistake $program $words
+  mistake $of
   count=$((count + 1))
 done << 'END'
-ruu
-ruu rnu
-ruu foo
-ruu chek
-ruu runn examples/sum.s
-ruu hepl
-ruu drve examples/sum.s
-ruu help foo
-ruu --helpp
-ruu --versio
-ruu --foo
-ruu --alone run examples/sum.s
-ruu -x
-ruu -x run examples/sum.s
-ruu examples/sum.s
-ruu run
-ruu run --alone
-ruu run --units 3
-ruu run --foo
-ruu run --foo examples/sum.s
-ruu run examples/sum.s --foo
-ruu run examples/sum.s --foo=3
-ruu run examples/sum.s --alnoe
-ruu run --ruu-sise 8 examples/sum.s
-ruu run examples/sum.s --ruu-sise 8
-ruu run --units 3 examples/sum.s --alone --lsq-sise 4
-ruu run --alone --alon examples/sum.s
-ruu run examples/sum.s --helpp
-ruu run examples/sum.s -x
-ruu run examples/sum.s -xy
-ruu run examples/sum.s examples/double.s
-ruu run --alone examples/sum.s examples/double.s
-ruu run examples/sum.s --units
-ruu run examples/sum.s --units --alone
-ruu run examples/sum.s --alone --alone
-ruu run examples/sum.s --units 3 --units 4
-viewer check
-viewer check --foo
-viewer check examples/sum.s --foo
-viewer check examples/sum.s --alone
-viewer check examples/sum.s examples/double.s
-viewer run examples/sum.s --chart --foo
-viewer run examples/sum.s --chart --trace
-viewer run examples/sum.s --chart
-viewer run --trace sum.log examples/sum.s
-driver drive
-driver drive examples/sum.s --units 3
-driver drive examples/sum.s --first-tags 3
-driver drive examples/sum.s --quiet-promp
-ruu run examples/sum.s --units 0
-ruu run examples/sum.s --units 65 --limit x
-ruu run examples/sum.s --units 3.0
-ruu run examples/sum.s --lsq-size=33
-ruu run examples/sum.s --turns 0
-ruu run examples/sum.s --limit 4294967296
-ruu run examples/sum.s --limit 99999999999999999999999
-ruu run examples/sum.s --bpred often
-ruu run examples/sum.s --bpred or
-ruu run examples/sum.s --ruu-size 7
-ruu run examples/sum.s --ruu-size foo
-ruu run examples/sum.s --ruu-size 18446744073709551616
-viewer run examples/sum.s --trace examples/sum.s --alone
-viewer run examples/sum.s --trace - --alone
-viewer run examples/sum.s --chart --ruu-size 3
-driver drive -
-driver drive examples/sum.s --first-tag 268435455
-driver drive examples/sum.s --ruu-size 3
-driver drive examples/sum.s --ruu-size 33
-listing listing
-listing listing examples/sum.s examples/double.s
-listing listing --bogus
-listing listing --
+run
+run --alone
+run --units 3
+run --foo
+run --foo examples/sum.s
+run examples/sum.s --foo
+run examples/sum.s --foo=3
+run examples/sum.s --alnoe
+run examples/sum.s --chart
+run --ruu-sise 8 examples/sum.s
+run examples/sum.s --ruu-sise 8
+run --units 3 examples/sum.s --alone --lsq-sise 4
+run --alone --alon examples/sum.s
+run examples/sum.s --helpp
+run examples/sum.s -x
+run examples/sum.s -xy
+run examples/sum.s examples/double.s
+run --alone examples/sum.s examples/double.s
+run examples/sum.s --units
+run examples/sum.s --units --alone
+run examples/sum.s --alone --alone
+run examples/sum.s --units 3 --units 4
+check
+check --foo
+check examples/sum.s --foo
+check examples/sum.s --alone
+check examples/sum.s examples/double.s
+chart
+chart --trace sum.log
+chart examples/sum.s --alone
+chart examples/sum.s --chart
+chart examples/sum.s --foo
+chart examples/sum.s --trace
+chart examples/sum.s --seed
+chart --seed 3 --trace sum.log
+commits
+commits --limit 3
+commits examples/sum.s --alone
+commits examples/sum.s --trace sum.log
+commits examples/sum.s --sed 3
+drive
+drive examples/sum.s --units 3
+drive examples/sum.s --first-tags 3
+drive examples/sum.s --quiet-promp
+run examples/sum.s --units 0
+run examples/sum.s --units 65 --limit x
+run examples/sum.s --units 3.0
+run examples/sum.s --lsq-size=33
+run examples/sum.s --turns 0
+run examples/sum.s --limit 4294967296
+run examples/sum.s --limit 99999999999999999999999
+run examples/sum.s --bpred often
+run examples/sum.s --bpred or
+run examples/sum.s --ruu-size 7
+run examples/sum.s --ruu-size foo
+run examples/sum.s --ruu-size 18446744073709551616
+run examples/sum.s --seed 3
+run examples/sum.s --alone --seed x
+run examples/sum.s --alone --seed 18446744073709551616
+run examples/sum.s --alone --shake 3
+run examples/sum.s --alone --shake 3 --seed 4
+chart examples/sum.s --seed -1
+chart examples/sum.s --seed=-1
+chart examples/sum.s --seed 18446744073709551616
+chart examples/sum.s --trace examples/sum.s
+chart examples/sum.s --trace -
+chart examples/sum.s --ruu-size 3
+chart examples/sum.s --limit x --ruu-size 3
+commits examples/sum.s --seed x
+commits examples/sum.s --lsq-size 1
+commits examples/sum.s --ruu-size 3
+drive -
+drive examples/sum.s --first-tag 268435455
+drive examples/sum.s --ruu-size 3
+drive examples/sum.s --ruu-size 33
+drive examples/sum.s --steps 3
+drive examples/sum.s --seed 3 --steps 0
+drive examples/sum.s --seed 3 --steps 1000001
+listing
+listing examples/sum.s examples/double.s
+listing --bogus
+listing --
 END
-mistake ruu ''
-mistake ruu run ''  ''
-mistake ruu run 'a b' 'c d'
-for words in 'prove ruu' '--unproved prove'; do
+mistake run ''  ''
+mistake run 'a b' 'c d'
+for of in 'prove ruu' '--unproved prove'; do
   # shellcheck disable=SC2086
-  answer $words
-  [ $status -eq 3 ] && [ "$(cat "$work/err")" = "error: 'prove' stands alone" ] || fail "ruu $words: status $status"
+  answer $of
+  [ $status -eq 3 ] && [ "$(cat "$work/err")" = "error: 'prove' stands alone" ] || fail "ruu $of: status $status"
 done
-[ $count -gt 60 ] || fail "only $count mistakes"
+[ $count -gt 70 ] || fail "only $count mistakes"
 echo "$count mistakes are told where nothing is built, as the programs tell them"
 
 # words without a mistake: then the kit is looked for
-for words in 'run -' 'run a.s --units 64 --lsq-size 2 --turns 4294967295 --limit +0' 'run -- -a' 'run a.s --bpred=taken --ruu-size 032' \
-  'run a.s --alone --chart --trace b.log --progress' 'check -' 'drive a.s --first-tag 268435454 --ruu-size 2 --quiet-prompt' 'listing a.elf'; do
+for of in 'run -' 'run a.s --units 64 --lsq-size 2 --turns 4294967295 --limit +0' 'run -- -a' 'run a.s --bpred=taken --ruu-size 032' \
+  'run a.s --alone --progress --seed 18446744073709551615' 'run a.s --shake 0' 'chart a.s --trace b.log --seed 3' 'commits - --seed +0 --limit 0' \
+  'check -' 'drive a.s --first-tag 268435454 --ruu-size 2 --quiet-prompt' 'listing a.elf'; do
   # shellcheck disable=SC2086
-  answer $words
-  [ $status -eq 70 ] || fail "ruu $words: status $status"
+  answer $of
+  [ $status -eq 70 ] || fail "ruu $of: status $status"
 done
 echo 'nothing else is a mistake'
 
@@ -200,11 +270,11 @@ python=$(python3 -c 'import sys; print(sys.executable)')
 mkdir "$work/with_python"
 cp -P "$bare"/* "$work/with_python"
 ln -s "$python" "$work/with_python/python3"
-for words in 'run nowhere.s' 'check nowhere.s' '--unproved run nowhere.s' prove; do
+for of in 'run nowhere.s' 'check nowhere.s' '--unproved run nowhere.s' prove; do
   # shellcheck disable=SC2086
-  lacks python3 env PATH="$bare" "$fresh/ruu" $words
+  lacks python3 env PATH="$bare" "$fresh/ruu" $of
   # shellcheck disable=SC2086
-  lacks rt env PATH="$work/with_python" "$fresh/ruu" $words
+  lacks rt env PATH="$work/with_python" "$fresh/ruu" $of
 done
 lacks rt env PATH="$work/with_python" "$fresh/prove" text
 echo 'a missing kit is named in one line'
@@ -268,8 +338,8 @@ unproved() { # what the kit is asked for, words
 touch "$work/a.s"
 unproved "ruu try -- run $work/a.s --units 3" run a.s --units 3
 unproved 'ruu try -- run nowhere.s' run nowhere.s
-unproved "viewer try -- run $work/a.s --alone --trace=$work/b.log" run a.s --alone --trace=b.log
-unproved "viewer try -- run --alone --trace $work/b.log $work/a.s" run --alone --trace b.log a.s
+unproved "chart try -- chart $work/a.s --seed 3 --trace=$work/b.log" chart a.s --seed 3 --trace=b.log
+unproved "chart try -- chart --trace $work/b.log $work/a.s" chart --trace b.log a.s
 unproved "driver try -- drive $work/a.s" drive a.s
 unproved "listing try -- $work/a.s" listing a.s
 echo 'a first look is built without a proof, and says so'
@@ -305,13 +375,13 @@ with_kit "$fresh/ruu" run b.s
 
 # all programs at once, and then each starts
 with_kit "$fresh/ruu" prove
-more=$(($(count_of ruu viewer driver listing commits) - number))
+more=$(($(count_of "${programs[@]}") - number))
 [ $status -eq 0 ] && [ "$(grep -c "^proving [0-9]* of $more," "$work/err")" -eq $more ] || fail "ruu prove: status $status"
-[ "$(tail -n 1 "$work/err")" = 'ruu: proved and built: ruu viewer driver listing commits' ] || fail 'ruu prove: no line at its end'
-for words in 'run a.s' 'check a.s' 'drive a.s' 'listing a.elf' 'commits a.s' 'run a.s --alone --chart'; do
+[ "$(tail -n 1 "$work/err")" = "ruu: proved and built: ${programs[*]}" ] || fail 'ruu prove: no line at its end'
+for of in 'run a.s' 'check a.s' 'drive a.s' 'listing a.elf' 'commits a.s' 'chart a.s --trace b.log'; do
   # shellcheck disable=SC2086
-  with_kit "$fresh/ruu" $words
-  [ $status -eq 0 ] && [ "$(cat "$work/out")" = "ran ${words#listing }" ] && [ ! -s "$work/err" ] || fail "ruu $words after all were built"
+  with_kit "$fresh/ruu" $of
+  [ $status -eq 0 ] && [ "$(cat "$work/out")" = "ran ${of#listing }" ] && [ ! -s "$work/err" ] || fail "ruu $of after all were built"
 done
 echo "each of $((number + more)) crates is told of in a log, and all programs are built at once"
 

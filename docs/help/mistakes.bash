@@ -67,50 +67,25 @@ usage() { # command, options and FILE that were met
     echo "$text <FILE>"
 }
 
-# An option before the command, which has none there but --help and --version; it may be one of the command behind it.
-bad_first_option() { # its name, the words behind it
-    local found names word
-    local -A values takes
-    find_alike "$1" help version
-    [ ${#found[@]} -eq 0 ] \
-        || mistaken "unexpected argument '--$1' found"$'\n\n'"  tip: a similar argument exists: '--${found[-1]}'" "ruu --${found[-1]}"
-    for word in "${@:2}"; do
-        [[ $word == @(run|check|drive) ]] || continue
-        read_options "$word"
-        find_alike "$1" "${names[@]}"
-        [ ${#found[@]} -eq 0 ] || mistaken "unexpected argument '--$1' found"$'\n\n'"  tip: '$word --${found[-1]}' exists" 'ruu [COMMAND]'
-    done
-    mistaken "unexpected argument '--$1' found" 'ruu [COMMAND]'
+# Ends the script with a mistake in its first word, and names the words.
+without_command() { # what is wrong
+    {
+        printf 'error: %s\n\n' "$1"
+        sed -n '/^Commands:/,/^$/p' "$help/ruu.txt"
+        printf "For more information, try 'ruu --help'.\n"
+    } >&2
+    exit 3
 }
 
 # The first word is no command.
 bad_command() { # words
-    local names found name tip=
+    local names found
+    [ $# -gt 0 ] || without_command 'there is no command'
+    [[ $1 != help ]] || shift
     mapfile -t names < <(sed -n '/^Commands:/,/^$/s/^  \([a-z]*\) .*/\1/p' "$help/ruu.txt")
-    case $1 in
-        --)
-            [ $# -gt 1 ] || no_command
-            [[ " ${names[*]} " != *" $2 "* ]] \
-                || mistaken "unexpected argument '$2' found"$'\n\n'"  tip: subcommand '$2' exists; to use it, remove the '--' before it" 'ruu [COMMAND]'
-            shift
-            ;;
-        --?*) name=${1#--} && bad_first_option "${name%%=*}" "${@:2}" ;;
-        -?*) mistaken "unexpected argument '${1:0:2}' found" 'ruu [COMMAND]' ;;
-    esac
     find_alike "$1" "${names[@]}"
-    for name in "${found[@]}"; do
-        tip+="${tip:+, }'$name'"
-    done
-    case ${#found[@]} in
-        0) ;;
-        1) tip=$'\n\n  tip: a similar subcommand exists: '$tip ;;
-        *) tip=$'\n\n  tip: some similar subcommands exist: '$tip ;;
-    esac
-    mistaken "unrecognized subcommand '$1'$tip" 'ruu [COMMAND]'
-}
-
-no_command() {
-    mistaken 'there is no command' '' 'ruu --help'
+    [ ${#found[@]} -gt 0 ] || without_command "there is no command '$1'"
+    without_command "there is no command '$1'"$'\n\n'"  tip: a similar command exists: '${found[-1]}'"
 }
 
 # An option that the command does not have.
@@ -156,9 +131,17 @@ bad_values() { # command
             is_listed "${given[$name]}" "${takes[$name]}" || refused "$1" "--$name takes ${takes[$name]}"
         fi
     done
-    [[ ! -v given[chart] && ! -v given[trace] ]] || [[ -v given[alone] ]] || refused run '--chart and --trace need --alone'
-    [[ ! -v given[trace] || ${given[trace]} != "${given[FILE]}" ]] || refused run '--trace names the file of the listing'
-    [[ ! -v given[trace] || ${given[trace]} != - ]] || refused run '--trace takes a file'
+    case $1 in
+        run)
+            [[ ! -v given[seed] || -v given[alone] ]] || refused run '--seed needs --alone'
+            [[ ! -v given[shake] || ! -v given[alone] ]] || refused run '--shake cannot stand with --alone'
+            ;;
+        chart)
+            [[ ! -v given[trace] || ${given[trace]} != "${given[FILE]}" ]] || refused chart '--trace names the file of the listing'
+            [[ ! -v given[trace] || ${given[trace]} != - ]] || refused chart '--trace takes a file'
+            ;;
+        drive) [[ ! -v given[steps] || -v given[seed] ]] || refused drive '--steps needs --seed' ;;
+    esac
     [[ ! -v given[ruu-size] ]] || bad_ring "$1" "${given[ruu-size]}"
 }
 
@@ -168,7 +151,7 @@ bad_ring() { # command, value
     [ "$1" = drive ] || least=0 most=18446744073709551615
     is_within "$2" $least $most || refused "$1" "--ruu-size takes a number from $least to $most"
     ! is_listed $((10#${2#+})) "${takes[ruu-size]}" || return 0
-    [ "$1" = run ] || refused drive "--ruu-size takes ${takes[ruu-size]}"
+    [ "$1" != drive ] || refused drive "--ruu-size takes ${takes[ruu-size]}"
     echo "ruu: ruu-size must be ${takes[ruu-size]}" >&2
     exit 3
 }
@@ -213,18 +196,14 @@ bad_words() { # command, words
     bad_values "$command"
 }
 
-[ $# -gt 0 ] || [ "$name" = listing ] || no_command
-case $name-${1:-} in
-    listing-*)
+case $name in
+    '') bad_command "$@" ;;
+    listing)
         # a file, whose name begins with a dash behind `--` alone
         if ! [[ $# -eq 1 && ($1 == - || $1 != -*) || $# -eq 2 && $1 == -- ]]; then
             cat "$help/listing.txt" >&2
             exit 3
         fi
         ;;
-    # its words are those of a run
-    commits-*) bad_words run "${@:2}" ;;
-    *-check | *-drive | *-run) bad_words "$@" ;;
-    *-help) mistaken "unrecognized subcommand '$2'" 'ruu [COMMAND]' ;;
-    *) bad_command "$@" ;;
+    *) bad_words "$@" ;;
 esac

@@ -13,18 +13,18 @@ use bench::{MOST_TAKEN, Status};
 use devices::{Counted, read_up_to, write_whole};
 use instructions::Program;
 use isa::{FaultKind, fault_text, parse};
-use requests::{Asked, choose};
+use requests::{Committed, choose};
 use std::alloc::Global;
 use std::io::{Read, Write};
 use unit::Order;
 use without_threads::{Line, Refusal, Went, refused, written};
 
-/// Reads the listing, runs it on the one-thread unit and writes a line for each instruction that it commits, before the next
-/// one does. For a listing with a fault its line is written, and nothing else. There is no reader where the file did not
-/// open. A failed read or write is not tried again.
+/// Reads the listing, runs it on the one-thread unit in the order of the seed, and writes a line for each instruction that
+/// it commits, before the next one does. For a listing with a fault its line is written, and nothing else. There is no
+/// reader where the file did not open. A failed read or write is not tried again.
 pub fn log_commits<R: Read + Drop, W: Write>(
     alloc: Global,
-    asked: &Asked<'_>,
+    asked: &Committed<'_>,
     reader: Option<Counted<R>>,
     writer: &mut Counted<W>,
 ) -> Went
@@ -34,7 +34,7 @@ pub fn log_commits<R: Read + Drop, W: Write>(
     ensures open { reader ≡ None → result ≡ refused Refusal.Open }
     ensures unopened { reader ≡ None → writer.new ≡ writer.old }
     ensures opened { result.line ≡ Refused Refusal.Open → reader ≡ None }
-    // What was written whole is the log of the in-order machine's steps, for any predictor and sizes.
+    // What was written whole is the log of the in-order machine's steps, for any predictor, sizes and seed.
     ensures answer { result.line ≡ Nothing → HoldsOfInput R.remaining reader (λ input.
         IsLogged asked.now.config.limit (listing input) result.status
         (known_by W.contents writer.old) (known_by W.contents writer.new)) }
@@ -65,7 +65,7 @@ pub fn log_commits<R: Read + Drop, W: Write>(
 // Reads a listing and logs its run; gives the status, once all is written.
 fn logged<R: Read, W: Write>(
     alloc: Global,
-    asked: &Asked<'_>,
+    asked: &Committed<'_>,
     reader: &mut Counted<R>,
     writer: &mut Counted<W>,
 ) -> Result<Status, Refusal>
@@ -91,7 +91,7 @@ fn logged<R: Read, W: Write>(
 // Logs the run of the listing of these bytes, or writes the line of its fault; gives the status.
 fn told<W: Write>(
     alloc: Global,
-    asked: &Asked<'_>,
+    asked: &Committed<'_>,
     bytes: &[u8],
     writer: &mut Counted<W>,
 ) -> Result<Status, Refusal>
@@ -120,7 +120,7 @@ fn told<W: Write>(
 // Logs the run of a program; gives the status.
 fn told_of<W: Write>(
     alloc: Global,
-    asked: &Asked<'_>,
+    asked: &Committed<'_>,
     program: &Program,
     writer: &mut Counted<W>,
 ) -> Result<Status, Refusal>
@@ -136,7 +136,7 @@ fn told_of<W: Write>(
         (known_by W.contents writer.old) (known_by W.contents writer.new)) }
 {
     let predictor = choose(asked.predictor);
-    let order = Order::by_seed(None);
+    let order = Order::by_seed(asked.seed);
     let ending = log_run(alloc, program, &asked.config, predictor, order, writer)?;
     Ok(Status::of(ending))
 }

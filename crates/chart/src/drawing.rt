@@ -1,29 +1,29 @@
 //! What became of each instruction of a run: its chart and its log.
 ghost use Rattle.std.specs.Prelude.{◌≡◌, ◌≢◌, ◌+◌, ◌-◌, ◌^◌, ◌<◌, IfErr, OnOk, OnErr, is_some};
 ghost use Rattle.devices.specs.Counted.{failures_of, known_by};
-ghost use Rattle.viewing.specs.Watched.{HasBegun, HasToldWhole, IsRefusalOfFault, IsPicture};
-ghost use Rattle.viewing.specs.Watched.{chart_refusal, log_failures, log_refusal, writer_failures};
+ghost use Rattle.chart.specs.Watched.{HasBegun, HasToldWhole, IsLogged, IsRefusalOfFault};
+ghost use Rattle.chart.specs.Watched.{chart_refusal, log_failures, log_refusal, writer_failures};
 ghost use Rattle.without_threads.specs.Went.{IsOfOneThread};
 ghost use Rattle.without_threads.specs.declared.went.Line.TheVariants.{Refused};
 
 use charts::{Fault, Format, watch};
 use devices::Counted;
 use instructions::Program;
-use requests::{Asked, choose};
+use requests::{Charted, choose};
 use std::alloc::Global;
 use std::io::Write;
 use unit::Order;
 use without_threads::Refusal;
 
-/// The chart, where it is wanted.
+/// Draws the chart.
 pub(crate) fn draw<W: Write>(
     alloc: Global,
-    asked: &Asked<'_>,
+    asked: &Charted<'_>,
     program: &Program,
     writer: &mut Counted<W>,
 ) -> Result<(), Refusal>
     requires room { failures_of writer.old < 2 ^ 64 - 1 }
-    ensures told { OnOk result (IsPicture asked.now.watch.chart Format.Chart asked.now program.now
+    ensures told { OnOk result (HasToldWhole Format.Chart asked.now program.now
         (known_by W.contents writer.old) (known_by W.contents writer.new)) }
     ensures quiet { OnOk result (failures_of writer.new ≡ failures_of writer.old) }
     ensures err { IfErr result (λ refusal. IsOfOneThread (Refused refusal)) }
@@ -36,25 +36,22 @@ pub(crate) fn draw<W: Write>(
     ensures begun { OnErr result (HasBegun Format.Chart asked.now program.now
         (known_by W.contents writer.old) (known_by W.contents writer.new)) }
 {
-    if !asked.watch.chart {
-        return Ok(());
-    }
     match picture(alloc, asked, program, Format::Chart, writer) {
         Ok(()) => Ok(()),
         Err(fault) => Err(chart_refusal(fault)),
     }
 }
 
-/// The log, where it is wanted.
+/// Writes the log, where one is wanted.
 pub(crate) fn trace<L: Write>(
     alloc: Global,
-    asked: &Asked<'_>,
+    asked: &Charted<'_>,
     program: &Program,
     log: &mut Counted<L>,
 ) -> Result<(), Refusal>
     requires room { failures_of log.old < 2 ^ 64 - 1 }
-    ensures told { OnOk result (IsPicture (is_some asked.now.watch.log) Format.Kanata asked.now
-        program.now (known_by L.contents log.old) (known_by L.contents log.new)) }
+    ensures told { OnOk result (IsLogged (is_some asked.now.log) asked.now program.now
+        (known_by L.contents log.old) (known_by L.contents log.new)) }
     ensures quiet { OnOk result (failures_of log.new ≡ failures_of log.old) }
     ensures err { IfErr result (λ refusal. IsOfOneThread (Refused refusal)) }
     ensures opened { IfErr result (λ refusal. refusal ≢ Refusal.Open) }
@@ -66,7 +63,7 @@ pub(crate) fn trace<L: Write>(
     ensures begun { OnErr result (HasBegun Format.Kanata asked.now program.now
         (known_by L.contents log.old) (known_by L.contents log.new)) }
 {
-    if asked.watch.log.is_none() {
+    if asked.log.is_none() {
         return Ok(());
     }
     match picture(alloc, asked, program, Format::Kanata, log) {
@@ -75,10 +72,10 @@ pub(crate) fn trace<L: Write>(
     }
 }
 
-// The run again, told turn by turn.
+// Makes the run again in its order, and tells it turn by turn.
 fn picture<W: Write>(
     alloc: Global,
-    asked: &Asked<'_>,
+    asked: &Charted<'_>,
     program: &Program,
     format: Format,
     writer: &mut Counted<W>,
@@ -95,7 +92,7 @@ fn picture<W: Write>(
         failures_of writer.new ≡ failures_of writer.old) }
 {
     let predictor = choose(asked.predictor);
-    let order = Order::by_seed(None);
+    let order = Order::by_seed(asked.seed);
     watch(
         alloc,
         program,

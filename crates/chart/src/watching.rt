@@ -1,29 +1,30 @@
-//! A run of the one-thread unit whose turns are told.
+//! The report of a run of the one-thread unit, its chart behind it, and its log.
 ghost use Rattle.std.specs.Prelude.{◌≡◌, ◌≢◌, ◌+◌, ◌-◌, ◌^◌, ◌<◌, IfSome, IfOk, IfErr, Ok, OnOk, None};
 ghost use Rattle.isa.specs.Listing.{listing};
 ghost use Rattle.devices.specs.Counted.{failures_of, known_by};
 ghost use Rattle.inorder.specs.Runs.{end_of, end_state};
-ghost use Rattle.viewing.specs.Watched.{IsBegun, IsWatched, log_failures, outputs, writer_failures};
+ghost use Rattle.chart.specs.Watched.{IsBegun, IsWatched, log_failures, outputs, writer_failures};
 ghost use Rattle.without_threads.specs.Went.{HoldsOfInput, IsOfOneThread, refused, status_number};
 ghost use Rattle.without_threads.specs.declared.went.Line.TheVariants.{Nothing, Refused};
 
 use crate::drawing::{draw, trace};
-use bench::{Bench, MOST_TAKEN, Status};
+use bench::{MOST_TAKEN, Status};
 use devices::{Counted, read_up_to, write_whole};
 use instructions::{End, Memory, Program};
 use isa::{FaultKind, fault_text, parse, report_text};
-use requests::{Asked, choose};
+use requests::{Charted, choose};
 use std::alloc::Global;
 use std::io::{Read, Write};
+use unit::{Bench, Order};
 use without_threads::{Line, Refusal, Went, refused, written};
 
-/// Reads the listing, runs it on the one-thread unit and writes its report; then, as they are asked
-/// for, the chart of that run behind the report, and its log. For a listing with a fault its line is
-/// written, and nothing else. There is no reader where the file did not open. A failed read or write
-/// is not tried again.
-pub fn go_watched<R: Read + Drop, W: Write, L: Write>(
+/// Reads the listing, runs it on the one-thread unit in the order of the seed, and writes its report; behind
+/// it the chart of that run, and then its log, where one is wanted. For a listing with a fault its line is
+/// written, and nothing else. There is no reader where the file did not open. A failed read or write is not
+/// tried again.
+pub fn chart<R: Read + Drop, W: Write, L: Write>(
     alloc: Global,
-    asked: &Asked<'_>,
+    asked: &Charted<'_>,
     reader: Option<Counted<R>>,
     writer: &mut Counted<W>,
     log: &mut Counted<L>,
@@ -68,10 +69,10 @@ pub fn go_watched<R: Read + Drop, W: Write, L: Write>(
     }
 }
 
-// The status, once all is written.
+// Reads a listing and writes all that is told of its run; gives the status.
 fn watched<R: Read, W: Write, L: Write>(
     alloc: Global,
-    asked: &Asked<'_>,
+    asked: &Charted<'_>,
     reader: &mut Counted<R>,
     writer: &mut Counted<W>,
     log: &mut Counted<L>,
@@ -102,10 +103,10 @@ fn watched<R: Read, W: Write, L: Write>(
     told(alloc, asked, listing.as_slice(), writer, log)
 }
 
-// The same for the bytes of a listing.
+// Writes all that is told of the run of the listing of these bytes, or the line of its fault; gives the status.
 fn told<W: Write, L: Write>(
     alloc: Global,
-    asked: &Asked<'_>,
+    asked: &Charted<'_>,
     bytes: &[u8],
     writer: &mut Counted<W>,
     log: &mut Counted<L>,
@@ -140,10 +141,10 @@ fn told<W: Write, L: Write>(
     }
 }
 
-// The same for a program: its report, then the chart, then the log.
+// Writes the report of a program's run, then its chart, then its log; gives the status.
 fn told_of<W: Write, L: Write>(
     alloc: Global,
-    asked: &Asked<'_>,
+    asked: &Charted<'_>,
     program: &Program,
     writer: &mut Counted<W>,
     log: &mut Counted<L>,
@@ -175,10 +176,11 @@ fn told_of<W: Write, L: Write>(
     Ok(Status::of(end.outcome))
 }
 
-// How a run ends.
-fn ran(alloc: Global, asked: &Asked<'_>, program: &Program) -> Result<End, Memory>
+// Runs a program in the order of the seed.
+fn ran(alloc: Global, asked: &Charted<'_>, program: &Program) -> Result<End, Memory>
     ensures { IfOk result (λ end. end_state end ≡ end_of program.now asked.now.config.limit) }
 {
     let bench = Bench::new(alloc, program, &asked.config, choose(asked.predictor))?;
-    Ok(bench.run(u64::from(asked.config.limit())))
+    let order = Order::by_seed(asked.seed);
+    Ok(bench.run_in(u64::from(asked.config.limit()), order))
 }

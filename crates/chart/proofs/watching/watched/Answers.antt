@@ -1,7 +1,7 @@
-use Rattle.viewing.specs.Watched.{IsBegun, IsWatched, outputs}
+use Rattle.chart.specs.Watched.{IsBegun, IsWatched, outputs}
 use Rattle.without_threads.specs.Went.{status_number}
-use Rattle.viewing.proofs.Taken.{cut_taken, ok_taken}
-use Rattle.viewing.proofs.watching.watched.Goals as goal
+use Rattle.chart.proofs.Taken.{cut_taken, ok_taken}
+use Rattle.chart.proofs.watching.watched.Goals as goal
 
 pub returns-clause-ok : goal.returns-clause-ok
 returns-clause-ok g c =
