@@ -157,7 +157,7 @@ fn turn<K: Bounds + Ring, G: Gate, R: Wait>(
 pub(crate) enum Stopped {
     /// The threads of the term are to end.
     Over(TermOver),
-    /// It has no turn left, and another unit is active.
+    /// No turn is left, and another unit is active.
     Spent(NoneLeft, Activated),
 }
 

@@ -9,9 +9,9 @@ use std::sync::Wait;
 /// A station at which a unit looks for work.
 #[derive(Clone, Copy)]
 pub(crate) enum Candidate {
-    /// It came as a hint.
+    /// A station that came as a hint.
     Hinted(usize),
-    /// There was no hint, and it is the next one in ring order.
+    /// The next one in ring order, where there was no hint.
     Next(usize),
 }
 
