@@ -6,7 +6,9 @@ mod gates;
 mod halves;
 mod hinted;
 mod renewals;
+mod rows;
 mod together;
+mod turned;
 
 use instructions::{Config, NotTaken};
 use isa::{parse, report_text};

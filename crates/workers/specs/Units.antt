@@ -1,9 +1,12 @@
 -- What is true of a unit at work, and what its turns do to it.
-use Rattle.std.specs.Prelude.{◌≡◌}
+use Rattle.std.specs.Prelude.{⊤, ◌≡◌}
 use Rattle.atomic_table.specs.Seated.{TableId}
 use Rattle.hints.specs.Hinted.{TheHints}
 use Rattle.workers.specs.Deeds.{CountsDeeds}
 use Rattle.workers.specs.Hinting.{Searches}
+use Rattle.workers.specs.Turns.{TheTurns}
+use Rattle.workers.specs.declared.compute.Stopped.{Stopped}
+use Rattle.workers.specs.declared.compute.Stopped.TheVariants.{Over, Spent}
 use Rattle.workers.specs.declared.unit.Unit.{Unit}
 use Rattle.station.specs.Seats.{TheCore}
 
@@ -12,6 +15,11 @@ pub record Works (core : TheCore) (counts : TableId) (hints : TheHints) (unit : 
   pub core_is : unit.seat.core ≡ core
   pub count_is : unit.count.seat.of ≡ counts
   pub searches : Searches hints unit.search
+
+-- The term is over, or no turn is left
+abbrev pub HasStopped : TheTurns → Stopped → Type 0
+HasStopped turns (Over over) = ⊤
+HasStopped turns (Spent none other) = turns.left ≡ 0
 
 -- Between two moments the unit has counted just what it did: what is gathered and not added yet is in that
 pub record HasCountedDeeds (old new : Unit) : Type 0 where

@@ -1,19 +1,19 @@
 //! What a unit thread does.
-ghost use Rattle.std.specs.Prelude.{◌≡◌, ◌<◌, ◌^◌, IfNone};
+ghost use Rattle.std.specs.Prelude.{◌≡◌, ◌<◌, ◌≤◌, ◌^◌, IfNone};
 ghost use Rattle.inorder.specs.History.{IsLegal};
 ghost use Rattle.station.specs.Claiming.{ClaimAnswers, Holds};
 ghost use Rattle.station.specs.Seats.{IsSameSeat};
 ghost use Rattle.workers.specs.Deeds.{HasAddedDeeds, HasDone, HasFinishedAll, total_of_claim, total_of_finish};
 ghost use Rattle.workers.specs.Hinting.{AsksOnce, HintsWoken, candidate_station};
 ghost use Rattle.workers.specs.Turns.{AreTaken};
-ghost use Rattle.workers.specs.Units.{HasCountedDeeds, Works};
+ghost use Rattle.workers.specs.Units.{HasCountedDeeds, HasStopped, Works};
 
 use crate::bounds::Bounds;
 use crate::gate::Gate;
 use crate::hinting::hint_each;
 use crate::search::Candidate;
 use crate::shared::TermShared;
-use crate::state::{Activated, UnitTurns};
+use crate::state::{Activated, NoneLeft, TermOver, UnitTurns};
 use crate::unit::{Unit, Worker};
 use counts::Total;
 use hints::Ring;
@@ -47,6 +47,14 @@ fn compute(core: &Core, seat: &mut UnitSeat, job: Job) -> Finish
     core.finish(seat, job, result)
 }
 
+// Nobody but the unit is told to the gate, and its job's station.
+fn is_held<G: Gate>(gate: &G, unit: &Unit, job: &Job, number: u32, station: u32) -> bool
+    requires number { number ≡ unit.now.number }
+    requires station { station ≡ job.now.station }
+{
+    gate.held(number, station)
+}
+
 // Waits while the gate holds the unit that has this job, and it has turns left, of which each question takes one.
 // Another unit is active meanwhile.
 fn wait_at<K: Bounds + Ring, G: Gate, R>(
@@ -62,7 +70,10 @@ fn wait_at<K: Bounds + Ring, G: Gate, R>(
     let (gate, state) = (shared.gate, shared.state);
     let (number, station) = (unit.number, job.station() as u32);
     let mut other = None;
-    'questions: while gate.held(number, station) && !state.is_over() && turns.take() {
+    'questions: while is_held(gate, unit, job, number, station)
+        && state.over().is_none()
+        && turns.take().is_ok()
+    {
         if other.is_none() {
             other = Some(state.activate());
         }
@@ -109,12 +120,12 @@ fn finish<K: Bounds + Ring, G, R: Wait>(
 }
 
 // One turn, and as many more as the gate holds the unit: claims one station, and finishes the job that it gets.
-// Without one it backs off.
+// Without one it backs off. Another unit is active where it was held.
 fn turn<K: Bounds + Ring, G: Gate, R: Wait>(
     shared: &TermShared<'_, K, G, R>,
     unit: &mut Unit,
     turns: &mut UnitTurns<K>,
-)
+) -> Option<Activated>
     requires { Works shared.now.core.now shared.now.state.now.counts
         shared.now.state.now.hints unit.old }
     ensures works { Works shared.now.core.now shared.now.state.now.counts
@@ -123,6 +134,7 @@ fn turn<K: Bounds + Ring, G: Gate, R: Wait>(
     ensures finished { HasFinishedAll unit.old.seat.by unit.old.seat.seen unit.new.seat.seen }
     ensures asks { AsksOnce unit.old.search unit.new.search }
     ensures turns { AreTaken turns.old turns.new }
+    ensures held { IfNone result (turns.new.left ≡ turns.old.left) }
 {
     let candidate = unit
         .search
@@ -131,20 +143,30 @@ fn turn<K: Bounds + Ring, G: Gate, R: Wait>(
         Claim::Job(job) => job,
         Claim::NotOpen | Claim::Waiting { tag: _, k: _ } | Claim::Moved { tag: _ } => {
             unit.back_off(candidate);
-            return;
+            return None;
         }
     };
     unit.count_claim(shared, candidate);
-    let _other = wait_at(shared, unit, &job, turns);
+    let other = wait_at(shared, unit, &job, turns);
     let _finished = finish(shared, unit, job);
+    other
 }
 
-// Turns, until none is left or the term is over.
+/// Why a unit takes no more turns.
+#[derive(Drop)]
+pub(crate) enum Stopped {
+    /// The threads of the term are to end.
+    Over(TermOver),
+    /// No turn is left, and another unit is active.
+    Spent(NoneLeft, Activated),
+}
+
+// Turns, until none is left, which activates another unit, or the term is over.
 fn take_turns<K: Bounds + Ring, G: Gate, R: Wait>(
     shared: &TermShared<'_, K, G, R>,
     unit: &mut Unit,
     turns: &mut UnitTurns<K>,
-)
+) -> Stopped
     requires { Works shared.now.core.now shared.now.state.now.counts
         shared.now.state.now.hints unit.old }
     ensures works { Works shared.now.core.now shared.now.state.now.counts
@@ -152,33 +174,35 @@ fn take_turns<K: Bounds + Ring, G: Gate, R: Wait>(
     ensures counted { HasCountedDeeds unit.old unit.new }
     ensures finished { HasFinishedAll unit.old.seat.by unit.old.seat.seen unit.new.seat.seen }
     ensures turns { AreTaken turns.old turns.new }
+    ensures stopped { HasStopped turns.new result }
 {
-    'turns: while !shared.state.is_over() && turns.take() {
-        turn(shared, unit, turns);
+    'turns: loop {
+        if let Some(over) = shared.state.over() {
+            return Stopped::Over(over);
+        }
+        if let Err(none) = turns.take() {
+            return Stopped::Spent(none, shared.state.activate());
+        }
+        let _other = turn(shared, unit, turns);
     }
 }
 
-// The unit works with its turns, and activates another when it has none left. What it has done is then in the totals.
+// The unit works with its turns. What it has done is then in the totals.
 fn work_with<K: Bounds + Ring, G: Gate, R: Wait>(
     shared: &TermShared<'_, K, G, R>,
     worker: Worker,
     turns: &mut UnitTurns<K>,
-) -> (Worker, Option<Activated>)
+) -> (Worker, Stopped)
     requires core { worker.seat.core ≡ shared.now.core.now }
     requires count { worker.count.of ≡ shared.now.state.now.counts }
     ensures added { HasAddedDeeds worker result.0 }
     ensures finished { HasFinishedAll worker.seat.by worker.seat.seen result.0.seat.seen }
     ensures turns { AreTaken turns.old turns.new }
-    ensures other { IfNone result.1 (0 < turns.new.left) }
+    ensures stopped { HasStopped turns.new result.1 }
 {
     let mut unit = Unit::enter(shared, worker);
-    take_turns(shared, &mut unit, turns);
-    let other = if turns.left() == 0 {
-        Some(shared.state.activate())
-    } else {
-        None
-    };
-    (unit.stop(shared), other)
+    let stopped = take_turns(shared, &mut unit, turns);
+    (unit.stop(shared), stopped)
 }
 
 /// Looks for work at the stations that are hinted, and without a hint in ring order, one a turn, and finishes what
@@ -186,20 +210,18 @@ fn work_with<K: Bounds + Ring, G: Gate, R: Wait>(
 pub(crate) fn work<K: Bounds + Ring, G: Gate, R: Wait>(
     shared: &TermShared<'_, K, G, R>,
     worker: Worker,
-) -> Worker
+) -> (Worker, Stopped)
     requires core { worker.seat.core ≡ shared.now.core.now }
     requires count { worker.count.of ≡ shared.now.state.now.counts }
-    ensures added { HasAddedDeeds worker result }
-    ensures finished { HasFinishedAll worker.seat.by worker.seat.seen result.seat.seen }
+    requires first { 1 ≤ worker.number }
+    requires last { worker.number ≤ shared.now.state.now.units }
+    ensures added { HasAddedDeeds worker result.0 }
+    ensures finished { HasFinishedAll worker.seat.by worker.seat.seen result.0.seat.seen }
 {
     let state = shared.state;
-    if !state.wait_until_active(shared.wait, worker.number) {
-        return worker;
+    if let Some(over) = state.wait_until_active(shared.wait, worker.number) {
+        return (worker, Stopped::Over(over));
     }
-    let Some(turns) = state.turns_of(worker.number) else {
-        return worker;
-    };
-    let mut turns = turns.lock(shared.wait);
-    let (worker, _other) = work_with(shared, worker, &mut *turns);
-    worker
+    let mut turns = state.turns_of(worker.number).lock(shared.wait);
+    work_with(shared, worker, &mut *turns)
 }

@@ -9,9 +9,9 @@ use std::sync::Wait;
 /// A station at which a unit looks for work.
 #[derive(Clone, Copy)]
 pub(crate) enum Candidate {
-    /// The station was hinted.
+    /// A station that came as a hint.
     Hinted(usize),
-    /// The next station in ring order, where there was no hint.
+    /// The next one in ring order, where there was no hint.
     Next(usize),
 }
 

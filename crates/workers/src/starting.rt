@@ -2,14 +2,14 @@
 ghost use Rattle.std.specs.Prelude.{◌≡◌, ◌+◌, ◌<◌, ◌≤◌, IfSome, true};
 
 use crate::bounds::Bounds;
-use crate::compute::work;
+use crate::compute::{Stopped, work};
 use crate::gate::Gate;
 use crate::shared::TermShared;
+use crate::started::StartedUnits;
 use crate::unit::Worker;
 use counts::WorkerSeat;
 use hints::Ring;
 use station::UnitSeat;
-use std::marker::Model;
 use std::sync::Wait;
 use std::thread::{Scope, Threads, available_parallelism};
 
@@ -30,31 +30,6 @@ pub fn units_at_once<R: Threads>(rt: &R) -> u64
     }
 }
 
-/// How many unit threads of a term were started. `start_units` alone tells it.
-#[derive(Drop)]
-pub struct StartedUnits {
-    number: u32,
-}
-
-impl Model for StartedUnits {
-    ghost use Rattle.std.specs.Prelude.{ℕ};
-
-    ghost Value = { ℕ };
-
-    ghost view = { λ started. started.number };
-}
-
-impl StartedUnits {
-    ghost use Rattle.std.specs.Prelude.{◌≡◌};
-
-    /// How many there are.
-    pub fn number(&self) -> u32
-        ensures { result ≡ self.now }
-    {
-        self.number
-    }
-}
-
 // Starts the thread of a unit. False where it can not be started.
 fn start_unit<
     's,
@@ -70,19 +45,24 @@ fn start_unit<
 ) -> bool
     requires core { worker.seat.core ≡ shared.now.core.now }
     requires count { worker.count.of ≡ shared.now.state.now.counts }
+    requires first { 1 ≤ worker.number }
+    requires last { worker.number ≤ shared.now.state.now.units }
     requires room { started.old < 64 }
     ensures one { result ≡ true → started.new ≡ started.old + 1 }
 {
-    let job = move ||
+    let job = move || -> Stopped
         requires core { worker.seat.core ≡ shared.now.core.now }
         requires count { worker.count.of ≡ shared.now.state.now.counts }
+        requires first { 1 ≤ worker.number }
+        requires last { worker.number ≤ shared.now.state.now.units }
     {
-        let _worker = work(shared, worker);
+        let (_worker, stopped) = work(shared, worker);
+        stopped
     };
-    if scope.spawn(job).is_err() {
+    let Ok(thread) = scope.spawn(job) else {
         return false;
-    }
-    started.number += 1;
+    };
+    started.add(&thread);
     true
 }
 
@@ -106,7 +86,7 @@ pub fn start_units<
 {
     let mut seat = seat;
     let mut count = count;
-    let mut started = StartedUnits { number: 0 };
+    let mut started = StartedUnits::none();
     for unit in 0..shared.state.units {
         let (own, others) = shared.core.split(seat);
         let (own_count, counts) = shared.state.counts.split_workers(count);

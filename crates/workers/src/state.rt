@@ -1,5 +1,5 @@
 //! What the threads of one run share.
-ghost use Rattle.std.specs.Prelude.{◌≡◌, ◌≤◌};
+ghost use Rattle.std.specs.Prelude.{◌≡◌, ◌≤◌, IfOk, length};
 
 use crate::bounds::Bounds;
 use crate::turns::Turns;
@@ -32,7 +32,7 @@ impl<K: Bounds> Model for UnitTurns<K> {
 }
 
 impl<K: Bounds> UnitTurns<K> {
-    ghost use Rattle.std.specs.Prelude.{◌≡◌, ◌+◌, false, true};
+    ghost use Rattle.std.specs.Prelude.{◌≡◌, ◌+◌, IfErr, IfOk};
     ghost use Rattle.workers.specs.Turns.{untaken};
 
     fn new(turns: u32) -> UnitTurns<K>
@@ -45,26 +45,31 @@ impl<K: Bounds> UnitTurns<K> {
         }
     }
 
-    /// Takes one. False where none is left.
-    pub(crate) fn take(&mut self) -> bool
+    /// Takes one, if one is left.
+    pub(crate) fn take(&mut self) -> Result<(), NoneLeft>
         ensures all { self.new.all ≡ self.old.all }
-        ensures one { result ≡ true → self.new.left + 1 ≡ self.old.left }
-        ensures none { result ≡ false → (self.new.left ≡ 0) × (self.old.left ≡ 0) }
+        ensures one { IfOk result (λ _. self.new.left + 1 ≡ self.old.left) }
+        ensures none { IfErr result (λ _. (self.new.left ≡ 0) × (self.old.left ≡ 0)) }
     {
-        self.turns.take()
-    }
-
-    /// How many are left.
-    pub(crate) fn left(&self) -> u32
-        ensures { result ≡ self.now.left }
-    {
-        self.turns.left()
+        if self.turns.take() {
+            Ok(())
+        } else {
+            Err(NoneLeft(()))
+        }
     }
 }
+
+/// A unit has no turn left: `UnitTurns::take` alone makes it.
+#[derive(Drop)]
+pub struct NoneLeft(());
 
 /// One unit more is to work: `RunState::activate` alone makes it.
 #[derive(Drop)]
 pub struct Activated(());
+
+/// The threads of a term are to end: `RunState::over` alone makes it.
+#[derive(Drop)]
+pub struct TermOver(());
 
 /// What outlives a renewal of the core: the totals, the hints, the turns of each unit, and whether threads are to end.
 #[derive(Drop)]
@@ -89,6 +94,7 @@ pub struct RunState<K: Bounds + Ring> {
     pub ghost units_are: { units ≡ (K.config).units },
     pub ghost turns_are: { turns ≡ (K.config).turns },
     pub ghost few: { units ≤ 64 },
+    ghost each: { length unit_turns.items ≡ units },
 }
 
 // So many units, none of which has taken a turn.
@@ -98,6 +104,7 @@ fn unit_turns<K: Bounds>(
     turns: u32,
 ) -> Result<Vec<Mutex<UnitTurns<K>>>, Memory>
     requires { turns ≡ (K.config).turns }
+    ensures { IfOk result (λ all. length all.items ≡ units) }
 {
     let mut all = Vec::new(alloc);
     for _ in 0..units {
@@ -169,14 +176,21 @@ impl<K: Bounds + Ring> RunState<K> {
         self.run_ended.load(Acquire)
     }
 
-    /// The threads of the term are to end.
-    pub fn is_over(&self) -> bool {
-        self.has_run_ended() || self.has_term_ended()
+    /// Whether the threads of the term are to end.
+    pub(crate) fn over(&self) -> Option<TermOver> {
+        if self.has_run_ended() || self.has_term_ended() {
+            Some(TermOver(()))
+        } else {
+            None
+        }
     }
 
     /// The turns of a unit. They stay here from term to term, and its thread takes them where they are.
-    pub fn turns_of(&self, unit: u32) -> Option<&Mutex<UnitTurns<K>>> {
-        self.unit_turns.get((unit as usize).saturating_sub(1))
+    pub(crate) fn turns_of(&self, unit: u32) -> &Mutex<UnitTurns<K>>
+        requires first { 1 ≤ unit }
+        requires last { unit ≤ self.now.units }
+    {
+        &self.unit_turns[unit as usize - 1]
     }
 
     /// Wakes those that wait for something new to see.
@@ -209,15 +223,15 @@ impl<K: Bounds + Ring> RunState<K> {
         }
     }
 
-    /// Parks the unit until it is active, which takes no turn. False where the threads of the term are to end.
-    pub fn wait_until_active<R: Wait>(&self, wait: &R, unit: u32) -> bool {
+    /// Parks the unit until it is active, which takes no turn, or the threads of the term are to end.
+    pub(crate) fn wait_until_active<R: Wait>(&self, wait: &R, unit: u32) -> Option<TermOver> {
         for _ in wait.forever() {
             let active = self.active.load(Acquire);
-            if unit as u64 <= active || self.is_over() {
+            if unit as u64 <= active || self.over().is_some() {
                 break;
             }
             self.active.park(wait, (active & 0xffff_ffff) as u32);
         }
-        !self.is_over()
+        self.over()
     }
 }

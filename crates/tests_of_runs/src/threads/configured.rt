@@ -50,11 +50,8 @@ impl Gate for Slow {
     fn counted(&self, _tally: &Tally) {}
 }
 
-/// A long loop whose instructions wait for little.
-const LOOP: &[u8] =
-    b"ori $1,$0,400\nL: nop\nnop\nnop\nnop\nnop\nnop\naddiu $1,$1,-1\nbne $1,$0,L\nbreak\n";
-
-// A machine of few processors runs one unit alone beside the threads that dispatch and commit.
+// A machine of few processors runs one unit alone beside the threads that dispatch and commit. The listing has no
+// branch, so that the unit finds work again and again.
 #[test]
 fn more_units_are_active_where_there_is_work(rt: HostRuntime) -> Result<(), Fail> {
     let processors = match available_parallelism(&rt) {
@@ -64,11 +61,16 @@ fn more_units_are_active_where_there_is_work(rt: HostRuntime) -> Result<(), Fail
     let gate = Slow {
         units: AtomicU64::new(0),
     };
-    let run = run_listing(&rt, rt.alloc(), LOOP, &plain(4), &gate)?;
+    let mut listing = Vec::new(rt.alloc());
+    for _ in 0..2_000 {
+        listing.extend_from_slice(b"nop\n")?;
+    }
+    listing.extend_from_slice(b"break\n")?;
+    let run = run_listing(&rt, rt.alloc(), listing.as_slice(), &plain(4), &gate)?;
     let Run::Ended(end, _) = run else {
         return Err(Fail::from("no end"));
     };
-    same(&rt, &end.n, &3_201);
+    same(&rt, &end.n, &2_000);
     assert!(rt; processors < 4 || 1 < gate.units.load(SeqCst).count_ones());
     Ok(())
 }

@@ -63,10 +63,10 @@ fn a_held_unit_is_let_go_once_another_works(rt: HostRuntime) -> Result<(), Fail>
 
 /// Holds each unit until another one asks, or for so many questions, and notes which have asked.
 #[derive(Drop)]
-struct Passing {
+pub(super) struct Passing {
     last: AtomicU64,
     asked: AtomicU64,
-    units: AtomicU64,
+    pub(super) units: AtomicU64,
 }
 
 impl Gate for Passing {
@@ -85,7 +85,7 @@ impl Gate for Passing {
     fn counted(&self, _tally: &Tally) {}
 }
 
-fn no_question() -> Passing {
+pub(super) fn no_question() -> Passing {
     Passing {
         last: AtomicU64::new(0),
         asked: AtomicU64::new(0),
