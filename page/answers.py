@@ -2,7 +2,7 @@
 import re
 import sys
 
-NUMBERS = {"station", "tag", "source", "index", "from_station", "from_tag", "count", "head", "tail", "store", "register", "line"}
+NUMBERS = {"station", "tag", "source", "index", "from_station", "from_tag", "count", "head", "tail", "store", "register", "line", "free"}
 VALUES = {"pc", "value", "predicted", "a", "b", "next", "address", "data"}
 
 
@@ -10,7 +10,7 @@ def form(text):
     """A form in which `{name}` stands for a number, a value or a word, by the name."""
     def field(found):
         name = found[1]
-        kind = r"\d+" if name in NUMBERS else r"0x[0-9a-f]{8}" if name in VALUES else r"\S+?"
+        kind = r"\d+" if name in NUMBERS else r"0x[0-9a-f]{8}|\?" if name in VALUES else r"\S+?"
         return f"(?P<{name}>{kind})"
     return re.compile(re.sub(r"\{(\w+)\}", field, text))
 
@@ -33,10 +33,11 @@ ANSWERS = {
 }
 ROW = form(r"station {station}: tag {tag} state {state} value {value}(?: unit {unit})? index {index} half {half}"
            r" predicted {predicted} " + TEXT + r"; 1 (?P<first>[^;]*); 2 (?P<second>[^;]*)")
-FREE = form(r"free {count}")
 CREATOR = form(r"creator {register}: Made station {station} tag {tag}")
-RING = form(r"Ring head (?P<head>\d+|none) tail {tail} next {next}")
-OPERAND = form(r"VAL {value}|WAIT for station {station} tag {tag}|NONE")
+RING = form(r"ring: head (?P<head>\d+|none) tail {tail} next {next} free {free}")
+OPERAND = form(r"VAL value {value}|WAIT for station {station} tag {tag}|NONE")
+QUEUED = form(r"{kind} station {station} tag {tag} address {address} data {data}")
+LISTED = form(r"{pc} line {line} (?P<text>.*)")
 REGISTER = re.compile(r"(?:r(?P<number>\d+)|(?P<name>hi|lo)) (?P<value>0x[0-9a-f]{8})")
 WORD = re.compile(r"m (?P<address>0x[0-9a-f]{8}) (?P<value>0x[0-9a-f]{8})")
 PAIR = {"lo": 32, "hi": 33}
@@ -50,6 +51,8 @@ def number(name, text):
     """A field's text as a number, where the name says that there is one."""
     if text is None or name not in NUMBERS | VALUES or text == "none":
         return text
+    if text == "?":
+        return None
     return int(text, 16 if text.startswith("0x") else 10)
 
 
@@ -76,11 +79,22 @@ def operand(text):
     return {"from": told["station"], "tag": told["tag"]} if told["station"] is not None else None
 
 
+def queued(line):
+    """A row of the load/store queue; an address or data that is not there is none."""
+    return fields(QUEUED, line) or unknown(line)
+
+
+def listed(line):
+    """The pc, the line and the text of an instruction."""
+    told = fields(LISTED, line) or unknown(line)
+    return told["pc"], told["line"], told["text"]
+
+
 class Table:
     """The ring as `table` tells it: a row for each station in use, who creates which register, head, tail and next pc."""
 
     def __init__(self, lines):
-        self.rows, self.creators, self.free, self.ring = {}, {}, None, None
+        self.rows, self.creators, self.ring = {}, {}, None
         for line in lines:
             self.take(line)
 
@@ -90,14 +104,12 @@ class Table:
             self.rows[row["station"]] = row
         elif made := fields(CREATOR, line):
             self.creators[made["register"]] = [made["station"], made["tag"]]
-        elif free := fields(FREE, line):
-            self.free = free["count"]
         else:
             self.ring = fields(RING, line) or unknown(line)
 
     def live(self):
         """The stations in use, the oldest first."""
-        size, head = len(self.rows) + self.free, self.ring["head"]
+        size, head = len(self.rows) + self.ring["free"], self.ring["head"]
         return [] if head == "none" else [(head + at) % size for at in range(len(self.rows))]
 
 

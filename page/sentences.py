@@ -26,11 +26,9 @@ def awaited(station):
 class Teller:
     """Tells the steps of one run, with the instructions as the listing writes them."""
 
-    def __init__(self, run, code_at, place_of, register_name):
+    def __init__(self, run, listing):
         self.run = run
-        self.code_at = code_at
-        self.place_of = place_of
-        self.register_name = register_name
+        self.listing = listing
 
     def tell(self, at):
         """The words of the step at this number."""
@@ -39,17 +37,17 @@ class Teller:
 
     def code(self, tenant):
         told = self.run.tenants[tenant]
-        return f"`{self.code_at(told['pc'])}`" + {"Low": " (for LO)", "High": " (for HI)"}.get(told["half"], "")
+        return f"`{self.listing.code_at(told['pc'])}`" + {"Low": " (for LO)", "High": " (for HI)"}.get(told["half"], "")
 
     def operation(self, tenant):
         return self.run.tenants[tenant]["text"].split(" ")[0]
 
     def line(self, tenant):
-        return self.place_of(self.run.tenants[tenant]["pc"])[1]
+        return self.listing.place_of(self.run.tenants[tenant]["pc"])[1]
 
     def place(self, pc):
         """Where the run goes on: a label, or the line of the listing."""
-        label, line = self.place_of(pc)
+        label, line = self.listing.place_of(pc)
         return f"`{label}`" if label else f"line {line}" if line else f"`0x{pc:08x}`, where no instruction is"
 
     def woken(self, step):
@@ -90,7 +88,7 @@ class Teller:
                             if operation.startswith("s") else
                             f"{code} reads at address {{{step['value']}}}. What stands there is still to be found.")
         if operation in JUMPS:
-            link = f" and makes the return address" if operation.endswith("al") or operation == "jalr" else ""
+            link = " and makes the return address" if operation.endswith("al") or operation == "jalr" else ""
             return begin + f"{code} goes to {self.place(step['value'])}, as foreseen{link}." + self.woken(step)
         return begin + f"{code} makes {{{step['value']}}}." + self.woken(step)
 
@@ -136,7 +134,7 @@ class Teller:
         if told["address"]:
             return f"memory at {{{int(told['address'], 16)}}} holds `{told['value']}`"
         register = int(told["register"]) if told["register"] else {"lo": 32, "hi": 33}[told["name"]]
-        return f"`{self.register_name(register)}` is {value}"
+        return f"`{self.listing.register_name(register)}` is {value}"
 
     def retire(self, step, _before):
         words = f"The oldest instruction retires: {self.code(step['tenant'])} leaves station {step['station']}."

@@ -1,6 +1,6 @@
 """The steps of a run: one object for each command that told something, gathered from the answers of `ruu drive` alone."""
-from answers import Report, Table, answer
-from queue_rows import queue_rows
+from answers import Report, Table, answer, queued
+from session import ASKED
 
 KINDS = {"Let": "let", "Job": "claim", "Finished": "finish", "Stale": "stale", "Loaded": "load", "Blocked": "blocked",
          "Retired": "retire", "Half": "retire", "Ended": "end", "Mended": "recover"}
@@ -24,7 +24,7 @@ class Gathering:
         return {
             "stations": {station: self.station(row) for station, row in table.rows.items()},
             "live": table.live(), "head": table.ring["head"], "tail": table.ring["tail"], "next": table.ring["next"],
-            "free": table.free, "creators": table.creators, "queue": queue_rows(told["queue"]),
+            "creators": table.creators, "queue": [queued(line) for line in told["queue"]],
             "count": report.count, "pc": report.pc, "registers": report.registers, "memory": report.memory,
             "jobs": {unit: dict(job) for unit, job in self.jobs.items()},
         }
@@ -56,7 +56,7 @@ class Gathering:
         self.steps.append(step)
 
     def pair(self, found):
-        return self.tenant_of[found["load"]], self.tenant_of[found["store"]], found["reason"]
+        return self.tenant_of[found["station"]], self.tenant_of[found["store"]], found["reason"]
 
     def squash(self, before, step):
         """The stations whose tenants the recovery squashed, the oldest first."""
@@ -98,7 +98,7 @@ class Gathering:
                 "origin": found["origin"]}
 
     def block(self, _at, _command, found):
-        return {"tenant": self.tenant_of[found["load"]], "station": found["load"], "store": found["store"],
+        return {"tenant": self.tenant_of[found["station"]], "station": found["station"], "store": found["store"],
                 "reason": found["reason"]}
 
     def retire(self, at, _command, found):
@@ -148,7 +148,10 @@ def gathered(session):
     """The steps and tenants of a session with its questions, and the answer of `list`."""
     session = iter(session)
     listing = next(session).lines
-    ask = lambda: {name: next(session).lines for name in ("table", "queue", "report")}
+
+    def ask():
+        return {name: next(session).lines for name in ASKED}
+
     run = Gathering()
     run.start(ask())
     for number, exchange in enumerate(session, 1):

@@ -83,6 +83,8 @@
   const bars = document.getElementById('bars').getBoundingClientRect();
   document.getElementById('bars').dispatchEvent(new MouseEvent('click', { clientX: bars.left + bars.width * 2.5 / (last + 1), bubbles: true }));
   want('a click into the chart', at() === 2);
+  const spills = it => it.clientWidth < 90 || it.scrollWidth > it.clientWidth;
+  want('no card too small for its words', !all('.card').some(spills));
   want('no sideways scroll', document.documentElement.scrollWidth <= innerWidth);
   want('each control is reached by keys', all('button, input, summary').every(it => it.tabIndex >= 0));
 

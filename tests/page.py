@@ -145,7 +145,12 @@ def read_page(file):
     begin, end = '<script type="application/json" id="run">', "</script>"
     before, rest = text.split(begin)
     data, behind = rest.split(end, 1)
-    return json.loads(data), before + behind
+    page = json.loads(data)
+    for step in page["steps"]:
+        for name in ("creators", "queue", "registers", "memory", "jobs"):
+            step[name] = page["parts"][step[name]]
+        step["stations"] = {number: page["parts"][at] for number, at in step["stations"].items()}
+    return page, before + behind
 
 
 def check_alone(text):

@@ -67,9 +67,15 @@ function axisHtml() {
   return marks.join('') + '<b class="now"></b>';
 }
 
+// On paper the rows shrink, so that most charts fit a sheet.
+function rowHeight() {
+  const high = Math.round(parseFloat(getComputedStyle(document.documentElement).fontSize) * 1.15);
+  return view.onPaper ? Math.max(7, Math.min(high, 630 / run.tenants.length)) : high;
+}
+
 function placeChart() {
   const plot = byId('plot'), bars = byId('bars');
-  chart.row = Math.round(parseFloat(getComputedStyle(document.documentElement).fontSize) * 1.15);
+  chart.row = rowHeight();
   plot.style.setProperty('--row', chart.row + 'px');
   byId('names').innerHTML = namesHtml();
   const room = plot.clientWidth - byId('names').offsetWidth - 18;

@@ -30,8 +30,8 @@ function passedHtml(passed) {
 function drawTold(step, at) {
   byId('told').className = EDGES[step.kind] || '';
   byId('words').innerHTML = inHtml(step.words);
-  byId('command').innerHTML = step.command ?
-    `<code>${safe(step.command)}</code> <span aria-hidden="true">→</span> <code>${safe(step.answer)}</code>${passedHtml(step.passed)}` : '';
+  byId('command').innerHTML = step.command ? `<p title="${safe(step.answer)}"><code>${safe(step.command)}</code> ` +
+    `<span aria-hidden="true">→</span> <code>${safe(step.answer)}</code></p>${passedHtml(step.passed)}` : '';
   byId('slider').value = at;
   byId('slider').setAttribute('aria-valuetext', `step ${at} of ${last}`);
   byId('count').textContent = `${at} / ${last}`;
@@ -59,6 +59,9 @@ function draw() {
 }
 
 function layOut() {
+  const classes = document.documentElement.classList;
+  classes.remove('broad', 'middle', 'narrow', 'paper');
+  classes.add(shape());
   placeCards();
   placeChart();
   draw();
@@ -134,7 +137,7 @@ addEventListener('keydown', event => {
   event.preventDefault();
 });
 
-// On paper the page is laid out anew, at the width of a sheet.
+// For paper the page is laid out anew, at the width of a sheet.
 function setPaper(isOn) {
   view.onPaper = isOn;
   layOut();

@@ -2,6 +2,10 @@
 // The run that the page shows, and how its values are written.
 const byId = id => document.getElementById(id);
 const run = JSON.parse(byId('run').textContent);
+for (const step of run.steps) {
+  for (const name of ['creators', 'queue', 'registers', 'memory', 'jobs']) step[name] = run.parts[step[name]];
+  for (const at of Object.keys(step.stations)) step.stations[at] = run.parts[step.stations[at]];
+}
 const last = run.steps.length - 1;
 const view = { at: 0, hexadecimal: false, onPaper: false };
 
@@ -63,5 +67,6 @@ function pill(number, station) {
     `${glyph(look)}${number}<span class="unseen"> ${wordOf(look)}</span></span>`;
 }
 
-const isNarrow = () => !view.onPaper && innerWidth <= 720;
+const shape = () => view.onPaper ? 'paper' : innerWidth <= 720 ? 'narrow' : innerWidth <= 1050 ? 'middle' : 'broad';
+const isNarrow = () => shape() === 'narrow';
 const isSame = (one, other) => JSON.stringify(one) === JSON.stringify(other);
