@@ -69,7 +69,7 @@ class Gathering:
 
     def let(self, at, _command, found):
         self.tenant_of[found["station"]] = len(self.tenants)
-        self.tenants.append({name: found[name] for name in ("station", "tag", "pc", "text", "half")} | {"let": at})
+        self.tenants.append({"let": at, **{name: found[name] for name in ("station", "tag", "pc", "text", "half")}})
         return {"tenant": len(self.tenants) - 1, "station": found["station"]}
 
     def claim(self, at, command, found):

@@ -169,7 +169,7 @@ def check_content(page, listing, options, seed):
     same("all commands", len(steps) - 1 + sum(len(step["passed"]) for step in steps), steps[-1]["number"])
     listed, told = asked_again(listing, options, steps, commands, page["ring"])
     same("the listing", [f"0x{it['pc']:08x} line {it['line']} {it['told']}" for it in page["listing"]], listed)
-    for at, (step, (answer, state)) in enumerate(zip(steps, told, strict=True)):
+    for at, (step, (answer, state)) in enumerate(zip(steps, told)):
         where = f"step {at}"
         for number in range(page["ring"]):
             check_station(page, step, number, state, where)
