@@ -44,7 +44,8 @@ PAIR = {"lo": 32, "hi": 33}
 
 
 def unknown(line):
-    sys.exit(f"ruu: a page cannot be made of this answer of drive: {line}")
+    print(f"ruu: no page can be made of this answer of drive: {line}", file=sys.stderr)
+    sys.exit(70)
 
 
 def number(name, text):

@@ -23,7 +23,7 @@ class Line:
 
 def lines_of(file):
     """The lines of the file in turn."""
-    with open(file, encoding="latin-1", newline="") as listing:
+    with open(file, encoding="utf-8", errors="replace", newline="") as listing:
         return [Line(line) for line in listing.read().replace("\r\n", "\n").split("\n")]
 
 

@@ -1,5 +1,6 @@
 #!/usr/bin/env python3
-"""Writes the page of a run: ruu page FILE OUT.html [OPTIONS]. All that it shows was told by sessions of `ruu drive`."""
+"""Writes the page of a run: page.py PROGRAM FILE OUT.html [OPTIONS], where PROGRAM takes the word `drive`. The script `ruu` starts
+it, and is that program. All that a page shows was told by sessions of `ruu drive`."""
 import os
 import sys
 
@@ -11,7 +12,6 @@ from sentences import Teller
 from steps import gathered
 
 MOST_STEPS = 400
-RUU = os.path.join(os.path.dirname(os.path.abspath(__file__)), "..", "ruu")
 
 
 def refuse(text):
@@ -50,10 +50,10 @@ def units_of(steps):
     return sorted({step["unit"] for step in steps if "unit" in step}, key=lambda name: (len(name), name))
 
 
-def shown_run(asked):
+def shown_run(program, asked):
     """All that the page shows of the run that the words ask for."""
-    commands = session.shown(session.of_seed(RUU, asked), MOST_STEPS)
-    run, told = gathered(session.with_questions(RUU, asked, commands))
+    commands = session.shown(session.of_seed(program, asked), MOST_STEPS)
+    run, told = gathered(session.with_questions(program, asked, commands))
     listing = Listing(told, lines_of(asked.listing))
     tell_steps(run, listing)
     return {
@@ -65,9 +65,10 @@ def shown_run(asked):
 
 
 def main():
-    asked = words.read(sys.argv[1:])
+    program, *rest = sys.argv[1:]
+    asked = words.read(rest)
     check_files(asked)
-    run = shown_run(asked)
+    run = shown_run(program, asked)
     try:
         with open(asked.out, "w", encoding="utf-8") as out:
             out.write(page_text(run))

@@ -52,12 +52,15 @@ class Teller:
 
     def woken(self, step):
         """What becomes of those that had waited for a value."""
-        parts = []
+        rest = {station: awaited(step["stations"][station]) for station in step["woke"]}
+        ready = [station for station in step["woke"] if not rest[station]]
+        words = ""
+        if ready:
+            words += f" {stations(ready).capitalize()} had waited for that, and {'has' if len(ready) == 1 else 'have'} all operands now."
         for station in step["woke"]:
-            rest = awaited(step["stations"][station])
-            parts.append(f" Station {station} had waited for that " +
-                         (f"and still needs {stations(rest)}." if rest else "and has all it needs now."))
-        return "".join(parts)
+            if rest[station]:
+                words += f" Station {station} had waited for that, and still needs {stations(rest[station])}."
+        return words
 
     def start(self, _step, _before):
         return "Nothing is in flight yet. The right arrow key shows the first step."
@@ -69,7 +72,7 @@ class Teller:
         if rest:
             words += f" The instruction waits for {stations(rest)}."
         elif any(now["operands"]):
-            words += " All that it needs is there."
+            words += " All its operands are there."
         if self.operation(step["tenant"]) in GUESSED:
             words += f" The guess is that {self.place(now['predicted'])} comes next."
         return words

@@ -35,9 +35,9 @@ def exchanges(transcript):
     return found
 
 
-def driven(ruu, words, more, script):
+def driven(program, words, more, script):
     """The transcript of a session. A listing with a fault, or without a file, ends the program."""
-    command = [ruu, "drive", *words.of_the_unit(), "--echo", *more, "--", words.listing]
+    command = [program, "drive", *words.of_the_unit(), "--echo", *more, "--", words.listing]
     done = subprocess.run(command, input=script, stdout=subprocess.PIPE, stderr=None, text=True, check=False)
     if done.returncode == 2:
         print(f"{words.listing}: {done.stdout.strip()}", file=sys.stderr)
@@ -46,9 +46,9 @@ def driven(ruu, words, more, script):
     return exchanges(done.stdout)
 
 
-def of_seed(ruu, words):
+def of_seed(program, words):
     """The commands that the seed chooses, with their answers, up to the end of the run."""
-    found = driven(ruu, words, ["--seed", str(words.seed), "--steps", str(MOST_COMMANDS)], "")
+    found = driven(program, words, ["--seed", str(words.seed), "--steps", str(MOST_COMMANDS)], "")
     for count, exchange in enumerate(found, 1):
         if exchange.answer.startswith("Ended"):
             return found[:count]
@@ -65,11 +65,11 @@ def shown(commands, most):
     return commands
 
 
-def with_questions(ruu, words, commands):
+def with_questions(program, words, commands):
     """The commands once more, with all questions before the first one and behind each that told something."""
     lines = ["list", *ASKED]
     for exchange in commands:
         lines.append(exchange.command)
         if exchange.is_telling:
             lines += ASKED
-    return driven(ruu, words, [], "\n".join(lines) + "\n")
+    return driven(program, words, [], "\n".join(lines) + "\n")

@@ -4,11 +4,18 @@
 # is compared too, each text can be read, and the console says nothing. Mistakes have their words and their status.
 . "$(dirname "$0")/common.bash"
 build run driver
+driver=crates/driver/out/driver
+
+make_page() { # words
+  python3 -B page/page.py $driver "$@" > "$work/out" 2> "$work/err"
+  status=$?
+}
 
 page() { # listing, seed, options
   local listing=$1 seed=$2
   shift 2
-  ./ruu page "$listing" "$work/page.html" --seed "$seed" "$@" > "$work/out" 2> "$work/err" || fail "no page of $listing"
+  make_page "$listing" "$work/page.html" --seed "$seed" "$@"
+  [ $status -eq 0 ] || fail "no page of $listing"
 }
 
 # What a browser showed of the page at a width, into the file `seen`. The console has to be silent.
@@ -53,8 +60,7 @@ checked examples/drive/square.s 2 --ruu-size 4 --lsq-size 4 --bpred taken
 says() { # status, first line on standard error, words
   local wanted=$1 line=$2
   shift 2
-  ./ruu page "$@" > "$work/out" 2> "$work/err"
-  status=$?
+  make_page "$@"
   [ "$status" -eq "$wanted" ] && [ "$(head -n 1 "$work/err")" = "$line" ] && [ ! -s "$work/out" ] || fail "page $*: status $status"
 }
 says 3 'error: page takes two files: the listing, and the page that is written' examples/sum.s
@@ -77,8 +83,13 @@ cp examples/sum.s "$work/own.s"
 ln -s own.s "$work/link.s"
 says 3 'error: OUT.html names the file of the listing' "$work/own.s" "$work/link.s"
 cmp -s examples/sum.s "$work/own.s" || fail 'the listing was overwritten'
-./ruu drive tests/listings/fault.s < /dev/null > "$work/fault"
+$driver drive tests/listings/fault.s < /dev/null > "$work/fault"
 says 2 "tests/listings/fault.s: $(cat "$work/fault")" tests/listings/fault.s "$work/x.html"
 [ ! -e "$work/x.html" ] || fail 'a mistake left a page'
-./ruu page --help | cmp -s - docs/help/page.txt || fail 'another help'
+for words in 'page --help' 'help page'; do
+  # shellcheck disable=SC2086
+  ./ruu $words | cmp -s - docs/help/page.txt || fail "ruu $words: another help"
+done
+make_page --help
+cmp -s "$work/out" docs/help/page.txt || fail 'another help'
 echo 'what goes wrong has its word and its status, and no page overwrites the listing'
