@@ -80,8 +80,8 @@
   document.getElementById('base').click();
   want('hexadecimal', all('#registers td.value').every(cell => cell.textContent.startsWith('0x')));
   document.getElementById('base').click();
-  const bars = document.getElementById('bars').getBoundingClientRect();
-  document.getElementById('bars').dispatchEvent(new MouseEvent('click', { clientX: bars.left + bars.width * 2.5 / (last + 1), bubbles: true }));
+  const bars = document.querySelector('.bars').getBoundingClientRect();
+  document.querySelector('.bars').dispatchEvent(new MouseEvent('click', { clientX: bars.left + bars.width * 2.5 / (last + 1), bubbles: true }));
   want('a click into the chart', at() === 2);
   const spills = it => it.clientWidth < 90 || it.scrollWidth > it.clientWidth;
   want('no card too small for its words', !all('.card').some(spills));

@@ -1,9 +1,9 @@
-// The chart: a row for each instruction that was dispatched, a column for each step. What lies ahead is pale.
+// The chart: a row for each instruction that was dispatched, a column for each step. What lies ahead is pale. On paper the rows
+// are cut into sheets.
 const THICKNESS = { open: .16, busy: .72, addr: .45, done: .22, miss: .22, stop: .22 };
+const ROWS_ON_PAPER = 44;
 const chart = { column: 6, row: 16 };
 
-byId('plot').innerHTML = '<div id="corner">instruction / step</div><div id="axis"></div><ol id="names"></ol>' +
-  '<svg id="bars" aria-hidden="true"></svg>';
 byId('legend').innerHTML = Object.entries(LOOKS).map(([look, [colour, word, state]]) =>
   `<span class="${colour}">${glyph(look)}${word} <code>${look === 'ready' ? '' : state}</code></span>`).join('') +
   '<span><b class="to-retire">▶</b>retires next</span><span><b class="to-come">+</b>dispatched next</span>' +
@@ -57,9 +57,10 @@ function lifeOf(tenant) {
   return parts.filter(([, step]) => step !== undefined).map(([what, step]) => `${what} ${step}`).join(', ');
 }
 
-function namesHtml() {
-  return run.tenants.map((tenant, at) => `<li class="code" data-step="${tenant.let}" title="station ${tenant.station}, tag ${tenant.tag}: ${lifeOf(tenant)}">` +
-    `${at} ${safe(textOf(tenant))}<span class="unseen">: steps ${lifeOf(tenant)}</span></li>`).join('');
+function nameHtml(tenant, at) {
+  const life = lifeOf(tenant);
+  return `<li class="code" data-row="${at}" data-step="${tenant.let}" title="station ${tenant.station}, tag ${tenant.tag}: ${life}">` +
+    `${at} ${safe(textOf(tenant))}<span class="unseen">: steps ${life}</span></li>`;
 }
 
 function axisHtml() {
@@ -67,58 +68,72 @@ function axisHtml() {
   return marks.join('') + '<b class="now"></b>';
 }
 
-// On paper the rows shrink, so that most charts fit a sheet.
-function rowHeight() {
-  const high = Math.round(parseFloat(getComputedStyle(document.documentElement).fontSize) * 1.15);
-  return view.onPaper ? Math.max(7, Math.min(high, 630 / run.tenants.length)) : high;
+function barsHtml(tenants) {
+  const wide = run.steps.length * chart.column + 2, high = (tenants.length + .3) * chart.row;
+  return `<svg class="bars" width="${wide}" height="${high}" aria-hidden="true">${turnHtml(high)}` +
+    `<rect class="column" y="0" width="${Math.max(chart.column, 4)}" height="${high}"/>${tenants.map(rowHtml).join('')}` +
+    `<rect class="future" y="0" width="${wide}" height="${high}"/></svg>`;
+}
+
+// The rows from one on, with names and axis of their own.
+function sheetHtml(from, count) {
+  const tenants = run.tenants.slice(from, from + count);
+  return '<div class="sheet"><div class="corner">instruction / step</div>' +
+    `<div class="axis" style="min-width:${run.steps.length * chart.column}px">${axisHtml()}</div>` +
+    `<ol class="names">${tenants.map((tenant, at) => nameHtml(tenant, from + at)).join('')}</ol>${barsHtml(tenants)}</div>`;
 }
 
 function placeChart() {
-  const plot = byId('plot'), bars = byId('bars');
-  chart.row = rowHeight();
-  plot.style.setProperty('--row', chart.row + 'px');
-  byId('names').innerHTML = namesHtml();
-  const room = plot.clientWidth - byId('names').offsetWidth - 18;
+  const plot = byId('plot'), rem = parseFloat(getComputedStyle(document.documentElement).fontSize);
+  const room = plot.clientWidth - rem * (isNarrow() ? 9 : 14) - 18;
+  chart.row = Math.round(rem * 1.15);
   chart.column = Math.max(view.onPaper ? 1.5 : isNarrow() ? 7 : 5, Math.min(26, room / run.steps.length));
-  const wide = run.steps.length * chart.column + 2, high = (run.tenants.length + .3) * chart.row;
-  bars.setAttribute('width', wide);
-  bars.setAttribute('height', high);
-  bars.innerHTML = turnHtml(high) + `<rect class="column" y="0" width="${Math.max(chart.column, 4)}" height="${high}"/>` +
-    run.tenants.map(rowHtml).join('') + `<rect class="future" y="0" width="${wide}" height="${high}"/>`;
-  byId('axis').innerHTML = axisHtml();
-  byId('axis').style.minWidth = wide + 'px';
+  plot.style.setProperty('--row', chart.row + 'px');
+  const count = view.onPaper ? ROWS_ON_PAPER : Math.max(1, run.tenants.length), sheets = [];
+  for (let from = 0; from === 0 || from < run.tenants.length; from += count) sheets.push(sheetHtml(from, count));
+  plot.innerHTML = sheets.join('');
 }
 
-function drawAxis(at) {
-  for (const mark of byId('axis').children) {
+function drawAxis(axis, at) {
+  for (const mark of axis.children) {
     if (mark.className) continue;
-    mark.style.visibility = Math.abs(mark.dataset.step - at) * chart.column < 26 ? 'hidden' : '';
+    const isCrowded = chart.column * 10 < 24 && mark.dataset.step % 50 !== 0;
+    mark.style.visibility = isCrowded || Math.abs(mark.dataset.step - at) * chart.column < 26 ? 'hidden' : '';
   }
-  const now = byId('axis').lastChild;
+  const now = axis.lastChild;
   now.textContent = at;
   now.style.left = centre(at) + 'px';
 }
 
 function drawNames(step, at) {
-  const live = new Set(step.live.map(number => step.stations[number].tenant)), names = byId('names').children;
-  run.tenants.forEach((tenant, row) => {
-    const name = live.has(row) ? 'live' : tenant.squash <= at ? 'squashed' : tenant.retire <= at ? 'past' : '';
-    names[row].className = 'code ' + name;
-  });
+  const live = new Set(step.live.map(number => step.stations[number].tenant));
+  for (const name of byId('plot').querySelectorAll('.names li')) {
+    const row = Number(name.dataset.row), tenant = run.tenants[row];
+    name.className = 'code ' + (live.has(row) ? 'live' : tenant.squash <= at ? 'squashed' : tenant.retire <= at ? 'past' : '');
+  }
 }
 
 // The current column in the middle, and the oldest instruction in flight on top.
 function scrollChart(step, at) {
-  const plot = byId('plot'), wide = byId('names').offsetWidth;
+  const plot = byId('plot'), wide = plot.querySelector('.names').offsetWidth;
   const oldest = step.live.length ? step.stations[step.live[0]].tenant : run.tenants.filter(tenant => tenant.let <= at).length;
   plot.scrollTop = Math.max(0, (oldest - 1) * chart.row);
   if (plot.scrollWidth > plot.clientWidth) plot.scrollLeft = centre(at) - (plot.clientWidth - wide) / 2;
 }
 
 function drawChart(step, at) {
-  byId('bars').querySelector('.column').setAttribute('x', left(at));
-  byId('bars').querySelector('.future').setAttribute('x', left(at + 1));
-  drawAxis(at);
+  for (const sheet of byId('plot').children) {
+    sheet.querySelector('.column').setAttribute('x', left(at));
+    sheet.querySelector('.future').setAttribute('x', left(at + 1));
+    drawAxis(sheet.querySelector('.axis'), at);
+  }
   drawNames(step, at);
   scrollChart(step, at);
+}
+
+// The step that a click into the chart means, or none.
+function stepOfClick(event) {
+  const name = event.target.closest('[data-step]'), bars = event.target.closest('.bars');
+  if (name) return Number(name.dataset.step);
+  return bars ? Math.floor((event.clientX - bars.getBoundingClientRect().left) / chart.column) : -1;
 }

@@ -106,11 +106,7 @@ byId('jumps').onclick = event => {
   const button = event.target.closest('button');
   if (button) stopAndGo(find(button.dataset.kind, event.shiftKey ? -1 : 1));
 };
-byId('names').onclick = event => {
-  const name = event.target.closest('[data-step]');
-  if (name) stopAndGo(Number(name.dataset.step));
-};
-byId('bars').onclick = event => stopAndGo(Math.floor((event.clientX - byId('bars').getBoundingClientRect().left) / chart.column));
+byId('plot').onclick = event => stopAndGo(stepOfClick(event));
 
 // Where a key leads, or nothing. A box that scrolls keeps the keys by which it scrolls.
 function target(event) {
