@@ -24,7 +24,7 @@ ANSWERS = {
     "Job": form(r"Job station {station} tag {tag} index {index} half {half} pc {pc} predicted {predicted} a {a} b {b} " + TEXT),
     "Finished": form(r"Finished station {station} tag {tag} {state} value {value}" + WOKE),
     "Stale": form(r"Stale station {station} tag {tag}"),
-    "Loaded": form(r"Loaded station {station} tag {tag} value {value}(?: from (?P<origin>memory|store \d+))?" + WOKE),
+    "Loaded": form(r"Loaded station {station} tag {tag} value {value}" + WOKE),
     "Blocked": form(r"Blocked load {station} store {store}(?:[: ](?P<reason>.*))?"),
     "Retired": form(r"Retired pc {pc} n {count} station {station}(?: (?P<changes>.*))?"),
     "Half": form(r"Half pc {pc} station {station}"),

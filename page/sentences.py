@@ -112,9 +112,9 @@ class Teller:
                 f"under tag {job['tag']} and was squashed. The result is stale, and changes nothing.")
 
     def load(self, step, _before):
-        origin = step["origin"] or ""
-        source = (" from memory" if origin == "memory" else
-                  f" from the store in {origin.replace('store', 'station')}, which is not in memory yet" if origin else "")
+        origin = step["origin"]
+        source = ("" if origin is None else " from memory" if origin == "memory" else
+                  f" from the store in station {origin}, which is not in memory yet")
         return (f"The load in station {step['station']}, {self.code(step['tenant'])}, gets {{{step['value']}}}{source}." +
                 self.woken(step))
 

@@ -1,5 +1,6 @@
 """The steps of a run: one object for each command that told something, gathered from the answers of `ruu drive` alone."""
 from answers import Report, Table, answer, queued
+from origins import origin
 from session import ASKED
 
 KINDS = {"Let": "let", "Job": "claim", "Finished": "finish", "Stale": "stale", "Loaded": "load", "Blocked": "blocked",
@@ -95,7 +96,7 @@ class Gathering:
         tenant = self.tenant_of[found["station"]]
         self.tenants[tenant]["load"] = at
         return {"tenant": tenant, "station": found["station"], "value": found["value"], "woke": found["woke"],
-                "origin": found["origin"]}
+                "origin": origin(found["station"], self.steps[-1]["queue"], lambda it: self.tenants[self.tenant_of[it]]["text"])}
 
     def block(self, _at, _command, found):
         return {"tenant": self.tenant_of[found["station"]], "station": found["station"], "store": found["store"],

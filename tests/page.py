@@ -112,7 +112,7 @@ def check_links(page, step, where):
                     wrong(f"{where}: station {number} waits for nobody at station {operand['from']}")
 
 
-def check_event(page, step, before, answer, where):
+def check_event(step, answer, where):
     """What the command itself told: the step's own line, whom it woke, where a load got its value."""
     same(f"{where}: answer", step["answer"], answer)
     woke = [int(it) for it in answer.split(" woke ")[1].split(" ")] if " woke " in answer else []
@@ -126,7 +126,26 @@ def check_event(page, step, before, answer, where):
         same(f"{where}: station", step["station"], int(named[2]))
 
 
-def check_jobs(page, steps):
+def check_load(page, step, before, where):
+    """A load's value is made of the bytes where the page says that it comes from: of committed memory, or of a store's data."""
+    tenant = page["tenants"][step["tenant"]]
+    operation, rows = tenant["text"].split(" ")[0], {row["station"]: row for row in before["queue"]}
+    if step["origin"] is None or operation in ("lwl", "lwr"):
+        return
+    size = {"b": 1, "h": 2, "w": 4}[operation[1]]
+    load = rows[step["station"]]["address"]
+    if step["origin"] == "memory":
+        at, word = load % 4, before["memory"].get(str(load - load % 4), 0)
+    else:
+        store = rows[step["origin"]]
+        at, word = load - store["address"], store["data"]
+    value = word >> 8 * at & (1 << 8 * size) - 1
+    if operation in ("lb", "lh") and value >> 8 * size - 1:
+        value += (1 << 32) - (1 << 8 * size)
+    same(f"{where}: a load from {step['origin']}", step["value"], value)
+
+
+def check_jobs(steps):
     """Who holds which job: from its claim to its finish."""
     held = {}
     for step in steps[1:]:
@@ -176,8 +195,10 @@ def check_content(page, listing, options, seed):
         check_state(step, state, where)
         check_links(page, step, where)
         if at:
-            check_event(page, step, steps[at - 1], answer, where)
-    check_jobs(page, steps)
+            check_event(step, answer, where)
+        if step["kind"] == "load":
+            check_load(page, step, steps[at - 1], where)
+    check_jobs(steps)
     return told
 
 

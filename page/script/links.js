@@ -73,8 +73,9 @@ function carried(step) {
   const sent = (step.sent || []).filter((it, at, all) => all.findIndex(other => other.to === it.to && other.from === it.from) === at)
     .map(it => ({ kind: 'sent', from: it.from, to: it.to, operand: it.operand, text: shown(it.value) }));
   if (step.kind === 'blocked') sent.push({ kind: 'blocked', from: step.station, to: step.store, text: 'held up' });
-  const store = step.kind === 'load' && /^store (\d+)$/.exec(step.origin || '');
-  if (store) sent.push({ kind: 'forwarded', from: Number(store[1]), to: step.station, text: shown(step.value) });
+  if (step.kind === 'load' && Number.isInteger(step.origin)) {
+    sent.push({ kind: 'forwarded', from: step.origin, to: step.station, text: shown(step.value) });
+  }
   return sent;
 }
 
