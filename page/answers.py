@@ -2,15 +2,15 @@
 import re
 import sys
 
-NUMBERS = {"station", "tag", "source", "index", "from_station", "from_tag", "count", "head", "tail", "store", "register", "line", "free"}
-VALUES = {"pc", "value", "predicted", "a", "b", "next", "address", "data"}
+NUMBERS = {"station", "tag", "source", "index", "from_station", "from_tag", "count", "head", "tail", "store", "register", "free"}
+VALUES = {"pc", "value", "predicted", "a", "b", "next"}
 
 
 def form(text):
     """A form in which `{name}` stands for a number, a value or a word, by the name."""
     def field(found):
         name = found[1]
-        kind = r"\d+" if name in NUMBERS else r"0x[0-9a-f]{8}|\?" if name in VALUES else r"\S+?"
+        kind = r"\d+" if name in NUMBERS else r"0x[0-9a-f]{8}" if name in VALUES else r"\S+?"
         return f"(?P<{name}>{kind})"
     return re.compile(re.sub(r"\{(\w+)\}", field, text))
 
@@ -25,10 +25,10 @@ ANSWERS = {
     "Finished": form(r"Finished station {station} tag {tag} {state} value {value}" + WOKE),
     "Stale": form(r"Stale station {station} tag {tag}"),
     "Loaded": form(r"Loaded station {station} tag {tag} value {value}" + WOKE),
-    "Blocked": form(r"Blocked load {station} store {store}(?:[: ](?P<reason>.*))?"),
+    "Blocked": form(r"Blocked load {station} store {store}"),
     "Retired": form(r"Retired pc {pc} n {count} station {station}(?: (?P<changes>.*))?"),
-    "Half": form(r"Half pc {pc} station {station}"),
-    "Ended": form(r"Ended {stop}(?: .*)?"),
+    "Half": form(r"Half pc {pc} station {station}(?: (?P<changes>.*))?"),
+    "Ended": form(r"Ended {stop}"),
     "Mended": form(r"Mended station {station} squashed {count}"),
 }
 ROW = form(r"station {station}: tag {tag} state {state} value {value}(?: unit {unit})? index {index} half {half}"
@@ -36,8 +36,6 @@ ROW = form(r"station {station}: tag {tag} state {state} value {value}(?: unit {u
 CREATOR = form(r"creator {register}: Made station {station} tag {tag}")
 RING = form(r"ring: head (?P<head>\d+|none) tail {tail} next {next} free {free}")
 OPERAND = form(r"VAL value {value}|WAIT for station {station} tag {tag}|NONE")
-QUEUED = form(r"{kind} station {station} tag {tag} address {address} data {data}")
-LISTED = form(r"{pc} line {line} (?P<text>.*)")
 REGISTER = re.compile(r"(?:r(?P<number>\d+)|(?P<name>hi|lo)) (?P<value>0x[0-9a-f]{8})")
 WORD = re.compile(r"m (?P<address>0x[0-9a-f]{8}) (?P<value>0x[0-9a-f]{8})")
 PAIR = {"lo": 32, "hi": 33}
@@ -52,8 +50,6 @@ def number(name, text):
     """A field's text as a number, where the name says that there is one."""
     if text is None or name not in NUMBERS | VALUES or text == "none":
         return text
-    if text == "?":
-        return None
     return int(text, 16 if text.startswith("0x") else 10)
 
 
@@ -78,17 +74,6 @@ def operand(text):
     if told["value"] is not None:
         return {"value": told["value"]}
     return {"from": told["station"], "tag": told["tag"]} if told["station"] is not None else None
-
-
-def queued(line):
-    """A row of the load/store queue; an address or data that is not there is none."""
-    return fields(QUEUED, line) or unknown(line)
-
-
-def listed(line):
-    """The pc, the line and the text of an instruction."""
-    told = fields(LISTED, line) or unknown(line)
-    return told["pc"], told["line"], told["text"]
 
 
 class Table:

@@ -1,8 +1,7 @@
-"""A listing: pc, line and text of each instruction as `ruu drive` lists them, beside what its author wrote on that line."""
+"""A listing as its author wrote it: the line, the labels, the text and the comment of each instruction."""
 import re
 
-from answers import listed
-
+START = 0x00400000
 LABEL = re.compile(r"\s*([A-Za-z_.][\w.]*)\s*:")
 NAMES = ("zero at v0 v1 a0 a1 a2 a3 t0 t1 t2 t3 t4 t5 t6 t7 "
          "s0 s1 s2 s3 s4 s5 s6 s7 t8 t9 k0 k1 gp sp fp ra").split()
@@ -38,18 +37,18 @@ def about(lines):
 
 
 class Listing:
-    """The instructions in turn, each with the labels that name it."""
+    """The instructions in turn: one for each line with code that is no directive."""
 
-    def __init__(self, told, lines):
+    def __init__(self, lines):
         self.about = about(lines)
         self.names_registers = any(re.search(r"\$[a-z]", line.code) for line in lines)
-        self.rows, begin = [], 0
-        for pc, number, text in map(listed, told):
-            labels = [label for line in lines[begin:number] for label in line.labels]
-            written = lines[number - 1]
-            self.rows.append({"pc": pc, "line": number, "told": text, "labels": labels,
-                              "text": written.code, "comment": written.comment})
-            begin = number
+        self.rows, labels = [], []
+        for number, line in enumerate(lines, 1):
+            labels += line.labels
+            if line.code and not line.code.startswith("."):
+                self.rows.append({"pc": START + 4 * len(self.rows), "line": number, "labels": labels,
+                                  "text": line.code, "comment": line.comment})
+                labels = []
         self.row_of = {row["pc"]: row for row in self.rows}
 
     def code_at(self, pc):

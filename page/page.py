@@ -53,8 +53,8 @@ def units_of(steps):
 def shown_run(program, asked):
     """All that the page shows of the run that the words ask for."""
     commands = session.shown(session.of_seed(program, asked), MOST_STEPS)
-    run, told = gathered(session.with_questions(program, asked, commands))
-    listing = Listing(told, lines_of(asked.listing))
+    run = gathered(session.with_questions(program, asked, commands))
+    listing = Listing(lines_of(asked.listing))
     tell_steps(run, listing)
     return {
         "file": os.path.basename(asked.listing), "about": listing.about, "seed": asked.seed,

@@ -2,7 +2,7 @@
 import subprocess
 import sys
 
-ASKED = ("table", "queue", "report")
+ASKED = ("table", "report")
 MOST_COMMANDS = 4000
 # First words of the answers that show in a page; another answer says that a command changed nothing.
 TELLING = {"Let", "Job", "Finished", "Stale", "Loaded", "Blocked", "Retired", "Half", "Ended", "Mended"}
@@ -49,10 +49,7 @@ def driven(program, words, more, script):
 def of_seed(program, words):
     """The commands that the seed chooses, with their answers, up to the end of the run."""
     found = driven(program, words, ["--seed", str(words.seed), "--steps", str(MOST_COMMANDS)], "")
-    for count, exchange in enumerate(found, 1):
-        if exchange.answer.startswith("Ended"):
-            return found[:count]
-    return found
+    return [exchange for exchange in found if exchange.command not in ASKED]
 
 
 def shown(commands, most):
@@ -67,7 +64,7 @@ def shown(commands, most):
 
 def with_questions(program, words, commands):
     """The commands once more, with all questions before the first one and behind each that told something."""
-    lines = ["list", *ASKED]
+    lines = [*ASKED]
     for exchange in commands:
         lines.append(exchange.command)
         if exchange.is_telling:

@@ -1,6 +1,6 @@
 """The steps of a run: one object for each command that told something, gathered from the answers of `ruu drive` alone."""
-from answers import Report, Table, answer, queued
-from origins import origin
+from answers import Report, Table, answer
+from memory_queue import origin, queue_of
 from session import ASKED
 
 KINDS = {"Let": "let", "Job": "claim", "Finished": "finish", "Stale": "stale", "Loaded": "load", "Blocked": "blocked",
@@ -18,6 +18,7 @@ class Gathering:
         self.jobs = {}
         self.passed = []
         self.blocked = set()
+        self.changes = []
 
     def state(self, told):
         """What the questions told, as a step that is still without its event."""
@@ -25,7 +26,7 @@ class Gathering:
         return {
             "stations": {station: self.station(row) for station, row in table.rows.items()},
             "live": table.live(), "head": table.ring["head"], "tail": table.ring["tail"], "next": table.ring["next"],
-            "creators": table.creators, "queue": [queued(line) for line in told["queue"]],
+            "creators": table.creators, "queue": queue_of(table, self.tenants, self.tenant_of),
             "count": report.count, "pc": report.pc, "registers": report.registers, "memory": report.memory,
             "jobs": {unit: dict(job) for unit, job in self.jobs.items()},
         }
@@ -57,7 +58,7 @@ class Gathering:
         self.steps.append(step)
 
     def pair(self, found):
-        return self.tenant_of[found["station"]], self.tenant_of[found["store"]], found["reason"]
+        return self.tenant_of[found["station"]], self.tenant_of[found["store"]]
 
     def squash(self, before, step):
         """The stations whose tenants the recovery squashed, the oldest first."""
@@ -83,6 +84,8 @@ class Gathering:
         unit = command.split()[1]
         job = self.jobs.pop(unit)
         self.tenants[job["tenant"]].update(finish=at, reached=found["state"])
+        if found["state"] == "ADDR":
+            self.tenants[job["tenant"]]["address"] = found["value"]
         return {"tenant": job["tenant"], "station": found["station"], "unit": unit,
                 "state": found["state"], "value": found["value"], "woke": found["woke"]}
 
@@ -96,16 +99,25 @@ class Gathering:
         tenant = self.tenant_of[found["station"]]
         self.tenants[tenant]["load"] = at
         return {"tenant": tenant, "station": found["station"], "value": found["value"], "woke": found["woke"],
-                "origin": origin(found["station"], self.steps[-1]["queue"], lambda it: self.tenants[self.tenant_of[it]]["text"])}
+                "origin": origin(found["station"], self.steps[-1]["queue"])}
 
     def block(self, _at, _command, found):
-        return {"tenant": self.tenant_of[found["station"]], "station": found["station"], "store": found["store"],
-                "reason": found["reason"]}
+        return {"tenant": self.tenant_of[found["station"]], "station": found["station"], "store": found["store"]}
 
     def retire(self, at, _command, found):
         tenant = self.tenant_of[found["station"]]
         self.tenants[tenant]["retire"] = at
-        return {"tenant": tenant, "station": found["station"], "changes": changes(found.get("changes"))}
+        self.changes += changes(found["changes"])
+        return {"tenant": tenant, "station": found["station"], "changes": self.changes}
+
+    def retire_half(self, at, command, found):
+        """The first half of a pair: its change is committed with that of the second."""
+        return {**self.retire(at, command, found), "changes": []}
+
+    def retire_whole(self, at, command, found):
+        event = self.retire(at, command, found)
+        self.changes = []
+        return event
 
     def end(self, at, _command, found):
         before = self.steps[-1]
@@ -123,7 +135,7 @@ class Gathering:
 
 
 EVENTS = {"Let": Gathering.let, "Job": Gathering.claim, "Finished": Gathering.finish, "Stale": Gathering.stale,
-          "Loaded": Gathering.load, "Blocked": Gathering.block, "Retired": Gathering.retire, "Half": Gathering.retire,
+          "Loaded": Gathering.load, "Blocked": Gathering.block, "Retired": Gathering.retire_whole, "Half": Gathering.retire_half,
           "Ended": Gathering.end, "Mended": Gathering.recover}
 
 
@@ -146,9 +158,8 @@ def sent(before, step):
 
 
 def gathered(session):
-    """The steps and tenants of a session with its questions, and the answer of `list`."""
+    """The steps and tenants of a session with its questions."""
     session = iter(session)
-    listing = next(session).lines
 
     def ask():
         return {name: next(session).lines for name in ASKED}
@@ -160,4 +171,4 @@ def gathered(session):
             run.take(number, exchange, ask())
         else:
             run.passed.append([exchange.command, exchange.answer])
-    return run, listing
+    return run

@@ -3,9 +3,9 @@ import os
 import sys
 
 MOST = 2 ** 64 - 1
-NUMBERS = {"--seed": (0, MOST), "--lsq-size": (2, 32), "--units": (1, 8)}
+NUMBERS = {"--seed": (0, MOST), "--lsq-size": (2, 32)}
 LISTED = {"--ruu-size": ("2", "4", "8", "16"), "--bpred": ("nottaken", "taken", "bimod")}
-STANDARD = {"--seed": "1", "--ruu-size": "8", "--units": "3", "--bpred": "bimod"}
+STANDARD = {"--seed": "1", "--ruu-size": "8", "--bpred": "bimod"}
 HELP = os.path.join(os.path.dirname(os.path.abspath(__file__)), "..", "docs", "help", "page.txt")
 
 
@@ -17,7 +17,6 @@ class Words:
         self.seed = int(options["--seed"])
         self.ring = int(options["--ruu-size"])
         self.queue = int(options.get("--lsq-size", min(8, self.ring)))
-        self.units = int(options["--units"])
         self.predictor = options["--bpred"]
 
     def of_the_unit(self):

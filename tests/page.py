@@ -2,7 +2,7 @@
 `-` for what a browser showed of it: page.py LISTING PAGE SEEN SEED OPTION..
 
 The commands of the seed are driven once more, and behind each that is a step of the page every station, operand, register and
-commit is asked for by commands of its own: `look`, `info`, `operand`, `creator`, `ring`, `queue`, `report`. Nothing of the
+commit is asked for by commands of its own: `look`, `info`, `operand`, `creator`, `ring`, `report`. Nothing of the
 page's own program is used."""
 import json
 import re
@@ -31,7 +31,7 @@ def drive(listing, options, script):
 
 def questions(ring):
     """What is asked at each step, a command a line."""
-    found = ["ring", "queue", "report"]
+    found = ["ring", "report"]
     found += [f"{what} {s}" for s in range(ring) for what in ("look", "info", "operand 1", "operand 2")]
     found = [re.sub(r"operand (\d) (\d+)", r"operand \2 \1", it) for it in found]
     return found + [f"creator {r}" for r in range(1, 34)]
@@ -40,17 +40,16 @@ def questions(ring):
 def asked_again(listing, options, steps, commands, ring):
     """For each step of the page, the answer of its command and of each question behind it."""
     lines, ends = questions(ring), {step["number"] for step in steps}
-    script = ["list", *lines]
+    script = [*lines]
     for number, command in enumerate(commands[:steps[-1]["number"]], 1):
         script += [command] + (lines if number in ends else [])
     told = iter(drive(listing, options, "\n".join(script) + "\n"))
-    listed = next(told)[1]
     found = [(None, dict(next(told) for _ in lines))]
     for number, command in enumerate(commands[:steps[-1]["number"]], 1):
         answer = next(told)[1]
         if number in ends:
             found.append((answer[0], dict(next(told) for _ in lines)))
-    return listed, found
+    return found
 
 
 def after(word, text):
@@ -101,7 +100,26 @@ def check_state(step, told, where):
     same(f"{where}: committed", {part: step[part] for part in committed}, committed)
 
 
-def check_links(page, step, where):
+def check_queue(step, told, where):
+    """A row for each load and store in flight, with the address that its station has told."""
+    wanted = []
+    for number in step["live"]:
+        look, operation = told[f"look {number}"][0], told[f"info {number}"][0].split(" ")[7]
+        if not re.fullmatch("l[bhw][ulr]?|s[bhw][lr]?", operation):
+            continue
+        row = next((it for it in step["queue"] if it["station"] == number), None)
+        if row is None:
+            wrong(f"{where}: station {number} is not in the queue")
+        wanted.append([number, "load" if operation[0] == "l" else "store"])
+        if after("state", look) == "ADDR":
+            same(f"{where}: address of station {number}", row["address"], after("value", look))
+        made = operand_as_told(told[f"operand {number} 2"][0]) if operation[0] == "s" else {"value": after("value", look)}
+        if operation[0] == "s" or after("state", look) == "DONE":
+            same(f"{where}: data of station {number}", row["data"], made.get("value"))
+    same(f"{where}: queue", [[row["station"], row["kind"]] for row in step["queue"]], wanted)
+
+
+def check_links(step, where):
     """Each link has a producer: an older tenant in flight, which has not made its value."""
     for number in step["live"]:
         for operand in step["stations"][str(number)]["operands"]:
@@ -183,17 +201,18 @@ def check_content(page, listing, options, seed):
     """All that is in the page, step by step."""
     steps = page["steps"]
     commands = [command for command, _ in drive(listing, [*options, "--seed", seed, "--steps", "4000"], "")]
+    commands = commands[:-2]  # the last two ask for a table and a report
     for step in steps[1:]:
         same("a command", step["command"], commands[step["number"] - 1])
     same("all commands", len(steps) - 1 + sum(len(step["passed"]) for step in steps), steps[-1]["number"])
-    listed, told = asked_again(listing, options, steps, commands, page["ring"])
-    same("the listing", [f"0x{it['pc']:08x} line {it['line']} {it['told']}" for it in page["listing"]], listed)
+    told = asked_again(listing, options, steps, commands, page["ring"])
     for at, (step, (answer, state)) in enumerate(zip(steps, told)):
         where = f"step {at}"
         for number in range(page["ring"]):
             check_station(page, step, number, state, where)
         check_state(step, state, where)
-        check_links(page, step, where)
+        check_queue(step, state, where)
+        check_links(step, where)
         if at:
             check_event(step, answer, where)
         if step["kind"] == "load":

@@ -69,9 +69,8 @@ says 3 'error: there is no option --seeds' examples/sum.s "$work/x.html" --seeds
 says 3 'error: --seed takes a number from 0 to 18446744073709551615' examples/sum.s "$work/x.html" --seed=18446744073709551616
 says 3 'error: --ruu-size takes 2, 4, 8 or 16' examples/sum.s "$work/x.html" --ruu-size 32
 says 3 'error: --lsq-size is at most --ruu-size' examples/sum.s "$work/x.html" --ruu-size 4 --lsq-size 8
-says 3 'error: --units takes a number from 1 to 8' examples/sum.s "$work/x.html" --units 0
 says 3 'error: --bpred takes nottaken, taken or bimod' examples/sum.s "$work/x.html" --bpred gshare
-says 3 'error: --units is given twice' examples/sum.s "$work/x.html" --units 1 --units 2
+says 3 'error: --seed is given twice' examples/sum.s "$work/x.html" --seed 1 --seed 2
 says 3 'error: --seed takes a value' examples/sum.s "$work/x.html" --seed
 says 3 'error: the listing is read twice, and FILE cannot be -' - "$work/x.html"
 says 3 'error: OUT.html takes a file' examples/sum.s -
