@@ -4,6 +4,8 @@ import re
 GUESSED = {"beq", "bne", "blez", "bgtz", "bltz", "bgez", "bltzal", "bgezal", "jr", "jalr"}
 JUMPS = GUESSED | {"j", "jal"}
 CHANGE = re.compile(r"(?:\$(?P<register>\d+)|(?P<name>lo|hi)|m(?P<address>0x[0-9a-f]+))=(?P<value>0x[0-9a-f]+)")
+STORED = {"sb": ("byte", 2), "sh": ("halfword", 4), "sw": ("word", 8)}
+PAIR = {"lo": 32, "hi": 33}
 FAULTS = {"overflow": "the sum does not fit", "unaligned": "the address is not a multiple of the size",
           "range": "the address is outside of data memory", "badpc": "there is no instruction at that address"}
 
@@ -130,21 +132,25 @@ class Teller:
         return (f"The load in station {step['station']}, {self.code(step['tenant'])}, is held up by the older store in "
                 f"station {step['store']}, {self.code(store['tenant'])}: {why}.")
 
-    def change(self, text):
+    def change(self, text, operation):
         """A committed change in words."""
         told = CHANGE.fullmatch(text)
-        value = "{%d}" % int(told["value"], 16)
         if told["address"]:
-            return f"memory at {{{int(told['address'], 16)}}} holds `{told['value']}`"
-        register = int(told["register"]) if told["register"] else {"lo": 32, "hi": 33}[told["name"]]
-        return f"`{self.listing.register_name(register)}` is {value}"
+            address = int(told["address"], 16)
+            if operation not in STORED:
+                return f"a part of the word at {{{address - address % 4}}} is changed"
+            size, digits = STORED[operation]
+            return f"the {size} at {{{address}}} is `0x{told['value'][-digits:]}`"
+        register = int(told["register"]) if told["register"] else PAIR[told["name"]]
+        return f"`{self.listing.register_name(register)}` is {{{int(told['value'], 16)}}}"
 
     def retire(self, step, _before):
+        operation = self.operation(step["tenant"])
         words = f"The oldest instruction retires: {self.code(step['tenant'])} leaves station {step['station']}."
         if step["answer"].startswith("Half"):
             return words + " What it made is committed with the second half."
         if step["changes"]:
-            words += f" From now on {listed([self.change(text) for text in step['changes']])}."
+            words += f" From now on {listed(self.change(text, operation) for text in step['changes'])}."
         return words
 
     def end(self, step, _before):
