@@ -154,12 +154,13 @@ class Teller:
         return words
 
     def end(self, step, _before):
-        words = f"The run ends with {step['count']} instructions committed"
+        count = step["count"]
+        words = f"The run ends with {count} instruction{'s' if count != 1 else ''} committed"
         if "tenant" in step:
             cause = FAULTS.get(step["stop"])
             words += f", as {self.code(step['tenant'])} retires" + (f": {cause}." if cause else ".")
         else:
-            words += "."
+            words += ": no instruction stands where it goes on."
         return words + " For every order of steps this is proved to be what a machine commits that takes one instruction after the other."
 
     def recover(self, step, _before):

@@ -139,6 +139,8 @@ def check_event(step, answer, where):
         same(f"{where}: the value that went", it["value"], after("value", answer))
     if answer.startswith("Mended"):
         same(f"{where}: squashed", len(step["squashed"]), after("squashed", answer))
+    for number, value in re.findall(r" \$(\d+)=(0x\w{8})", answer):
+        same(f"{where}: register {number}", step["registers"].get(number, 0), int(value, 16))
     named = re.match(r"(Let|Job|Finished|Stale|Loaded|Mended) station (\d+)", answer)
     if named:
         same(f"{where}: station", step["station"], int(named[2]))
