@@ -42,11 +42,9 @@ class Gathering:
     def take(self, number, exchange, told):
         """A command that told something, with the answers to the questions behind it."""
         word, found = answer(exchange.answer)
-        if word == "Blocked" and (pair := self.pair(found)) in self.blocked:
+        if word == "Blocked" and self.is_known(found, Table(told["table"])):
             self.passed.append([exchange.command, exchange.answer])
             return
-        if word == "Blocked":
-            self.blocked.add(pair)
         event = EVENTS[word](self, len(self.steps), exchange.command, found)
         before = self.steps[-1]
         step = {"kind": FINISHED.get(found.get("state"), KINDS[word]), "command": exchange.command,
@@ -57,8 +55,13 @@ class Gathering:
         self.passed = []
         self.steps.append(step)
 
-    def pair(self, found):
-        return self.tenant_of[found["station"]], self.tenant_of[found["store"]]
+    def is_known(self, found, table):
+        """Whether a step has shown already that this load is held up by this store, for this reason."""
+        store = table.rows[found["store"]]
+        block = (self.tenant_of[found["station"]], self.tenant_of[found["store"]], store["state"], str(store["operands"][1]))
+        is_known = block in self.blocked
+        self.blocked.add(block)
+        return is_known
 
     def squash(self, before, step):
         """The stations whose tenants the recovery squashed, the oldest first."""
