@@ -1,0 +1,173 @@
+"""A step in words. Code stands between backquotes, and a value between braces: the page writes it as decimal or hexadecimal."""
+import re
+
+GUESSED = {"beq", "bne", "blez", "bgtz", "bltz", "bgez", "bltzal", "bgezal", "jr", "jalr"}
+JUMPS = GUESSED | {"j", "jal"}
+CHANGE = re.compile(r"(?:\$(?P<register>\d+)|(?P<name>lo|hi)|m(?P<address>0x[0-9a-f]+))=(?P<value>0x[0-9a-f]+)")
+STORED = {"sb": ("byte", 2), "sh": ("halfword", 4), "sw": ("word", 8)}
+PAIR = {"lo": 32, "hi": 33}
+FAULTS = {"overflow": "the sum does not fit", "unaligned": "the address is not a multiple of the size",
+          "range": "the address is outside of data memory", "badpc": "there is no instruction at that address"}
+
+
+def listed(parts):
+    """Parts in a row: `1`, `1 and 2`, `1, 2 and 3`."""
+    parts = [str(part) for part in parts]
+    return parts[0] if len(parts) == 1 else ", ".join(parts[:-1]) + " and " + parts[-1]
+
+
+def stations(numbers):
+    return ("station " if len(numbers) == 1 else "stations ") + listed(numbers)
+
+
+def awaited(station):
+    """The stations that an instruction waits for, each once."""
+    return sorted({it["from"] for it in station["operands"] if it and "from" in it})
+
+
+class Teller:
+    """Tells the steps of one run, with the instructions as the listing writes them."""
+
+    def __init__(self, run, listing):
+        self.run = run
+        self.listing = listing
+
+    def tell(self, at):
+        """The words of the step at this number."""
+        step = self.run.steps[at]
+        return getattr(self, step["kind"])(step, self.run.steps[at - 1] if at else None)
+
+    def code(self, tenant):
+        told = self.run.tenants[tenant]
+        return f"`{self.listing.code_at(told['pc'])}`" + {"Low": " (for LO)", "High": " (for HI)"}.get(told["half"], "")
+
+    def operation(self, tenant):
+        return self.run.tenants[tenant]["text"].split(" ")[0]
+
+    def line(self, tenant):
+        return self.listing.place_of(self.run.tenants[tenant]["pc"])[1]
+
+    def place(self, pc):
+        """Where the run goes on: a label, or the line of the listing."""
+        label, line = self.listing.place_of(pc)
+        return f"`{label}`" if label else f"line {line}" if line else f"`0x{pc:08x}`, where no instruction is"
+
+    def woken(self, step):
+        """What becomes of those that had waited for a value."""
+        rest = {station: awaited(step["stations"][station]) for station in step["woke"]}
+        ready = [station for station in step["woke"] if not rest[station]]
+        words = ""
+        if ready:
+            words += f" {stations(ready).capitalize()} had waited for that, and {'has' if len(ready) == 1 else 'have'} all operands now."
+        for station in step["woke"]:
+            if rest[station]:
+                words += f" Station {station} had waited for that, and still needs {stations(rest[station])}."
+        return words
+
+    def start(self, _step, _before):
+        return "Nothing is in flight yet. The right arrow key shows the first step."
+
+    def let(self, step, _before):
+        now = step["stations"][step["station"]]
+        rest = awaited(now)
+        words = f"Station {step['station']} takes {self.code(step['tenant'])} from line {self.line(step['tenant'])}."
+        if rest:
+            words += f" The instruction waits for {stations(rest)}."
+        elif any(now["operands"]):
+            words += " All its operands are there."
+        if self.operation(step["tenant"]) in GUESSED:
+            words += f" The guess is that {self.place(now['predicted'])} comes next."
+        return words
+
+    def claim(self, step, _before):
+        needed = step["stations"][step["station"]]["operands"]
+        values = ["{%d}" % it["value"] for it in needed if it and "value" in it]
+        return (f"Unit {step['unit']} starts on station {step['station']}: {self.code(step['tenant'])}" +
+                (f" with {listed(values)}." if values else "."))
+
+    def finish(self, step, _before):
+        code, operation = self.code(step["tenant"]), self.operation(step["tenant"])
+        begin = f"Unit {step['unit']} is through with station {step['station']}: "
+        if step["state"] == "ADDR":
+            return begin + (f"{code} will write at address {{{step['value']}}}, and not before it retires."
+                            if operation.startswith("s") else
+                            f"{code} reads at address {{{step['value']}}}. What stands there is still to be found.")
+        if operation in JUMPS:
+            link = " and makes the return address" if operation.endswith("al") or operation == "jalr" else ""
+            return begin + f"{code} goes to {self.place(step['value'])}, as foreseen{link}." + self.woken(step)
+        return begin + f"{code} makes {{{step['value']}}}." + self.woken(step)
+
+    def miss(self, step, _before):
+        return (f"Unit {step['unit']} is through with station {step['station']}: {self.code(step['tenant'])} goes to "
+                f"{self.place(step['value'])}. The guess was wrong, and all that is younger is on a wrong path.")
+
+    def stop(self, step, _before):
+        code = self.code(step["tenant"])
+        begin = f"Unit {step['unit']} is through with station {step['station']}: {code} "
+        if self.operation(step["tenant"]) == "break":
+            return begin + "ends the run as soon as it retires, if it ever does."
+        return begin + "is at fault. That counts only if the instruction retires."
+
+    def stale(self, step, _before):
+        job = self.run.tenants[step["tenant"]]
+        return (f"Unit {step['unit']} comes back with {self.code(step['tenant'])}, which had station {job['station']} "
+                f"under tag {job['tag']} and was squashed. The result is stale, and changes nothing.")
+
+    def load(self, step, _before):
+        origin = step["origin"]
+        source = ("" if origin is None else " from memory" if origin == "memory" else
+                  f" from the store in station {origin}, which is not in memory yet")
+        return (f"The load in station {step['station']}, {self.code(step['tenant'])}, gets {{{step['value']}}}{source}." +
+                self.woken(step))
+
+    def blocked(self, step, _before):
+        store = step["stations"][step["store"]]
+        data = store["operands"][1]
+        if store["state"] in ("OPEN", "BUSY"):
+            why = "nobody knows yet where that one writes"
+        elif data and "from" in data:
+            why = "nobody knows yet what that one writes"
+        else:
+            why = "that one writes only some of the bytes, and has to reach memory first"
+        return (f"The load in station {step['station']}, {self.code(step['tenant'])}, is held up by the older store in "
+                f"station {step['store']}, {self.code(store['tenant'])}: {why}.")
+
+    def change(self, text, operation):
+        """A committed change in words."""
+        told = CHANGE.fullmatch(text)
+        if told["address"]:
+            address = int(told["address"], 16)
+            if operation not in STORED:
+                return f"a part of the word at {{{address - address % 4}}} is changed"
+            size, digits = STORED[operation]
+            return f"the {size} at {{{address}}} is `0x{told['value'][-digits:]}`"
+        register = int(told["register"]) if told["register"] else PAIR[told["name"]]
+        return f"`{self.listing.register_name(register)}` is {{{int(told['value'], 16)}}}"
+
+    def retire(self, step, _before):
+        operation = self.operation(step["tenant"])
+        words = f"The oldest instruction retires: {self.code(step['tenant'])} leaves station {step['station']}."
+        if step["answer"].startswith("Half"):
+            return words + " What it made is committed with the second half."
+        if step["changes"]:
+            words += f" From now on {listed(self.change(text, operation) for text in step['changes'])}."
+        return words
+
+    def end(self, step, _before):
+        count = step["count"]
+        words = f"The run ends with {count} instruction{'s' if count != 1 else ''} committed"
+        if "tenant" in step:
+            cause = FAULTS.get(step["stop"])
+            words += f", as {self.code(step['tenant'])} retires" + (f": {cause}." if cause else ".")
+        else:
+            words += ": no instruction stands where it goes on."
+        return words + " For every order of steps this is proved to be what a machine commits that takes one instruction after the other."
+
+    def recover(self, step, _before):
+        gone = step["squashed"]
+        words = f"Recovery behind station {step['station']}: "
+        if gone:
+            words += f"{len(gone)} younger instruction{'s are' if len(gone) > 1 else ' is'} squashed, in {stations(gone)}."
+        else:
+            words += "nothing was younger."
+        return words + f" Dispatch goes on at {self.place(step['next'])}."
