@@ -63,36 +63,31 @@ status=$?
 : > "$work/out"
 is_told 'a closed standard output' "$work/none" 5 'ruu: write'
 printf 'turn\r\n\r\n\tlook 0 # a comment' > "$work/script"
-printf 'Let station 0 tag 1 pc 0x00400000\nSeen tag 1 state OPEN value 0x00000000\n' > "$work/told"
+printf 'Let station 0 tag 1 pc 0x00400000 addiu $1,$0,5\nSeen tag 1 state OPEN value 0x00000000\n' > "$work/told"
 drive "$work/script" examples/double.s
 is_told 'lines that end otherwise' "$work/told" 0 ''
 echo 'what goes wrong has its word and its status'
 
-# words that another program answers are told with that program
-elsewhere() { # program, the one that answers, words
-  local program=$1 other=$2
-  shift 2
-  "crates/$program/out/$program" "$@" < /dev/null > "$work/out" 2> "$work/err"
-  status=$?
-  [ $status -eq 3 ] && [ ! -s "$work/out" ] || fail "$program $*: status $status"
-  grep -qx "error: the program $other answers these words, and ./ruu starts it" "$work/err" || fail "$program $*: another text"
-}
+# each line is told before its answer where that is wanted, and nothing else changes
+drive "$script" examples/drive/relet.s --ruu-size 4 --bpred nottaken --echo
+sed -n 's/^> //p' "$work/out" | cmp -s - "$script" || fail 'the echo is not the script'
+grep -v '^> ' "$work/out" | cmp -s - examples/drive/relet.told || fail 'an echo changes an answer'
 
-build run ruu
-build run viewer
-for program in ruu viewer; do
-  elsewhere $program driver drive examples/double.s
+# commands that a seed chooses: a run to its end has the report of the run, the lines are a script that is answered
+# alike, and another seed chooses otherwise
+for name in double wrong_path forwarding fibonacci; do
+  for seed in 1 2 3; do
+    drive "$work/none" "examples/$name.s" --ruu-size 8 --seed $seed --steps 20000
+    [ $status -eq 0 ] || fail "$name, seed $seed: status $status"
+    cp "$work/out" "$work/seeded.$seed"
+    sed '1,/^> report$/d' "$work/out" | cmp -s - "examples/$name.report" || fail "$name, seed $seed: another report"
+    sed -n 's/^> //p' "$work/seeded.$seed" > "$work/script"
+    drive "$work/script" "examples/$name.s" --ruu-size 8 --echo
+    is_told "$name, the commands of seed $seed" "$work/seeded.$seed" 0 ''
+  done
+  ! cmp -s "$work/seeded.1" "$work/seeded.2" || fail "$name: a seed is ignored"
 done
-for program in viewer driver; do
-  elsewhere $program ruu run examples/double.s
-done
-for program in ruu driver; do
-  elsewhere $program viewer check examples/double.s
-  elsewhere $program viewer run examples/double.s --alone --chart
-  elsewhere $program viewer run examples/double.s --alone --trace="$work/log"
-done
-[ ! -e "$work/log" ] || fail 'a log by another program'
-echo 'each program names the one that answers what it does not'
+echo 'seeds choose commands, whose lines are scripts'
 
 # each allocation is refused in turn: the refusal is named behind a beginning of the answers, or a snapshot was not
 # shown or the core not renewed, or all is told as before

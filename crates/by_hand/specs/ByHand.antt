@@ -1,16 +1,35 @@
 -- What is told where a unit is driven by hand.
-use Rattle.std.specs.Prelude.{◌≡◌, ◌⊎◌, ◌<◌, ℕ, List, Option, Result, Ok, Err, length, take}
+use Rattle.std.specs.Prelude.{◌≡◌, ◌⊎◌, ◌<◌, ℕ, Bool, List, Option, None, Some, Result, Ok, Err, length, take}
 use Rattle.std.specs.Io.KnownBytes.{Appends}
 use Rattle.isa.specs.declared.listing.fault.FaultKind.{FaultKind}
 use Rattle.instructions.specs.Programs.{Program}
 use Rattle.isa.specs.Report.{fault_line}
 use Rattle.drive.specs.Sessions.{IsStartOfSession, TheSession}
+use Rattle.drive.specs.Plays.{HasPlayedPart, IsPlayed}
 use Rattle.drive.specs.Scripts.{HasBroken, HasDriven, HasTold}
 use Rattle.drive.specs.declared.script.Fault.{Fault as ScriptFault}
 use Rattle.drive.specs.declared.script.Fault.TheVariants as script
 use Rattle.requests.specs.declared.request.ByHand.{ByHand}
 use Rattle.without_threads.specs.declared.went.Refusal.{Refusal}
 use Rattle.without_threads.specs.declared.went.Refusal.TheVariants.{Memory, Read, Write}
+
+-- all commands were answered: those of a script, or those that a seed chooses
+abbrev pub AreAnswered : Option ℕ → (echo : Bool) → (first last : TheSession)
+    → (script before after : Option (List ℕ)) → Type 0
+AreAnswered None echo first last script before after = HasDriven echo script first last before after
+AreAnswered (Some seed) echo first last script before after = IsPlayed seed first last before after
+
+-- some commands of a script were answered; of those that a seed chooses nothing was written
+abbrev pub AreSomeAnswered : Option ℕ → (echo : Bool) → (first : TheSession)
+    → (script before after : Option (List ℕ)) → Type 0
+AreSomeAnswered None echo first script before after = HasTold echo script first before after
+AreSomeAnswered (Some seed) echo first script before after = after ≡ before
+
+-- some commands were answered, and of the answer to one more a proper beginning was written
+abbrev pub IsAnswerBroken : Option ℕ → (echo : Bool) → (first : TheSession)
+    → (script before after : Option (List ℕ)) → Type 0
+IsAnswerBroken None echo first script before after = HasBroken echo script first before after
+IsAnswerBroken (Some seed) echo first script before after = HasPlayedPart seed first before after
 
 -- all commands of a script were answered, for a program from its start on
 pub record IsTranscriptOf (hand : ByHand) (P : Program) (status : ℕ) (script before after : Option (List ℕ)) :
@@ -19,7 +38,7 @@ pub record IsTranscriptOf (hand : ByHand) (P : Program) (status : ℕ) (script b
   pub first : TheSession
   pub last : TheSession
   pub starts : IsStartOfSession P hand.config first
-  pub driven : HasDriven script first last before after
+  pub driven : AreAnswered hand.seed hand.echo first last script before after
 
 -- what is told for a listing and a script: a transcript, or the fault of the listing
 abbrev pub IsDriven : ByHand → Result Program (ℕ × FaultKind) → (status : ℕ)
@@ -32,7 +51,7 @@ IsDriven hand (Err f) status script before after =
 pub record HasToldSome (hand : ByHand) (P : Program) (script before after : Option (List ℕ)) : Type 0 where
   pub first : TheSession
   pub starts : IsStartOfSession P hand.config first
-  pub told : HasTold script first before after
+  pub told : AreSomeAnswered hand.seed hand.echo first script before after
 
 -- what was written where reading, or memory, came to an end too early
 abbrev pub WasBrokenOff : ByHand → Result Program (ℕ × FaultKind) → (script before after : Option (List ℕ)) → Type 0
@@ -43,7 +62,7 @@ WasBrokenOff hand (Err f) script before after = after ≡ before
 pub record HasBrokenOff (hand : ByHand) (P : Program) (script before after : Option (List ℕ)) : Type 0 where
   pub first : TheSession
   pub starts : IsStartOfSession P hand.config first
-  pub broken : HasBroken script first before after
+  pub broken : IsAnswerBroken hand.seed hand.echo first script before after
 
 -- a proper beginning of a text was written
 pub record IsPart (text : List ℕ) (before after : Option (List ℕ)) : Type 0 where

@@ -1,8 +1,9 @@
 //! A unit that is driven by commands.
-ghost use Rattle.std.specs.Prelude.{◌≡◌, ◌-◌, ◌^◌, ◌<◌, IfSome, IfOk, IfErr, OnOk, Ok, Some, None};
+ghost use Rattle.std.specs.Prelude.{◌≡◌, ◌≢◌, ◌+◌, ◌-◌, ◌^◌, ◌<◌, IfSome, IfOk, IfErr, OnOk, Ok, Some, None};
 ghost use Rattle.isa.specs.Listing.{listing};
-ghost use Rattle.devices.specs.Counted.{failures_of};
-ghost use Rattle.by_hand.specs.ByHand.{script_refusal};
+ghost use Rattle.devices.specs.Counted.{failures_of, known_by};
+ghost use Rattle.drive.specs.Scripts.{failed_writes};
+ghost use Rattle.by_hand.specs.ByHand.{AreAnswered, AreSomeAnswered, IsAnswerBroken, script_refusal};
 ghost use Rattle.by_hand.specs.Replies.{HasAnswered, IsLeftByHand, IsUndrivenBy, listing_from};
 ghost use Rattle.requests.specs.Predictors.{IsChosen};
 ghost use Rattle.without_threads.specs.Replies.{IfRefused};
@@ -11,7 +12,7 @@ ghost use Rattle.without_threads.specs.declared.went.Line.TheVariants.{Nothing};
 
 use bench::MOST_TAKEN;
 use devices::{Counted, read_up_to, write_whole};
-use drive::{Fault, Session};
+use drive::{Fault, Session, write_play};
 use instructions::Program;
 use isa::{FaultKind, fault_text, parse};
 use requests::{ByHand, Chosen, choose};
@@ -22,8 +23,11 @@ use std::marker::Brand;
 use std::sync::Wait;
 use without_threads::{Line, Refusal, Went, refused};
 
-/// Reads the listing, drives its unit by the commands of the script, one a line, and writes what is
-/// answered. The status is 0 at the end of the script, and 2 for a listing with a fault, whose line
+/// The most commands that a seed chooses.
+const MOST_STEPS: u64 = 1_000_000;
+
+/// Reads the listing, drives its unit by the commands of the script, one a line, or by those that a
+/// seed chooses, and writes what is answered. The status is 0 at the end of the script, and 2 for a listing with a fault, whose line
 /// is written in place of answers. There is no reader where the file did not open. A failed read or
 /// write is not tried again.
 pub fn go_by_hand<T: Wait, R: Read + Drop, I: BufRead, W: Write>(
@@ -131,12 +135,43 @@ fn drive_by<J: Naming, T: Wait, I: BufRead, W: Write>(
     ensures err { IfErr result (IsUndrivenBy W.contents hand.now
         (Some (Ok program.now)) (I.remaining script.old) writer.old writer.new) }
 {
-    let mut driven = Session::<Chosen, J>::new(alloc, program, &hand.config, predictor)?;
-    let told = drive::drive(wait, alloc, &mut driven, script, writer);
-    driven.end(wait);
+    let mut session = Session::<Chosen, J>::new(alloc, program, &hand.config, predictor)?;
+    let told = tell(wait, alloc, hand, &mut session, script, writer);
+    session.end(wait);
     match told {
         Ok(()) => Ok(()),
         Err(fault) => Err(script_refusal(fault)),
+    }
+}
+
+// Answers the script, or the commands that the seed chooses.
+fn tell<J: Naming, T: Wait, I: BufRead, W: Write>(
+    wait: &T,
+    alloc: Global,
+    hand: &ByHand<'_>,
+    session: &mut Session<'_, Chosen, J>,
+    script: &mut I,
+    writer: &mut Counted<W>,
+) -> Result<(), Fault>
+    requires { failures_of writer.old < 2 ^ 64 - 1 }
+    ensures ok { OnOk result (AreAnswered hand.now.seed hand.now.echo session.old session.new
+        (I.remaining script.old) (known_by W.contents writer.old) (known_by W.contents writer.new)) }
+    ensures quiet { OnOk result (failures_of writer.new ≡ failures_of writer.old) }
+    ensures write { IfErr result (λ fault.
+        failures_of writer.new ≡ failures_of writer.old + failed_writes fault) }
+    ensures told { IfErr result (λ fault. fault ≢ Fault.Write →
+        AreSomeAnswered hand.now.seed hand.now.echo session.old
+        (I.remaining script.old) (known_by W.contents writer.old) (known_by W.contents writer.new)) }
+    ensures broken { IfErr result (λ fault. fault ≡ Fault.Write →
+        IsAnswerBroken hand.now.seed hand.now.echo session.old
+        (I.remaining script.old) (known_by W.contents writer.old) (known_by W.contents writer.new)) }
+{
+    match hand.seed {
+        None => drive::drive(wait, alloc, session, script, writer, hand.echo),
+        Some(seed) => {
+            let steps = hand.steps.min(MOST_STEPS);
+            write_play(wait, alloc, session, seed, steps, writer)
+        }
     }
 }
 

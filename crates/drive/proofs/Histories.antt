@@ -23,3 +23,7 @@ grows_on core a b c s t = record { begins = starts_on a b c s.begins t.begins; l
 pub between : (Fact : List Entry → List Entry → Type 0) (old before behind later new : List Entry) →
     StartsWith before old → Fact before behind → StartsWith later behind → StartsWith new later → IsBetween old new Fact
 between Fact old before behind later new begins fact more told = record { before = before; behind = behind; begins = begins; ends = starts_on behind later new more told; fact = fact }
+
+-- A fact between two moments of a longer history
+pub widen : (Fact : List Entry → List Entry → Type 0) (old first last new : List Entry) → StartsWith first old → IsBetween first last Fact → StartsWith new last → IsBetween old new Fact
+widen Fact old first last new s i t = record { before = i.before; behind = i.behind; begins = starts_on old first i.before s i.begins; ends = starts_on i.behind last new i.ends t; fact = i.fact }

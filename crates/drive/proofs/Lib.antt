@@ -6,5 +6,9 @@ pub mod Workers
 pub mod Scripts
 pub mod Meetings
 pub mod InOrder
-pub mod Rows
+pub mod WordsRead
+pub mod TableRows
 pub mod Renewing
+pub mod Looks
+pub mod Played
+pub mod Woken

@@ -21,7 +21,7 @@ module _ (old new : TheSession) where
 units_on : (a b c : List (Option Worker)) → StaySeen a b → StaySeen b c → StaySeen a c
 units_on a b c s t = record { keeps = λ at. starts_on (seen_at a at) (seen_at b at) (seen_at c at) (s.keeps at) (t.keeps at); jobs = λ at. t.jobs at ∙ s.jobs at }
 
-back_on : (a b c : TheBack) → IsSameBack a b → IsSameBack b c → IsSameBack a c
+pub back_on : (a b c : TheBack) → IsSameBack a b → IsSameBack b c → IsSameBack a c
 back_on a b c s t = record { core = t.core ∙ s.core; by = t.by ∙ s.by; ended = t.ended ∙ s.ended; shown = t.shown ∙ s.shown; state = t.state ∙ s.state }
 
 stays_on : (a b c : TheSession) → StaysAsSeen a b → StaysAsSeen b c → StaysAsSeen a c

@@ -1,5 +1,5 @@
 -- A transcript, line by line.
-use Rattle.std.proofs.Common.{◌≡◌, ◌<◌, ℕ, ◌+◌, suc, List, [], ◌∷◌, ◌++◌, map, length, take, Option, Some, None, Result, Ok, Err, IfErr, IfSome, refl, sym, ap, ◌∙◌, subst, add-one}
+use Rattle.std.proofs.Common.{◌≡◌, ◌<◌, Bool, ℕ, ◌+◌, suc, List, [], ◌∷◌, ◌++◌, map, length, take, Option, Some, None, Result, Ok, Err, IfErr, IfSome, refl, sym, ap, ◌∙◌, subst, add-one}
 use Rattle.std.specs.Io.BufRead.{DropsThrough, take_through}
 use Rattle.std.specs.Io.KnownBytes.{Appends}
 use Rattle.std.proofs.KnownBytes.{Appends-trans}
@@ -7,17 +7,17 @@ use Rattle.drive.specs.declared.script.Fault.{Fault}
 use Rattle.drive.specs.declared.script.Fault.TheVariants.{Write}
 use Rattle.drive.specs.Scripts.{AreTold, HasBroken, HasDriven, LineIsCut, NothingWasLeft, LineIsTold, ReadsScript, line_of}
 use Rattle.drive.specs.Sessions.{TheSession}
-use Rattle.drive.specs.Transcripts.{IsToldOfLine}
+use Rattle.drive.specs.Transcripts.{IsWrittenOfLine}
 
 length_lines : (chunks : List (List ℕ)) → length (map line_of chunks) ≡ length chunks
 length_lines [] = refl
 length_lines (c ∷ cs) = ap suc (length_lines cs)
 
-pub one_more_told : (from mid to : Option (List ℕ)) (a b c : TheSession) (out more new : Option (List ℕ)) (count : ℕ) →
-    AreTold from mid a b out more count → LineIsTold mid to b c (count + 1) more new → AreTold from to a c out new (count + 1)
-one_more_told from mid to a b c out more new count all one =
+pub one_more_told : (echo : Bool) (from mid to : Option (List ℕ)) (a b c : TheSession) (out more new : Option (List ℕ)) (count : ℕ) →
+    AreTold echo from mid a b out more count → LineIsTold echo mid to b c (count + 1) more new → AreTold echo from to a c out new (count + 1)
+one_more_told echo from mid to a b c out more new count all one =
     let number : count + 1 ≡ suc (length (map line_of all.chunks)) = add-one count ∙ ap suc (sym (length_lines all.chunks ∙ all.count_is)) in
-    let told : IsToldOfLine b c (suc (length (map line_of all.chunks))) (line_of one.chunk) one.text = subst (λ n. IsToldOfLine b c n (line_of one.chunk) one.text) number one.told in
+    let told : IsWrittenOfLine echo b c (suc (length (map line_of all.chunks))) (line_of one.chunk) one.text = subst (λ n. IsWrittenOfLine echo b c n (line_of one.chunk) one.text) number one.told in
     record {
       chunks = one.chunk ∷ all.chunks;
       count_is = ap suc all.count_is ∙ sym (add-one count);
@@ -27,12 +27,12 @@ one_more_told from mid to a b c out more new count all one =
       written = Appends-trans out more new all.text one.text all.written one.written;
     }
 
-pub all_told : (from to : Option (List ℕ)) (a b c : TheSession) (out more new : Option (List ℕ)) (count : ℕ) →
-    AreTold from to a b out more count → NothingWasLeft to b c more new → HasDriven from a c out new
-all_told from to a b c out more new count all end = record {
+pub all_told : (echo : Bool) (from to : Option (List ℕ)) (a b c : TheSession) (out more new : Option (List ℕ)) (count : ℕ) →
+    AreTold echo from to a b out more count → NothingWasLeft to b c more new → HasDriven echo from a c out new
+all_told echo from to a b c out more new count all end = record {
   to = to;
   count = count;
-  all = subst (λ s. AreTold from to a s out new count) (sym end.same) (subst (λ o. AreTold from to a b out o count) (sym end.unwritten) all);
+  all = subst (λ s. AreTold echo from to a s out new count) (sym end.same) (subst (λ o. AreTold echo from to a b out o count) (sym end.unwritten) all);
   ended = end.read;
 }
 
@@ -41,9 +41,9 @@ pub reads : (from to : Option (List ℕ)) (old chunk : List ℕ) → old ≡ [] 
 reads None to old chunk empty is rest = tt
 reads (Some input) to old chunk empty is rest = (is ∙ ap (λ xs. xs ++ take_through 10 input) empty, rest)
 
-pub cut_short : (from to : Option (List ℕ)) (a b : TheSession) (number : ℕ) (out new : Option (List ℕ)) (chunk text bytes : List ℕ) →
-    ReadsScript from to chunk → IsToldOfLine a b number (line_of chunk) text → bytes ≡ text → (n : ℕ) × (n < length bytes) × Appends out new (take n bytes) → LineIsCut from a number out new
-cut_short from to a b number out new chunk text bytes read told same part =
+pub cut_short : (echo : Bool) (from to : Option (List ℕ)) (a b : TheSession) (number : ℕ) (out new : Option (List ℕ)) (chunk text bytes : List ℕ) →
+    ReadsScript from to chunk → IsWrittenOfLine echo a b number (line_of chunk) text → bytes ≡ text → (n : ℕ) × (n < length bytes) × Appends out new (take n bytes) → LineIsCut echo from a number out new
+cut_short echo from to a b number out new chunk text bytes read told same part =
     let whole = subst (λ (xs : List ℕ). (n : ℕ) × (n < length xs) × Appends out new (take n xs)) same part in
     record { to = to; new = b; chunk = chunk; text = text; read = read; told = told; count = whole.0; part = whole.1; written = whole.2 }
 
@@ -52,6 +52,6 @@ pub on_err : {T Q : Type 0} (r : Result T Fault) → Q → IfErr r (λ fault. fa
 on_err (Ok x) q = tt
 on_err (Err fault) q = λ is. q
 
-pub broken : (from mid : Option (List ℕ)) (a b : TheSession) (out more new : Option (List ℕ)) (count : ℕ) →
-    AreTold from mid a b out more count → LineIsCut mid b (count + 1) more new → HasBroken from a out new
-broken from mid a b out more new count all cut = record { to = mid; new = b; between = more; count = count; all = all; cut = cut }
+pub broken : (echo : Bool) (from mid : Option (List ℕ)) (a b : TheSession) (out more new : Option (List ℕ)) (count : ℕ) →
+    AreTold echo from mid a b out more count → LineIsCut echo mid b (count + 1) more new → HasBroken echo from a out new
+broken echo from mid a b out more new count all cut = record { to = mid; new = b; between = more; count = count; all = all; cut = cut }

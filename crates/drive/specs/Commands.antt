@@ -6,9 +6,9 @@ use Rattle.text.specs.Number.{decimal_in}
 use Rattle.drive.specs.declared.commands.Command.{Command}
 use Rattle.drive.specs.declared.commands.Command.TheVariants as call
 use Rattle.drive.specs.declared.commands.Line.{Line}
-use Rattle.drive.specs.declared.commands.Line.TheVariants.{Asks, Nothing, Table as AsksTable, Unknown, Wants}
+use Rattle.drive.specs.declared.commands.Line.TheVariants.{Asks, Help as AsksHelp, Nothing, Table as AsksTable, Unknown, Wants}
 use Rattle.drive.specs.declared.commands.Verb.{Verb}
-use Rattle.drive.specs.declared.commands.Verb.TheVariants.{Claim, Commit, Creator, Finish, Info, Learn, Look, Meet, Operand, Recover, Refresh, Renew, Report, Rest, Show, Table, Take, Touched, Turn}
+use Rattle.drive.specs.declared.commands.Verb.TheVariants.{Claim, Commit, Creator, Finish, Help, Info, Learn, Link, Look, Meet, Operand, Recover, Refresh, Renew, Report, Rest, Ring, Show, Station, Table, Take, Touched, Turn}
 use Rattle.drive.specs.declared.commands.Which.{Which}
 use Rattle.drive.specs.declared.commands.Which.TheVariants.{First, Second}
 use Rattle.drive.specs.declared.parties.Party.{Party}
@@ -32,11 +32,15 @@ verb_name Creator = codes "creator"
 verb_name Touched = codes "touched"
 verb_name Info = codes "info"
 verb_name Operand = codes "operand"
+verb_name Link = codes "link"
+verb_name Station = codes "station"
+verb_name Ring = codes "ring"
 verb_name Rest = codes "rest"
 verb_name Meet = codes "meet"
 verb_name Report = codes "report"
 verb_name Renew = codes "renew"
 verb_name Table = codes "table"
+verb_name Help = codes "help"
 
 -- No character
 abbrev pub is_empty : List ℕ → Bool
@@ -112,11 +116,15 @@ command_of Creator w = option_map (λ r. call.Creator r) (only_number w)
 command_of Touched w = without_operands w call.Touched
 command_of Info w = option_map (λ s. call.Info s) (only_number w)
 command_of Operand w = option_map (λ p. call.Operand p.0 p.1) (station_and_source w)
+command_of Link w = option_map (λ p. call.Link p.0 p.1) (station_and_source w)
+command_of Station w = option_map (λ s. call.Station s) (only_number w)
+command_of Ring w = without_operands w call.Ring
 command_of Rest w = without_operands w call.Rest
 command_of Meet w = option_map (λ p. call.Meet p.0 p.1) (two_parties w)
 command_of Report w = without_operands w call.Report
 command_of Renew w = without_operands w call.Renew
 command_of Table w = None
+command_of Help w = None
 
 -- The command that these words are
 pub record AreWordsOf (w : Texts) (c : Command) : Type 0 where
@@ -124,9 +132,9 @@ pub record AreWordsOf (w : Texts) (c : Command) : Type 0 where
   pub named : w.verb ≡ verb_name verb
   pub is : command_of verb w ≡ Some c
 
--- These words ask for a table
-pub record AsksForTable (w : Texts) : Type 0 where
-  pub named : w.verb ≡ verb_name Table
+-- These words are the word of a command alone
+pub record AsksFor (v : Verb) (w : Texts) : Type 0 where
+  pub named : w.verb ≡ verb_name v
   pub bare : is_empty w.first ≡ true
 
 -- The word is that of a command, and its operands are none of it
@@ -134,6 +142,7 @@ pub record IsMistaken (w : Texts) (v : Verb) : Type 0 where
   pub named : w.verb ≡ verb_name v
   pub none : command_of v w ≡ None
   pub no_table : v ≡ Table → is_empty w.first ≡ false
+  pub no_help : v ≡ Help → is_empty w.first ≡ false
 
 -- The line that these words are. A line without words asks for nothing
 abbrev pub IsLine : Texts → Line → Type 0
@@ -141,4 +150,5 @@ IsLine w Nothing = w.verb ≡ []
 IsLine w Unknown = (v : Verb) → w.verb ≢ verb_name v
 IsLine w (Wants v) = IsMistaken w v
 IsLine w (Asks c) = AreWordsOf w c
-IsLine w AsksTable = AsksForTable w
+IsLine w AsksTable = AsksFor Table w
+IsLine w AsksHelp = AsksFor Help w

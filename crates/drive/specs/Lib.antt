@@ -5,9 +5,14 @@ pub mod Moments
 pub mod Replies
 pub mod Renewals
 pub mod Held
+pub mod Accounts
 pub mod Workers
+pub mod Rows
+pub mod Retiring
 pub mod Sessions
 pub mod Texts
 pub mod Tables
+pub mod Help
 pub mod Transcripts
 pub mod Scripts
+pub mod Plays

@@ -1,5 +1,5 @@
 -- What the calls of a session answer.
-use Rattle.std.specs.Prelude.{⊤, ◌≡◌, ℕ, List, [], length}
+use Rattle.std.specs.Prelude.{⊤, ◌≡◌, ℕ, List, [], length, Option}
 use Rattle.instructions.specs.Programs.{Program}
 use Rattle.inorder.specs.declared.history.Entry.{Entry}
 use Rattle.inorder.specs.declared.history.Source.{Source}
@@ -10,8 +10,8 @@ use Rattle.inorder.specs.Unit.{Sizes}
 use Rattle.back.specs.Backs.{TheBack, committed_in, unit_in}
 use Rattle.back.specs.Commits.{CommitAnswers}
 use Rattle.back.specs.declared.answers.Commit.{Commit}
-use Rattle.back.specs.declared.answers.Refresh.{Refresh}
 use Rattle.back.specs.Refreshes.{RefreshAnswers}
+use Rattle.back.specs.Wakings.{RefreshWakes}
 use Rattle.front.specs.Creating.{IsCreatorAnswer}
 use Rattle.front.specs.declared.answers.Made.{Made}
 use Rattle.front.specs.declared.answers.Recovery.{Recovery}
@@ -24,19 +24,19 @@ use Rattle.front.specs.Turns.{LetsOut, Refuses}
 use Rattle.ruu_words.specs.declared.station.StationState.{StationState}
 use Rattle.snapshots.specs.declared.mark.Mark.{Mark}
 use Rattle.station.specs.declared.answers.Claim.{Claim}
-use Rattle.station.specs.declared.answers.Finish.{Finish}
 use Rattle.station.specs.declared.job.Job.{Job}
 use Rattle.station.specs.declared.answers.Claim.TheVariants.{Job as Claimed}
 use Rattle.station.specs.declared.answers.Seen.{Seen}
 use Rattle.station.specs.declared.answers.SourceState.{SourceState}
-use Rattle.station.specs.Looking.{SeesInfo, SeesOperand, SeesStation}
+use Rattle.station.specs.Looking.{SeesInfo, SeesLink, SeesOperand, SeesStation}
 use Rattle.station.specs.Moments.{WasOnce}
 use Rattle.station.specs.Claiming.{ClaimAnswers, Holds}
 use Rattle.station.specs.Seats.{Caller, TheCore}
-use Rattle.station.specs.Writeback.{FinishAnswers}
 use Rattle.drive.specs.declared.commands.Which.{Which}
 use Rattle.drive.specs.declared.commands.Which.TheVariants as which
 use Rattle.drive.specs.declared.replies.Info.{Info}
+use Rattle.drive.specs.declared.replies.Refreshed.{Refreshed}
+use Rattle.ruu_words.specs.declared.link.LinkWord.{LinkWord}
 use Rattle.drive.specs.Moments.{IsBetween}
 use Rattle.station.specs.Renewals.{HasNobody}
 
@@ -74,16 +74,16 @@ IsClaim core by old new station claim =
     IsBetween old new (λ before behind.
     ClaimAnswers core.program core.sizes by before behind station claim)
 
--- The finish of a job by this unit
-abbrev pub IsFinish : TheCore → ℕ → List Entry → List Entry → Job → Finish → Type 0
-IsFinish core by old new job finish =
-    IsBetween old new (λ before behind.
-    FinishAnswers core.program core.sizes by before behind job finish)
+-- A refresh, and whom a load that got its value has woken
+pub record RefreshSays (core : TheCore) (by : ℕ) (before behind : List Entry) (r : Refreshed) : Type 0 where
+  pub says : RefreshAnswers core by before behind r.answer
+  pub was : ℕ
+  pub woken : RefreshWakes core by before behind was r.woken r.answer
 
 -- A refresh by the back
-abbrev pub IsRefresh : TheCore → ℕ → List Entry → List Entry → Refresh → Type 0
-IsRefresh core by old new refresh =
-    IsBetween old new (λ before behind. RefreshAnswers core by before behind refresh)
+abbrev pub IsRefresh : TheCore → ℕ → List Entry → List Entry → Refreshed → Type 0
+IsRefresh core by old new refreshed =
+    IsBetween old new (λ before behind. RefreshSays core by before behind refreshed)
 
 -- The job of a claim is its caller's
 abbrev pub HoldsWhatIs : TheCore → Caller → Claim → Type 0
@@ -128,6 +128,13 @@ abbrev pub IsOperandSeen : TheCore → List Entry → List Entry → ℕ → Sou
 IsOperandSeen core old new station k seen =
     IsBetween old new (λ before behind.
     SeesOperand core.program core.sizes behind station k seen)
+
+-- The link word from a station to a source of another one
+abbrev pub IsLinkSeen : TheCore → List Entry → List Entry → (producer consumer : ℕ) → Source → Option LinkWord
+    → Type 0
+IsLinkSeen core old new producer consumer k seen =
+    IsBetween old new (λ before behind.
+    SeesLink core.program core.sizes behind producer consumer k seen)
 
 -- Nobody is live, and all that the path's tenants have made stands apart from them now
 pub record HasIdled (P : Program) (C : Sizes) (before behind : List Entry) (new_told : ℕ) : Type 0 where

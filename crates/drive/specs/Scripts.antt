@@ -1,9 +1,9 @@
 -- What is told of a whole script.
-use Rattle.std.specs.Prelude.{◌≡◌, ℕ, ◌+◌, ◌<◌, List, [], ◌∷◌, map, length, take, Option, Some, IfSome}
+use Rattle.std.specs.Prelude.{◌≡◌, ℕ, ◌+◌, ◌<◌, Bool, List, [], ◌∷◌, map, length, take, Option, Some, IfSome}
 use Rattle.std.specs.Io.BufRead.{drop_through, strip_last, take_through}
 use Rattle.std.specs.Io.KnownBytes.{Appends, IsAtEnd}
 use Rattle.drive.specs.Sessions.{TheSession}
-use Rattle.drive.specs.Transcripts.{IsToldOfLine, IsTranscript}
+use Rattle.drive.specs.Transcripts.{IsTranscript, IsWrittenOfLine}
 use Rattle.drive.specs.declared.script.Fault.{Fault}
 use Rattle.drive.specs.declared.script.Fault.TheVariants.{Read, Memory, Write}
 
@@ -24,12 +24,12 @@ AreRead from (chunk ∷ earlier) to =
     (middle : Option (List ℕ)) × AreRead from earlier middle × ReadsScript middle to chunk
 
 -- A line was read, answered, and what is told of it was written
-pub record LineIsTold (from to : Option (List ℕ)) (old new : TheSession) (number : ℕ)
+pub record LineIsTold (echo : Bool) (from to : Option (List ℕ)) (old new : TheSession) (number : ℕ)
     (before after : Option (List ℕ)) : Type 0 where
   pub chunk : List ℕ
   pub text : List ℕ
   pub read : ReadsScript from to chunk
-  pub told : IsToldOfLine old new number (line_of chunk) text
+  pub told : IsWrittenOfLine echo old new number (line_of chunk) text
   pub written : Appends before after text
 
 -- Nothing was left to read, and nothing was done
@@ -40,55 +40,55 @@ pub record NothingWasLeft (from : Option (List ℕ)) (old new : TheSession)
   pub unwritten : after ≡ before
 
 -- So many lines were read from the first on, and what was written is their transcript
-pub record AreTold (from to : Option (List ℕ)) (old new : TheSession)
+pub record AreTold (echo : Bool) (from to : Option (List ℕ)) (old new : TheSession)
     (before after : Option (List ℕ)) (count : ℕ) : Type 0 where
   -- the last one first
   pub chunks : List (List ℕ)
   pub count_is : length chunks ≡ count
   pub text : List ℕ
   pub read : AreRead from chunks to
-  pub told : IsTranscript old (map line_of chunks) text new
+  pub told : IsTranscript echo old (map line_of chunks) text new
   pub written : Appends before after text
 
 -- All of a script was read, and what was written is the transcript of its lines
-pub record HasDriven (from : Option (List ℕ)) (old new : TheSession)
+pub record HasDriven (echo : Bool) (from : Option (List ℕ)) (old new : TheSession)
     (before after : Option (List ℕ)) : Type 0 where
   pub to : Option (List ℕ)
   pub count : ℕ
-  pub all : AreTold from to old new before after count
+  pub all : AreTold echo from to old new before after count
   pub ended : IsAtEnd to
 
 -- Some lines were read from the first on, and what was written is their transcript
-pub record HasTold (from : Option (List ℕ)) (old : TheSession)
+pub record HasTold (echo : Bool) (from : Option (List ℕ)) (old : TheSession)
     (before after : Option (List ℕ)) : Type 0 where
   pub to : Option (List ℕ)
   pub new : TheSession
   pub count : ℕ
-  pub all : AreTold from to old new before after count
+  pub all : AreTold echo from to old new before after count
 
 -- A line was read and answered, and a proper beginning of what is told of it was written
-pub record LineIsCut (from : Option (List ℕ)) (old : TheSession) (number : ℕ)
+pub record LineIsCut (echo : Bool) (from : Option (List ℕ)) (old : TheSession) (number : ℕ)
     (before after : Option (List ℕ)) : Type 0 where
   pub to : Option (List ℕ)
   pub new : TheSession
   pub chunk : List ℕ
   pub text : List ℕ
   pub read : ReadsScript from to chunk
-  pub told : IsToldOfLine old new number (line_of chunk) text
+  pub told : IsWrittenOfLine echo old new number (line_of chunk) text
   pub count : ℕ
   pub part : count < length text
   pub written : Appends before after (take count text)
 
 -- So many lines were answered, and what was written is their transcript and a beginning of what is
 -- told of one more
-pub record HasBroken (from : Option (List ℕ)) (old : TheSession)
+pub record HasBroken (echo : Bool) (from : Option (List ℕ)) (old : TheSession)
     (before after : Option (List ℕ)) : Type 0 where
   pub to : Option (List ℕ)
   pub new : TheSession
   pub between : Option (List ℕ)
   pub count : ℕ
-  pub all : AreTold from to old new before between count
-  pub cut : LineIsCut to new (count + 1) between after
+  pub all : AreTold echo from to old new before between count
+  pub cut : LineIsCut echo to new (count + 1) between after
 
 -- How many calls of the writer failed where a script was not answered to its end
 abbrev pub failed_writes : Fault → ℕ

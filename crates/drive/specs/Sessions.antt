@@ -25,9 +25,12 @@ use Rattle.drive.specs.declared.replies.Reply.{Reply}
 use Rattle.drive.specs.declared.replies.Reply.TheVariants as say
 use Rattle.drive.specs.declared.units.Worker.{Worker}
 use Rattle.drive.specs.Units.{unit_count}
-use Rattle.drive.specs.Replies.{IsCommit, IsCreatorNow, IsInfoSeen, IsLook, IsOperandSeen, IsRecovery, IsRefresh, IsRest, IsShown, IsTurn, source_at}
+use Rattle.drive.specs.Accounts.{HasTurned, IsLinkTold, IsOperandTold}
+use Rattle.drive.specs.Retiring.{HasCommittedTold}
+use Rattle.drive.specs.Rows.{IsRingTold, IsRowSeen}
+use Rattle.drive.specs.Replies.{IsCreatorNow, IsInfoSeen, IsLook, IsRecovery, IsRefresh, IsRest, IsShown, source_at}
 use Rattle.drive.specs.Renewals.{HasBegunAgain, HasStayed}
-use Rattle.drive.specs.Workers.{AreWorkers, HasClaimed, UnitHasFinished, HasNone, StaySeen, job_at, seen_at, station_held}
+use Rattle.drive.specs.Workers.{AreWorkers, HasClaimedTold, UnitHasFinished, HasNone, StaySeen, job_at, seen_at, station_held}
 
 -- A session: its core, the one history that its seats have seen together, its units, its back, the
 -- greatest count of its snapper, the mark that was shown last, what the front has seen, what its create
@@ -167,11 +170,14 @@ MayRefuseCommand s (ask.Claim unit station) no.NoUnit = unit_count ≤ unit
 MayRefuseCommand s (ask.Claim unit station) no.NoStation = s.core.sizes.ring ≤ station
 MayRefuseCommand s (ask.Claim unit station) no.HoldsJob = IsSome (job_at s.units unit)
 MayRefuseCommand s (ask.Finish unit station) no.NoUnit = unit_count ≤ unit
+MayRefuseCommand s (ask.Finish unit station) no.NoStation = s.core.sizes.ring ≤ station
 MayRefuseCommand s (ask.Finish unit station) no.HoldsNone =
     (held : ℕ) → station_held s.units unit ≡ Some held → held ≢ station
 MayRefuseCommand s (ask.Look station) no.NoStation = s.core.sizes.ring ≤ station
 MayRefuseCommand s (ask.Info station) no.NoStation = s.core.sizes.ring ≤ station
 MayRefuseCommand s (ask.Operand station which) no.NoStation = s.core.sizes.ring ≤ station
+MayRefuseCommand s (ask.Link station which) no.NoStation = s.core.sizes.ring ≤ station
+MayRefuseCommand s (ask.Station station) no.NoStation = s.core.sizes.ring ≤ station
 MayRefuseCommand s (ask.Creator register) no.NoRegister = register_count ≤ register
 MayRefuseCommand s ask.Learn no.NoMark = s.mark ≡ None
 MayRefuseCommand s ask.Commit no.NoCount = 2 ^ 64 - 1 ≤ (back_state s.commits).count
@@ -184,16 +190,18 @@ MayRefuseCommand s command refusal = ⊥
 -- The answer to a command: it is allowed between the two histories, or it is a refusal that changes
 -- nothing
 abbrev pub Answers : TheSession → TheSession → Command → Reply → Type 0
-Answers old new ask.Turn (say.Turn turn) = IsTurn old.core old.seen new.seen turn
+Answers old new ask.Turn (say.Turn turn info) =
+    HasTurned old.core old.seen new.seen turn info × KeepsCommits old new
 Answers old new ask.Recover (say.Recovery recovery) = IsRecovery old.core old.seen new.seen recovery
-Answers old new (ask.Claim unit station) (say.Claim answer) =
-    HasClaimed old.core old.seen new.seen old.units new.units unit station answer
+Answers old new (ask.Claim unit station) (say.Claim answer from) =
+    HasClaimedTold old.core old.seen new.seen old.units new.units unit station answer from
+    × KeepsCommits old new
 Answers old new (ask.Finish unit station) (say.Finish answer) =
     UnitHasFinished old.core old.seen new.seen old.units new.units unit station answer
 Answers old new ask.Refresh (say.Refresh refresh) =
     IsRefresh old.core back old.seen new.seen refresh × KeepsCommits old new
-Answers old new ask.Commit (say.Commit commit) =
-    IsCommit old.commits new.commits old.seen new.seen commit
+Answers old new ask.Commit (say.Commit commit oldest) =
+    HasCommittedTold old.core old.commits new.commits old.seen new.seen old.units commit oldest
 Answers old new ask.Show (say.Shown mark) = HasShown old new mark
 Answers old new ask.Show say.Memory = WasNotShown old new
 Answers old new ask.Take (say.Taken snap) = HasTaken old new snap
@@ -206,8 +214,15 @@ Answers old new (ask.Creator register) (say.Creator made) =
 Answers old new ask.Touched (say.Touched count) = (count ≡ old.touched) × (new ≡ old)
 Answers old new (ask.Info station) (say.Info info) =
     IsInfoSeen old.core old.seen new.seen station info × KeepsCommits old new
-Answers old new (ask.Operand station which) (say.Operand seen) =
-    IsOperandSeen old.core old.seen new.seen station (source_at which) seen × KeepsCommits old new
+Answers old new (ask.Operand station which) (say.Operand told operand) =
+    (told ≡ which)
+    × IsOperandTold old.core old.seen new.seen station (source_at which) operand × KeepsCommits old new
+Answers old new (ask.Link station which) (say.Link from) =
+    IsLinkTold old.core old.seen new.seen station (source_at which) from × KeepsCommits old new
+Answers old new (ask.Station station) (say.Station row) =
+    IsRowSeen old.core old.seen new.seen old.units station row × KeepsCommits old new
+Answers old new ask.Ring (say.Ring head ahead) =
+    IsRingTold old.core old.seen new.seen head ahead × KeepsCommits old new
 Answers old new ask.Rest (say.Rest rest) = SessionHasRested old new rest
 Answers old new (ask.Meet one other) say.Met = TwoHaveMet old new one other
 Answers old new ask.Report (say.Report end) = HasReported old new end
@@ -220,13 +235,21 @@ Answers old new command reply = ⊥
 -- The session with what a command may change
 abbrev pub after_command : Command → TheSession → TheSession → TheSession
 after_command ask.Turn old new =
-    record old { seen = new.seen; fronts = new.fronts; touched = new.touched; rested = false }
+    record old {
+      seen = new.seen;
+      commits = new.commits;
+      fronts = new.fronts;
+      touched = new.touched;
+      rested = false;
+    }
 after_command ask.Recover old new =
     record old { seen = new.seen; fronts = new.fronts; touched = new.touched; rested = false }
-after_command (ask.Claim unit station) old new = record old { seen = new.seen; units = new.units }
+after_command (ask.Claim unit station) old new =
+    record old { seen = new.seen; commits = new.commits; units = new.units }
 after_command (ask.Finish unit station) old new = record old { seen = new.seen; units = new.units }
 after_command ask.Refresh old new = record old { seen = new.seen; commits = new.commits }
-after_command ask.Commit old new = record old { seen = new.seen; commits = new.commits }
+after_command ask.Commit old new =
+    record old { seen = new.seen; commits = new.commits; fronts = new.fronts }
 after_command ask.Show old new =
     record old { seen = new.seen; commits = new.commits; mark = new.mark }
 after_command ask.Take old new = record old { snapper = new.snapper }
@@ -236,6 +259,10 @@ after_command (ask.Creator register) old new = record old { seen = new.seen; fro
 after_command ask.Touched old new = old
 after_command (ask.Info station) old new = record old { seen = new.seen; commits = new.commits }
 after_command (ask.Operand station which) old new = record old { seen = new.seen; commits = new.commits }
+after_command (ask.Link station which) old new = record old { seen = new.seen; commits = new.commits }
+after_command (ask.Station station) old new = record old { seen = new.seen; commits = new.commits }
+after_command ask.Ring old new =
+    record old { seen = new.seen; commits = new.commits; fronts = new.fronts }
 after_command ask.Rest old new =
     record old { seen = new.seen; fronts = new.fronts; told = new.told; rested = new.rested }
 after_command (ask.Meet one other) old new =

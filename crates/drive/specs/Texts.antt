@@ -1,7 +1,15 @@
 -- The texts of answers.
-use Rattle.std.specs.Prelude.{ℕ, ◌+◌, ◌==◌, List, [], ◌∷◌, ◌++◌, codes, decimal, if◌then◌else◌}
+use Rattle.std.specs.Prelude.{ℕ, zero, suc, ◌+◌, ◌-◌, ◌/◌, ◌%◌, ◌==◌, nat_lt, Bool, true, false, is_some, List, [], ◌∷◌, ◌++◌, Option, None, Some, codes, decimal, slice_get, if◌then◌else◌}
+use Rattle.isa.specs.InstrText.{instr_text}
 use Rattle.isa.specs.Report.{hexadecimal, newline, register_name, report_of}
 use Rattle.instructions.specs.Endings.{stop_word}
+use Rattle.instructions.specs.Instruction.{destination, is_pair, kind, source as source_register, width}
+use Rattle.instructions.specs.Operations.{sum}
+use Rattle.instructions.specs.Registers.{hi, lo}
+use Rattle.instructions.specs.declared.op.Kind.{Kind}
+use Rattle.instructions.specs.declared.op.Kind.TheVariants.{Stores}
+use Rattle.instructions.specs.Programs.{Program, instr_at}
+use Rattle.instructions.specs.declared.instr.Instr.{Instr}
 use Rattle.instructions.specs.declared.op.Half.{Half}
 use Rattle.instructions.specs.declared.op.Half.TheVariants.{High, Low}
 use Rattle.inorder.specs.declared.history.Source.{Source}
@@ -26,9 +34,18 @@ use Rattle.station.specs.declared.answers.Finish.TheVariants as finish
 use Rattle.station.specs.declared.answers.Seen.{Seen}
 use Rattle.station.specs.declared.answers.SourceState.{SourceState}
 use Rattle.station.specs.declared.answers.SourceState.TheVariants as source
+use Rattle.drive.specs.declared.producers.Producer.{Producer}
+use Rattle.drive.specs.declared.commands.Which.{Which}
+use Rattle.drive.specs.declared.commands.Which.TheVariants as which_of
+use Rattle.drive.specs.declared.replies.Ahead.{Ahead}
+use Rattle.drive.specs.declared.replies.Finished.{Finished}
+use Rattle.drive.specs.declared.replies.Head.{Head}
 use Rattle.drive.specs.declared.replies.Info.{Info}
+use Rattle.drive.specs.declared.replies.Operand.{Operand}
+use Rattle.drive.specs.declared.replies.Refreshed.{Refreshed}
 use Rattle.drive.specs.declared.replies.Refusal.{Refusal}
 use Rattle.drive.specs.declared.replies.Refusal.TheVariants as no
+use Rattle.drive.specs.declared.replies.Row.{Row}
 use Rattle.drive.specs.declared.replies.Reply.{Reply}
 use Rattle.drive.specs.declared.replies.Reply.TheVariants as say
 use Rattle.drive.specs.declared.units.Claimed.{Claimed}
@@ -55,15 +72,60 @@ state_text state.Done = codes "DONE"
 state_text state.Miss = codes "MISS"
 state_text state.Stop = codes "STOP"
 
+-- An instruction behind a blank, if there is one
+abbrev pub behind_blank : Option Instr → List ℕ
+behind_blank None = []
+behind_blank (Some i) = codes " " ++ instr_text i
+
+-- The instruction with this index, if there is one
+abbrev pub indexed : Program → ℕ → Option Instr
+indexed P index = slice_get P.code index
+
+-- The text of the instruction with this index
+abbrev pub indexed_text : Program → ℕ → List ℕ
+indexed_text P index = behind_blank (indexed P index)
+
+-- The text of the instruction at an address
+abbrev pub text_at : Program → ℕ → List ℕ
+text_at P pc = behind_blank (instr_at P pc)
+
+-- The half that a tenant is of an instruction of two halves
+abbrev pub half_of_pair : Option Instr → Option Info → List ℕ
+half_of_pair (Some i) (Some info) = if is_pair i.op then codes " half " ++ half_text info.half else []
+half_of_pair i info = []
+
 -- The text of the answer of a turn of the front
-abbrev pub front_turn_text : Turn → List ℕ
-front_turn_text turn.Full = codes "Full"
-front_turn_text turn.NoInstr = codes "NoInstr"
-front_turn_text turn.QueueFull = codes "QueueFull"
-front_turn_text turn.Spent = codes "Spent"
-front_turn_text (turn.Let station tag pc) =
+abbrev pub front_turn_text : Program → Turn → Option Info → List ℕ
+front_turn_text P turn.Full info = codes "Full"
+front_turn_text P turn.NoInstr info = codes "NoInstr"
+front_turn_text P turn.QueueFull info = codes "QueueFull"
+front_turn_text P turn.Spent info = codes "Spent"
+front_turn_text P (turn.Let station tag pc) info =
     codes "Let station " ++ (decimal station ++ (codes " tag " ++ (decimal tag
-    ++ (codes " pc " ++ hexadecimal pc))))
+    ++ (codes " pc " ++ (hexadecimal pc ++ (text_at P pc ++ half_of_pair (instr_at P pc) info))))))
+
+-- A producer, by its station and tag
+abbrev pub producer_text : Producer → List ℕ
+producer_text p = codes "station " ++ (decimal p.station ++ (codes " tag " ++ decimal p.tag))
+
+-- A producer behind a word, if there is one
+abbrev pub from_text : List ℕ → Option Producer → List ℕ
+from_text word None = []
+from_text word (Some p) = word ++ producer_text p
+
+-- A station, if it is one of those
+abbrev pub station_if : ℕ → Bool → List ℕ
+station_if station is = if is then codes " " ++ decimal station else []
+
+-- The stations from this one on, where bit 0 of the number stands for that
+abbrev pub stations_text : (count station woken : ℕ) → List ℕ
+stations_text zero station woken = []
+stations_text (suc n) station woken =
+    station_if station (woken % 2 == 1) ++ stations_text n (station + 1) (woken / 2)
+
+-- Who was woken, if anybody was
+abbrev pub woken_text : ℕ → List ℕ
+woken_text woken = if woken == 0 then [] else codes " woke" ++ stations_text 32 0 woken
 
 -- The text of the answer of a recovery
 abbrev pub recovery_text : Recovery → List ℕ
@@ -83,40 +145,86 @@ values_text h =
     codes " pc " ++ (hexadecimal h.pc ++ (codes " predicted " ++ (hexadecimal h.predicted
     ++ (codes " a " ++ (hexadecimal h.a ++ (codes " b " ++ hexadecimal h.b))))))
 
--- A job
-abbrev pub held_text : Held → List ℕ
-held_text h = place_text h ++ values_text h
+-- A job, with its instruction
+abbrev pub held_text : Program → Held → List ℕ
+held_text P h = place_text h ++ (values_text h ++ indexed_text P h.index)
 
 -- The text of the answer of a claim
-abbrev pub claimed_text : Claimed → List ℕ
-claimed_text (claimed.Job held) = held_text held
-claimed_text claimed.NotOpen = codes "NotOpen"
-claimed_text (claimed.Waiting tag k) =
-    codes "Waiting tag " ++ (decimal tag ++ (codes " source " ++ source_text k))
-claimed_text (claimed.Moved tag) = codes "Moved tag " ++ decimal tag
+abbrev pub claimed_text : Program → Claimed → Option Producer → List ℕ
+claimed_text P (claimed.Job held) from = held_text P held
+claimed_text P claimed.NotOpen from = codes "NotOpen"
+claimed_text P (claimed.Waiting tag k) from =
+    (codes "Waiting tag " ++ (decimal tag ++ (codes " source " ++ source_text k)))
+    ++ from_text (codes " from ") from
+claimed_text P (claimed.Moved tag) from = codes "Moved tag " ++ decimal tag
+
+-- The word of a station behind a finish
+abbrev pub finished_state : Finished → List ℕ
+finished_state f = codes " " ++ (state_text f.seen.state ++ (codes " value " ++ hexadecimal f.seen.value))
+
+-- The word of a station behind a finish, and who was woken
+abbrev pub finished_word : Finished → List ℕ
+finished_word f = finished_state f ++ woken_text f.woken
 
 -- The text of the answer of a finish
-abbrev pub finish_text : Finish → List ℕ
-finish_text finish.Finished = codes "Finished"
-finish_text finish.Stale = codes "Stale"
+abbrev pub finish_text : Finish → Finished → List ℕ
+finish_text finish.Finished f =
+    (codes "Finished station " ++ (decimal f.station ++ (codes " tag " ++ decimal f.tag)))
+    ++ finished_word f
+finish_text finish.Stale f =
+    codes "Stale station " ++ (decimal f.station ++ (codes " tag " ++ decimal f.tag))
 
 -- The text of the answer of a refresh
-abbrev pub refresh_text : Refresh → List ℕ
-refresh_text (refresh.Loaded station tag value) =
-    codes "Loaded station " ++ (decimal station ++ (codes " tag " ++ (decimal tag
-    ++ (codes " value " ++ hexadecimal value))))
-refresh_text (refresh.Blocked load store) =
+abbrev pub refresh_text : Refresh → (woken : ℕ) → List ℕ
+refresh_text (refresh.Loaded station tag value) woken =
+    (codes "Loaded station " ++ (decimal station ++ (codes " tag " ++ (decimal tag
+    ++ (codes " value " ++ hexadecimal value)))))
+    ++ woken_text woken
+refresh_text (refresh.Blocked load store) woken =
     codes "Blocked load " ++ (decimal load ++ (codes " store " ++ decimal store))
-refresh_text refresh.Idle = codes "Idle"
+refresh_text refresh.Idle woken = codes "Idle"
+
+-- A register as a listing names it by its number
+abbrev pub register_label : ℕ → List ℕ
+register_label r =
+    if r == lo then codes "lo" else if r == hi then codes "hi" else codes "$" ++ decimal r
+
+-- A register that was written; nothing of register 0, which never changes
+abbrev pub written_text : (r value : ℕ) → List ℕ
+written_text r value =
+    if r == 0 then [] else codes " " ++ (register_label r ++ (codes "=" ++ hexadecimal value))
+
+-- The low bytes of a value, as many as are stored
+abbrev pub stored : (width value : ℕ) → ℕ
+stored width value = if width == 1 then value % 256 else if width == 2 then value % 65536 else value
+
+-- The bytes that a store has written, by its two operands
+abbrev pub memory_text : Instr → Row → List ℕ
+memory_text i row =
+    codes " m " ++ (hexadecimal (sum row.first.seen.value i.number) ++ (codes "="
+    ++ hexadecimal (stored (width i.op) row.second.seen.value)))
+
+-- The change that a tenant makes when it retires, by the kind of its instruction
+abbrev pub change_by : Kind → Instr → Row → List ℕ
+change_by Stores i row = memory_text i row
+change_by other i row = written_text (destination i row.first.info.half) row.seen.value
+
+-- The tenant that has retired, and what it has changed
+abbrev pub oldest_text : Option Instr → Option (ℕ × Row) → List ℕ
+oldest_text (Some i) (Some found) =
+    codes " station " ++ (decimal found.0 ++ change_by (kind i.op) i found.1)
+oldest_text instr oldest = []
 
 -- The text of the answer of a commit
-abbrev pub commit_text : Commit → List ℕ
-commit_text (commit.Retired pc n) =
-    codes "Retired pc " ++ (hexadecimal pc ++ (codes " n " ++ decimal n))
-commit_text (commit.Half pc) = codes "Half pc " ++ hexadecimal pc
-commit_text commit.NotDone = codes "NotDone"
-commit_text commit.Empty = codes "Empty"
-commit_text (commit.Ended code) = codes "Ended " ++ stop_word code
+abbrev pub commit_text : Program → Commit → Option (ℕ × Row) → List ℕ
+commit_text P (commit.Retired pc n) oldest =
+    codes "Retired pc " ++ (hexadecimal pc ++ (codes " n " ++ (decimal n
+    ++ oldest_text (instr_at P pc) oldest)))
+commit_text P (commit.Half pc) oldest =
+    codes "Half pc " ++ (hexadecimal pc ++ oldest_text (instr_at P pc) oldest)
+commit_text P commit.NotDone oldest = codes "NotDone"
+commit_text P commit.Empty oldest = codes "Empty"
+commit_text P (commit.Ended code) oldest = codes "Ended " ++ stop_word code
 
 -- The registers that are not 0, from this number on
 abbrev pub registers_text : ℕ → List ℕ → List ℕ
@@ -149,17 +257,97 @@ operand_state_text source.Unset = codes "UNSET"
 operand_state_text source.Wait = codes "WAIT"
 operand_state_text source.Val = codes "VAL"
 
+-- An operand word: its value, or whom it waits for
+abbrev pub seen_operand_text : SourceState → (value : ℕ) → Option Producer → List ℕ
+seen_operand_text source.Wait value (Some from) = codes "WAIT for " ++ producer_text from
+seen_operand_text state value from =
+    operand_state_text state ++ (codes " value " ++ hexadecimal value)
+
+-- The number of an operand
+abbrev pub which_number : Which → ℕ
+which_number which_of.First = 1
+which_number which_of.Second = 2
+
+-- An instruction reads this source
+abbrev pub reads : Option Instr → Which → Bool
+reads None which = true
+reads (Some i) which = is_some (source_register (which_number which) i)
+
+-- An operand, if the instruction of its info word reads it
+abbrev pub operand_text : Program → Which → Operand → List ℕ
+operand_text P which o =
+    if reads (indexed P o.info.index) which
+    then seen_operand_text o.seen.state o.seen.value o.from else codes "NONE"
+
 -- The text of a look at an operand
-abbrev pub seen_operand_text : Seen SourceState → List ℕ
-seen_operand_text seen =
-    codes "Seen tag " ++ (decimal seen.tag ++ (codes " state " ++ (operand_state_text seen.state
-    ++ (codes " value " ++ hexadecimal seen.value))))
+abbrev pub told_operand_text : Program → Which → Operand → List ℕ
+told_operand_text P which o =
+    codes "Seen tag " ++ (decimal o.seen.tag ++ (codes " state " ++ operand_text P which o))
+
+-- The text of a producer by the link words
+abbrev pub link_text : Option Producer → List ℕ
+link_text None = codes "NoLink"
+link_text (Some from) = codes "Link from " ++ producer_text from
+
+-- The fields of an info word
+abbrev pub info_words : Info → List ℕ
+info_words info =
+    codes " index " ++ (decimal info.index ++ (codes " half " ++ (half_text info.half
+    ++ (codes " predicted " ++ hexadecimal info.predicted))))
+
+-- An info word with its instruction
+abbrev pub tenant_text : Program → Info → List ℕ
+tenant_text P info = info_words info ++ indexed_text P info.index
 
 -- An info word
-abbrev pub info_text : Info → List ℕ
-info_text info =
-    codes "Info index " ++ (decimal info.index ++ (codes " half " ++ (half_text info.half
-    ++ (codes " predicted " ++ hexadecimal info.predicted))))
+abbrev pub info_text : Program → Info → List ℕ
+info_text P info = codes "Info" ++ tenant_text P info
+
+-- A letter, by its place in the alphabet
+abbrev pub letter_text : ℕ → List ℕ
+letter_text n = (65 + n) ∷ []
+
+-- The name of a place: A to Z, and then AA to BL
+abbrev pub place_name : ℕ → List ℕ
+place_name at =
+    if nat_lt at 26 then letter_text at else letter_text (at / 26 - 1) ++ letter_text (at % 26)
+
+-- The name of a unit
+abbrev pub unit_text : ℕ → List ℕ
+unit_text at = place_name (at % 64)
+
+-- The unit that holds the job, if one does
+abbrev pub holder_text : Option ℕ → List ℕ
+holder_text None = []
+holder_text (Some at) = codes " unit " ++ unit_text at
+
+-- The fields of the word of a station
+abbrev pub state_words : Seen StationState → List ℕ
+state_words seen =
+    codes "tag " ++ (decimal seen.tag ++ (codes " state " ++ (state_text seen.state
+    ++ (codes " value " ++ hexadecimal seen.value))))
+
+-- The word of a station, and who holds its tenant's job
+abbrev pub word_text : Row → List ℕ
+word_text row = state_words row.seen ++ holder_text row.unit
+
+-- All that is told of a station
+abbrev pub station_text : Program → Row → List ℕ
+station_text P row =
+    ((((word_text row ++ tenant_text P row.first.info) ++ codes "; 1 ")
+    ++ operand_text P which_of.First row.first) ++ codes "; 2 ")
+    ++ operand_text P which_of.Second row.second
+
+-- A station, or that there is none
+abbrev pub some_station : Option ℕ → List ℕ
+some_station None = codes "none"
+some_station (Some s) = decimal s
+
+-- The ring
+abbrev pub ring_text : Head → Ahead → List ℕ
+ring_text head ahead =
+    (codes "head " ++ some_station head.station) ++ (codes " tail " ++ (decimal ahead.station
+    ++ (codes " next " ++ (hexadecimal ahead.pc ++ (codes " free " ++ decimal head.free)))))
 
 -- The text of the answer of a rest
 abbrev pub rest_text : Rest → List ℕ
@@ -180,30 +368,39 @@ refusal_text no.HasEnded = codes "the run has ended"
 refusal_text no.NoOther = codes "a seat does not meet itself"
 
 -- The text of a reply
-abbrev pub reply_text : Reply → List ℕ
-reply_text (say.Turn turn) = front_turn_text turn
-reply_text (say.Recovery recovery) = recovery_text recovery
-reply_text (say.Claim answer) = claimed_text answer
-reply_text (say.Finish answer) = finish_text answer
-reply_text (say.Refresh refresh) = refresh_text refresh
-reply_text (say.Commit commit) = commit_text commit
-reply_text (say.Shown mark) = codes "Mark n " ++ decimal mark.n
-reply_text say.Memory = codes "Memory"
-reply_text (say.Taken snap) = snap_text snap
-reply_text say.Gone = codes "Gone"
-reply_text say.Learnt = codes "Learnt"
-reply_text (say.Look seen) = look_text seen
-reply_text (say.Creator made) = made_text made
-reply_text (say.Touched count) = decimal count
-reply_text (say.Info info) = info_text info
-reply_text (say.Operand seen) = seen_operand_text seen
-reply_text (say.Rest rest) = rest_text rest
-reply_text say.Met = codes "Met"
-reply_text (say.Report end) = report_of end
-reply_text say.Renewed = codes "Renewed"
-reply_text (say.Refused refusal) = refusal_text refusal
+abbrev pub reply_text : Program → Reply → List ℕ
+reply_text P (say.Turn turn info) = front_turn_text P turn info
+reply_text P (say.Recovery recovery) = recovery_text recovery
+reply_text P (say.Claim answer from) = claimed_text P answer from
+reply_text P (say.Finish f) = finish_text f.answer f
+reply_text P (say.Refresh r) = refresh_text r.answer r.woken
+reply_text P (say.Commit commit oldest) = commit_text P commit oldest
+reply_text P (say.Shown mark) = codes "Mark n " ++ decimal mark.n
+reply_text P say.Memory = codes "Memory"
+reply_text P (say.Taken snap) = snap_text snap
+reply_text P say.Gone = codes "Gone"
+reply_text P say.Learnt = codes "Learnt"
+reply_text P (say.Look seen) = look_text seen
+reply_text P (say.Creator made) = made_text made
+reply_text P (say.Touched count) = decimal count
+reply_text P (say.Info info) = info_text P info
+reply_text P (say.Operand which operand) = told_operand_text P which operand
+reply_text P (say.Link from) = link_text from
+reply_text P (say.Station row) = station_text P row
+reply_text P (say.Ring head ahead) = ring_text head ahead
+reply_text P (say.Rest rest) = rest_text rest
+reply_text P say.Met = codes "Met"
+reply_text P (say.Report end) = report_of end
+reply_text P say.Renewed = codes "Renewed"
+reply_text P (say.Refused refusal) = refusal_text refusal
+
+-- The line of a refusal, by the number of the line of the script
+abbrev pub refused_line : ℕ → Refusal → List ℕ
+refused_line number refusal =
+    codes "line " ++ (decimal number ++ (codes ": " ++ (refusal_text refusal ++ newline)))
 
 -- The text of a reply with the end of its line, which a report has itself
-abbrev pub reply_line : Reply → List ℕ
-reply_line (say.Report end) = report_of end
-reply_line reply = reply_text reply ++ newline
+abbrev pub reply_line : Program → (number : ℕ) → Reply → List ℕ
+reply_line P number (say.Refused refusal) = refused_line number refusal
+reply_line P number (say.Report end) = report_of end
+reply_line P number reply = reply_text P reply ++ newline

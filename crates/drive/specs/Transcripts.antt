@@ -1,12 +1,13 @@
 -- Transcripts: what is told of the lines of a script.
-use Rattle.std.specs.Prelude.{◌≡◌, ℕ, suc, List, [], ◌∷◌, ◌++◌, length, codes, decimal}
+use Rattle.std.specs.Prelude.{◌≡◌, ℕ, suc, Bool, true, false, List, [], ◌∷◌, ◌++◌, length, codes, decimal}
 use Rattle.isa.specs.Report.{newline}
 use Rattle.drive.specs.declared.commands.Command.{Command}
 use Rattle.drive.specs.declared.commands.Line.{Line}
-use Rattle.drive.specs.declared.commands.Line.TheVariants.{Asks, Nothing, Table, Unknown, Wants}
+use Rattle.drive.specs.declared.commands.Line.TheVariants.{Asks, Help, Nothing, Table, Unknown, Wants}
 use Rattle.drive.specs.declared.commands.Verb.{Verb}
 use Rattle.drive.specs.declared.commands.Verb.TheVariants as verb
 use Rattle.drive.specs.declared.replies.Reply.{Reply}
+use Rattle.drive.specs.Help.{help_text}
 use Rattle.drive.specs.Tables.{IsTable}
 use Rattle.drive.specs.Commands.{IsLine, verb_name}
 use Rattle.drive.specs.Moments.{GrowsLegally}
@@ -20,7 +21,9 @@ operands_text verb.Claim = codes "a unit and a station"
 operands_text verb.Finish = codes "a unit and a station"
 operands_text verb.Look = codes "a station"
 operands_text verb.Info = codes "a station"
+operands_text verb.Station = codes "a station"
 operands_text verb.Operand = codes "a station and a source"
+operands_text verb.Link = codes "a station and a source"
 operands_text verb.Creator = codes "a register"
 operands_text verb.Meet = codes "two of front, back and units"
 operands_text _ = codes "no operand"
@@ -36,20 +39,21 @@ wants_text number v =
     ++ (operands_text v ++ newline)))))
 
 -- A command was answered, and the history has grown
-pub record IsAnswered (old new : TheSession) (command : Command) (text : List ℕ) : Type 0 where
+pub record IsAnswered (old new : TheSession) (number : ℕ) (command : Command) (text : List ℕ) : Type 0 where
   pub grows : GrowsLegally old.core old.seen new.seen
   pub reply : Reply
   pub says : Answers old new command reply
   pub kept : new ≡ after_command command old new
-  pub text_is : text ≡ reply_line reply
+  pub text_is : text ≡ reply_line new.core.program number reply
 
 -- The text of what a line of this number comes to. A line that makes no call changes nothing
 abbrev pub LineSays : TheSession → TheSession → ℕ → Line → List ℕ → Type 0
 LineSays old new number Nothing text = (text ≡ []) × (new ≡ old)
 LineSays old new number Unknown text = (text ≡ unknown_text number) × (new ≡ old)
 LineSays old new number (Wants v) text = (text ≡ wants_text number v) × (new ≡ old)
-LineSays old new number (Asks command) text = IsAnswered old new command text
+LineSays old new number (Asks command) text = IsAnswered old new number command text
 LineSays old new number Table text = IsTable old new text
+LineSays old new number Help text = (text ≡ help_text) × (new ≡ old)
 
 -- The text of what the bytes of a line come to
 pub record IsToldOfLine (old new : TheSession) (number : ℕ) (bytes text : List ℕ) : Type 0 where
@@ -57,12 +61,24 @@ pub record IsToldOfLine (old new : TheSession) (number : ℕ) (bytes text : List
   pub line_is : IsLine (words_of bytes) line
   pub says : LineSays old new number line text
 
+-- A line as it is told before its answer, where that is wanted
+abbrev pub echo_text : Bool → List ℕ → List ℕ
+echo_text false bytes = []
+echo_text true bytes = codes "> " ++ (bytes ++ newline)
+
+-- What is written for the bytes of a line of this number
+pub record IsWrittenOfLine (echo : Bool) (old new : TheSession) (number : ℕ) (bytes text : List ℕ) :
+    Type 0 where
+  pub told : List ℕ
+  pub says : IsToldOfLine old new number bytes told
+  pub text_is : text ≡ echo_text echo bytes ++ told
+
 -- The transcript of lines, the last one first: one history grows from line to line, and what is told
 -- of each is allowed between what was seen before it and behind it
-abbrev pub IsTranscript : TheSession → List (List ℕ) → List ℕ → TheSession → Type 0
-IsTranscript first [] text last = (text ≡ []) × (last ≡ first)
-IsTranscript first (line ∷ earlier) text last =
+abbrev pub IsTranscript : Bool → TheSession → List (List ℕ) → List ℕ → TheSession → Type 0
+IsTranscript echo first [] text last = (text ≡ []) × (last ≡ first)
+IsTranscript echo first (line ∷ earlier) text last =
     (middle : TheSession) × (before : List ℕ) × (told : List ℕ)
-    × IsTranscript first earlier before middle
-    × IsToldOfLine middle last (suc (length earlier)) line told
+    × IsTranscript echo first earlier before middle
+    × IsWrittenOfLine echo middle last (suc (length earlier)) line told
     × (text ≡ before ++ told)

@@ -5,9 +5,11 @@ use Rattle.std.specs.Prelude.{ℕ, ◌+◌, ◌-◌, ◌*◌, ◌&&◌, nat_le, 
 abbrev pub unit_count : ℕ
 unit_count = 64
 
--- Where a letter stands in the alphabet, from 0 on
+-- Where a letter stands in the alphabet, from 0 on, as a capital or a small one
 abbrev pub letter : ℕ → Option ℕ
-letter b = if nat_le 65 b && nat_le b 90 then Some (b - 65) else None
+letter b =
+    if nat_le 65 b && nat_le b 90 then Some (b - 65)
+    else if nat_le 97 b && nat_le b 122 then Some (b - 97) else None
 
 -- The place behind two letters, if there is such a unit
 abbrev pub both_letters : Option ℕ → Option ℕ → Option ℕ

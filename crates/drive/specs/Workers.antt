@@ -6,8 +6,10 @@ use Rattle.drive.specs.declared.units.Claimed.{Claimed}
 use Rattle.drive.specs.declared.units.Claimed.TheVariants as claimed
 use Rattle.drive.specs.declared.units.Worker.{Worker}
 use Rattle.drive.specs.Held.{claim_of, held_job}
-use Rattle.drive.specs.Replies.{IsClaim, IsFinish}
-use Rattle.station.specs.declared.answers.Finish.{Finish}
+use Rattle.drive.specs.declared.producers.Producer.{Producer}
+use Rattle.drive.specs.declared.replies.Finished.{Finished}
+use Rattle.drive.specs.Accounts.{IsAwaited, IsFinish}
+use Rattle.drive.specs.Replies.{IsClaim}
 use Rattle.station.specs.declared.job.Job.{Job}
 use Rattle.station.specs.Claiming.{Holds}
 use Rattle.station.specs.Seats.{Caller, TheCore}
@@ -74,9 +76,16 @@ pub record HasClaimed (core : TheCore) (old new : List Entry) (before after : Li
   pub unit_is : HasUnit before after unit by (job_from answer)
   pub says : IsClaim core by old new station (claim_of answer)
 
+-- A unit that held no job has claimed, and behind that the producer was read that a refused claim waits for
+pub record HasClaimedTold (core : TheCore) (old new : List Entry) (before after : List (Option Worker))
+    (unit station : ℕ) (answer : Claimed) (from : Option Producer) : Type 0 where
+  pub middle : List Entry
+  pub claims : HasClaimed core old middle before after unit station answer
+  pub from_is : IsAwaited core middle new station answer from
+
 -- A unit has finished the job that it held of this station, and holds none
 pub record UnitHasFinished (core : TheCore) (old new : List Entry) (before after : List (Option Worker))
-    (unit station : ℕ) (answer : Finish) : Type 0 where
+    (unit station : ℕ) (answer : Finished) : Type 0 where
   pub job : Job
   pub held_it : job_at before unit ≡ Some job
   pub station_is : job.station ≡ station

@@ -1,18 +1,19 @@
 //! The calls of a session, each between two meetings with the seat that has seen all.
 ghost use Rattle.std.specs.Prelude.{◌≡◌, ◌<◌, ◌-◌, ◌^◌, IfOk};
 ghost use Rattle.back.specs.Backs.{IsSameBack, back_state};
+ghost use Rattle.drive.specs.Accounts.{IsFinish};
 ghost use Rattle.drive.specs.Moments.{GrowsLegally};
 ghost use Rattle.front.specs.Rests.{rested_after};
-ghost use Rattle.drive.specs.Replies.{HoldsWhatIs, IsClaim, IsCommit, IsCreatorNow, IsFinish, IsLook, IsRecovery, IsRefresh, IsRest, IsShown, IsTurn};
+ghost use Rattle.drive.specs.Replies.{HoldsWhatIs, IsClaim, IsCommit, IsCreatorNow, IsLook, IsRecovery, IsRefresh, IsRest, IsShown, IsTurn};
+ghost use Rattle.drive.specs.Rows.{IsAhead};
 ghost use Rattle.station.specs.Claiming.{Holds};
 ghost use Rattle.station.specs.Seats.{IsSameSeat};
 
-use back::{Back, Commit, Mark, Naming, Refresh};
+use crate::replies::{Ahead, Finished, Refreshed};
+use back::{Back, Commit, Mark, Naming};
 use front::{Front, Made, Recovery, Rest, Turn};
 use instructions::{Memory, Predictor, Program, Reg};
-use station::{
-    Claim, Core, Finish, Job, Seen, StationState, UnitSeat, a_job_is_of_the_program, jobs_stay,
-};
+use station::{Claim, Core, Job, Seen, StationState, UnitSeat, a_job_is_of_the_program, jobs_stay};
 use std::sync::Wait;
 
 /// A turn of the front.
@@ -51,8 +52,8 @@ pub fn recover<P: Predictor + Drop>(
     answer
 }
 
-/// A refresh by the back.
-pub fn refresh<J: Naming>(core: &Core, all: &mut UnitSeat, back: &mut Back<J>) -> Refresh
+/// A refresh by the back, and whom a load that got its value has woken.
+pub fn refresh<J: Naming>(core: &Core, all: &mut UnitSeat, back: &mut Back<J>) -> Refreshed
     requires all { all.old.core ≡ core.now }
     requires back { back.old.core ≡ core.now }
     ensures all { IsSameSeat all.old all.new }
@@ -62,8 +63,9 @@ pub fn refresh<J: Naming>(core: &Core, all: &mut UnitSeat, back: &mut Back<J>) -
 {
     back.meet(core, all);
     let answer = back.refresh(core);
+    let woken = back.woken();
     back.meet(core, all);
-    answer
+    Refreshed { answer, woken }
 }
 
 /// A claim by a unit.
@@ -84,18 +86,19 @@ pub fn claim(core: &Core, all: &mut UnitSeat, seat: &mut UnitSeat, station: usiz
     answer
 }
 
-/// The finish of a job that a unit holds, with the outcome of that job.
+/// The finish of a job that a unit holds, with the outcome of that job, and behind it a look at its station.
 pub fn finish(
     core: &Core,
     program: &Program,
     all: &mut UnitSeat,
     seat: &mut UnitSeat,
     job: Job,
-) -> Finish
+) -> Finished
     requires all { all.old.core ≡ core.now }
     requires seat { seat.old.core ≡ core.now }
     requires program { program.now ≡ core.now.program }
     requires job { Holds core.now.program core.now.sizes seat.old.by seat.old.seen job }
+    requires station { job.station < core.now.sizes.ring }
     ensures all { IsSameSeat all.old all.new }
     ensures seat { IsSameSeat seat.old seat.new }
     ensures grows { GrowsLegally core.now all.old.seen all.new.seen }
@@ -104,10 +107,19 @@ pub fn finish(
     core.meet(seat, all);
     a_job_is_of_the_program();
     jobs_stay();
+    let (station, tag) = (job.station(), job.tag());
     let found = job.outcome(program);
     let answer = core.finish(seat, job, found);
+    let woken = seat.woken();
+    let seen = core.look(seat, station);
     core.meet(seat, all);
-    answer
+    Finished {
+        answer,
+        station,
+        tag,
+        woken,
+        seen,
+    }
 }
 
 /// A commit by the back.
@@ -205,4 +217,28 @@ pub fn creator<P: Predictor + Drop>(
 {
     front.meet(core, all);
     front.creator(register)
+}
+
+/// Where the path goes on, as the front knows it.
+pub fn ahead<P: Predictor + Drop>(
+    core: &Core,
+    all: &mut UnitSeat,
+    front: &mut Front<'_, P>,
+) -> Ahead
+    requires all { all.old.core ≡ core.now }
+    requires front { front.old.core ≡ core.now }
+    ensures all { IsSameSeat all.old all.new }
+    ensures front { front.new.core ≡ core.now }
+    ensures told { front.new.told ≡ front.old.told }
+    ensures touched { front.new.touched ≡ front.old.touched }
+    ensures rested { front.new.rested ≡ front.old.rested }
+    ensures grows { GrowsLegally core.now all.old.seen all.new.seen }
+    ensures small { result.station < core.now.sizes.ring }
+    ensures reply { IsAhead core.now all.old.seen all.new.seen result }
+{
+    front.meet(core, all);
+    let _ring = core.ring();
+    let station = front.next_station(core);
+    let pc = front.next_pc();
+    Ahead { station, pc }
 }

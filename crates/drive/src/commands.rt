@@ -26,11 +26,15 @@ pub enum Verb {
     Touched,
     Info,
     Operand,
+    Link,
+    Station,
+    Ring,
     Rest,
     Meet,
     Report,
     Renew,
     Table,
+    Help,
 }
 
 /// Source 1 or source 2 of an instruction.
@@ -57,6 +61,9 @@ pub enum Command {
     Touched,
     Info(u32),
     Operand(u32, Which),
+    Link(u32, Which),
+    Station(u32),
+    Ring,
     Rest,
     Meet(Party, Party),
     Report,
@@ -75,6 +82,8 @@ pub enum Line {
     Asks(Command),
     /// All stations, and who creates which register.
     Table,
+    /// The commands that there are.
+    Help,
 }
 
 // The command with this word.
@@ -97,11 +106,15 @@ fn verb_in(word: &[u8]) -> Option<Verb>
         b"touched" => Some(Verb::Touched),
         b"info" => Some(Verb::Info),
         b"operand" => Some(Verb::Operand),
+        b"link" => Some(Verb::Link),
+        b"station" => Some(Verb::Station),
+        b"ring" => Some(Verb::Ring),
         b"rest" => Some(Verb::Rest),
         b"meet" => Some(Verb::Meet),
         b"report" => Some(Verb::Report),
         b"renew" => Some(Verb::Renew),
         b"table" => Some(Verb::Table),
+        b"help" => Some(Verb::Help),
         _ => None,
     }
 }
@@ -188,7 +201,7 @@ fn two_parties(words: &Words<'_>) -> Option<(Party, Party)>
     Some((one, other))
 }
 
-// The command of a word and its operands. A table is none: it is many.
+// The command of a word and its operands. A table is none: it is many. Nor is help.
 fn command_in(verb: Verb, words: &Words<'_>) -> Option<Command>
     ensures { result ≡ command_of verb (texts_of words.now) }
 {
@@ -209,11 +222,14 @@ fn command_in(verb: Verb, words: &Words<'_>) -> Option<Command>
         Verb::Touched => bare(words, Command::Touched),
         Verb::Info => only_number(words).map(Command::Info),
         Verb::Operand => station_and_source(words).map(|(station, k)| Command::Operand(station, k)),
+        Verb::Link => station_and_source(words).map(|(station, k)| Command::Link(station, k)),
+        Verb::Station => only_number(words).map(Command::Station),
+        Verb::Ring => bare(words, Command::Ring),
         Verb::Rest => bare(words, Command::Rest),
         Verb::Meet => two_parties(words).map(|(one, other)| Command::Meet(one, other)),
         Verb::Report => bare(words, Command::Report),
         Verb::Renew => bare(words, Command::Renew),
-        Verb::Table => None,
+        Verb::Table | Verb::Help => None,
     }
 }
 
@@ -230,6 +246,9 @@ pub fn line_in(line: &[u8]) -> Line
     };
     if verb == Verb::Table && words.first.is_empty() {
         return Line::Table;
+    }
+    if verb == Verb::Help && words.first.is_empty() {
+        return Line::Help;
     }
     match command_in(verb, &words) {
         Some(command) => Line::Asks(command),

@@ -4,6 +4,7 @@ ghost use Rattle.drive.specs.Commands.{verb_name};
 ghost use Rattle.drive.specs.Transcripts.{IsToldOfLine, operands_text, unknown_text, wants_text};
 
 use crate::commands::{Line, Verb, line_in};
+use crate::help::help;
 use crate::session::Session;
 use crate::tables::table;
 use crate::texts::line_of;
@@ -30,11 +31,15 @@ fn word(verb: Verb) -> &'static str
         Verb::Touched => "touched",
         Verb::Info => "info",
         Verb::Operand => "operand",
+        Verb::Link => "link",
+        Verb::Station => "station",
+        Verb::Ring => "ring",
         Verb::Rest => "rest",
         Verb::Meet => "meet",
         Verb::Report => "report",
         Verb::Renew => "renew",
         Verb::Table => "table",
+        Verb::Help => "help",
     }
 }
 
@@ -43,8 +48,8 @@ fn operands(verb: Verb) -> &'static str
 {
     match verb {
         Verb::Claim | Verb::Finish => "a unit and a station",
-        Verb::Look | Verb::Info => "a station",
-        Verb::Operand => "a station and a source",
+        Verb::Look | Verb::Info | Verb::Station => "a station",
+        Verb::Operand | Verb::Link => "a station and a source",
         Verb::Creator => "a register",
         Verb::Meet => "two of front, back and units",
         _ => "no operand",
@@ -82,8 +87,9 @@ pub fn told<P: Predictor + Drop, J: Naming, R: Wait>(
         Line::Wants(verb) => wants(alloc, number, verb),
         Line::Asks(command) => {
             let reply = session.answer(wait, alloc, command);
-            line_of(alloc, &reply)
+            line_of(alloc, session.program(), number, &reply)
         }
         Line::Table => table(wait, alloc, session),
+        Line::Help => help(alloc),
     }
 }

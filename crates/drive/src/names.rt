@@ -14,6 +14,8 @@ fn letter(b: u8) -> Option<usize>
 {
     if b'A' <= b && b <= b'Z' {
         Some((b - b'A') as usize)
+    } else if b'a' <= b && b <= b'z' {
+        Some((b - b'a') as usize)
     } else {
         None
     }
@@ -28,7 +30,7 @@ fn both_letters(first: Option<usize>, second: Option<usize>) -> Option<usize>
     if at < UNITS { Some(at) } else { None }
 }
 
-/// The place of the unit with this name, from 0 on: A to Z, and then AA to BL.
+/// The place of the unit with this name, from 0 on: A to Z, and then AA to BL, in capitals or small letters.
 pub fn unit_in(name: &[u8]) -> Option<usize>
     ensures place { result ≡ unit_named name.now }
     ensures small { IfSome result (λ at. at < unit_count) }

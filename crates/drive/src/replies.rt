@@ -1,4 +1,6 @@
 //! What a session answers.
+use crate::commands::Which;
+use crate::producers::Producer;
 use crate::units::Claimed;
 use back::{Commit, Mark, Refresh, Snap};
 use front::{Made, Recovery, Rest, Turn};
@@ -36,15 +38,67 @@ pub struct Info {
     pub predicted: u32,
 }
 
+/// The finish of a job: of which tenant, whom it has woken, and the word of the station behind it. Bit s is set where one
+/// or both sources of station s got the value.
+#[derive(Clone, Copy)]
+pub struct Finished {
+    pub answer: Finish,
+    pub station: usize,
+    pub tag: u32,
+    pub woken: u32,
+    pub seen: Seen<StationState>,
+}
+
+/// A refresh, and whom the last load that got its value has woken, as of a finish.
+#[derive(Clone, Copy)]
+pub struct Refreshed {
+    pub answer: Refresh,
+    pub woken: u32,
+}
+
+/// An operand word, the info word of its station, and the producer that it waits for.
+#[derive(Clone, Copy)]
+pub struct Operand {
+    pub info: Info,
+    pub seen: Seen<SourceState>,
+    pub from: Option<Producer>,
+}
+
+/// The words of a station, the unit that holds its tenant's job, and the two operands.
+#[derive(Clone, Copy)]
+pub struct Row {
+    pub seen: Seen<StationState>,
+    pub unit: Option<usize>,
+    pub first: Operand,
+    pub second: Operand,
+}
+
+/// The station of the oldest tenant, if one is live, and how many stations are free.
+#[derive(Clone, Copy)]
+pub struct Head {
+    pub station: Option<usize>,
+    pub free: usize,
+}
+
+/// Where the path goes on: the station and the pc of the next tenant.
+#[derive(Clone, Copy)]
+pub struct Ahead {
+    pub station: usize,
+    pub pc: u32,
+}
+
 /// The answer to a command: that of its call, or why that is not allowed.
 #[derive(Drop)]
 pub enum Reply {
-    Turn(Turn),
+    /// With the info word of the tenant that was let.
+    Turn(Turn, Option<Info>),
     Recovery(Recovery),
-    Claim(Claimed),
-    Finish(Finish),
-    Refresh(Refresh),
-    Commit(Commit),
+    /// With the producer that the tenant waits for.
+    Claim(Claimed, Option<Producer>),
+    Finish(Finished),
+    Refresh(Refreshed),
+    /// With the words of the oldest tenant's station before it, if one was live.
+    Commit(Commit, Option<(usize, Row)>),
     Shown(Mark),
     /// There was no memory to show a snapshot, for a report, or for another core.
     Memory,
@@ -56,7 +110,11 @@ pub enum Reply {
     Creator(Made),
     Touched(u64),
     Info(Info),
-    Operand(Seen<SourceState>),
+    Operand(Which, Operand),
+    /// The producer that a source waits for, by the link words.
+    Link(Option<Producer>),
+    Station(Row),
+    Ring(Head, Ahead),
     Rest(Rest),
     Met,
     Report(End),

@@ -1,7 +1,8 @@
 //! A whole script: each of its lines is answered before the next one is read.
-ghost use Rattle.std.specs.Prelude.{◌≡◌, ◌≢◌, ◌+◌, ◌-◌, ◌^◌, ◌<◌, true, false, IfErr, IfOk, OnOk};
+ghost use Rattle.std.specs.Prelude.{◌≡◌, ◌≢◌, ◌+◌, ◌-◌, ◌^◌, ◌<◌, ◌++◌, true, false, IfErr, IfOk, OnOk};
 ghost use Rattle.std.specs.Io.BufRead.{strip_last};
 ghost use Rattle.devices.specs.Counted.{failures_of, known_by};
+ghost use Rattle.drive.specs.Transcripts.{IsWrittenOfLine, echo_text};
 ghost use Rattle.drive.specs.Scripts.{HasBroken, HasDriven, HasTold, LineIsCut, LineIsTold, NothingWasLeft, failed_writes, line_of};
 
 use crate::lines::told;
@@ -64,6 +65,37 @@ fn line_in_chunk(chunk: &[u8]) -> &[u8]
     without_last(without_last(chunk, b'\n'), b'\r')
 }
 
+// Adds a line as it is told before its answer.
+fn push_echo(out: &mut Vec<u8>, echo: bool, line: &[u8]) -> Result<(), AllocError>
+    ensures { OnOk result (out.new.items ≡ out.old.items ++ echo_text echo line.now) }
+{
+    if echo {
+        out.extend_from_slice(b"> ")?;
+        out.extend_from_slice(line)?;
+        out.push(b'\n')?;
+    }
+    Ok(())
+}
+
+/// Does what a line of this number asks for, and gives what is written for it.
+pub(crate) fn written<P: Predictor + Drop, J: Naming, R: Wait>(
+    wait: &R,
+    alloc: Global,
+    session: &mut Session<'_, P, J>,
+    number: u64,
+    line: &[u8],
+    echo: bool,
+) -> Result<Vec<u8>, AllocError>
+    ensures { IfOk result (λ text.
+        IsWrittenOfLine echo session.old session.new number line.now text.items) }
+{
+    let mut out = Vec::new(alloc);
+    push_echo(&mut out, echo, line)?;
+    let text = told(wait, alloc, session, number, line)?;
+    out.extend_from_slice(text.as_str().as_bytes())?;
+    Ok(out)
+}
+
 // Reads the line of this number, and tells what is told of it. False at the end of the script.
 fn tell_line<P: Predictor + Drop, J: Naming, R: Wait, I: BufRead, W: Write>(
     wait: &R,
@@ -72,11 +104,12 @@ fn tell_line<P: Predictor + Drop, J: Naming, R: Wait, I: BufRead, W: Write>(
     reader: &mut I,
     writer: &mut Counted<W>,
     number: u64,
+    echo: bool,
 ) -> Result<bool, Fault>
     requires { failures_of writer.old < 2 ^ 64 - 1 }
     ensures quiet { OnOk result (failures_of writer.new ≡ failures_of writer.old) }
     ensures more { IfOk result (λ more. more ≡ true →
-        LineIsTold (I.remaining reader.old) (I.remaining reader.new) session.old session.new number
+        LineIsTold echo (I.remaining reader.old) (I.remaining reader.new) session.old session.new number
         (known_by W.contents writer.old) (known_by W.contents writer.new)) }
     ensures end { IfOk result (λ more. more ≡ false →
         NothingWasLeft (I.remaining reader.old) session.old session.new
@@ -85,7 +118,7 @@ fn tell_line<P: Predictor + Drop, J: Naming, R: Wait, I: BufRead, W: Write>(
     ensures write { IfErr result (λ fault.
         failures_of writer.new ≡ failures_of writer.old + failed_writes fault) }
     ensures cut { IfErr result (λ fault. fault ≡ Fault.Write →
-        LineIsCut (I.remaining reader.old) session.old number
+        LineIsCut echo (I.remaining reader.old) session.old number
         (known_by W.contents writer.old) (known_by W.contents writer.new)) }
 {
     let mut chunk = Vec::new(alloc);
@@ -101,27 +134,24 @@ fn tell_line<P: Predictor + Drop, J: Naming, R: Wait, I: BufRead, W: Write>(
     if count == 0 {
         return Ok(false);
     }
-    let text = told(
-        wait,
-        alloc,
-        session,
-        number,
-        line_in_chunk(chunk.as_slice()),
-    )?;
-    write_whole(writer, text.as_str().as_bytes())?;
+    let line = line_in_chunk(chunk.as_slice());
+    let text = written(wait, alloc, session, number, line, echo)?;
+    write_whole(writer, text.as_slice())?;
     Ok(true)
 }
 
-/// Answers the lines of a script, up to its end. What is written is the transcript.
+/// Answers the lines of a script, up to its end, each behind the line itself where that is wanted. What is written is
+/// the transcript.
 pub fn drive<P: Predictor + Drop, J: Naming, R: Wait, I: BufRead, W: Write>(
     wait: &R,
     alloc: Global,
     session: &mut Session<'_, P, J>,
     reader: &mut I,
     writer: &mut Counted<W>,
+    echo: bool,
 ) -> Result<(), Fault>
     requires { failures_of writer.old < 2 ^ 64 - 1 }
-    ensures ok { OnOk result (HasDriven (I.remaining reader.old) session.old session.new
+    ensures ok { OnOk result (HasDriven echo (I.remaining reader.old) session.old session.new
         (known_by W.contents writer.old) (known_by W.contents writer.new)) }
     ensures quiet { OnOk result (failures_of writer.new ≡ failures_of writer.old) }
     // The writer is blamed for one failed call, and only then.
@@ -129,15 +159,15 @@ pub fn drive<P: Predictor + Drop, J: Naming, R: Wait, I: BufRead, W: Write>(
         failures_of writer.new ≡ failures_of writer.old + failed_writes fault) }
     // Where the script or memory ends early, some of its lines were answered, and those alone.
     ensures told { IfErr result (λ fault. fault ≢ Fault.Write →
-        HasTold (I.remaining reader.old) session.old
+        HasTold echo (I.remaining reader.old) session.old
         (known_by W.contents writer.old) (known_by W.contents writer.new)) }
     // Where the writer fails, a proper beginning of one more answer went out.
     ensures broken { IfErr result (λ fault. fault ≡ Fault.Write →
-        HasBroken (I.remaining reader.old) session.old
+        HasBroken echo (I.remaining reader.old) session.old
         (known_by W.contents writer.old) (known_by W.contents writer.new)) }
 {
     for number in 0..u64::MAX {
-        if !tell_line(wait, alloc, session, reader, writer, number + 1)? {
+        if !tell_line(wait, alloc, session, reader, writer, number + 1, echo)? {
             return Ok(());
         }
     }

@@ -1,4 +1,5 @@
 //! A session: a core with all its seats in one hand.
+mod choosing;
 mod looking;
 mod meeting;
 mod renewing;
@@ -6,11 +7,12 @@ mod reporting;
 mod resting;
 mod showing;
 
-use crate::calls;
 use crate::commands::Command;
 use crate::names::UNITS;
 use crate::replies::{Refusal, Reply};
-use crate::units::{Worker, claim_by, end_units, finish_by, held_station, no_units};
+use crate::retiring::commit;
+use crate::units::{Worker, end_units, finish_by, held_station, no_units};
+use crate::{accounts, calls};
 use back::{Back, Mark, Naming, Snapper};
 use front::Front;
 use instructions::{Config, End, Memory, Predictor, Program};
@@ -105,7 +107,9 @@ impl<'a, P: Predictor + Drop, J: Naming> Session<'a, P, J> {
         ensures reply { Answers self.old self.new Command.Turn result }
     {
         self.rested = false;
-        Reply::Turn(calls::turn(&self.core, &mut self.all, &mut self.front))
+        let (core, all, back) = (&self.core, &mut self.all, &mut self.back);
+        let (turn, info) = accounts::turn(core, all, &mut self.front, back);
+        Reply::Turn(turn, info)
     }
 
     fn recover(&mut self) -> Reply
@@ -134,8 +138,10 @@ impl<'a, P: Predictor + Drop, J: Naming> Session<'a, P, J> {
         if held_station(&self.units, unit).is_some() {
             return Reply::Refused(Refusal::HoldsJob);
         }
-        let (core, all, units) = (&self.core, &mut self.all, &mut self.units);
-        Reply::Claim(claim_by(core, all, units, unit, station as usize))
+        let (core, all, back) = (&self.core, &mut self.all, &mut self.back);
+        let units = &mut self.units;
+        let (answer, from) = accounts::claim(core, all, back, units, unit, station as usize);
+        Reply::Claim(answer, from)
     }
 
     fn finish(&mut self, unit: usize, station: u32) -> Reply
@@ -144,9 +150,12 @@ impl<'a, P: Predictor + Drop, J: Naming> Session<'a, P, J> {
         ensures kept { self.new ≡ after_command (Command.Finish unit station) self.old self.new }
         ensures reply { Answers self.old self.new (Command.Finish unit station) result }
     {
-        let units = &self.units;
+        let (units, ring) = (&self.units, self.core.ring());
         if units.len() <= unit {
             return Reply::Refused(Refusal::NoUnit);
+        }
+        if ring <= station as usize {
+            return Reply::Refused(Refusal::NoStation);
         }
         match held_station(units, unit) {
             Some(held) if held == station as usize => {
@@ -175,7 +184,9 @@ impl<'a, P: Predictor + Drop, J: Naming> Session<'a, P, J> {
         if self.back.n() == u64::MAX {
             return Reply::Refused(Refusal::NoCount);
         }
-        Reply::Commit(calls::commit(&self.core, &mut self.all, &mut self.back))
+        let (core, all, back) = (&self.core, &mut self.all, &mut self.back);
+        let (answer, oldest) = commit(core, all, &mut self.front, back, &self.units);
+        Reply::Commit(answer, oldest)
     }
 
     /// Makes the call that a command asks for, if that is allowed. The core stays, unless it is renewed.
@@ -199,11 +210,22 @@ impl<'a, P: Predictor + Drop, J: Naming> Session<'a, P, J> {
             Command::Touched => self.touched(),
             Command::Info(station) => self.info(station),
             Command::Operand(station, which) => self.operand(station, which),
+            Command::Link(station, which) => self.link(station, which),
+            Command::Station(station) => self.station(station),
+            Command::Ring => self.ring_told(),
             Command::Rest => self.rest(),
             Command::Meet(one, other) => self.meet(one, other),
             Command::Report => self.report(alloc),
             Command::Renew => self.renew(alloc),
         }
+    }
+
+    /// The program that it runs.
+    pub fn program(&self) -> &Program
+        ensures { result.now ≡ self.now.core.program }
+    {
+        let _ = &self.core;
+        self.program
     }
 
     /// How many stations there are.

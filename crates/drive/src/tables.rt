@@ -1,9 +1,11 @@
 //! Tables: all stations, and who creates which register.
 ghost use Rattle.std.specs.Prelude.{◌≡◌, ◌++◌, IfOk, OnOk, [], string_bytes};
-ghost use Rattle.drive.specs.Tables.{AreRows, HasRow, IsTable, asked_text, has_row, of_stations, which_text};
+ghost use Rattle.instructions.specs.Registers.{register_count};
+ghost use Rattle.drive.specs.Tables.{AreRows, HasRow, IsTable, asked_text, has_row, of_registers, of_stations};
 
-use crate::commands::{Command, Which};
+use crate::commands::Command;
 use crate::replies::Reply;
+use crate::rows::is_free;
 use crate::session::Session;
 use crate::texts::text_of;
 use back::Naming;
@@ -12,26 +14,13 @@ use instructions::Predictor;
 use std::alloc::{AllocError, Global};
 use std::sync::Wait;
 
-fn which(which: Which) -> &'static str
-    ensures { result.now ≡ which_text which }
-{
-    match which {
-        Which::First => "1",
-        Which::Second => "2",
-    }
-}
-
 // The command that a row is the answer to.
 fn push_asked(out: &mut String, command: Command) -> Result<(), AllocError>
     ensures { OnOk result (string_bytes out.new ≡ string_bytes out.old ++ asked_text command) }
 {
     match command {
-        Command::Look(station) => write!(out, "look {station}"),
-        Command::Info(station) => write!(out, "info {station}"),
-        Command::Operand(station, k) => {
-            let k = which(k);
-            write!(out, "operand {station} {k}")
-        }
+        Command::Station(station) => write!(out, "station {station}"),
+        Command::Ring => write!(out, "ring"),
         Command::Creator(register) => write!(out, "creator {register}"),
         _ => Ok(()),
     }
@@ -42,6 +31,7 @@ fn has_row(reply: &Reply) -> bool
 {
     match reply {
         Reply::Creator(Made::Base(_)) => false,
+        Reply::Station(row) => !is_free(row.seen.state),
         _ => true,
     }
 }
@@ -61,7 +51,7 @@ fn push_row<P: Predictor + Drop, J: Naming, R: Wait>(
     if !has_row(&reply) {
         return Ok(());
     }
-    let text = text_of(alloc, &reply)?;
+    let text = text_of(alloc, session.program(), &reply)?;
     push_asked(out, command)?;
     out.push_str(": ")?;
     out.push_str(text.as_str())?;
@@ -82,28 +72,31 @@ fn push_stations<P: Predictor + Drop, J: Naming, R: Wait>(
 {
     let ring = session.ring();
     for station in 0..ring as u32 {
-        push_row(wait, alloc, session, Command::Look(station), out)?;
-        push_row(wait, alloc, session, Command::Info(station), out)?;
-        push_row(
-            wait,
-            alloc,
-            session,
-            Command::Operand(station, Which::First),
-            out,
-        )?;
-        push_row(
-            wait,
-            alloc,
-            session,
-            Command::Operand(station, Which::Second),
-            out,
-        )?;
+        push_row(wait, alloc, session, Command::Station(station), out)?;
     }
     Ok(())
 }
 
-/// The table of a session: the words of each station, and who creates which register. Each row is the answer to
-/// its command.
+// The rows of all stations, and of all registers behind them.
+fn rows_of_all<P: Predictor + Drop, J: Naming, R: Wait>(
+    wait: &R,
+    alloc: Global,
+    session: &mut Session<'_, P, J>,
+) -> Result<String, AllocError>
+    ensures { IfOk result (λ text. AreRows session.old
+        (of_registers register_count (of_stations session.old.core.sizes.ring))
+        (string_bytes text) session.new) }
+{
+    let mut out = String::new(alloc);
+    push_stations(wait, alloc, session, &mut out)?;
+    for register in 0..34 {
+        push_row(wait, alloc, session, Command::Creator(register), &mut out)?;
+    }
+    Ok(out)
+}
+
+/// The table of a session: a row for each station that is not free, who creates which register, and the ring. Each row
+/// is the answer to its command.
 pub(crate) fn table<P: Predictor + Drop, J: Naming, R: Wait>(
     wait: &R,
     alloc: Global,
@@ -111,10 +104,7 @@ pub(crate) fn table<P: Predictor + Drop, J: Naming, R: Wait>(
 ) -> Result<String, AllocError>
     ensures { IfOk result (λ text. IsTable session.old session.new (string_bytes text)) }
 {
-    let mut out = String::new(alloc);
-    push_stations(wait, alloc, session, &mut out)?;
-    for register in 0..34 {
-        push_row(wait, alloc, session, Command::Creator(register), &mut out)?;
-    }
+    let mut out = rows_of_all(wait, alloc, session)?;
+    push_row(wait, alloc, session, Command::Ring, &mut out)?;
     Ok(out)
 }

@@ -1,16 +1,21 @@
 //! The texts of answers.
 ghost use Rattle.std.specs.Prelude.{◌≡◌, ◌++◌, IfOk, OnOk, string_bytes};
-ghost use Rattle.drive.specs.Texts.{claimed_text, commit_text, half_text, held_text, look_text, made_text, place_text, recovery_text, refresh_text, refusal_text, reply_line, reply_text, snap_text, source_text, state_text, front_turn_text, finish_text, values_text};
+ghost use Rattle.drive.specs.Texts.{claimed_text, half_text, held_text, look_text, made_text, place_text, recovery_text, refusal_text, refused_line, reply_line, reply_text, snap_text, source_text, state_text, front_turn_text, values_text};
 
+use crate::commit_texts::commit_text;
+use crate::finish_texts::{finish_text, refresh_text};
+use crate::instruction_texts::{indexed, push_from, push_half, push_instr};
+use crate::producers::Producer;
 use crate::register_texts::push_registers;
-use crate::replies::{Refusal, Reply};
+use crate::replies::{Info, Refusal, Reply};
+use crate::row_texts::{ring_text, station_text};
 use crate::units::{Claimed, Held};
-use crate::word_texts::{info_text, operand_text, rest_text};
-use back::{Commit, Refresh, Snap};
+use crate::word_texts::{info_text, link_text, rest_text, told_operand_text};
+use back::Snap;
 use front::{Made, Recovery, Turn};
-use instructions::Half;
+use instructions::{Half, Program};
 use isa::{Hexadecimal, report_text};
-use station::{Finish, Seen, Source, StationState};
+use station::{Seen, Source, StationState};
 use std::alloc::{AllocError, Global};
 
 pub(crate) fn half(half: Half) -> &'static str
@@ -31,7 +36,7 @@ fn source(k: Source) -> &'static str
     }
 }
 
-fn state(state: StationState) -> &'static str
+pub(crate) fn state(state: StationState) -> &'static str
     ensures { result.now ≡ state_text state }
 {
     match state {
@@ -55,8 +60,13 @@ fn snap_text(alloc: Global, snap: &Snap) -> Result<String, AllocError>
     Ok(out)
 }
 
-fn turn_text(alloc: Global, turn: Turn) -> Result<String, AllocError>
-    ensures { IfOk result (λ text. string_bytes text ≡ front_turn_text turn) }
+fn turn_text(
+    alloc: Global,
+    program: &Program,
+    turn: Turn,
+    info: &Option<Info>,
+) -> Result<String, AllocError>
+    ensures { IfOk result (λ text. string_bytes text ≡ front_turn_text program.now turn info.now) }
 {
     match turn {
         Turn::Full => format!(in alloc; "Full"),
@@ -64,8 +74,12 @@ fn turn_text(alloc: Global, turn: Turn) -> Result<String, AllocError>
         Turn::QueueFull => format!(in alloc; "QueueFull"),
         Turn::Spent => format!(in alloc; "Spent"),
         Turn::Let { station, tag, pc } => {
+            let instr = program.fetch(pc);
             let pc = Hexadecimal(pc);
-            format!(in alloc; "Let station {station} tag {tag} pc {pc}")
+            let mut out = format!(in alloc; "Let station {station} tag {tag} pc {pc}")?;
+            push_instr(&mut out, &instr)?;
+            push_half(&mut out, &instr, info)?;
+            Ok(out)
         }
     }
 }
@@ -100,71 +114,33 @@ fn place_text(alloc: Global, held: &Held) -> Result<String, AllocError>
     format!(in alloc; "Job station {station} tag {tag} index {index} half {half}")
 }
 
-fn held_text(alloc: Global, held: &Held) -> Result<String, AllocError>
-    ensures { IfOk result (λ text. string_bytes text ≡ held_text held.now) }
+fn held_text(alloc: Global, program: &Program, held: &Held) -> Result<String, AllocError>
+    ensures { IfOk result (λ text. string_bytes text ≡ held_text program.now held.now) }
 {
     let mut out = place_text(alloc, held)?;
     push_values(&mut out, held)?;
+    push_instr(&mut out, &indexed(program, held.index))?;
     Ok(out)
 }
 
-fn claimed_text(alloc: Global, answer: &Claimed) -> Result<String, AllocError>
-    ensures { IfOk result (λ text. string_bytes text ≡ claimed_text answer.now) }
+fn claimed_text(
+    alloc: Global,
+    program: &Program,
+    answer: &Claimed,
+    from: Option<Producer>,
+) -> Result<String, AllocError>
+    ensures { IfOk result (λ text. string_bytes text ≡ claimed_text program.now answer.now from) }
 {
     match answer {
-        Claimed::Job(held) => held_text(alloc, held),
+        Claimed::Job(held) => held_text(alloc, program, held),
         Claimed::NotOpen => format!(in alloc; "NotOpen"),
         Claimed::Waiting { tag, k } => {
             let k = source(*k);
-            format!(in alloc; "Waiting tag {tag} source {k}")
+            let mut out = format!(in alloc; "Waiting tag {tag} source {k}")?;
+            push_from(&mut out, " from ", from)?;
+            Ok(out)
         }
         Claimed::Moved { tag } => format!(in alloc; "Moved tag {tag}"),
-    }
-}
-
-fn finish_text(finish: Finish) -> &'static str
-    ensures { result.now ≡ finish_text finish }
-{
-    match finish {
-        Finish::Finished => "Finished",
-        Finish::Stale => "Stale",
-    }
-}
-
-fn refresh_text(alloc: Global, refresh: Refresh) -> Result<String, AllocError>
-    ensures { IfOk result (λ text. string_bytes text ≡ refresh_text refresh) }
-{
-    match refresh {
-        Refresh::Loaded {
-            station,
-            tag,
-            value,
-        } => {
-            let value = Hexadecimal(value);
-            format!(in alloc; "Loaded station {station} tag {tag} value {value}")
-        }
-        Refresh::Blocked { load, store } => {
-            format!(in alloc; "Blocked load {load} store {store}")
-        }
-        Refresh::Idle => format!(in alloc; "Idle"),
-    }
-}
-
-fn commit_text(alloc: Global, commit: Commit) -> Result<String, AllocError>
-    ensures { IfOk result (λ text. string_bytes text ≡ commit_text commit) }
-{
-    match commit {
-        Commit::Retired { pc, n } => {
-            let pc = Hexadecimal(pc);
-            format!(in alloc; "Retired pc {pc} n {n}")
-        }
-        Commit::Half { pc } => {
-            let pc = Hexadecimal(pc);
-            format!(in alloc; "Half pc {pc}")
-        }
-        Commit::NotDone => format!(in alloc; "NotDone"),
-        Commit::Empty => format!(in alloc; "Empty"),
-        Commit::Ended(code) => format!(in alloc; "Ended {code}"),
     }
 }
 
@@ -206,16 +182,16 @@ fn refusal_text(refusal: Refusal) -> &'static str
 }
 
 /// The text of an answer.
-pub fn text_of(alloc: Global, reply: &Reply) -> Result<String, AllocError>
-    ensures { IfOk result (λ text. string_bytes text ≡ reply_text reply.now) }
+pub fn text_of(alloc: Global, program: &Program, reply: &Reply) -> Result<String, AllocError>
+    ensures { IfOk result (λ text. string_bytes text ≡ reply_text program.now reply.now) }
 {
     match reply {
-        Reply::Turn(turn) => turn_text(alloc, *turn),
+        Reply::Turn(turn, info) => turn_text(alloc, program, *turn, info),
         Reply::Recovery(recovery) => recovery_text(alloc, *recovery),
-        Reply::Claim(answer) => claimed_text(alloc, answer),
-        Reply::Finish(finish) => format!(in alloc; "{}", finish_text(*finish)),
-        Reply::Refresh(refresh) => refresh_text(alloc, *refresh),
-        Reply::Commit(commit) => commit_text(alloc, *commit),
+        Reply::Claim(answer, from) => claimed_text(alloc, program, answer, *from),
+        Reply::Finish(finished) => finish_text(alloc, finished),
+        Reply::Refresh(refreshed) => refresh_text(alloc, *refreshed),
+        Reply::Commit(commit, oldest) => commit_text(alloc, program, *commit, oldest),
         Reply::Shown(mark) => format!(in alloc; "Mark n {}", mark.n),
         Reply::Memory => format!(in alloc; "Memory"),
         Reply::Taken(snap) => snap_text(alloc, snap),
@@ -224,8 +200,11 @@ pub fn text_of(alloc: Global, reply: &Reply) -> Result<String, AllocError>
         Reply::Look(seen) => look_text(alloc, seen),
         Reply::Creator(made) => made_text(alloc, *made),
         Reply::Touched(count) => format!(in alloc; "{count}"),
-        Reply::Info(info) => info_text(alloc, info),
-        Reply::Operand(seen) => operand_text(alloc, seen),
+        Reply::Info(info) => info_text(alloc, program, info),
+        Reply::Operand(which, operand) => told_operand_text(alloc, program, *which, operand),
+        Reply::Link(from) => link_text(alloc, *from),
+        Reply::Station(row) => station_text(alloc, program, row),
+        Reply::Ring(head, ahead) => ring_text(alloc, head, ahead),
         Reply::Rest(rest) => format!(in alloc; "{}", rest_text(*rest)),
         Reply::Met => format!(in alloc; "Met"),
         Reply::Report(end) => report_text(alloc, end),
@@ -234,14 +213,29 @@ pub fn text_of(alloc: Global, reply: &Reply) -> Result<String, AllocError>
     }
 }
 
-/// The text of an answer with the end of its line. A report has its own.
-pub fn line_of(alloc: Global, reply: &Reply) -> Result<String, AllocError>
-    ensures { IfOk result (λ text. string_bytes text ≡ reply_line reply.now) }
+fn refused_line(alloc: Global, number: u64, refusal: Refusal) -> Result<String, AllocError>
+    ensures { IfOk result (λ text. string_bytes text ≡ refused_line number refusal) }
 {
-    let mut text = text_of(alloc, reply)?;
+    let why = refusal_text(refusal);
+    format!(in alloc; "line {number}: {why}\n")
+}
+
+/// The text of an answer with the end of its line, which a report has itself. A refusal names the line of the script.
+pub fn line_of(
+    alloc: Global,
+    program: &Program,
+    number: u64,
+    reply: &Reply,
+) -> Result<String, AllocError>
+    ensures { IfOk result (λ text. string_bytes text ≡ reply_line program.now number reply.now) }
+{
     match reply {
-        Reply::Report(_) => {}
-        _ => text.push('\n')?,
+        Reply::Refused(refusal) => refused_line(alloc, number, *refusal),
+        Reply::Report(end) => report_text(alloc, end),
+        _ => {
+            let mut text = text_of(alloc, program, reply)?;
+            text.push('\n')?;
+            Ok(text)
+        }
     }
-    Ok(text)
 }

@@ -8,9 +8,10 @@ ghost use Rattle.drive.specs.declared.units.Worker.{Worker};
 
 use crate::calls;
 use crate::names::UNITS;
+use crate::replies::Finished;
 use core::mem::replace_with;
 use instructions::{Half, Memory, Program};
-use station::{Claim, Core, Finish, Job, Source, UnitSeat, abandon};
+use station::{Claim, Core, Job, Source, UnitSeat, abandon};
 use std::alloc::Global;
 
 /// What is told of a job.
@@ -234,12 +235,13 @@ pub(crate) fn finish_by(
     units: &mut Vec<Option<Worker>>,
     unit: usize,
     station: usize,
-) -> Finish
+) -> Finished
     requires all { all.old.core ≡ core.now }
     requires program { program.now ≡ core.now.program }
     requires unit { unit < vec_len units.old }
     requires workers { AreWorkers core.now units.old.items }
     requires holds { station_held units.old.items unit ≡ Some station }
+    requires station { station < core.now.sizes.ring }
     ensures all { IsSameSeat all.old all.new }
     ensures grows { GrowsLegally core.now all.old.seen all.new.seen }
     ensures workers { AreWorkers core.now units.new.items }

@@ -1,12 +1,16 @@
 //! The texts of what is read of words, and of a rest.
-ghost use Rattle.std.specs.Prelude.{◌≡◌, IfOk, string_bytes};
-ghost use Rattle.drive.specs.Texts.{info_text, operand_state_text, seen_operand_text, rest_text};
+ghost use Rattle.std.specs.Prelude.{◌≡◌, ◌++◌, IfOk, OnOk, string_bytes};
+ghost use Rattle.drive.specs.Texts.{info_text, info_words, link_text, operand_state_text, operand_text, reads, rest_text, seen_operand_text, tenant_text, told_operand_text, which_number};
 
-use crate::replies::Info;
+use crate::commands::Which;
+use crate::instruction_texts::{indexed, push_from, push_instr};
+use crate::producers::Producer;
+use crate::replies::{Info, Operand};
 use crate::texts::half;
 use front::Rest;
+use instructions::{Instr, Program};
 use isa::Hexadecimal;
-use station::{Seen, SourceState};
+use station::SourceState;
 use std::alloc::{AllocError, Global};
 
 fn operand_state(state: SourceState) -> &'static str
@@ -19,22 +23,112 @@ fn operand_state(state: SourceState) -> &'static str
     }
 }
 
-/// The text of an operand word.
-pub(crate) fn operand_text(alloc: Global, seen: &Seen<SourceState>) -> Result<String, AllocError>
-    ensures { IfOk result (λ text. string_bytes text ≡ seen_operand_text seen.now) }
+fn which_number(which: Which) -> u32
+    ensures { result ≡ which_number which }
 {
-    let (tag, state) = (seen.tag, operand_state(seen.state));
-    let value = Hexadecimal(seen.value);
-    format!(in alloc; "Seen tag {tag} state {state} value {value}")
+    match which {
+        Which::First => 1,
+        Which::Second => 2,
+    }
 }
 
-/// The text of an info word.
-pub(crate) fn info_text(alloc: Global, info: &Info) -> Result<String, AllocError>
-    ensures { IfOk result (λ text. string_bytes text ≡ info_text info.now) }
+fn reads(instr: Option<Instr>, which: Which) -> bool
+    ensures { result ≡ reads instr which }
+{
+    match instr {
+        Some(instr) => instr.source(which_number(which)).is_some(),
+        None => true,
+    }
+}
+
+// Adds the value of an operand word, or whom it waits for.
+fn push_seen(out: &mut String, operand: &Operand) -> Result<(), AllocError>
+    ensures { OnOk result (string_bytes out.new ≡ string_bytes out.old
+        ++ seen_operand_text operand.now.seen.state operand.now.seen.value operand.now.from) }
+{
+    match (operand.seen.state, operand.from) {
+        (SourceState::Wait, Some(from)) => push_from(out, "WAIT for ", Some(from)),
+        (state, _) => {
+            let (state, value) = (operand_state(state), Hexadecimal(operand.seen.value));
+            write!(out, "{state} value {value}")
+        }
+    }
+}
+
+/// Adds an operand, if the instruction of its info word reads it.
+pub(crate) fn push_operand(
+    out: &mut String,
+    program: &Program,
+    which: Which,
+    operand: &Operand,
+) -> Result<(), AllocError>
+    ensures { OnOk result (string_bytes out.new
+        ≡ string_bytes out.old ++ operand_text program.now which operand.now) }
+{
+    if reads(indexed(program, operand.info.index), which) {
+        push_seen(out, operand)
+    } else {
+        out.push_str("NONE")
+    }
+}
+
+/// The text of an operand word.
+pub(crate) fn told_operand_text(
+    alloc: Global,
+    program: &Program,
+    which: Which,
+    operand: &Operand,
+) -> Result<String, AllocError>
+    ensures { IfOk result (λ text.
+        string_bytes text ≡ told_operand_text program.now which operand.now) }
+{
+    let tag = operand.seen.tag;
+    let mut out = format!(in alloc; "Seen tag {tag} state ")?;
+    push_operand(&mut out, program, which, operand)?;
+    Ok(out)
+}
+
+/// The text of a producer by the link words.
+pub(crate) fn link_text(alloc: Global, from: Option<Producer>) -> Result<String, AllocError>
+    ensures { IfOk result (λ text. string_bytes text ≡ link_text from) }
+{
+    match from {
+        Some(Producer { station, tag }) => {
+            format!(in alloc; "Link from station {station} tag {tag}")
+        }
+        None => format!(in alloc; "NoLink"),
+    }
+}
+
+// Adds the fields of an info word.
+fn push_info(out: &mut String, info: &Info) -> Result<(), AllocError>
+    ensures { OnOk result (string_bytes out.new ≡ string_bytes out.old ++ info_words info.now) }
 {
     let (index, half) = (info.index, half(info.half));
     let predicted = Hexadecimal(info.predicted);
-    format!(in alloc; "Info index {index} half {half} predicted {predicted}")
+    write!(out, " index {index} half {half} predicted {predicted}")
+}
+
+/// Adds an info word with its instruction.
+pub(crate) fn push_tenant(
+    out: &mut String,
+    program: &Program,
+    info: &Info,
+) -> Result<(), AllocError>
+    ensures { OnOk result
+        (string_bytes out.new ≡ string_bytes out.old ++ tenant_text program.now info.now) }
+{
+    push_info(out, info)?;
+    push_instr(out, &indexed(program, info.index))
+}
+
+/// The text of an info word.
+pub(crate) fn info_text(alloc: Global, program: &Program, info: &Info) -> Result<String, AllocError>
+    ensures { IfOk result (λ text. string_bytes text ≡ info_text program.now info.now) }
+{
+    let mut out = format!(in alloc; "Info")?;
+    push_tenant(&mut out, program, info)?;
+    Ok(out)
 }
 
 /// The text of a rest.

@@ -3,10 +3,10 @@
 
 mod driving;
 
-use by_hand::{Request, end, requested};
+use by_hand::{driven, end};
 use devices::ClosedStreams;
 use driving::drive;
-use requests::{of_another_program, refuse, words};
+use requests::{refuse, words};
 use std::process::ExitCode;
 
 fn main(rt: HostRuntime) -> ExitCode {
@@ -17,13 +17,8 @@ fn main(rt: HostRuntime) -> ExitCode {
         Ok(words) => words,
         Err(no_run) => return refuse(&rt, &no_run),
     };
-    match requested(rt.alloc(), words.as_slice()) {
-        Ok(Request::Drive(hand)) => end(&rt, drive(&rt, &rt, &hand)),
-        Ok(Request::Run(asked)) if asked.watch.is_wanted() => {
-            refuse(&rt, &of_another_program(rt.alloc(), "run", "viewer"))
-        },
-        Ok(Request::Run(_)) => refuse(&rt, &of_another_program(rt.alloc(), "run", "ruu")),
-        Ok(Request::Check(_)) => refuse(&rt, &of_another_program(rt.alloc(), "check", "viewer")),
+    match driven(rt.alloc(), words.as_slice()) {
+        Ok(hand) => end(&rt, drive(&rt, &rt, &hand)),
         Err(no_run) => refuse(&rt, &no_run),
     }
 }

@@ -1,11 +1,11 @@
 -- What the building of the command line comes to.
-use Rattle.std.proofs.Common.{◌≡◌, ◌∙◌, ap, ap₂, true, ◌||◌, refl, Result, Ok, Err, IfOk}
-use Rattle.clap.specs.Words.{AddsArg, App, Rule, app_of, is_simple, with_rule, with_subcommand}
+use Rattle.std.proofs.Common.{◌≡◌, ◌∙◌, ap₂, true, ◌||◌, refl}
+use Rattle.clap.specs.Words.{AddsArg, App, Rule, with_rule}
 use Rattle.clap.specs.Faults.{is_simple_and_free}
 use Rattle.clap.proofs.OnLiterals.{clap_on_literals}
 use Rattle.clap.specs.declared.builder.arg.Arg.{Arg}
 use Rattle.clap.specs.declared.builder.command.Command.{Command}
-use Rattle.requests.specs.Tool.{Becomes, HasBelow, IsArg, IsCommand, tool}
+use Rattle.requests.specs.Tool.{Becomes, IsArg, IsCommand, chart, check, commits, drive, run, tool}
 
 pub extended : {app : App} {rule : Rule} {old new : Command} {arg : Arg}
     → IsCommand app old → IsArg rule arg → AddsArg old arg new → IsCommand (with_rule app rule) new
@@ -23,16 +23,23 @@ pub then : {one other : App → App} {old middle new : Command} → Becomes one 
     → Becomes (λ app. other (one app)) old new
 then first second = record { changes = λ app old. second.changes _ (first.changes app old) }
 
--- a command with one more below it
-pub joined : {E : Type 0} {app : App} (below : App) (old new : Command) (one : Result Command E) → app_of old ≡ app
-    → IfOk one (IsCommand below) → HasBelow old one new → app_of new ≡ with_subcommand app below.top
-joined _ _ _ (Ok one) same is adds = adds.shape is.local ∙ ap₂ with_subcommand same (ap (λ (a : App). a.top) is.is)
-joined _ _ _ (Err _) same is adds = elim adds [ ]
-
-pub tool-is_simple : is_simple tool ≡ true
+-- clap's exact matches are known of each program
+pub run-is_simple : is_simple_and_free (tool run) ≡ true
 unfolding clap_on_literals
-tool-is_simple = refl
+run-is_simple = refl
 
-pub tool-is_free : is_simple_and_free tool ≡ true
+pub chart-is_simple : is_simple_and_free (tool chart) ≡ true
 unfolding clap_on_literals
-tool-is_free = refl
+chart-is_simple = refl
+
+pub commits-is_simple : is_simple_and_free (tool commits) ≡ true
+unfolding clap_on_literals
+commits-is_simple = refl
+
+pub check-is_simple : is_simple_and_free (tool check) ≡ true
+unfolding clap_on_literals
+check-is_simple = refl
+
+pub drive-is_simple : is_simple_and_free (tool drive) ≡ true
+unfolding clap_on_literals
+drive-is_simple = refl

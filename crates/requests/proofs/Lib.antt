@@ -1,6 +1,6 @@
 mod Building
-mod ByHands
-mod Entered
-mod NotAsked
 mod OddRings
-mod Watching
+mod Refusing
+mod SeedTexts
+mod Traces
+mod WordRows

@@ -1,7 +1,14 @@
 pub mod Tool
 pub mod Values
-pub mod Watches
-pub mod ByHand
-pub mod Request
+pub mod Reading
+pub mod Rings
+pub mod Seeds
+pub mod Logs
+pub mod Steps
+pub mod Run
+pub mod Chart
+pub mod Commits
+pub mod Check
+pub mod Drive
 pub mod Statuses
 pub mod Predictors

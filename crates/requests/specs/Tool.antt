@@ -1,6 +1,6 @@
 -- The command line, as clap reads it.
-use Rattle.std.specs.Prelude.{◌≡◌, Result, Ok, Err, Some, codes, true, false}
-use Rattle.clap.specs.Words.{AddsSubcommand, App, Rule, Text, app_of, new_app, new_rule, rule_of}
+use Rattle.std.specs.Prelude.{◌≡◌, Some, codes, true, false}
+use Rattle.clap.specs.Words.{App, Rule, Text, app_of, new_app, new_rule, rule_of}
 use Rattle.clap.specs.Words.{with_rule, with_subcommand}
 use Rattle.clap.specs.Simple.{on_top}
 use Rattle.clap.specs.declared.builder.arg.Arg.{Arg}
@@ -29,10 +29,15 @@ abbrev pub bounded : App → App
 bounded app = with_rule (with_rule (with_rule (with_rule app
     (option_rule (codes "units"))) (option_rule (codes "bpred"))) (option_rule (codes "turns"))) (option_rule (codes "limit"))
 
--- how it is seen
-abbrev pub viewed : App → App
-viewed app = with_rule (with_rule (with_rule (with_rule app
-    (flag_rule (codes "alone"))) (flag_rule (codes "progress"))) (flag_rule (codes "chart"))) (option_rule (codes "trace"))
+-- on how many threads it runs and how that is seen, and seeds of orders
+abbrev pub ordered : App → App
+ordered app = with_rule (with_rule (with_rule (with_rule app
+    (flag_rule (codes "alone"))) (flag_rule (codes "progress"))) (option_rule (codes "seed"))) (option_rule (codes "shake"))
+
+-- the predictor, the limit and the seed of a run whose turns are watched
+abbrev pub watched : App → App
+watched app = with_rule (with_rule (with_rule app
+    (option_rule (codes "bpred"))) (option_rule (codes "limit"))) (option_rule (codes "seed"))
 
 -- with a version
 abbrev pub with_version : App → App
@@ -40,21 +45,33 @@ with_version = on_top (λ s. record s { has_version = true })
 
 -- `ruu run`
 abbrev pub run : App
-run = viewed (bounded (sized (with_version (new_app (codes "run")))))
+run = ordered (bounded (sized (with_version (new_app (codes "run")))))
+
+-- `ruu chart`
+abbrev pub chart : App
+chart = with_rule (watched (sized (with_version (new_app (codes "chart"))))) (option_rule (codes "trace"))
+
+-- `ruu commits`
+abbrev pub commits : App
+commits = watched (sized (with_version (new_app (codes "commits"))))
 
 -- `ruu check`
 abbrev pub check : App
-check = with_rule (with_version (new_app (codes "check"))) file_rule
+check = with_rule (with_rule (with_version (new_app (codes "check"))) file_rule) (flag_rule (codes "all"))
+
+-- how commands are told and chosen
+abbrev pub commanded : App → App
+commanded app = with_rule (with_rule (with_rule (with_rule app
+    (flag_rule (codes "quiet-prompt"))) (flag_rule (codes "echo"))) (option_rule (codes "seed"))) (option_rule (codes "steps"))
 
 -- `ruu drive`
 abbrev pub drive : App
-drive = with_rule (with_rule (with_rule (sized (with_version (new_app (codes "drive"))))
-    (option_rule (codes "bpred"))) (option_rule (codes "first-tag"))) (flag_rule (codes "quiet-prompt"))
+drive = commanded (with_rule (with_rule (sized (with_version (new_app (codes "drive"))))
+    (option_rule (codes "bpred"))) (option_rule (codes "first-tag")))
 
--- `ruu`, with its three commands
-abbrev pub tool : App
-tool = with_subcommand (with_subcommand (with_subcommand (with_version (new_app (codes "ruu")))
-    run.top) check.top) drive.top
+-- the program of a word: `ruu`, with this command alone
+abbrev pub tool : App → App
+tool word = with_subcommand (with_version (new_app (codes "ruu"))) word.top
 
 -- the argument stands for this rule, in its own command alone
 pub record IsArg (rule : Rule) (arg : Arg) : Type 0 where
@@ -70,7 +87,6 @@ pub record IsCommand (app : App) (command : Command) : Type 0 where
 pub record Becomes (change : App → App) (old new : Command) : Type 0 where
   pub changes : (app : App) → IsCommand app old → IsCommand (change app) new
 
--- the new command is the old one with this one below it
-abbrev pub HasBelow : {E : Type 0} → Command → Result Command E → Command → Type 0
-HasBelow old (Ok one) new = AddsSubcommand old one new
-HasBelow old (Err _) new = ⊥
+-- whatever the command of a word stands for, this one stands for its program
+pub record ToolOf (word command : Command) : Type 0 where
+  pub is : (app : App) → IsCommand app word → app_of command ≡ tool app

@@ -1,5 +1,5 @@
 -- What the text of an option stands for.
-use Rattle.std.specs.Prelude.{◌≡◌, ◌≤◌, ℕ, Bool, false, Option, Some, None, codes, min}
+use Rattle.std.specs.Prelude.{◌≡◌, ◌≤◌, ◌^◌, ◌-◌, ℕ, Bool, false, Option, Some, None, codes, min}
 use Rattle.std.specs.Prelude.{option_map}
 use Rattle.std.specs.Borrow.{Bor}
 use Rattle.std.specs.Str.Parse.{IsNumeral, digits_value, without_leading_plus}
@@ -32,6 +32,16 @@ pub record IsNumberFrom (least most default : ℕ) (text : Option Text) (n : ℕ
 -- the text stands for no number in the range
 abbrev pub IsNoNumberFrom : (least most default : ℕ) → Option Text → Type 0
 IsNoNumberFrom least most default text = (n : ℕ) → ¬ (IsNumberFrom least most default text n)
+
+-- the seed of the text, and none without a text
+abbrev pub IsSeed : Option Text → Option ℕ → Type 0
+IsSeed None seed = seed ≡ None
+IsSeed (Some text) None = ⊥
+IsSeed (Some text) (Some seed) = IsNumberFrom 0 (2 ^ 64 - 1) 0 (Some text) seed
+
+-- the text stands for no seed
+abbrev pub IsNoSeed : Option Text → Type 0
+IsNoSeed text = (seed : Option ℕ) → ¬ (IsSeed text seed)
 
 -- the queue size of the text, cut to the ring size
 pub record IsQueueCut (text : Option Text) (ring queue : ℕ) : Type 0 where

@@ -1,8 +1,8 @@
 //! The entries of the matches, each read as what it stands for.
 ghost use Rattle.std.specs.Prelude.{◌≡◌, IfOk, IfErr, Some, None, codes};
 ghost use Rattle.requests.specs.Values.{IsNumberFrom, IsNoNumberFrom, IsPredictor, IsNoPredictor};
-ghost use Rattle.requests.specs.Values.{value_in};
-ghost use Rattle.requests.specs.Request.{IsUsage};
+ghost use Rattle.requests.specs.Values.{IsNoSeed, IsSeed, value_in};
+ghost use Rattle.requests.specs.Reading.{IsUsage};
 
 use crate::refusals::{bad_number, usage};
 use crate::values::{number_in, predictor_in};
@@ -48,6 +48,24 @@ pub(crate) fn number<'a>(
         Some(number) => Ok(number),
         None => Err(bad_number(alloc, command, name, least, most)),
     }
+}
+
+/// The seed of an option, if it was given.
+pub(crate) fn seed<'a>(
+    alloc: Global,
+    command: &str,
+    matches: &ArgMatches<'a>,
+    name: &str,
+) -> Result<Option<u64>, NoRun>
+    ensures ok { IfOk result (IsSeed (value_in matches.now name.now)) }
+    ensures usage { IfErr result IsUsage }
+    ensures err { IfErr result (λ _. IsNoSeed (value_in matches.now name.now)) }
+{
+    if matches.get_str(name).is_none() {
+        return Ok(None);
+    }
+    let seed = number(alloc, command, matches, name, 0, u64::MAX, 0)?;
+    Ok(Some(seed))
 }
 
 /// The predictor of `--bpred`.

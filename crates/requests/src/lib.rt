@@ -2,20 +2,31 @@
 #![tactic(auto)]
 
 mod chosen;
+mod commands;
+mod entered;
 mod entries;
 mod no_run;
 mod options;
 mod program;
-mod reading;
-mod reading_by_hand;
+mod reading_chart;
+mod reading_check;
+mod reading_commits;
+mod reading_drive;
+mod reading_run;
 mod refusals;
 mod request;
+mod ring;
+mod seeds;
+mod steps;
+mod trace;
 mod values;
-mod watches;
 
 pub use chosen::{Chosen, choose};
 pub use no_run::{NoRun, status};
 pub use program::{refuse, words};
-pub use reading::{asked, requested};
-pub use refusals::of_another_program;
-pub use request::{Asked, BranchPredictor, ByHand, Request, Watch, is_standard_input};
+pub use reading_chart::charted;
+pub use reading_check::checked;
+pub use reading_commits::committed;
+pub use reading_drive::driven;
+pub use reading_run::asked;
+pub use request::{Asked, BranchPredictor, ByHand, Charted, Checked, Committed, is_standard_input};

@@ -1,7 +1,7 @@
 //! What each program does with its command line.
 ghost use Rattle.std.specs.Prelude.{◌≡◌, IfErr};
 ghost use Rattle.std.specs.Process.{exit_status};
-ghost use Rattle.requests.specs.Request.{IsUsage};
+ghost use Rattle.requests.specs.Reading.{IsUsage};
 ghost use Rattle.requests.specs.Statuses.{status_of};
 
 use crate::{NoRun, status};

@@ -1,6 +1,6 @@
 //! What a refused command line is told.
 ghost use Rattle.clap.specs.Words.{kind_of};
-ghost use Rattle.requests.specs.Request.{IsRefusalOf, IsUsage};
+ghost use Rattle.requests.specs.Reading.{IsRefusalOf, IsUsage};
 
 use crate::NoRun;
 use crate::options::VERSION;
@@ -35,16 +35,6 @@ pub(crate) fn usage(alloc: Global, command: &str, what: &str) -> NoRun
     );
     match text {
         Ok(text) => NoRun::Usage(text),
-        Err(_) => NoRun::Memory,
-    }
-}
-
-/// Another program answers the words of this command.
-pub fn of_another_program(alloc: Global, command: &str, program: &str) -> NoRun
-    ensures { IsUsage result }
-{
-    match format!(in alloc; "the program {program} answers these words, and ./ruu starts it") {
-        Ok(text) => usage(alloc, command, text.as_str()),
         Err(_) => NoRun::Memory,
     }
 }

@@ -1,7 +1,6 @@
-//! What a command line asks for.
+//! What the words of a program ask for.
 ghost use Rattle.std.specs.Prelude.{◌≡◌, codes};
 ghost use Rattle.std.specs.Str.{bytes_eq};
-ghost use Rattle.requests.specs.Watches.{is_wanted};
 
 use instructions::Config;
 
@@ -13,7 +12,7 @@ pub enum BranchPredictor {
     Bimod,
 }
 
-/// What a command line asks for.
+/// A run that is asked for.
 #[derive(Clone, Copy)]
 pub struct Asked<'a> {
     /// The file of the listing.
@@ -24,25 +23,45 @@ pub struct Asked<'a> {
     pub alone: bool,
     /// What the threads have done is to be told while they run.
     pub progress: bool,
-    pub watch: Watch<'a>,
+    /// The seed by which the one-thread unit chooses its turns; without one each turn is the first that is possible.
+    pub seed: Option<u64>,
+    /// The seed by which the threads of units are held back; without one nobody holds them.
+    pub shake: Option<u64>,
 }
 
-/// What is to be told of the turns of a run, which is then one of the one-thread unit.
+/// A run of the one-thread unit whose chart is asked for. Its units and turns are those of a run that is asked for
+/// nothing more.
 #[derive(Clone, Copy)]
-pub struct Watch<'a> {
-    /// A chart stands behind the report.
-    pub chart: bool,
+pub struct Charted<'a> {
+    /// The file of the listing.
+    pub file: &'a str,
+    pub config: Config,
+    pub predictor: BranchPredictor,
+    /// The seed by which turns are chosen.
+    pub seed: Option<u64>,
     /// The file that gets the log; never the one of the listing.
     pub log: Option<&'a str>,
 }
 
-impl Watch<'_> {
-    /// Anything is to be told.
-    pub fn is_wanted(&self) -> bool
-        ensures { result ≡ is_wanted self.now }
-    {
-        self.chart || self.log.is_some()
-    }
+/// A run of the one-thread unit whose commits are asked for. Its units and turns are those of a run that is asked for
+/// nothing more.
+#[derive(Clone, Copy)]
+pub struct Committed<'a> {
+    /// The file of the listing.
+    pub file: &'a str,
+    pub config: Config,
+    pub predictor: BranchPredictor,
+    /// The seed by which turns are chosen.
+    pub seed: Option<u64>,
+}
+
+/// A listing that is to be read and checked, and not run.
+#[derive(Clone, Copy)]
+pub struct Checked<'a> {
+    /// The file of the listing.
+    pub file: &'a str,
+    /// Each fault is wanted, and not the first alone.
+    pub all: bool,
 }
 
 /// What is to be driven by hand.
@@ -55,17 +74,12 @@ pub struct ByHand<'a> {
     pub predictor: BranchPredictor,
     /// No prompt is wanted, on a terminal either.
     pub quiet_prompt: bool,
-}
-
-/// What the words of a command line ask for.
-#[derive(Clone, Copy)]
-pub enum Request<'a> {
-    /// A run.
-    Run(Asked<'a>),
-    /// That the listing in this file is read and checked, and not run.
-    Check(&'a str),
-    /// That the unit is driven by commands.
-    Drive(ByHand<'a>),
+    /// Each command is to be told before its answer.
+    pub echo: bool,
+    /// The seed by which commands are chosen in place of those from standard input.
+    pub seed: Option<u64>,
+    /// How many commands a seed chooses.
+    pub steps: u64,
 }
 
 /// Whether a FILE stands for standard input. A file of this name is `./-`.

@@ -1,17 +1,30 @@
 //! What a session reads, of words and of the create vector.
+ghost use Rattle.std.specs.Prelude.{◌≡◌};
+ghost use Rattle.drive.specs.Replies.{source_at};
+
 use super::Session;
 use crate::commands::Which;
 use crate::names::register_of;
 use crate::replies::{Refusal, Reply};
-use crate::{calls, reads};
+use crate::{accounts, calls, reads, rows};
 use back::Naming;
 use instructions::Predictor;
+use station::Source;
+
+fn source(which: Which) -> Source
+    ensures { result ≡ source_at which }
+{
+    match which {
+        Which::First => Source::First,
+        Which::Second => Source::Second,
+    }
+}
 
 impl<'a, P: Predictor + Drop, J: Naming> Session<'a, P, J> {
     ghost use Rattle.std.specs.Prelude.{◌≡◌};
     ghost use Rattle.drive.specs.Moments.{GrowsLegally};
     ghost use Rattle.drive.specs.Sessions.{Answers, after_command};
-    ghost use Rattle.drive.specs.declared.commands.Command.TheVariants.{Creator, Info, Look, Operand, Touched};
+    ghost use Rattle.drive.specs.declared.commands.Command.TheVariants.{Creator, Info, Link, Look, Operand, Ring, Station, Touched};
 
     pub(super) fn look(&mut self, station: u32) -> Reply
         ensures core { self.new.core ≡ self.old.core }
@@ -71,6 +84,48 @@ impl<'a, P: Predictor + Drop, J: Naming> Session<'a, P, J> {
             return Reply::Refused(Refusal::NoStation);
         }
         let (core, all, back) = (&self.core, &mut self.all, &mut self.back);
-        Reply::Operand(reads::operand(core, all, back, station as usize, which))
+        let k = source(which);
+        Reply::Operand(
+            which,
+            accounts::operand(core, all, back, station as usize, k),
+        )
+    }
+
+    pub(super) fn link(&mut self, station: u32, which: Which) -> Reply
+        ensures core { self.new.core ≡ self.old.core }
+        ensures grows { GrowsLegally self.old.core self.old.seen self.new.seen }
+        ensures kept { self.new ≡ after_command (Link station which) self.old self.new }
+        ensures reply { Answers self.old self.new (Link station which) result }
+    {
+        if self.core.ring() <= station as usize {
+            return Reply::Refused(Refusal::NoStation);
+        }
+        let (core, all, back) = (&self.core, &mut self.all, &mut self.back);
+        let k = source(which);
+        Reply::Link(accounts::link(core, all, back, station as usize, k))
+    }
+
+    pub(super) fn station(&mut self, station: u32) -> Reply
+        ensures core { self.new.core ≡ self.old.core }
+        ensures grows { GrowsLegally self.old.core self.old.seen self.new.seen }
+        ensures kept { self.new ≡ after_command (Station station) self.old self.new }
+        ensures reply { Answers self.old self.new (Station station) result }
+    {
+        if self.core.ring() <= station as usize {
+            return Reply::Refused(Refusal::NoStation);
+        }
+        let (core, all, back) = (&self.core, &mut self.all, &mut self.back);
+        Reply::Station(rows::row(core, all, back, &self.units, station as usize))
+    }
+
+    pub(super) fn ring_told(&mut self) -> Reply
+        ensures core { self.new.core ≡ self.old.core }
+        ensures grows { GrowsLegally self.old.core self.old.seen self.new.seen }
+        ensures kept { self.new ≡ after_command Ring self.old self.new }
+        ensures reply { Answers self.old self.new Ring result }
+    {
+        let (core, all, back) = (&self.core, &mut self.all, &mut self.back);
+        let (head, ahead) = rows::ring(core, all, &mut self.front, back);
+        Reply::Ring(head, ahead)
     }
 }

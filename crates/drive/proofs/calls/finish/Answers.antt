@@ -1,6 +1,8 @@
 use Rattle.std.proofs.Common.{◌<◌, length, sym, subst}
 use Rattle.instructions.specs.Programs.{Program}
-use Rattle.station.specs.Writeback.{FinishAnswers}
+use Rattle.station.specs.Waking.{HasWoken}
+use Rattle.drive.specs.declared.replies.Finished.{Finished}
+use Rattle.drive.specs.Accounts.{FinishSays}
 use Rattle.drive.proofs.Histories.{between, grows_twice}
 use Rattle.drive.proofs.Jobs.{job_later}
 use Rattle.drive.proofs.calls.finish.Goals as goal
@@ -26,10 +28,21 @@ returns-clause-grows c =
 pub returns-clause-reply : goal.returns-clause-reply
 returns-clause-reply c =
     let core = c.args.core.now in
-    let answer = c.finish-answer.result in
     let job = c.args.job in
-    let by = c.args.seat.now.by in
-    let says = subst (λ n. FinishAnswers core.program core.sizes n c.meet.new.one.seen c.finish-answer.new.seat.seen job answer) c.meet.ensures.one_kept.by c.finish-answer.ensures.reply in
-    between (λ before behind. FinishAnswers core.program core.sizes by before behind job answer)
-    c.args.all.now.seen c.meet.new.one.seen c.finish-answer.new.seat.seen c.meet-2.new.one.seen c.meet-2.new.other.seen
-    c.meet.ensures.one_told says c.meet-2.ensures.one_history.begins c.meet-2.ensures.other_told
+    let met = c.meet.new.one in
+    let done = c.finish-answer.new.seat in
+    let looked = c.look-seen.new.seat in
+    let told : Finished = record { answer = c.finish-answer.result; station = c.station-station.result; tag = c.tag-tag.result; woken = c.woken-woken.result; seen = c.look-seen.result } in
+    let says : FinishSays core met.by met.seen looked.seen job told = record {
+      point = done.seen;
+      says = c.finish-answer.ensures.reply;
+      woken = subst (λ w. HasWoken core.program core.sizes met.by met.seen done.seen w) (sym c.woken-woken.ensures) c.finish-answer.ensures.woken;
+      later = c.look-seen.ensures.history.begins;
+      sees = c.look-seen.ensures.reply;
+      station_is = c.station-station.ensures;
+      tag_is = c.tag-tag.ensures;
+    } in
+    between (λ before behind. FinishSays core c.args.seat.now.by before behind job told)
+    c.args.all.now.seen met.seen looked.seen c.meet-2.new.one.seen c.meet-2.new.other.seen
+    c.meet.ensures.one_told (subst (λ n. FinishSays core n met.seen looked.seen job told) c.meet.ensures.one_kept.by says)
+    c.meet-2.ensures.one_history.begins c.meet-2.ensures.other_told

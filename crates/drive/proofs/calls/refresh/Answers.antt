@@ -1,5 +1,5 @@
-use Rattle.std.proofs.Common.{subst}
-use Rattle.back.specs.Refreshes.{RefreshAnswers}
+use Rattle.std.proofs.Common.{sym, subst}
+use Rattle.drive.specs.Replies.{RefreshSays}
 use Rattle.drive.proofs.Histories.{between, grows_twice}
 use Rattle.drive.proofs.calls.refresh.Goals as goal
 
@@ -11,8 +11,13 @@ returns-clause-grows g c =
 pub returns-clause-reply : goal.returns-clause-reply
 returns-clause-reply g c =
     let core = c.args.core.now in
+    let met = c.meet.new.self in
+    let refreshed = c.refresh-answer.new.self in
     let answer = c.refresh-answer.result in
-    let says = subst (λ n. RefreshAnswers core n c.meet.new.self.seen c.refresh-answer.new.self.seen answer) c.meet.ensures.kept.by c.refresh-answer.ensures.reply in
-    between (λ before behind. RefreshAnswers core c.args.back.now.by before behind answer)
-    c.args.all.now.seen c.meet.new.self.seen c.refresh-answer.new.self.seen c.meet-2.new.self.seen c.meet-2.new.other.seen
-    c.meet.ensures.told says c.meet-2.ensures.history.begins c.meet-2.ensures.other_told
+    let says : RefreshSays core met.by met.seen refreshed.seen (record { answer = answer; woken = refreshed.woken }) =
+    record { says = c.refresh-answer.ensures.reply; was = met.woken; woken = c.refresh-answer.ensures.woken } in
+    let told = subst (λ n. RefreshSays core n met.seen refreshed.seen (record { answer = answer; woken = c.woken-woken.result })) c.meet.ensures.kept.by
+    (subst (λ w. RefreshSays core met.by met.seen refreshed.seen (record { answer = answer; woken = w })) (sym c.woken-woken.ensures) says) in
+    between (λ before behind. RefreshSays core c.args.back.now.by before behind (record { answer = answer; woken = c.woken-woken.result }))
+    c.args.all.now.seen met.seen refreshed.seen c.meet-2.new.self.seen c.meet-2.new.other.seen
+    c.meet.ensures.told told c.meet-2.ensures.history.begins c.meet-2.ensures.other_told

@@ -12,7 +12,7 @@ loop-number-preserved g c =
     let sent = known_by g.W.Write.contents in
     record {
       quiet = one.quiet ∙ so_far.quiet;
-      told = one_more_told (g.I.Read.remaining c.args.reader.now) (g.I.Read.remaining c.loop-number.reader) (g.I.Read.remaining c.tell_line.new.reader)
+      told = one_more_told c.args.echo (g.I.Read.remaining c.args.reader.now) (g.I.Read.remaining c.loop-number.reader) (g.I.Read.remaining c.tell_line.new.reader)
           c.args.session.now c.loop-number.session c.tell_line.new.session (sent c.args.writer.now) (sent c.loop-number.writer) (sent c.tell_line.new.writer) c.loop-number.number
           so_far.told (one.more yes);
     }

@@ -1,6 +1,6 @@
 use Rattle.std.proofs.Common.{◌≡◌, ◌∙◌, false, sym, string_bytes, arith}
 use Rattle.std.proofs.lemmas.Grind.{common_steps}
-use Rattle.drive.proofs.Rows.{left_out}
+use Rattle.drive.proofs.TableRows.{left_out}
 use Rattle.drive.proofs.tables.push_row.Goals as goal
 
 pub returns-then-not-has_row : goal.returns-then-not-has_row

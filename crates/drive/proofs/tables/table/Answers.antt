@@ -1,19 +1,12 @@
-use Rattle.std.proofs.Common.{◌≡◌, subst, string_bytes, arith}
-use Rattle.std.proofs.lemmas.Grind.{common_steps}
-use Rattle.drive.specs.Tables.{AreRows, of_registers, of_stations}
-use Rattle.drive.proofs.Rows.{one_more_register}
+use Rattle.std.proofs.Common.{string_bytes}
+use Rattle.instructions.specs.Registers.{register_count}
+use Rattle.drive.specs.declared.commands.Command.TheVariants as ask
+use Rattle.drive.specs.Tables.{of_registers, of_stations}
+use Rattle.drive.proofs.TableRows.{one_more_row}
 use Rattle.drive.proofs.tables.table.Goals as goal
-
-pub loop-register-preserved : goal.loop-register-preserved
-loop-register-preserved g c =
-    let at = c.loop-register in
-    let next = c.push_row.new in
-    one_more_register c.args.session.now at.session next.session at.register c.args.session.now.core.sizes.ring
-    (string_bytes at.out) (string_bytes next.out) at.invariant c.in_ok-push_row.ensures
 
 pub returns : goal.returns
 returns g c =
-    let at = c.loop-register in
     let first = c.args.session.now in
-    let done : at.register ≡ 34 = grind (arith, common_steps, c.loop-register-test.false, c.loop-register.auto.register-end) in
-    subst (λ n. AreRows first (of_registers n (of_stations first.core.sizes.ring)) (string_bytes at.out) at.session) done at.invariant
+    one_more_row first c.rows_of_all.new.session c.push_row.new.session (of_registers register_count (of_stations first.core.sizes.ring)) ask.Ring
+    (string_bytes c.in_ok-out.out) (string_bytes c.push_row.new.out) c.in_ok-out.ensures c.in_ok-push_row.ensures

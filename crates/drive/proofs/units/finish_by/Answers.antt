@@ -1,7 +1,7 @@
 use Rattle.std.proofs.Common.{◌≡◌, ◌<◌, List, None, Option, Some, length, refl, sym, ap, ◌∙◌, subst, arith}
 use Rattle.inorder.specs.declared.history.Entry.{Entry}
 use Rattle.drive.specs.declared.units.Worker.{Worker}
-use Rattle.drive.specs.Replies.{IsFinish}
+use Rattle.drive.specs.Accounts.{IsFinish}
 use Rattle.drive.specs.Workers.{HasUnit, job_at}
 use Rattle.drive.proofs.Workers.{free_now, has_unit, held_is, holds_one}
 use Rattle.drive.proofs.units.finish_by.Goals as goal

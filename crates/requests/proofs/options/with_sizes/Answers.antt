@@ -1,8 +1,8 @@
 use Rattle.std.proofs.lemmas.Result.{IfOk-weaker}
-use Rattle.requests.proofs.Building.{one_more, then}
+use Rattle.requests.proofs.Building.{then}
 use Rattle.requests.proofs.options.with_sizes.Goals as goal
 
 pub returns : goal.returns
 returns c =
-    let ringed = then (one_more c.file.ensures c.in_ok-filed.ensures) c.in_ok-ringed.ensures in
+    let ringed = then c.in_ok-filed.ensures c.in_ok-ringed.ensures in
     IfOk-weaker c.with_option-2.result _ _ (λ _ adds. then ringed adds) c.with_option-2.ensures

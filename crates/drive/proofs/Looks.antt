@@ -1,0 +1,28 @@
+-- Sessions whose words were looked at.
+use Rattle.std.proofs.Common.{◌≡◌, inl, inr, sym, ap, ◌∙◌, subst}
+use Rattle.station.specs.Seats.{TheCore}
+use Rattle.drive.specs.Moments.{GrowsLegally}
+use Rattle.drive.specs.Plays.{HasLooked, MayHaveLooked}
+use Rattle.drive.specs.Sessions.{TheSession}
+use Rattle.drive.proofs.Histories.{grows_on}
+use Rattle.drive.proofs.Meetings.{back_on}
+
+same_core : (a b : TheSession) → HasLooked a b → b.core ≡ a.core
+same_core a b l = ap (λ (s : TheSession). s.core) l.kept
+
+-- Two looks are one
+pub looks_on : (a b c : TheSession) → HasLooked a b → HasLooked b c → HasLooked a c
+looks_on a b c l m = record {
+  grows = grows_on a.core a.seen b.seen c.seen l.grows (subst (λ (k : TheCore). GrowsLegally k b.seen c.seen) (same_core a b l) m.grows);
+  kept = m.kept ∙ ap (λ (s : TheSession). record s { seen = c.seen; commits = c.commits; fronts = c.fronts }) l.kept;
+  commits = back_on a.commits b.commits c.commits l.commits m.commits;
+}
+
+-- And where nothing may have been looked at
+pub may_on : (a b c : TheSession) → MayHaveLooked a b → HasLooked b c → HasLooked a c
+may_on a b c (inl e) m = subst (λ (s : TheSession). HasLooked s c) e m
+may_on a b c (inr l) m = looks_on a b c l m
+
+pub on_may : (a b c : TheSession) → HasLooked a b → MayHaveLooked b c → HasLooked a c
+on_may a b c l (inl e) = subst (λ (s : TheSession). HasLooked a s) (sym e) l
+on_may a b c l (inr m) = looks_on a b c l m

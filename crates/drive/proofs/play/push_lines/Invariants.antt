@@ -1,0 +1,6 @@
+use Rattle.drive.specs.Plays.{IsPlayOf}
+use Rattle.drive.proofs.play.push_lines.Given as goal
+
+-- so many commands were chosen and answered
+abbrev pub invariant-loop-number : goal.invariant-loop-number
+invariant-loop-number g l = IsPlayOf l.fn.chooser l.fn.session l.number l.out.items l.chooser l.session

@@ -1,0 +1,22 @@
+use Rattle.std.proofs.Common.{◌+◌, ◌%◌, ◌≤◌, arith, rules, sym, subst}
+use Rattle.std.proofs.lemmas.Grind.{common_steps}
+use Rattle.drive.specs.declared.replies.Head.{Head}
+use Rattle.drive.proofs.Histories.{grows_on}
+use Rattle.drive.proofs.WordsRead.{few_more, one_more_look}
+use Rattle.drive.proofs.rows.head.Goals as goal
+
+pub loop-at-preserved : goal.loop-at-preserved
+loop-at-preserved g c =
+    let at = c.loop-at in
+    let so_far = at.invariant in
+    let core = c.args.core.now in
+    let old = c.args.all.now.seen in
+    let new = c.look-seen.new.all.seen in
+    record {
+      all = search rules;
+      back = search rules;
+      grows = grows_on core old at.all.seen new so_far.grows c.look-seen.ensures.grows;
+      looked = one_more_look core old at.all.seen new c.args.tail at.at c.ring-ring.result at.head c.with-head.result c.look-seen.result c.is_free.result
+          so_far.grows.begins c.look-seen.ensures.grows.begins c.ring-ring.ensures.value so_far.looked c.look-seen.ensures.reply c.is_free.ensures c.with-head.ensures;
+      few = subst (λ (h : Head). h.free ≤ at.at + 1) (sym c.with-head.ensures) (few_more at.head ((c.args.tail + at.at) % c.ring-ring.result) at.at c.is_free.result so_far.few);
+    }

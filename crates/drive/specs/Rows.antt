@@ -1,0 +1,103 @@
+-- What is told of a station, and of the ring.
+use Rattle.std.specs.Prelude.{⊤, ◌≡◌, ◌≢◌, ◌⊎◌, ℕ, zero, suc, ◌+◌, ◌%◌, ◌<◌, ◌≤◌, Bool, true, false, List, [], ◌∷◌, length, Option, Some, None}
+use Rattle.inorder.specs.declared.history.Entry.{Entry}
+use Rattle.inorder.specs.declared.history.Source.TheVariants.{First, Second}
+use Rattle.inorder.specs.Unit.{front_pc, next_station, recent}
+use Rattle.back.specs.Backs.{unit_in}
+use Rattle.ruu_words.specs.declared.station.StationState.{StationState}
+use Rattle.ruu_words.specs.declared.station.StationState.TheVariants as state
+use Rattle.station.specs.declared.answers.Seen.{Seen}
+use Rattle.station.specs.declared.job.Job.{Job}
+use Rattle.station.specs.Seats.{TheCore}
+use Rattle.drive.specs.declared.replies.Ahead.{Ahead}
+use Rattle.drive.specs.declared.replies.Head.{Head}
+use Rattle.drive.specs.declared.replies.Row.{Row}
+use Rattle.drive.specs.declared.units.Worker.{Worker}
+use Rattle.drive.specs.Accounts.{IsOperandTold}
+use Rattle.drive.specs.Moments.{IsBetween}
+use Rattle.drive.specs.Replies.{IsLook}
+use Rattle.drive.specs.Workers.{job_at}
+
+-- The job is of the tenant with this tag at a station
+pub record IsJobOf (station tag : ℕ) (job : Job) : Type 0 where
+  pub station_is : job.station ≡ station
+  pub tag_is : job.tag ≡ tag
+
+-- The unit at this place holds a job of the tenant
+pub record HoldsJobOf (units : List (Option Worker)) (station tag at : ℕ) : Type 0 where
+  pub job : Job
+  pub held : job_at units at ≡ Some job
+  pub of : IsJobOf station tag job
+
+-- Who holds the job of the tenant with this tag at a station
+abbrev pub IsHolder : List (Option Worker) → (station tag : ℕ) → Option ℕ → Type 0
+IsHolder units station tag (Some at) = HoldsJobOf units station tag at
+IsHolder units station tag None =
+    (at : ℕ) (job : Job) → at < length units → job_at units at ≡ Some job → ¬ IsJobOf station tag job
+
+-- The words of a station
+pub record IsRowSeen (core : TheCore) (old new : List Entry) (units : List (Option Worker)) (station : ℕ)
+    (row : Row) : Type 0 where
+  pub seen : IsLook core old new station row.seen
+  pub unit : IsHolder units station row.seen.tag row.unit
+  pub first : IsOperandTold core old new station First row.first
+  pub second : IsOperandTold core old new station Second row.second
+
+-- A free station
+abbrev pub is_free : StationState → Bool
+is_free state.Free = true
+is_free other = false
+
+-- The first of two, if it is there
+abbrev pub or_some : Option ℕ → ℕ → Option ℕ
+or_some None s = Some s
+or_some (Some r) s = Some r
+
+-- One more station was looked at
+abbrev pub head_with : Head → ℕ → Bool → Head
+head_with h s true = record { station = h.station; free = h.free + 1 }
+head_with h s false = record { station = or_some h.station s; free = h.free }
+
+-- So many stations were looked at, from the next tenant's on
+abbrev pub AreLookedAt : TheCore → List Entry → List Entry → (tail : ℕ) → (count : ℕ) → Head → Type 0
+AreLookedAt core old new tail zero head = head ≡ record { station = None; free = 0 }
+AreLookedAt core old new tail (suc n) head =
+    (seen : Seen StationState) × (earlier : Head)
+    × AreLookedAt core old new tail n earlier
+    × IsLook core old new ((tail + n) % core.sizes.ring) seen
+    × (head ≡ head_with earlier ((tail + n) % core.sizes.ring) (is_free seen.state))
+
+-- The oldest tenant's station is the first from the next tenant's on that is not free
+abbrev pub IsHead : TheCore → List Entry → List Entry → (tail : ℕ) → Head → Type 0
+IsHead core old new tail head = AreLookedAt core old new tail core.sizes.ring head
+
+-- Where the path goes on, by what was seen
+pub record IsFront (core : TheCore) (seen : List Entry) (ahead : Ahead) : Type 0 where
+  pub station : ahead.station ≡ next_station core.sizes (recent (unit_in core seen))
+  pub pc : ahead.pc ≡ front_pc (unit_in core seen).tenants
+
+-- Where the path goes on, at a moment
+abbrev pub IsAhead : TheCore → List Entry → List Entry → Ahead → Type 0
+IsAhead core old new ahead = IsBetween old new (λ before behind. IsFront core behind ahead)
+
+-- The ring: its oldest tenant, and where the path goes on
+pub record IsRingTold (core : TheCore) (old new : List Entry) (head : Head) (ahead : Ahead) : Type 0 where
+  pub middle : List Entry
+  pub ahead_is : IsAhead core old middle ahead
+  pub head_is : IsHead core middle new ahead.station head
+
+-- The words of the oldest tenant's station, if one is live
+abbrev pub IsOldest : TheCore → List Entry → List Entry → List (Option Worker) → Head → Option (ℕ × Row)
+    → Type 0
+IsOldest core old new units head None = (s : ℕ) → head.station ≡ Some s → core.sizes.ring ≤ s
+IsOldest core old new units head (Some found) =
+    (head.station ≡ Some found.0) × IsRowSeen core old new units found.0 found.1
+
+-- The oldest tenant, before a commit
+pub record IsOldestTold (core : TheCore) (old new : List Entry) (units : List (Option Worker))
+    (oldest : Option (ℕ × Row)) : Type 0 where
+  pub middle : List Entry
+  pub head : Head
+  pub ahead : Ahead
+  pub ring : IsRingTold core old middle head ahead
+  pub row : IsOldest core middle new units head oldest

@@ -1,0 +1,39 @@
+//! The commands, as they are told to who asks for them.
+ghost use Rattle.std.specs.Prelude.{◌≡◌, IfOk, string_bytes};
+ghost use Rattle.drive.specs.Help.{help_text};
+
+use std::alloc::{AllocError, Global};
+
+/// A line for each command. U is a unit, A to Z and AA to BL; S a station; K 1 or 2; R the number of a register.
+pub const HELP: &str = "\
+turn          lets the next instruction
+recover       repairs the oldest misprediction
+claim U S     unit U claims the tenant of station S
+finish U S    unit U finishes its job of station S
+refresh       lets the oldest load go on that can
+commit        retires the oldest tenant
+station S     all that is told of station S
+operand S K   operand K of station S, or whom it waits for
+link S K      the producer of operand K of station S, by the link words
+look S        the word of station S
+info S        the info word of station S
+creator R     who makes register R: its number, 32 for lo, 33 for hi
+ring          the oldest tenant's station, the next one's, and the next pc
+table         a line for each station that is not free, the create vector, the ring
+report        the committed state, as a run reports it
+show          the back shows a snapshot
+take          a snapshot that was shown is taken
+learn         the snapshot reader learns of the snapshot shown last
+rest          the front folds what has left
+renew         a new core with fresh tags, behind a rest
+touched       how many words of the create vector were touched
+meet X Y      two of front, back and units tell each other what they have seen
+help          these lines
+";
+
+/// The text of `HELP`.
+pub(crate) fn help(alloc: Global) -> Result<String, AllocError>
+    ensures { IfOk result (λ text. string_bytes text ≡ help_text) }
+{
+    format!(in alloc; "{HELP}")
+}

@@ -1,0 +1,165 @@
+//! A session that is driven by a seed.
+ghost use Rattle.std.specs.Prelude.{◌≡◌, ◌≢◌, ◌<◌, ◌+◌, ◌-◌, ◌^◌, ◌%◌, IfErr, IfOk, IfSome, OnOk, [], length, slice_get, string_bytes};
+ghost use Rattle.devices.specs.Counted.{failures_of, known_by};
+ghost use Rattle.drive.specs.Plays.{ArePlayed, HasPlayed, HasPlayedPart, IsNamed, IsPlayed, IsWrittenBehind, MayHaveLooked, command_text, unit_command};
+ghost use Rattle.drive.specs.Scripts.{failed_writes};
+
+use crate::commands::Command;
+use crate::row_texts::push_unit;
+use crate::script::{Fault, written};
+use crate::session::Session;
+use back::Naming;
+use devices::{Counted, write_whole};
+use instructions::Predictor;
+use std::alloc::{AllocError, Global};
+use std::io::Write;
+use std::sync::Wait;
+use unit::{Chooser, Seeded};
+
+// There are no more commands to choose from: at most one a station, one a unit, a turn and a commit.
+const MOST_CHOICES: usize = 64;
+
+// A command of a unit, as a script has it.
+fn text_of_unit(alloc: Global, word: &str, unit: usize, station: u32) -> Result<String, AllocError>
+    ensures { IfOk result (λ text. string_bytes text ≡ unit_command word.now unit station) }
+{
+    let mut out = format!(in alloc; "{word} ")?;
+    push_unit(&mut out, unit)?;
+    write!(out, " {station}")?;
+    Ok(out)
+}
+
+// A command as a script has it.
+fn command_text(alloc: Global, command: Command) -> Result<String, AllocError>
+    ensures { IfOk result (λ text. string_bytes text ≡ command_text command) }
+{
+    match command {
+        Command::Turn => format!(in alloc; "turn"),
+        Command::Recover => format!(in alloc; "recover"),
+        Command::Claim(unit, station) => text_of_unit(alloc, "claim", unit, station),
+        Command::Finish(unit, station) => text_of_unit(alloc, "finish", unit, station),
+        Command::Refresh => format!(in alloc; "refresh"),
+        _ => format!(in alloc; "commit"),
+    }
+}
+
+// The command that a word names.
+fn named(choices: &[Command], word: u32) -> Option<Command>
+    requires { 0 < length choices.now }
+    ensures { result ≡ slice_get choices.now (word % length choices.now) }
+{
+    choices.get(word as usize % choices.len()).copied()
+}
+
+// The line of the command that the seed names of those that make sense, if any does.
+fn chosen<P: Predictor + Drop, J: Naming>(
+    alloc: Global,
+    session: &mut Session<'_, P, J>,
+    chooser: &mut Seeded,
+) -> Result<Option<String>, AllocError>
+    ensures looks { OnOk result (MayHaveLooked session.old session.new) }
+    ensures named { IfOk result (λ chosen. IfSome chosen (λ line.
+        IsNamed chooser.old chooser.new (string_bytes line))) }
+{
+    let choices = session.choices(alloc)?;
+    let count = choices.len();
+    if count == 0 || count > MOST_CHOICES {
+        return Ok(None);
+    }
+    let word = chooser.choose(count as u32);
+    match named(choices.as_slice(), word) {
+        Some(command) => {
+            let line = command_text(alloc, command)?;
+            Ok(Some(line))
+        }
+        None => Ok(None),
+    }
+}
+
+// Adds what is written for a line of this number.
+fn push_line<P: Predictor + Drop, J: Naming, R: Wait>(
+    wait: &R,
+    alloc: Global,
+    session: &mut Session<'_, P, J>,
+    number: u64,
+    line: &[u8],
+    out: &mut Vec<u8>,
+) -> Result<(), AllocError>
+    ensures { OnOk result (IsWrittenBehind session.old session.new number line.now
+        out.old.items out.new.items) }
+{
+    let text = written(wait, alloc, session, number, line, true)?;
+    out.extend_from_slice(text.as_slice())
+}
+
+// Adds what is written for up to so many chosen commands, and gives how many there were.
+fn push_lines<P: Predictor + Drop, J: Naming, R: Wait>(
+    wait: &R,
+    alloc: Global,
+    session: &mut Session<'_, P, J>,
+    chooser: &mut Seeded,
+    steps: u64,
+    out: &mut Vec<u8>,
+) -> Result<u64, AllocError>
+    requires steps { steps < 2 ^ 32 }
+    requires empty { out.old.items ≡ [] }
+    ensures played { IfOk result (ArePlayed chooser.old session.old session.new out.new.items) }
+    ensures few { IfOk result (λ count. count < 2 ^ 32) }
+{
+    for number in 0..steps {
+        match chosen(alloc, session, chooser)? {
+            Some(line) => {
+                let bytes = line.as_str().as_bytes();
+                push_line(wait, alloc, session, number + 1, bytes, out)?;
+            }
+            None => return Ok(number),
+        }
+    }
+    Ok(steps)
+}
+
+/// Answers up to so many commands that a seed chooses of those that make sense, each behind the command itself, until
+/// the run has ended; and then a table and a report. Gives the transcript.
+pub(crate) fn play<P: Predictor + Drop, J: Naming, R: Wait>(
+    wait: &R,
+    alloc: Global,
+    session: &mut Session<'_, P, J>,
+    seed: u64,
+    steps: u64,
+) -> Result<Vec<u8>, AllocError>
+    requires { steps < 2 ^ 32 }
+    ensures { IfOk result (λ text. HasPlayed seed session.old session.new text.items) }
+{
+    let mut out = Vec::new(alloc);
+    let mut chooser = Seeded::new(seed);
+    let count = push_lines(wait, alloc, session, &mut chooser, steps, &mut out)?;
+    push_line(wait, alloc, session, count + 1, b"table", &mut out)?;
+    push_line(wait, alloc, session, count + 2, b"report", &mut out)?;
+    Ok(out)
+}
+
+/// Writes the transcript of a session that a seed drives.
+pub fn write_play<P: Predictor + Drop, J: Naming, R: Wait, W: Write>(
+    wait: &R,
+    alloc: Global,
+    session: &mut Session<'_, P, J>,
+    seed: u64,
+    steps: u64,
+    writer: &mut Counted<W>,
+) -> Result<(), Fault>
+    requires steps { steps < 2 ^ 32 }
+    requires room { failures_of writer.old < 2 ^ 64 - 1 }
+    ensures ok { OnOk result (IsPlayed seed session.old session.new
+        (known_by W.contents writer.old) (known_by W.contents writer.new)) }
+    ensures quiet { OnOk result (failures_of writer.new ≡ failures_of writer.old) }
+    ensures write { IfErr result (λ fault.
+        failures_of writer.new ≡ failures_of writer.old + failed_writes fault) }
+    ensures silent { IfErr result (λ fault. fault ≢ Fault.Write → writer.new ≡ writer.old) }
+    ensures broken { IfErr result (λ fault. fault ≡ Fault.Write →
+        HasPlayedPart seed session.old
+        (known_by W.contents writer.old) (known_by W.contents writer.new)) }
+{
+    let text = play(wait, alloc, session, seed, steps)?;
+    write_whole(writer, text.as_slice())?;
+    Ok(())
+}

@@ -1,0 +1,29 @@
+-- The check that the words of `ruu check` ask for.
+use Rattle.std.specs.Prelude.{◌≡◌, List, Some, codes}
+use Rattle.clap.specs.Words.{Row, Text, first_of}
+use Rattle.requests.specs.declared.no_run.NoRun.{NoRun}
+use Rattle.requests.specs.declared.request.Checked.{Checked}
+use Rattle.requests.specs.Reading.{AreRefused, HoldsIn, IsRefused, NoneOdd}
+use Rattle.requests.specs.Tool.{check}
+use Rattle.requests.specs.Values.{is_true}
+
+-- file and flag are those that the rows hold
+pub record IsCheckedBy (rows : List Row) (checked : Checked) : Type 0 where
+  pub file : first_of (codes "FILE") rows ≡ Some checked.file.now
+  pub all : checked.all ≡ is_true (first_of (codes "all") rows)
+
+-- the words ask for this check
+abbrev pub IsCheckedIn : List Text → Checked → Type 0
+IsCheckedIn words checked = HoldsIn check words (λ rows. IsCheckedBy rows checked)
+
+-- the rows name a file
+pub record NamesFile (rows : List Row) : Type 0 where
+  pub file : Text
+  pub is_file : first_of (codes "FILE") rows ≡ Some file
+
+-- why the rows are refused, and the words
+abbrev pub IsRefusedBy : List Row → NoRun → Type 0
+IsRefusedBy rows no_run = AreRefused rows NamesFile NoneOdd no_run
+
+abbrev pub IsRefusedIn : List Text → NoRun → Type 0
+IsRefusedIn words no_run = IsRefused check words NamesFile NoneOdd no_run

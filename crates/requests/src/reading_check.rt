@@ -1,0 +1,33 @@
+//! Reading a command line that asks for a check of a listing.
+ghost use Rattle.std.specs.Prelude.{IfOk, IfErr, map};
+ghost use Rattle.clap.specs.Words.{found_of, rows_of};
+ghost use Rattle.requests.specs.Check.{IsCheckedBy, IsCheckedIn, IsRefusedBy, IsRefusedIn};
+
+use crate::commands::check;
+use crate::entered::entered;
+use crate::entries::file;
+use crate::values::is_true;
+use crate::{Checked, NoRun};
+use clap::ArgMatches;
+use std::alloc::Global;
+use std::convert::AsStr;
+
+/// The check that the words ask for, of which the first is the program's name. Where they are refused, `NoRun` has
+/// what to print, and `status` gives the exit status.
+pub fn checked<'a, S: AsStr>(alloc: Global, words: &'a [S]) -> Result<Checked<'a>, NoRun>
+    ensures ok { IfOk result (IsCheckedIn (map S.text words.entry.now)) }
+    ensures err { IfErr result (IsRefusedIn (map S.text words.entry.now)) }
+{
+    let command = check(alloc)?;
+    let matches = entered(alloc, command, "check", words)?;
+    read(alloc, &matches)
+}
+
+fn read<'a>(alloc: Global, matches: &ArgMatches<'a>) -> Result<Checked<'a>, NoRun>
+    ensures ok { IfOk result (IsCheckedBy (rows_of (found_of matches.now))) }
+    ensures err { IfErr result (IsRefusedBy (rows_of (found_of matches.now))) }
+{
+    let file = file(alloc, "check", matches)?;
+    let all = is_true(matches.get_str("all"));
+    Ok(Checked { file, all })
+}

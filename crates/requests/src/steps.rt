@@ -1,0 +1,34 @@
+//! The commands that a seed chooses.
+ghost use Rattle.std.specs.Prelude.{IfOk, IfErr};
+ghost use Rattle.clap.specs.Words.{found_of, rows_of};
+ghost use Rattle.requests.specs.Reading.{IsUsage};
+ghost use Rattle.requests.specs.Steps.{AreNoSteps, AreSteps};
+
+use crate::NoRun;
+use crate::entries::{number, seed};
+use crate::refusals::usage;
+use clap::ArgMatches;
+use std::alloc::Global;
+
+/// A seed that chooses commands, and how many.
+#[derive(Clone, Copy)]
+pub(crate) struct Steps {
+    pub seed: Option<u64>,
+    pub count: u64,
+}
+
+/// The seed of the matches and its number of commands, which needs one.
+pub(crate) fn steps_of<'a>(alloc: Global, matches: &ArgMatches<'a>) -> Result<Steps, NoRun>
+    ensures ok { IfOk result (λ steps.
+        AreSteps (rows_of (found_of matches.now)) steps.seed steps.count) }
+    ensures usage { IfErr result IsUsage }
+    ensures err { IfErr result (λ _. AreNoSteps (rows_of (found_of matches.now))) }
+{
+    let seed = seed(alloc, "drive", matches, "seed")?;
+    let count = number(alloc, "drive", matches, "steps", 1, 1_000_000, 400)?;
+    let steps = matches.get_str("steps");
+    if seed.is_none() && steps.is_some() {
+        return Err(usage(alloc, "drive", "--steps needs --seed"));
+    }
+    Ok(Steps { seed, count })
+}
