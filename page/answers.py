@@ -2,7 +2,7 @@
 import re
 import sys
 
-NUMBERS = {"station", "tag", "source", "index", "from_station", "from_tag", "count", "head", "tail", "store", "register", "free"}
+NUMBERS = {"station", "tag", "index", "count", "head", "tail", "store", "register", "free"}
 VALUES = {"pc", "value", "predicted", "a", "b", "next"}
 
 

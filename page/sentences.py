@@ -1,11 +1,12 @@
 """A step in words. Code stands between backquotes, and a value between braces: the page writes it as decimal or hexadecimal."""
 import re
 
+from answers import PAIR
+
 GUESSED = {"beq", "bne", "blez", "bgtz", "bltz", "bgez", "bltzal", "bgezal", "jr", "jalr"}
 JUMPS = GUESSED | {"j", "jal"}
 CHANGE = re.compile(r"(?:\$(?P<register>\d+)|(?P<name>lo|hi)|m(?P<address>0x[0-9a-f]+))=(?P<value>0x[0-9a-f]+)")
 STORED = {"sb": ("byte", 2), "sh": ("halfword", 4), "sw": ("word", 8)}
-PAIR = {"lo": 32, "hi": 33}
 FAULTS = {"overflow": "the sum does not fit", "unaligned": "the address is not a multiple of the size",
           "range": "the address is outside of data memory", "badpc": "there is no instruction at that address"}
 
