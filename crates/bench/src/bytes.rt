@@ -13,18 +13,20 @@ use instructions::{Config, Memory, Predictor};
 use isa::{FaultKind, fault_text, parse, report_text};
 use std::alloc::Global;
 use std::io::{Read, Write};
+use unit::{Chooser, Order};
 
 /// The most bytes of a listing that are taken: one more than it may have.
 pub const MOST_TAKEN: usize = 4_194_305;
 
-// A run with these settings.
+// A run with these settings, of which the order shows in no byte.
 #[derive(Drop)]
-struct Running<'a, P> {
+struct Running<'a, P, C: Chooser + Drop> {
     config: &'a Config,
     predictor: P,
+    order: Order<C>,
 }
 
-impl<P: Predictor + Drop> Reply for Running<'_, P> {
+impl<P: Predictor + Drop, C: Chooser + Drop> Reply for Running<'_, P, C> {
     type Told = Status;
 
     type Refusal = Memory;
@@ -41,7 +43,7 @@ impl<P: Predictor + Drop> Reply for Running<'_, P> {
     fn text(self, alloc: Global, bytes: &[u8]) -> Result<(Status, Vec<u8>), Memory> {
         match parse(alloc, bytes) {
             Ok(program) => {
-                let end = run(alloc, &program, self.config, self.predictor)?;
+                let end = run(alloc, &program, self.config, self.predictor, self.order)?;
                 let text = report_text(alloc, &end)?;
                 Ok((Status::of(end.outcome), text.into_bytes()))
             }
@@ -77,5 +79,37 @@ pub fn alone<R: Read, W: Write, P: Predictor + Drop>(
         reader.old reader.new writer.old writer.new (HasAnAnswer config.now.limit)
         (unanswered fault)) }
 {
-    Ok(reply_to(alloc, reader, writer, Running { config, predictor })?)
+    alone_in(
+        alloc,
+        reader,
+        writer,
+        config,
+        predictor,
+        Order::by_seed(None),
+    )
+}
+
+/// Answers a listing as `alone` does, by a run whose turns are made in an order: the bytes are those of any other.
+pub fn alone_in<R: Read, W: Write, P: Predictor + Drop, C: Chooser + Drop>(
+    alloc: Global,
+    reader: &mut Counted<R>,
+    writer: &mut Counted<W>,
+    config: &Config,
+    predictor: P,
+    order: Order<C>,
+) -> Result<Status, Fault>
+    requires reader_room { failures_of reader.old < 2 ^ 64 - 1 }
+    requires writer_room { failures_of writer.old < 2 ^ 64 - 1 }
+    ensures ok { IfOk result (λ status. HasReplied R.remaining W.contents most_taken
+        reader.old reader.new writer.old writer.new (IsAnswerAlone config.now.limit status)) }
+    ensures err { IfErr result (λ fault. IsUnanswered R.remaining W.contents most_taken
+        reader.old reader.new writer.old writer.new (HasAnAnswer config.now.limit)
+        (unanswered fault)) }
+{
+    let running = Running {
+        config,
+        predictor,
+        order,
+    };
+    Ok(reply_to(alloc, reader, writer, running)?)
 }

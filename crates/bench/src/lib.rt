@@ -5,7 +5,7 @@ mod bytes;
 mod outcome;
 mod run;
 
-pub use bytes::{MOST_TAKEN, alone};
+pub use bytes::{MOST_TAKEN, alone, alone_in};
 pub use devices::Counted;
 pub use outcome::{Fault, Status};
 pub use unit::{Bench, Turn};

@@ -4,17 +4,18 @@ ghost use Rattle.inorder.specs.Runs.{end_of, end_state};
 
 use instructions::{Config, End, Memory, Predictor, Program};
 use std::alloc::Global;
-use unit::Bench;
+use unit::{Bench, Chooser, Order};
 
-/// Runs a program on the one-thread unit, up to the limit of the configuration.
-pub(crate) fn run<P: Predictor + Drop>(
+/// Runs a program on the one-thread unit in an order, up to the limit of the configuration.
+pub(crate) fn run<P: Predictor + Drop, C: Chooser + Drop>(
     alloc: Global,
     program: &Program,
     config: &Config,
     predictor: P,
+    order: Order<C>,
 ) -> Result<End, Memory>
     ensures { IfOk result (λ end. end_state end ≡ end_of program.now config.now.limit) }
 {
     let bench = Bench::new(alloc, program, config, predictor)?;
-    Ok(bench.run(u64::from(config.limit())))
+    Ok(bench.run_in(u64::from(config.limit()), order))
 }

@@ -4,7 +4,7 @@
 mod running;
 
 pub use requests::{
-    Asked, BranchPredictor, NoRun, Request, Watch, asked, is_standard_input, requested, status,
+    Asked, BranchPredictor, NoRun, asked, is_standard_input, status,
 };
 pub use running::go;
 pub use without_threads::{Line, Progress, Refusal, Went, end};

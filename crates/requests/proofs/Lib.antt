@@ -1,1 +1,6 @@
-pub mod Building
+mod Building
+mod OddRings
+mod Refusing
+mod SeedTexts
+mod Traces
+mod WordRows

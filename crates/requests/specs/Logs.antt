@@ -13,7 +13,7 @@ abbrev pub is_file : (log : Option Text) → Bool
 is_file None = true
 is_file (Some log) = not (bytes_eq log (codes "-"))
 
--- it goes to another file than the one that rows name for the listing
+-- the log goes to another file than the one that rows name for the listing
 abbrev pub IsOther : (file log : Option Text) → Type 0
 IsOther None log = ⊥
 IsOther (Some file) log = is_other file log ≡ true

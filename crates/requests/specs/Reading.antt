@@ -13,7 +13,7 @@ pub record IsEntered (word : App) (words : List Text) (rows : List Row) : Type 0
   pub taken : fault_of (tool word) words ≡ []
   pub matches : subcommand_of (tool word) words ≡ Some (word.top.name, rows)
 
--- P holds of those rows
+-- P holds of the rows that the words enter
 pub record HoldsIn (word : App) (words : List Text) (P : List Row → Type 0) : Type 0 where
   pub rows : List Row
   pub entered : IsEntered word words rows
@@ -55,7 +55,7 @@ IsNotEntered word words no.Memory = ⊤
 abbrev pub NoneOdd : List Row → Type 0
 NoneOdd rows = ⊥
 
--- it says what is wrong, or that no memory was left to say it
+-- a mistake: what is wrong is said, or that no memory was left to say it
 abbrev pub IsUsage : NoRun → Type 0
 IsUsage (no.Help _) = ⊥
 IsUsage (no.Usage _) = ⊤

@@ -19,7 +19,7 @@ pub record AreInRange (queue units limit turns : ℕ) : Type 0 where
   pub some_turns : 1 ≤ turns
   pub few_turns : turns ≤ greatest
 
--- all that its configuration has beside queue, units, limit and turns is what each run has
+-- one snapshot place and the first tag 1, as each run has them, and sizes that go together
 pub record IsOfARun (config : Settings) : Type 0 where
   pub one_place : config.places ≡ 1
   pub first_tag : config.first_tag ≡ 1

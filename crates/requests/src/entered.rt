@@ -18,22 +18,23 @@ pub(crate) fn entered<'a, S: AsStr>(
     name: &str,
     words: &'a [S],
 ) -> Result<ArgMatches<'a>, NoRun>
-    requires command { IsCommand (app_of word.entry) word.entry }
-    requires simple { is_simple_and_free (tool (app_of word.entry)) ≡ true }
-    requires name { (app_of word.entry).top.name ≡ name.now }
+    requires command { IsCommand (app_of word) word }
+    requires simple { is_simple_and_free (tool (app_of word)) ≡ true }
+    requires name { (app_of word).top.name ≡ name.now }
     ensures ok { IfOk result (λ matches.
         IsEntered (app_of word.entry) (map S.text words.entry.now) (rows_of (found_of matches))) }
     ensures err { IfErr result (IsNotEntered (app_of word.entry) (map S.text words.entry.now)) }
 {
     let command = tool(alloc, word)?;
-    match command.try_get_matches_from(words) {
-        Ok(matches) => {
-            let mut whole = matches;
-            match whole.remove_subcommand() {
-                Some((found, entries)) if found == name => Ok(entries),
-                _ => Err(no_command(alloc)),
-            }
-        },
-        Err(error) => Err(refused(alloc, &error)),
+    let mut matches = match command.try_get_matches_from(words) {
+        Ok(matches) => matches,
+        Err(error) => return Err(refused(alloc, &error)),
+    };
+    let Some((found, entries)) = matches.remove_subcommand() else {
+        return Err(no_command(alloc));
+    };
+    if found != name {
+        return Err(no_command(alloc));
     }
+    Ok(entries)
 }

@@ -1,18 +1,23 @@
-//! The program `ruu`: its words, its file and its standard streams.
+//! The program `ruu`, which is `./ruu run`: its words, its file and its standard streams.
 #![tactic(auto)]
 
+mod shaker;
 mod teller;
+mod watcher;
 
-use command::{Asked, Request, end, go, is_standard_input, requested};
+use command::{Asked, NoRun, asked, end, go, is_standard_input};
 use devices::{ClosedStreams, Counted};
 use pool::Open;
-use requests::{of_another_program, refuse, words};
+use requests::{refuse, words};
+use shaker::Shaker;
+use std::alloc::AllocError;
 use std::fs::File;
 use std::io::Read;
 use std::process::ExitCode;
 use std::sync::Wait;
 use std::thread::Threads;
 use teller::Teller;
+use watcher::Watcher;
 
 fn main(rt: HostRuntime) -> ExitCode {
     let Ok(_closed) = ClosedStreams::taken(&rt) else {
@@ -22,13 +27,8 @@ fn main(rt: HostRuntime) -> ExitCode {
         Ok(words) => words,
         Err(no_run) => return refuse(&rt, &no_run),
     };
-    match requested(rt.alloc(), words.as_slice()) {
-        Ok(Request::Run(asked)) if asked.watch.is_wanted() => {
-            refuse(&rt, &of_another_program(rt.alloc(), "run", "viewer"))
-        },
-        Ok(Request::Run(asked)) => run(&rt, &rt, &asked),
-        Ok(Request::Check(_)) => refuse(&rt, &of_another_program(rt.alloc(), "check", "viewer")),
-        Ok(Request::Drive(_)) => refuse(&rt, &of_another_program(rt.alloc(), "drive", "driver")),
+    match asked(rt.alloc(), words.as_slice()) {
+        Ok(asked) => run(&rt, &rt, &asked),
         Err(no_run) => refuse(&rt, &no_run),
     }
 }
@@ -48,11 +48,28 @@ fn run_from<T: Threads + Wait + Sync, R: Read + Drop>(
 ) -> ExitCode {
     let reader = input.map(Counted::new);
     let mut writer = Counted::new(rt.stdout());
-    let went = if asked.progress {
-        let teller = Teller::new(rt);
-        go(wait, rt.alloc(), asked, reader, &mut writer, &teller)
-    } else {
-        go(wait, rt.alloc(), asked, reader, &mut writer, &Open)
+    if !asked.progress && asked.shake.is_none() {
+        return end(rt, go(wait, rt.alloc(), asked, reader, &mut writer, &Open));
+    }
+    match watch(rt, asked) {
+        Ok(watcher) => end(
+            rt,
+            go(wait, rt.alloc(), asked, reader, &mut writer, &watcher),
+        ),
+        Err(_) => refuse(rt, &NoRun::Memory),
+    }
+}
+
+// Tells and shakes the run as is asked for.
+fn watch<'a>(rt: &'a HostRuntime, asked: &Asked<'_>) -> Result<Watcher<'a>, AllocError> {
+    let shaker = match asked.shake {
+        Some(seed) => Some(Shaker::new(rt.alloc(), seed, asked.config.units())?),
+        None => None,
     };
-    end(rt, went)
+    let teller = if asked.progress {
+        Some(Teller::new(rt))
+    } else {
+        None
+    };
+    Ok(Watcher { teller, shaker })
 }

@@ -1,7 +1,6 @@
 //! Tells on standard error how far a run is.
 use command::Progress;
-use pool::{Gate, Tally};
-use snapshots::Snap;
+use pool::Tally;
 use std::io::IsTerminal;
 use std::sync::atomic::AtomicU64;
 use std::sync::atomic::Ordering::SeqCst;
@@ -13,7 +12,7 @@ const NEVER: u64 = u64::MAX;
 // Takes a terminal's cursor to the start of the line above, which is then written over.
 const UP: &str = "\u{1b}[A\r";
 
-/// A gate that holds nobody and tells each tally in a line of its own. On a terminal there is one line with
+/// Tells each tally in a line of its own. On a terminal there is one line with
 /// the three numbers that tell most, which has room in 80 columns and is written over at most ten times a
 /// second; the cursor stands below it, where the report or the next message begins.
 #[derive(Drop)]
@@ -50,17 +49,9 @@ impl<'a> Teller<'a> {
             _ => None,
         }
     }
-}
 
-impl Gate for Teller<'_> {
-    fn held(&self, _unit: u32, _station: u32) -> bool {
-        false
-    }
-
-    fn seen(&self, _place: u32, _snap: &Snap) {}
-
-    // A failure to print changes nothing.
-    fn counted(&self, tally: &Tally) {
+    /// Tells a tally. A failure to print changes nothing.
+    pub fn tell(&self, tally: &Tally) {
         let Some(began) = &self.began else {
             let progress = Progress { tally: *tally };
             let _ = eprintln!(self.rt; "{progress}");

@@ -5,19 +5,22 @@ ghost use Rattle.devices.specs.Replies.{HasReplied, IsUnanswered};
 ghost use Rattle.bench.specs.Answer.{IsAnswerAlone, most_taken};
 ghost use Rattle.bench.specs.Faults.{HasAnAnswer, unanswered};
 ghost use Rattle.requests.specs.Predictors.{IsChosen};
+ghost use Rattle.unit.specs.Seeds.{order_by};
 ghost use Rattle.without_threads.specs.Answers.{IsAnswerTo, IsSomeAnswerTo};
 ghost use Rattle.without_threads.specs.Replies.{IsUnansweredBy};
 ghost use Rattle.without_threads.specs.Went.{IsOfOneThread};
 ghost use Rattle.without_threads.specs.declared.went.Line.TheVariants.{Nothing, Refused};
 
 use crate::{Line, Refusal, Went, written};
-use bench::{Fault, Status, alone};
+use bench::{Fault, Status, alone_in};
 use devices::Counted;
 use requests::{Asked, Chosen, choose};
 use std::alloc::Global;
 use std::io::{Read, Write};
+use unit::{Order, Seeded};
 
-/// Reads the listing, runs it on the one-thread unit and writes its report.
+/// Reads the listing, runs it on the one-thread unit, in the order of the seed where one is asked for, and writes its
+/// report.
 pub fn run<R: Read, W: Write>(
     alloc: Global,
     asked: &Asked<'_>,
@@ -35,7 +38,8 @@ pub fn run<R: Read, W: Write>(
     ensures thread { IfErr result (λ refusal. IsOfOneThread (Refused refusal)) }
 {
     let predictor = choose(asked.predictor);
-    match predicted(alloc, asked, predictor, reader, writer) {
+    let order = Order::by_seed(asked.seed);
+    match ordered(alloc, asked, predictor, order, reader, writer) {
         Ok(status) => Ok(written(status, Line::Nothing)),
         Err(Fault::Read) => Err(Refusal::Read),
         Err(Fault::Memory) => Err(Refusal::Memory),
@@ -43,15 +47,17 @@ pub fn run<R: Read, W: Write>(
     }
 }
 
-// With the predictor that is asked for.
-fn predicted<R: Read, W: Write>(
+// With the predictor and in the order that are asked for.
+fn ordered<R: Read, W: Write>(
     alloc: Global,
     asked: &Asked<'_>,
     predictor: Chosen,
+    order: Order<Seeded>,
     reader: &mut Counted<R>,
     writer: &mut Counted<W>,
 ) -> Result<Status, Fault>
     requires predictor { IsChosen asked.now.predictor predictor }
+    requires order { order ≡ order_by asked.now.seed }
     requires reader_room { failures_of reader.old < 2 ^ 64 - 1 }
     requires writer_room { failures_of writer.old < 2 ^ 64 - 1 }
     ensures ok { IfOk result (λ status. HasReplied R.remaining W.contents most_taken
@@ -60,5 +66,5 @@ fn predicted<R: Read, W: Write>(
         reader.old reader.new writer.old writer.new (HasAnAnswer asked.now.config.limit)
         (unanswered fault)) }
 {
-    alone(alloc, reader, writer, &asked.config, predictor)
+    alone_in(alloc, reader, writer, &asked.config, predictor, order)
 }

@@ -1,0 +1,62 @@
+use Rattle.std.proofs.Common.{◌∙◌, sym, ap, subst, codes}
+use Rattle.std.proofs.lemmas.Result.{err_from_is_err_and}
+use Rattle.clap.specs.Words.{found_of, first_of, rows_of}
+use Rattle.clap.proofs.WalkLemmas.{first_value-rows}
+use Rattle.requests.specs.Run.{HasOddRing, HasValues}
+use Rattle.requests.specs.Rings.{greatest}
+use Rattle.requests.specs.Values.{IsNumberFrom, is_true}
+use Rattle.requests.proofs.OddRings.{bad_ring, cut_sizes}
+use Rattle.requests.proofs.reading_run.read.Goals as goal
+
+pub seeds_of-requires : goal.seeds_of-requires
+seeds_of-requires c =
+    record { alone = c.is_true-alone.ensures ∙ ap is_true (c.get_str.ensures ∙ first_value-rows (found_of c.args.matches.now) (codes "alone")) }
+
+pub returns-in_err-config-clause-err : goal.returns-in_err-config-clause-err
+returns-in_err-config-clause-err c =
+    let found = found_of c.args.matches.now in
+    let e = c.in_err-config in
+    let left = c.from_residual-in_err-config in
+    let p = err_from_is_err_and left.result left.ensures.1 in
+    rw (p.1, p.2) (bad_ring (rows_of found) HasValues HasOddRing (first_of (codes "ruu-size") (rows_of found)) e.field-0.0 e.ensures.err
+    (λ none is. none is.sizes.ring is.sizes.is_ring_number)
+    (λ odd. record {
+      values = record {
+        file = c.in_ok-file.file.now;
+        is_file = c.in_ok-file.ensures.ok;
+        sizes = record {
+          queue = c.in_ok-queue.queue;
+          is_queue = c.in_ok-queue.ensures.ok;
+          limit = c.in_ok-limit.limit;
+          is_limit = c.in_ok-limit.ensures.ok;
+          ring = odd.ring;
+          is_ring_number = odd.reads;
+        };
+        predictor = c.in_ok-predictor.predictor;
+        is_predictor = c.in_ok-predictor.ensures.ok;
+        units = c.in_ok-units.units;
+        is_units = c.in_ok-units.ensures.ok;
+        turns = c.in_ok-turns.turns;
+        are_turns = c.in_ok-turns.ensures.ok;
+        seed = c.in_ok-seeds.seeds.turns;
+        shake = c.in_ok-seeds.seeds.shake;
+        are_seeds = c.in_ok-seeds.ensures.ok;
+      };
+      odd = odd.odd;
+    }))
+
+pub returns-clause-ok : goal.returns-clause-ok
+returns-clause-ok c =
+    let found = found_of c.args.matches.now in
+    let is = c.in_ok-config.ensures.ok in
+    record {
+      file = c.in_ok-file.ensures.ok;
+      sizes = cut_sizes (rows_of found) c.in_ok-queue.queue c.in_ok-units.units c.in_ok-limit.limit c.in_ok-turns.turns
+          c.in_ok-config.config c.in_ok-queue.ensures.ok c.in_ok-limit.ensures.ok is;
+      units = subst (IsNumberFrom 1 64 2 (first_of (codes "units") (rows_of found))) (sym is.units_are) c.in_ok-units.ensures.ok;
+      predictor = c.in_ok-predictor.ensures.ok;
+      turns = subst (IsNumberFrom 1 greatest greatest (first_of (codes "turns") (rows_of found))) (sym is.turns_are) c.in_ok-turns.ensures.ok;
+      alone = c.is_true-alone.ensures ∙ ap is_true (c.get_str.ensures ∙ first_value-rows found (codes "alone"));
+      progress = c.is_true-progress.ensures ∙ ap is_true (c.get_str-2.ensures ∙ first_value-rows found (codes "progress"));
+      seeds = c.in_ok-seeds.ensures.ok;
+    }

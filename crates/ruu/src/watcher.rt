@@ -1,0 +1,29 @@
+//! The gate of a run that is told or shaken.
+use crate::shaker::Shaker;
+use crate::teller::Teller;
+use pool::{Gate, Tally};
+use snapshots::Snap;
+
+/// Holds units where a shaker does, and tells each tally where there is a teller.
+#[derive(Drop)]
+pub struct Watcher<'a> {
+    pub teller: Option<Teller<'a>>,
+    pub shaker: Option<Shaker>,
+}
+
+impl Gate for Watcher<'_> {
+    fn held(&self, unit: u32, _station: u32) -> bool {
+        match &self.shaker {
+            Some(shaker) => shaker.holds(unit),
+            None => false,
+        }
+    }
+
+    fn seen(&self, _place: u32, _snap: &Snap) {}
+
+    fn counted(&self, tally: &Tally) {
+        if let Some(teller) = &self.teller {
+            teller.tell(tally);
+        }
+    }
+}
