@@ -1,16 +1,17 @@
 #!/usr/bin/env bash
-# Reads the listings of tests/listings/check with `ruu check`, which is the program viewer, from the file and from standard
-# input: what is written is what stands beside each, with status 0 or 2. Of a fault each run writes the first line of that
-# and nothing else. Then files that do not open, a writer that takes nothing, and want of memory.
+# Reads the listings of tests/listings/check with `ruu check`, from the file and from standard input: what is written is what
+# stands beside each, with status 0 or 2, and where there is a text for it, what `--all` writes. Of a fault each run writes the
+# first line of that and nothing else. Each row of tests/listings/remedies.txt is told what helps. Then what a run on a terminal
+# tells behind its report, files that do not open, a writer that takes nothing, and want of memory.
 . "$(dirname "$0")/common.bash"
 build_refuse
 build run ruu
-build run viewer
+build run check
 build run alone
 build run driver
 build run listing
 ruu=crates/ruu/out/ruu
-viewer=crates/viewer/out/viewer
+check=crates/check/out/check
 
 is_told() { # name, what is told, status, standard error
   [ "$status" -eq "$3" ] || fail "$1: status $status, and not $3"
@@ -38,32 +39,78 @@ for listing in tests/listings/check/*.s; do
   told=${listing%.s}.told
   wanted=0
   [[ $(head -c 5 "$told") != fault ]] || wanted=2
-  "$viewer" check "$listing" > "$work/out" 2> "$work/err"
+  "$check" check "$listing" > "$work/out" 2> "$work/err"
   status=$?
   is_told "$listing" "$told" $wanted ''
-  "$viewer" check - < "$listing" > "$work/out" 2> "$work/err"
+  sed "s|^$listing:|-:|" "$told" > "$work/told"
+  "$check" check - < "$listing" > "$work/out" 2> "$work/err"
   status=$?
-  is_told "$listing as standard input" "$told" $wanted ''
+  is_told "$listing as standard input" "$work/told" $wanted ''
+  if [ -f "${listing%.s}.all" ]; then
+    "$check" check --all "$listing" > "$work/out" 2> "$work/err"
+    status=$?
+    is_told "all of $listing" "${listing%.s}.all" $wanted ''
+  fi
   [ $wanted -ne 2 ] || names "$listing" "$(head -n 1 "$told")"
   count=$((count + 1))
 done
 [ $count -gt 10 ] || fail "only $count listings"
 
+# What helps is the last line that is told, and no other byte of a listing than those that can be shown is written.
+rows=0
+while IFS= read -r row; do
+  [[ $row != '#'* ]] || continue
+  printf '%b\n' "${row%% => *}" > "$work/row.s"
+  "$check" check "$work/row.s" > "$work/out" 2> "$work/err"
+  status=$?
+  [ $status -eq 2 ] && [ ! -s "$work/err" ] || fail "$row: status $status"
+  [ "$(tail -n 1 "$work/out")" = "${row#* => }" ] || { cat "$work/out"; fail "$row: another line"; }
+  ! LC_ALL=C grep -q "[^[:print:]$(printf '\t')]" "$work/out" || fail "$row: a byte that cannot be shown"
+  rows=$((rows + 1))
+done < tests/listings/remedies.txt
+[ $rows -gt 80 ] || fail "only $rows rows"
+echo "$rows faults are told with what helps"
+
+# With --all each line is told once, in the order of the lines, and 200 at most.
+for n in 200 201; do
+  for ((i = 0; i < n; i++)); do echo 'adu $t0,$t1,$t2'; done > "$work/many.s"
+  "$check" check "$work/many.s" --all > "$work/out" 2> "$work/err"
+  [ "$(grep -c ': error: ' "$work/out")" -eq 200 ] || fail "another number of $n faults"
+  grep -o "^$work/many.s:[0-9]*" "$work/out" | cut -d : -f 2 | cmp -s - <(seq 200) || fail "$n faults are told in another order"
+done
+
+# On a terminal a run tells behind its report which line has the fault, or where it stopped.
+if command -v script > /dev/null; then
+  printf '# one\nL: M: lw $t1,1($zero) # x\nbreak\n' > "$work/stop.s"
+  printf 'break\n\nadu $t0,$t1,$t2\n' > "$work/fault.s"
+  printf 'j end\nend:\n' > "$work/end.s"
+  behind() { # listing, what is told behind the report, status
+    script -qec "here=$PWD program=$PWD/$ruu bash docs/help/behind.bash run $1 --alone" /dev/null < /dev/null | tr -d '\r' > "$work/out"
+    status=${PIPESTATUS[0]}
+    [ "$status" -eq "$3" ] && [ "$(tail -n +"$4" "$work/out")" = "$2" ] || { cat "$work/out"; fail "$1 on a terminal: status $status"; }
+  }
+  behind "$work/stop.s" "$work/stop.s:2: the run stopped here: lw \$t1,1(\$zero)" 1 4
+  behind "$work/end.s" "$work/end.s: no instruction stands at 0x00400004" 1 4
+  behind "$work/fault.s" "$("$check" check "$work/fault.s" | tail -n +2)" 2 2
+  behind examples/sum.s '' 0 100
+  echo 'a run on a terminal tells where it stopped'
+fi
+
 : > "$work/none"
-"$viewer" check "$work/nowhere.s" > "$work/out" 2> "$work/err"
+"$check" check "$work/nowhere.s" > "$work/out" 2> "$work/err"
 status=$?
 is_told 'a file that is not there' "$work/none" 5 "ruu: $work/nowhere.s: No such file or directory (os error 2)"
-"$viewer" check examples > "$work/out" 2> "$work/err"
+"$check" check examples > "$work/out" 2> "$work/err"
 status=$?
 is_told 'a folder' "$work/none" 5 'ruu: read'
-"$viewer" check examples/sum.s > /dev/full 2> "$work/err"
+"$check" check examples/sum.s > /dev/full 2> "$work/err"
 status=$?
 : > "$work/out"
 is_told 'a full device' "$work/none" 5 'ruu: write'
-"$viewer" check examples/sum.s >&- 2> "$work/err"
+"$check" check examples/sum.s >&- 2> "$work/err"
 status=$?
 is_told 'a closed standard output' "$work/none" 5 'ruu: write'
-"$viewer" check - <&- > "$work/out" 2> "$work/err"
+"$check" check - <&- > "$work/out" 2> "$work/err"
 status=$?
 is_told 'a closed standard input' "$work/none" 5 'ruu: read'
 "$ruu" run examples/sum.s >&- 2> "$work/err"
@@ -79,7 +126,7 @@ for name in good bad_register; do
   n=0 refused=0
   while :; do
     n=$((n + 1))
-    run_under /dev/null REFUSED=$n "$viewer" check "tests/listings/check/$name.s"
+    run_under /dev/null REFUSED=$n "$check" check "tests/listings/check/$name.s"
     $was_refused || break
     if is_refused memory; then
       refused=$((refused + 1))
@@ -93,7 +140,7 @@ done
 
 # each word has its help and the version
 "$ruu" --version > "$work/version" || fail 'ruu --version'
-for words in 'ruu run' 'viewer run' 'viewer check' 'driver drive' listing; do
+for words in 'ruu run' 'check check' 'driver drive' listing; do
   read -r program word <<< "$words"
   # shellcheck disable=SC2086
   for option in --version -V; do

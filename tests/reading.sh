@@ -7,8 +7,10 @@
 build run alone
 build run ruu
 build run viewer
+build run check
 ruu=crates/ruu/out/ruu
 viewer=crates/viewer/out/viewer
+check=crates/check/out/check
 
 # Runs a listing in each way, which has to end with this status and write just this file.
 ends() { # listing, status, file
@@ -27,7 +29,7 @@ END_OF_WAYS
 
 # Reads a listing, which has to end with this status and begin with this line.
 is_checked() { # listing, status, line
-  "$viewer" check "$1" > "$work/out" 2> "$work/err"
+  "$check" check "$1" > "$work/out" 2> "$work/err"
   status=$?
   [ $status -eq "$2" ] || fail "ruu check, ${name:-$1}: status $status, and not $2"
   [ "$(head -n 1 "$work/out")" = "$3" ] || { cat "$work/out"; fail "ruu check, ${name:-$1}: the first line is not $3"; }
@@ -112,7 +114,7 @@ has_fault "$work/listing.s" 'fault line 0 TooLong'
 name='lines without a statement, and a byte too many'
 bytes 4194305 '\n' > "$work/listing.s"
 has_fault "$work/listing.s" 'fault line 0 TooLong'
-"$viewer" check "$work/listing.s" > "$work/out"
+"$check" check "$work/listing.s" > "$work/out"
 printf 'fault line 0 TooLong\n%s\n' \
   'A listing has at most 4194304 bytes, 16384 instructions and 65536 bytes of data.' | cmp -s - "$work/out" \
   || fail 'a check shows more of a listing that is too long as a whole'

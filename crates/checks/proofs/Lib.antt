@@ -1,2 +1,10 @@
+mod Explained
+mod FaultsFound
+mod Keys
 mod Lengths
+mod LinesCounted
+mod MendedTexts
+mod PartsLeft
+mod Reached
 mod Texts
+mod Warned

@@ -1,18 +1,25 @@
 -- What is told of a listing that is read and not run.
 use Rattle.std.specs.Prelude.{◌≡◌, ◌≤◌, ◌+◌, ℕ, zero, suc, Bool, true, false}
 use Rattle.std.specs.Prelude.{List, [], ◌∷◌, ◌++◌, length, map, codes, decimal}
-use Rattle.std.specs.Prelude.{Option, Some, None, Result, Ok, Err, slice_get, if◌then◌else◌}
+use Rattle.std.specs.Prelude.{Option, Some, None, Result, Ok, Err, slice_get, flat_map, if◌then◌else◌}
 use Rattle.std.specs.List.{before_first}
 use Rattle.text.specs.Blank.{is_blank}
 use Rattle.text.specs.Label.{statement_of}
 use Rattle.text.specs.Line.{before_comment, lines_of}
 use Rattle.isa.specs.declared.listing.fault.FaultKind.{FaultKind}
 use Rattle.isa.specs.declared.listing.fault.FaultKind.TheVariants as kind
+use Rattle.isa.specs.declared.listing.fault.TextFault.{TextFault}
 use Rattle.isa.specs.Listing.{Lines, labels}
 use Rattle.instructions.specs.Programs.{Program}
 use Rattle.isa.specs.Report.{fault_line, newline}
 use Rattle.checks.specs.Forms.{word_note}
-use Rattle.checks.specs.Quotes.{quote}
+use Rattle.checks.specs.Lines.{line_at, word_in}
+use Rattle.checks.specs.Parts.{IsPartOf}
+use Rattle.checks.specs.Quotes.{written}
+use Rattle.checks.specs.Spots.{spot_text}
+use Rattle.checks.specs.Faults.{AreTold}
+use Rattle.checks.specs.Warnings.{AreWarned}
+use Rattle.checks.specs.declared.quoting.Layer.TheVariants.{Line, Name}
 use Rattle.checks.specs.declared.parts.Part.{Part}
 
 -- ---- a good listing
@@ -29,20 +36,6 @@ counts_text instructions labels bytes =
     ++ (codes "\nbytes of data " ++ (decimal bytes ++ newline)))))
 
 -- ---- a fault
-
--- a line by its number, counted from 1
-abbrev pub line_at : ℕ → Lines → Option (List ℕ)
-line_at zero lines = None
-line_at (suc i) lines = slice_get lines i
-
--- the part lies in the line
-abbrev pub IsPartOf : List ℕ → Part → Type 0
-IsPartOf line part = (part.from ≤ part.to) × (part.to ≤ length line)
-
--- the inner part lies in the outer one
-abbrev pub LiesIn : (outer inner : Part) → Type 0
-LiesIn outer inner =
-    (outer.from ≤ inner.from) × ((inner.from ≤ inner.to) × (inner.to ≤ outer.to))
 
 -- what the language wants where this fault is
 abbrev pub sentence : FaultKind → List ℕ
@@ -63,38 +56,53 @@ has_form kind.BadNumber = true
 has_form kind.BadOperands = true
 has_form _ = false
 
--- the word of a line's statement
-abbrev pub word_in : List ℕ → List ℕ
-word_in line = before_first is_blank (statement_of (before_comment line))
-
 -- what is said of the line
 abbrev pub form_note : FaultKind → List ℕ → List ℕ
 form_note kind line = if has_form kind then word_note (word_in line) else []
 
--- a line with a mark under some part of it, and what the language wants there; a fault of the listing
--- as a whole has no line
-abbrev pub IsExplanation : FaultKind → Option (List ℕ) → List ℕ → Type 0
-IsExplanation kind None text = text ≡ sentence kind ++ newline
-IsExplanation kind (Some line) text = (part : Part) × (IsPartOf line part
-    × (text ≡ quote line part ++ (sentence kind ++ (form_note kind line ++ newline))))
+-- what stands before what is said of a fault
+abbrev pub error : List ℕ
+error = codes "error: "
+
+-- what helps, as it is shown, in a line of its own; nothing where nothing is known
+abbrev pub advice_line : List ℕ → List ℕ
+advice_line [] = []
+advice_line (b ∷ bs) = flat_map (written Line) (b ∷ bs) ++ newline
+
+-- what is told of a fault of the listing as a whole
+abbrev pub whole : (file : List ℕ) → FaultKind → List ℕ
+whole file kind = flat_map (written Name) file ++ (codes ": " ++ (error ++ (sentence kind ++ newline)))
+
+-- a line with its place and a mark under some part of it, what the language wants there, and some advice that shows as
+-- it is whatever the line has; a fault of the listing as a whole has no line
+abbrev pub IsExplanation : (file : List ℕ) → (number : ℕ) → FaultKind → Option (List ℕ) → List ℕ → Type 0
+IsExplanation file number kind None text = text ≡ whole file kind
+IsExplanation file number kind (Some line) text = (part : Part) × ((advice : List ℕ) × (IsPartOf line part
+    × (text ≡ spot_text file number line part error (sentence kind) ++ (form_note kind line ++ advice_line advice))))
 
 -- the new text is the old one and an explanation
-pub record IsExplanationBehind (kind : FaultKind) (line : Option (List ℕ)) (old new : List ℕ) : Type 0 where
+pub record IsExplanationBehind (file : List ℕ) (number : ℕ) (kind : FaultKind) (line : Option (List ℕ)) (old new : List ℕ) : Type 0 where
   pub rest : List ℕ
   pub is : new ≡ old ++ rest
-  pub explains : IsExplanation kind line rest
+  pub explains : IsExplanation file number kind line rest
 
--- the line of the fault as in a report, and its explanation
-abbrev pub IsExplained : List ℕ → (line : ℕ) → FaultKind → List ℕ → Type 0
-IsExplained bytes line kind text =
-    IsExplanationBehind kind (line_at line (lines_of bytes)) (fault_line line kind) text
+-- the new text is the old one, and behind it the explanations of these faults
+abbrev pub AreExplained : (file bytes : List ℕ) → List TextFault → (old new : List ℕ) → Type 0
+AreExplained file bytes [] old new = new ≡ old
+AreExplained file bytes (f ∷ fs) old new = (text : List ℕ)
+    × (IsExplanationBehind file f.line f.kind (line_at f.line (lines_of bytes)) old text × AreExplained file bytes fs text new)
+
+-- the line of the fault as in a report, and the explanations of the faults that are told
+abbrev pub IsExplained : (file : List ℕ) → (all : Bool) → (bytes : List ℕ) → (line : ℕ) → FaultKind → List ℕ → Type 0
+IsExplained file all bytes line kind text = (told : List TextFault)
+    × (AreTold all bytes (record { line = line; kind = kind }) told × AreExplained file bytes told (fault_line line kind) text)
 
 -- ---- both
 
 -- the status and the text for the program of a listing, or for its fault
-abbrev pub IsCheckOf : List ℕ → Result Program (ℕ × FaultKind) → ℕ → List ℕ → Type 0
-IsCheckOf bytes (Ok P) status text =
+abbrev pub IsCheckOf : (file : List ℕ) → (all : Bool) → (bytes : List ℕ) → Result Program (ℕ × FaultKind) → ℕ → List ℕ → Type 0
+IsCheckOf file all bytes (Ok P) status text =
     (status ≡ 0)
-    × (text ≡ counts_text (length P.code) (how_many_labels (lines_of bytes)) (length P.bytes))
-IsCheckOf bytes (Err fault) status text =
-    (status ≡ 2) × IsExplained bytes fault.0 fault.1 text
+    × AreWarned file bytes P (counts_text (length P.code) (how_many_labels (lines_of bytes)) (length P.bytes)) text
+IsCheckOf file all bytes (Err fault) status text =
+    (status ≡ 2) × IsExplained file all bytes fault.0 fault.1 text

@@ -10,13 +10,13 @@ forms_of word = map form_text (filter (has_word word) forms)
 
 -- what stands before a form: before the first the beginning of the sentence
 abbrev pub lead : (began : Bool) → List ℕ
-lead false = codes " The form is "
+lead false = codes "The form is "
 lead true = codes " or "
 
--- a sentence that tells of forms, or the rest of one that began with another; without a form there is none
+-- a line that tells of forms, or the rest of one that began with another; without a form there is none
 abbrev pub alternatives : (began : Bool) → List (List ℕ) → List ℕ
 alternatives false [] = []
-alternatives true [] = codes "."
+alternatives true [] = codes ".\n"
 alternatives began (form ∷ forms) = lead began ++ (form ++ alternatives true forms)
 
 -- what is told of a word: the form of a directive, or those of an operation

@@ -1,138 +1,41 @@
 //! The part of a line that is at fault.
-ghost use Rattle.std.specs.Prelude.{◌≤◌, IfOk};
-ghost use Rattle.checks.specs.Checks.{IsPartOf, LiesIn};
+ghost use Rattle.std.specs.Prelude.{◌≤◌, ◌<◌, IfOk, IfSome};
+ghost use Rattle.checks.specs.Parts.{IsPartOf, LiesIn};
 
-use super::parts::{Part, code, find, labels, operands, statement, trimmed, word};
-use super::registers::is_register;
-use isa::{FaultKind, Form, Operands, forms};
+mod numbers;
+mod operands;
+mod registers;
+
+use super::mending::Labels;
+use super::parts::{Part, code, label_at, operands, statement, word};
+use isa::{FaultKind, TextFault};
+use numbers::bad_number;
+use operands::{bad_operands, last_operand};
+use registers::bad_register;
 use std::alloc::{AllocError, Global};
-use text::{is_plain_text, number_in};
+use text::is_plain_text;
 
-// Where the first operand of some ends: at its comma, or at their end.
-fn end_of_first(line: &[u8], operands: Part) -> usize
-    requires { IsPartOf line.now operands }
-    ensures least { operands.from ≤ result }
-    ensures most { result ≤ operands.to }
+/// How many bytes a character has at most.
+const MOST_BYTES: usize = 4;
+
+// Where the character ends that begins at this byte: a first byte has some behind it that only go on.
+fn end_of_character(line: &[u8], code: Part, at: usize) -> usize
+    requires code { IsPartOf line.now code }
+    requires inside { at < code.to }
+    ensures least { at < result }
+    ensures most { result ≤ code.to }
 {
-    match find(line, operands, b',') {
-        Some(at) => at,
-        None => operands.to,
-    }
-}
-
-// The last operand, in which a label is due, or most numbers.
-fn last_operand(line: &[u8], operands: Part) -> Part
-    requires { IsPartOf line.now operands }
-    ensures { LiesIn operands result }
-{
-    let to = operands.to;
-    let mut from = operands.from;
-    while let Some(at) = find(line, Part { from, to }, b',') {
-        from = at + 1;
-    }
-    trimmed(line, Part { from, to })
-}
-
-// Whether the word's last operand is an offset with a register, as its form says.
-fn has_offset(word: &[u8]) -> bool {
-    let has_offset = |form: &Form| matches!(form.operands, Operands::Load | Operands::Store);
-    forms()
-        .iter()
-        .any(|form| form.has_word(word) && has_offset(form))
-}
-
-// The offset of an operand `offset(register)`: what stands before its first parenthesis.
-fn offset_in(line: &[u8], operand: Part) -> Part
-    requires { IsPartOf line.now operand }
-    ensures { LiesIn operand result }
-{
-    let to = find(line, operand, b'(').unwrap_or(operand.to);
-    let front = Part {
-        from: operand.from,
-        to,
-    };
-    trimmed(line, front)
-}
-
-// The register of an operand `offset(register)`: what stands behind its first parenthesis, without the
-// last byte, which is the other one.
-fn register_in(line: &[u8], operand: Part) -> Part
-    requires { IsPartOf line.now operand }
-    ensures { LiesIn operand result }
-{
-    let Some(open) = find(line, operand, b'(') else {
-        return operand;
-    };
-    let from = open + 1;
-    let to = from.max(operand.to - 1);
-    trimmed(line, Part { from, to })
-}
-
-// The first operand, or in it the register of an offset, that begins as a register and is none.
-fn bad_register(alloc: Global, line: &[u8], word: Part, operands: Part) -> Result<Part, AllocError>
-    requires word { IsPartOf line.now word }
-    requires operands { IsPartOf line.now operands }
-    ensures { IfOk result (LiesIn operands) }
-{
-    let has_offset = has_offset(&line[word.from..word.to]);
-    let to = operands.to;
-    let mut from = operands.from;
-    while from < to {
-        let end = end_of_first(line, Part { from, to });
-        let operand = trimmed(line, Part { from, to: end });
-        let found = if has_offset && end == to {
-            register_in(line, operand)
-        } else {
-            operand
-        };
-        let text = &line[found.from..found.to];
-        if text.starts_with(b"$") && !is_register(alloc, text)? {
-            return Ok(found);
+    for to in at + 1..code.to {
+        let goes_on = 0x80 <= line[to] && line[to] <= 0xbf;
+        if !goes_on || to - at == MOST_BYTES {
+            return to;
         }
-        from = end + 1;
     }
-    Ok(operands)
+    code.to
 }
 
-// The first operand of `.word` that is no number in its range.
-fn bad_data(line: &[u8], operands: Part) -> Part
-    requires { IsPartOf line.now operands }
-    ensures { LiesIn operands result }
-{
-    let to = operands.to;
-    let mut from = operands.from;
-    while from < to {
-        let end = end_of_first(line, Part { from, to });
-        let operand = trimmed(line, Part { from, to: end });
-        if number_in(&line[operand.from..operand.to], 0x8000_0000, 0xffff_ffff).is_none() {
-            return operand;
-        }
-        from = end + 1;
-    }
-    operands
-}
-
-// The operand that is no number in its range. But for `.word` a form has one number at most, which is
-// its last operand or the offset in it.
-fn bad_number(line: &[u8], word: Part, operands: Part) -> Part
-    requires word { IsPartOf line.now word }
-    requires operands { IsPartOf line.now operands }
-    ensures { LiesIn operands result }
-{
-    let text = &line[word.from..word.to];
-    if text.eq_ignore_ascii_case(b".word") {
-        return bad_data(line, operands);
-    }
-    let operand = last_operand(line, operands);
-    if has_offset(text) {
-        offset_in(line, operand)
-    } else {
-        operand
-    }
-}
-
-// The first byte that may not stand before a comment.
-fn odd_byte(line: &[u8], code: Part) -> Part
+// The first character that may not stand before a comment.
+fn odd_character(line: &[u8], code: Part) -> Part
     requires { IsPartOf line.now code }
     ensures { LiesIn code result }
 {
@@ -140,29 +43,78 @@ fn odd_byte(line: &[u8], code: Part) -> Part
         if !is_plain_text(&line[at..at + 1]) {
             return Part {
                 from: at,
-                to: at + 1,
+                to: end_of_character(line, code, at),
             };
         }
     }
     code
 }
 
-/// The part of the line that has this fault, as far as that can be said.
-pub(crate) fn part_at_fault(alloc: Global, line: &[u8], kind: FaultKind) -> Result<Part, AllocError>
+// The label that stands before; all code where there is none.
+fn double_label(labels: &Labels<'_>, line: &[u8], code: Part, number: u64) -> Part
+    requires { IsPartOf line.now code }
+    ensures { LiesIn code result }
+{
+    let mut rest = code;
+    while let Some((name, behind)) = label_at(line, rest) {
+        if labels.is_double(line, name, number) {
+            return name;
+        }
+        rest = behind;
+    }
+    code
+}
+
+// Where a comment begins in the manner of another language, behind `;` or `//`.
+fn other_comment(line: &[u8], part: Part) -> Option<usize>
+    requires { IsPartOf line.now part }
+    ensures { IfSome result (λ at. (part.from ≤ at) × (at < part.to)) }
+{
+    for at in part.from..part.to {
+        if line[at] == b';' || line[at..part.to].starts_with(b"//") {
+            return Some(at);
+        }
+    }
+    None
+}
+
+// The part, or the comment in the manner of another language that begins in it.
+fn without_comment(line: &[u8], statement: Part, part: Part) -> Part
+    requires statement { IsPartOf line.now statement }
+    requires part { LiesIn statement part }
+    ensures { LiesIn statement result }
+{
+    match other_comment(line, part) {
+        Some(from) => Part {
+            from,
+            to: statement.to,
+        },
+        None => part,
+    }
+}
+
+/// The part of a line that has this fault, as far as that can be said.
+pub(crate) fn part_at_fault(
+    alloc: Global,
+    labels: &Labels<'_>,
+    line: &[u8],
+    fault: TextFault,
+) -> Result<Part, AllocError>
     ensures { IfOk result (IsPartOf line.now) }
 {
     let code = code(line);
     let statement = statement(line, code);
     let word = word(line, statement);
     let operands = operands(line, statement);
-    match kind {
-        FaultKind::NotAscii => Ok(odd_byte(line, code)),
-        FaultKind::DoubleLabel => Ok(labels(line, code)),
-        FaultKind::UnknownOp => Ok(word),
-        FaultKind::BadOperands => Ok(operands),
-        FaultKind::BadRegister => bad_register(alloc, line, word, operands),
-        FaultKind::BadNumber => Ok(bad_number(line, word, operands)),
-        FaultKind::UnknownLabel => Ok(last_operand(line, operands)),
-        FaultKind::TooLong | FaultKind::Memory => Ok(statement),
-    }
+    let part = match fault.kind {
+        FaultKind::NotAscii => return Ok(odd_character(line, code)),
+        FaultKind::DoubleLabel => return Ok(double_label(labels, line, code, fault.line)),
+        FaultKind::UnknownOp => word,
+        FaultKind::BadOperands => bad_operands(line, word, operands),
+        FaultKind::BadRegister => bad_register(alloc, line, word, operands)?,
+        FaultKind::BadNumber => bad_number(line, word, operands),
+        FaultKind::UnknownLabel => last_operand(line, operands),
+        FaultKind::TooLong | FaultKind::Memory => statement,
+    };
+    Ok(without_comment(line, statement, part))
 }

@@ -1,15 +1,31 @@
-//! What is told of a fault.
+//! What is told of faults.
 ghost use Rattle.std.specs.Prelude.{◌≡◌, ◌++◌, IfOk, OnOk, None, Some};
 ghost use Rattle.std.specs.Option.{option_map};
-ghost use Rattle.checks.specs.Checks.{IsExplained, IsExplanationBehind};
-ghost use Rattle.checks.specs.Checks.{form_note, has_form, sentence};
+ghost use Rattle.text.specs.Line.{lines_of};
+ghost use Rattle.checks.specs.Checks.{AreExplained, IsExplained, IsExplanationBehind};
+ghost use Rattle.checks.specs.Lines.{line_at};
+ghost use Rattle.checks.specs.Checks.{advice_line, form_note, has_form, sentence};
 
+use super::advice::advice;
 use super::blame::part_at_fault;
+use super::faults::faults_told;
 use super::forms::push_forms;
 use super::lines::{line_at, word_in};
-use super::quoting::push_quote;
+use super::mending::Labels;
+use super::quoting::{Layer, push_bytes};
+use super::spot::{Spot, push_spot};
 use isa::{FaultKind, TextFault, fault_text};
 use std::alloc::{AllocError, Global};
+
+// What stands before what is said of a fault.
+const ERROR: &str = "error: ";
+
+// A listing: its file and its bytes.
+#[derive(Clone, Copy)]
+struct Source<'a> {
+    file: &'a [u8],
+    bytes: &'a [u8],
+}
 
 fn sentence(kind: FaultKind) -> &'static str
     ensures { result.now ≡ sentence kind }
@@ -58,28 +74,51 @@ fn push_form(text: &mut Vec<u8>, kind: FaultKind, line: &[u8]) -> Result<(), All
     Ok(())
 }
 
-// The line of the listing with its mark, and what is wanted there.
-fn push_place(
+// What helps, in a line of its own, if something is known that does.
+fn push_advice(text: &mut Vec<u8>, advice: &[u8]) -> Result<(), AllocError>
+    ensures { OnOk result (text.new.items ≡ text.old.items ++ advice_line advice.now) }
+{
+    if !advice.is_empty() {
+        push_bytes(text, Layer::Line, advice)?;
+        text.push(b'\n')?;
+    }
+    Ok(())
+}
+
+// The line of the listing with its place and its mark, what is wanted there, and what helps.
+fn push_line(
     alloc: Global,
     text: &mut Vec<u8>,
-    kind: FaultKind,
+    source: Source<'_>,
+    labels: &Labels<'_>,
+    fault: TextFault,
     line: &[u8],
 ) -> Result<(), AllocError>
-    ensures { OnOk result (IsExplanationBehind kind (Some line.now) text.old.items text.new.items) }
+    ensures { OnOk result (IsExplanationBehind source.entry.file.now fault.line fault.kind
+        (Some line.now) text.old.items text.new.items) }
 {
-    let part = part_at_fault(alloc, line, kind)?;
-    push_quote(text, line, part)?;
-    text.extend_from_slice(sentence(kind).as_bytes())?;
-    push_form(text, kind, line)?;
-    text.push(b'\n')?;
+    let spot = Spot {
+        file: source.file,
+        number: fault.line,
+        line,
+    };
+    let part = part_at_fault(alloc, labels, line, fault)?;
+    let advice = advice(alloc, source.bytes, labels, line, fault)?;
+    push_spot(alloc, text, spot, part, ERROR, sentence(fault.kind))?;
+    push_form(text, fault.kind, line)?;
+    push_advice(text, advice.as_slice())?;
     Ok(())
 }
 
 // What is wanted, where there is no line.
-fn push_wish(text: &mut Vec<u8>, kind: FaultKind) -> Result<(), AllocError>
-    ensures { OnOk result (IsExplanationBehind kind None text.old.items text.new.items) }
+fn push_whole(text: &mut Vec<u8>, file: &[u8], fault: TextFault) -> Result<(), AllocError>
+    ensures { OnOk result (IsExplanationBehind file.now fault.line fault.kind
+        None text.old.items text.new.items) }
 {
-    text.extend_from_slice(sentence(kind).as_bytes())?;
+    push_bytes(text, Layer::Name, file)?;
+    text.extend_from_slice(b": ")?;
+    text.extend_from_slice(ERROR.as_bytes())?;
+    text.extend_from_slice(sentence(fault.kind).as_bytes())?;
     text.push(b'\n')?;
     Ok(())
 }
@@ -88,31 +127,52 @@ fn push_wish(text: &mut Vec<u8>, kind: FaultKind) -> Result<(), AllocError>
 fn push_explanation(
     alloc: Global,
     text: &mut Vec<u8>,
-    kind: FaultKind,
-    line: Option<&[u8]>,
+    source: Source<'_>,
+    labels: &Labels<'_>,
+    fault: TextFault,
 ) -> Result<(), AllocError>
-    ensures { OnOk result (IsExplanationBehind kind (option_map (λ t. t.now) line.entry)
-        text.old.items text.new.items) }
+    ensures { OnOk result (IsExplanationBehind source.entry.file.now fault.line fault.kind
+        (line_at fault.line (lines_of source.entry.bytes.now)) text.old.items text.new.items) }
 {
-    match line {
-        Some(line) => push_place(alloc, text, kind, line),
-        None => push_wish(text, kind),
+    match line_at(source.bytes, fault.line) {
+        Some(line) => push_line(alloc, text, source, labels, fault, line),
+        None => push_whole(text, source.file, fault),
     }
 }
 
-/// The line that a report has for a fault, the line of the listing with a mark under the part that
-/// is at fault, and what the language wants there.
-pub(crate) fn explained(
+fn push_all(
     alloc: Global,
-    bytes: &[u8],
+    text: &mut Vec<u8>,
+    source: Source<'_>,
+    labels: &Labels<'_>,
+    faults: &[TextFault],
+) -> Result<(), AllocError>
+    ensures { OnOk result (AreExplained source.entry.file.now source.entry.bytes.now faults.now
+        text.old.items text.new.items) }
+{
+    for fault in faults {
+        push_explanation(alloc, text, source, labels, *fault)?;
+    }
+    Ok(())
+}
+
+/// The line that a report has for a fault, and behind it what is told of the fault, and of the first of each
+/// other line where all are wanted.
+pub(crate) fn explained<'a>(
+    alloc: Global,
+    file: &'a [u8],
+    bytes: &'a [u8],
+    all: bool,
     fault: &TextFault,
 ) -> Result<Vec<u8>, AllocError>
-    ensures { IfOk result (λ text.
-        IsExplained bytes.now fault.now.line fault.now.kind text.items) }
+    ensures { IfOk result (λ text. IsExplained file.entry.now all bytes.entry.now
+        fault.now.line fault.now.kind text.items) }
 {
     let head = fault_text(alloc, fault)?;
+    let labels = Labels::of(alloc, bytes)?;
+    let source = Source { file, bytes };
+    let faults = faults_told(alloc, bytes, &labels, all, fault)?;
     let mut text = head.into_bytes();
-    let line = line_at(bytes, fault.line);
-    push_explanation(alloc, &mut text, fault.kind, line)?;
+    push_all(alloc, &mut text, source, &labels, faults.as_slice())?;
     Ok(text)
 }

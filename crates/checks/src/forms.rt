@@ -10,7 +10,7 @@ use std::alloc::AllocError;
 fn lead(began: bool) -> &'static str
     ensures { result.now ≡ lead began }
 {
-    if began { " or " } else { " The form is " }
+    if began { " or " } else { "The form is " }
 }
 
 fn push_form(text: &mut Vec<u8>, began: bool, form: &Form) -> Result<(), AllocError>
@@ -24,7 +24,7 @@ fn push_form(text: &mut Vec<u8>, began: bool, form: &Form) -> Result<(), AllocEr
     Ok(())
 }
 
-// The forms of a table that have the word, in a sentence of their own.
+// The forms of a table that have the word, in a line of their own.
 fn push_forms_in(text: &mut Vec<u8>, table: &[Form], word: &[u8]) -> Result<(), AllocError>
     ensures { OnOk result (text.new.items ≡ text.old.items
         ++ alternatives false (map form_text (filter (has_word word.now) (map form_view table.now)))) }
@@ -37,7 +37,7 @@ fn push_forms_in(text: &mut Vec<u8>, table: &[Form], word: &[u8]) -> Result<(), 
         }
     }
     if began {
-        text.push(b'.')?;
+        text.extend_from_slice(b".\n")?;
     }
     Ok(())
 }
@@ -48,11 +48,11 @@ fn push_directive(text: &mut Vec<u8>, form: &str) -> Result<(), AllocError>
 {
     text.extend_from_slice(lead(false).as_bytes())?;
     text.extend_from_slice(form.as_bytes())?;
-    text.push(b'.')?;
+    text.extend_from_slice(b".\n")?;
     Ok(())
 }
 
-/// Adds a sentence that tells the forms of a word, in letters of either case, if it has some.
+/// Adds a line that tells the forms of a word, in letters of either case, if it has some.
 pub(crate) fn push_forms(text: &mut Vec<u8>, word: &[u8]) -> Result<(), AllocError>
     ensures { OnOk result (text.new.items ≡ text.old.items ++ word_note word.now) }
 {

@@ -3,7 +3,7 @@ ghost use Rattle.std.specs.Prelude.{◌≡◌};
 ghost use Rattle.std.specs.Option.{option_map};
 ghost use Rattle.text.specs.Line.{lines_of};
 ghost use Rattle.text.specs.Label.{statement_of};
-ghost use Rattle.checks.specs.Checks.{line_at, word_in};
+ghost use Rattle.checks.specs.Lines.{line_at, word_in};
 
 use text::{before_comment, cut_word, next_label, next_line, trim};
 
@@ -27,8 +27,8 @@ pub(crate) fn line_at(text: &[u8], number: u64) -> Option<&[u8]>
     None
 }
 
-// What stands behind the labels of a line.
-fn statement(code: &[u8]) -> &[u8]
+/// What stands behind the labels of a line.
+pub(crate) fn statement(code: &[u8]) -> &[u8]
     ensures { result.now ≡ statement_of code.now }
 {
     let mut rest = code;

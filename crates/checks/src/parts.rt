@@ -1,6 +1,6 @@
 //! The parts of a line: its labels, its statement, its word and its operands.
 ghost use Rattle.std.specs.Prelude.{◌≤◌, ◌<◌, IfSome};
-ghost use Rattle.checks.specs.Checks.{IsPartOf, LiesIn};
+ghost use Rattle.checks.specs.Parts.{IsPartOf, LiesIn};
 
 use text::is_name;
 
@@ -11,7 +11,7 @@ pub(crate) struct Part {
     pub to: usize,
 }
 
-fn is_blank(byte: u8) -> bool {
+pub(crate) fn is_blank(byte: u8) -> bool {
     byte == b' ' || byte == b'\t'
 }
 
@@ -114,6 +114,25 @@ fn colon(line: &[u8], part: Part) -> Option<usize>
     }
 }
 
+/// The name of the label at the front of a part, if there is one, and what stands behind its colon.
+pub(crate) fn label_at(line: &[u8], part: Part) -> Option<(Part, Part)>
+    requires { IsPartOf line.now part }
+    ensures name { IfSome result (λ found. LiesIn part found.0) }
+    ensures behind { IfSome result (λ found. LiesIn part found.1) }
+    ensures shorter { IfSome result (λ found. part.from < found.1.from) }
+{
+    let at = colon(line, part)?;
+    let front = Part {
+        from: part.from,
+        to: at,
+    };
+    let behind = Part {
+        from: at + 1,
+        to: part.to,
+    };
+    Some((trimmed(line, front), behind))
+}
+
 // Where the labels end, behind their last colon.
 fn behind_labels(line: &[u8], code: Part) -> usize
     requires { IsPartOf line.now code }
@@ -126,19 +145,6 @@ fn behind_labels(line: &[u8], code: Part) -> usize
         from = at + 1;
     }
     from
-}
-
-// The names of the labels, up to the last colon.
-pub(crate) fn labels(line: &[u8], code: Part) -> Part
-    requires { IsPartOf line.now code }
-    ensures { LiesIn code result }
-{
-    let end = behind_labels(line, code);
-    let front = Part {
-        from: code.from,
-        to: code.from.max(end.saturating_sub(1)),
-    };
-    trimmed(line, front)
 }
 
 pub(crate) fn statement(line: &[u8], code: Part) -> Part
@@ -160,7 +166,7 @@ pub(crate) fn word(line: &[u8], statement: Part) -> Part
     }
 }
 
-// All operands, or the word where there are none.
+// All operands; where there are none, the place behind the word.
 pub(crate) fn operands(line: &[u8], statement: Part) -> Part
     requires { IsPartOf line.now statement }
     ensures { LiesIn statement result }
@@ -170,6 +176,5 @@ pub(crate) fn operands(line: &[u8], statement: Part) -> Part
         from: word.to,
         to: statement.to,
     };
-    let found = trimmed(line, behind);
-    if found.from == found.to { word } else { found }
+    trimmed(line, behind)
 }

@@ -1,8 +1,8 @@
 //! A line of a listing as it is quoted, with a mark below a part of it.
 ghost use Rattle.std.specs.Prelude.{◌≡◌, ◌≤◌, ◌<◌, ◌++◌, OnOk, flat_map, length};
 ghost use Rattle.text.specs.Name.{is_plain};
-ghost use Rattle.checks.specs.Checks.{IsPartOf};
-ghost use Rattle.checks.specs.Quotes.{cut, digit, number, quote, quoted, three_if, underline, written};
+ghost use Rattle.checks.specs.Parts.{IsPartOf};
+ghost use Rattle.checks.specs.Quotes.{caret, cut, digit, is_in_name, number, quote, quoted, three_if, underline, written};
 
 use super::parts::Part;
 use std::alloc::AllocError;
@@ -10,12 +10,14 @@ use std::alloc::AllocError;
 /// How many bytes of a line are shown at most.
 const MOST_SHOWN: usize = 200;
 
-// What is written for a byte: the byte, or what stands below it before the mark, or in the mark.
+// What is written for a byte: the byte, or what stands below it before the mark, or in the mark; and a byte of a
+// file's name.
 #[derive(Clone, Copy)]
 pub(crate) enum Layer {
     Line,
     Blank,
     Mark,
+    Name,
 }
 
 // A tab, or what can be printed.
@@ -23,6 +25,13 @@ fn is_plain(byte: u8) -> bool
     ensures { result ≡ is_plain byte }
 {
     byte == b'\t' || (0x20 <= byte && byte <= 0x7e)
+}
+
+// What can be printed, and bytes of characters of other scripts, but none that begins a control character.
+fn is_in_name(byte: u8) -> bool
+    ensures { result ≡ is_in_name byte }
+{
+    (0x20 <= byte && byte <= 0x7e) || (0x80 <= byte && byte != 0xc2)
 }
 
 fn digit(n: u8) -> u8
@@ -55,11 +64,14 @@ fn push_byte(text: &mut Vec<u8>, layer: Layer, byte: u8) -> Result<(), AllocErro
         Layer::Blank => text.extend_from_slice(b"    ")?,
         Layer::Mark if plain => text.push(b'^')?,
         Layer::Mark => text.extend_from_slice(b"^^^^")?,
+        Layer::Name if is_in_name(byte) => text.push(byte)?,
+        Layer::Name => push_number(text, byte)?,
     }
     Ok(())
 }
 
-fn push_bytes(text: &mut Vec<u8>, layer: Layer, bytes: &[u8]) -> Result<(), AllocError>
+/// Adds what each byte has on a layer.
+pub(crate) fn push_bytes(text: &mut Vec<u8>, layer: Layer, bytes: &[u8]) -> Result<(), AllocError>
     ensures { OnOk result (text.new.items ≡ text.old.items ++ flat_map (written layer) bytes.now) }
 {
     for byte in bytes {
@@ -103,6 +115,16 @@ fn push_line(text: &mut Vec<u8>, line: &[u8], kept: Part) -> Result<(), AllocErr
     Ok(())
 }
 
+// The mark of a part without bytes, which is the place of something that is missing.
+fn push_caret(text: &mut Vec<u8>, part: Part) -> Result<(), AllocError>
+    ensures { OnOk result (text.new.items ≡ text.old.items ++ caret part) }
+{
+    if part.from == part.to {
+        text.push(b'^')?;
+    }
+    Ok(())
+}
+
 fn push_mark(text: &mut Vec<u8>, line: &[u8], kept: Part, part: Part) -> Result<(), AllocError>
     requires kept { IsPartOf line.now kept }
     requires part { IsPartOf line.now part }
@@ -113,6 +135,7 @@ fn push_mark(text: &mut Vec<u8>, line: &[u8], kept: Part, part: Part) -> Result<
     push_three(text, 0 < kept.from, b' ')?;
     push_bytes(text, Layer::Blank, &line[kept.from..part.from])?;
     push_bytes(text, Layer::Mark, &line[part.from..part.to.min(kept.to)])?;
+    push_caret(text, part)?;
     Ok(())
 }
 

@@ -1,0 +1,85 @@
+//! A listing that is read and not run.
+ghost use Rattle.std.specs.Prelude.{◌≡◌, ◌-◌, ◌^◌, ◌<◌, IfSome, None};
+ghost use Rattle.devices.specs.Counted.{failures_of};
+ghost use Rattle.bench.specs.Answer.{most_taken};
+ghost use Rattle.check.specs.Checked.{IsCheck, IsSomeCheck, told_of_all};
+ghost use Rattle.without_threads.specs.Replies.{HasWritten, IfRefused, IsLeftBy};
+ghost use Rattle.without_threads.specs.Went.{IsOfOneThread, refused};
+ghost use Rattle.without_threads.specs.declared.went.Line.TheVariants.{Nothing};
+
+use bench::MOST_TAKEN;
+use checks::told;
+use devices::{Counted, Reply, Unanswered, reply_to};
+use instructions::Memory;
+use requests::Checked;
+use std::alloc::Global;
+use std::io::{Read, Write};
+use without_threads::{Line, Refusal, Went, refused};
+
+// What answers a listing of this file with what is told of it.
+#[derive(Drop)]
+struct Checking<'a> {
+    file: &'a str,
+    all: bool,
+}
+
+impl Reply for Checking<'_> {
+    type Told = u8;
+
+    type Refusal = Memory;
+
+    ghost most = { most_taken };
+
+    ghost Answers = { λ c input status text. IsCheck c.file.now c.all status input text };
+
+    fn most(&self) -> usize {
+        MOST_TAKEN
+    }
+
+    fn text(self, alloc: Global, bytes: &[u8]) -> Result<(u8, Vec<u8>), Memory> {
+        Ok(told(alloc, self.file, bytes, self.all)?)
+    }
+
+    ghost enough = { λ c input status text is. told_of_all c.file.now c.all input status text is };
+}
+
+/// Reads a listing and runs nothing. For a good one it writes how many instructions, labels and
+/// bytes of data it has, and what is odd in it, and for one with a fault where and what that is, or all of
+/// its faults; the status is 0 or 2.
+/// There is no reader where the file did not open. A failed read or write is not tried again.
+pub fn check<R: Read + Drop, W: Write>(
+    alloc: Global,
+    asked: &Checked<'_>,
+    reader: Option<Counted<R>>,
+    writer: &mut Counted<W>,
+) -> Went
+    requires reader_room { IfSome reader (λ r. failures_of r < 2 ^ 64 - 1) }
+    requires writer_room { failures_of writer.old < 2 ^ 64 - 1 }
+    // Without a reader nothing is read.
+    ensures open { reader ≡ None → result ≡ refused Refusal.Open }
+    // What was written whole is told of the reader's bytes.
+    ensures answer { result.line ≡ Nothing → HasWritten R.remaining W.contents reader
+        writer.old writer.new (IsCheck asked.now.file.now asked.now.all result.status) }
+    ensures line { IsOfOneThread result.line }
+    // A refusal has a status of its own, and blames the writer for one failed call, and only then.
+    ensures refused { IfRefused result.line (λ refusal. result ≡ refused refusal) }
+    ensures left { IfRefused result.line (IsLeftBy R.remaining W.contents reader
+        writer.old writer.new (IsSomeCheck asked.now.file.now asked.now.all)) }
+{
+    let Some(mut reader) = reader else {
+        return refused(Refusal::Open);
+    };
+    let checking = Checking {
+        file: asked.file,
+        all: asked.all,
+    };
+    match reply_to(alloc, &mut reader, writer, checking) {
+        Ok(status) => Went {
+            status,
+            line: Line::Nothing,
+        },
+        Err(Unanswered::Read) => refused(Refusal::Read),
+        Err(Unanswered::Refused(Memory)) => refused(Refusal::Memory),
+        Err(Unanswered::Write) => refused(Refusal::Write),
+    }
+}

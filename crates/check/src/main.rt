@@ -1,0 +1,47 @@
+//! The program `check`, which is `./ruu check FILE`: its words, its file and its standard streams.
+#![tactic(auto)]
+
+mod checking;
+
+use checking::check;
+use devices::{ClosedStreams, Counted};
+use requests::{Checked, checked, is_standard_input, refuse, words};
+use std::fs::File;
+use std::io::Read;
+use std::process::ExitCode;
+use without_threads::end;
+
+fn main(rt: HostRuntime) -> ExitCode {
+    let Ok(_closed) = ClosedStreams::taken(&rt) else {
+        return ExitCode::from(5);
+    };
+    let words = match words(&rt) {
+        Ok(words) => words,
+        Err(no_run) => return refuse(&rt, &no_run),
+    };
+    match checked(rt.alloc(), words.as_slice()) {
+        Ok(asked) => check_file(&rt, &asked),
+        Err(no_run) => refuse(&rt, &no_run),
+    }
+}
+
+// A file that does not open is named with the system's reason.
+fn check_file(rt: &HostRuntime, asked: &Checked<'_>) -> ExitCode {
+    let file = asked.file;
+    if is_standard_input(file) {
+        return check_from(rt, asked, rt.stdin());
+    }
+    match File::open(rt, file) {
+        Ok(listing) => check_from(rt, asked, listing),
+        Err(reason) => {
+            let _ = eprintln!(rt; "ruu: {file}: {reason}");
+            ExitCode::from(5)
+        },
+    }
+}
+
+fn check_from<R: Read + Drop>(rt: &HostRuntime, asked: &Checked<'_>, input: R) -> ExitCode {
+    let reader = Counted::new(input);
+    let mut writer = Counted::new(rt.stdout());
+    end(rt, check(rt.alloc(), asked, Some(reader), &mut writer))
+}

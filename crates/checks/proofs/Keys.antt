@@ -1,0 +1,20 @@
+-- Keys of a map as a list.
+use Rattle.std.proofs.Common.{◌≡◌, ℕ, Bool, true, false, cond, List, [], ◌∷◌, ◌++◌, Option, Some, None, refl, ap, ◌∙◌, sym}
+use Rattle.std.specs.Prelude.{is_some, ◌||◌}
+use Rattle.std.specs.List.{list_any}
+use Rattle.std.specs.Str.{bytes_eq}
+use Rattle.isa.specs.Listing.{stands_in}
+
+-- a key that is put, or one that was there
+pub some_or : (is : Bool) (x : ℕ) (o : Option ℕ) → is_some (cond is (Some x) o) ≡ (is || is_some o)
+some_or true x o = refl
+some_or false x o = refl
+
+or_assoc : (a b c : Bool) → ((a || b) || c) ≡ (a || (b || c))
+or_assoc true b c = refl
+or_assoc false b c = refl
+
+-- a name stands in one of two lists
+pub stands_in_both : (xs ys : List (List ℕ)) (name : List ℕ) → stands_in (xs ++ ys) name ≡ (stands_in xs name || stands_in ys name)
+stands_in_both [] ys name = refl
+stands_in_both (x ∷ xs) ys name = ap (λ b. bytes_eq x name || b) (stands_in_both xs ys name) ∙ sym (or_assoc (bytes_eq x name) (stands_in xs name) (stands_in ys name))

@@ -1,0 +1,23 @@
+-- Warnings, one behind the other.
+use Rattle.std.proofs.Common.{◌≡◌, ◌++◌, ℕ, List, [], ◌∷◌, refl, subst, sym}
+use Rattle.instructions.specs.Programs.{Program}
+use Rattle.checks.specs.Warnings.{Warned, IsWarranted, AreWarnings, AreWarned, warning_text}
+
+-- no warning
+pub none_warned : (file bytes : List ℕ) (P : Program) (text : List ℕ) → AreWarned file bytes P text text
+none_warned file bytes P text = ([], refl)
+
+-- one warning
+pub one_warned : (file bytes : List ℕ) (P : Program) (w : Warned) (old new : List ℕ) → IsWarranted bytes P w
+    → new ≡ old ++ warning_text file w → AreWarned file bytes P old new
+one_warned file bytes P w old new is text = (w ∷ [], (is, text))
+
+joined : (file bytes : List ℕ) (P : Program) (ws vs : List Warned) (old text new : List ℕ) → AreWarnings file bytes P ws old text
+    → AreWarnings file bytes P vs text new → AreWarnings file bytes P (ws ++ vs) old new
+joined file bytes P [] vs old text new first second = subst (λ (t : List ℕ). AreWarnings file bytes P vs t new) first second
+joined file bytes P (w ∷ ws) vs old text new first second = (first.0, joined file bytes P ws vs (old ++ warning_text file w) text new first.1 second)
+
+-- warnings behind warnings
+pub all_warned : (file bytes : List ℕ) (P : Program) (old text new : List ℕ) → AreWarned file bytes P old text
+    → AreWarned file bytes P text new → AreWarned file bytes P old new
+all_warned file bytes P old text new first second = (first.0 ++ second.0, joined file bytes P first.0 second.0 old text new first.1 second.1)

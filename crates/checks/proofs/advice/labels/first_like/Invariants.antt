@@ -1,0 +1,10 @@
+use Rattle.std.proofs.Common.{length}
+use Rattle.std.specs.Option.{option_map}
+use Rattle.text.proofs.Splits.{size_left}
+use Rattle.checks.proofs.advice.labels.first_like.Given as goal
+
+abbrev pub decreases-loop-rest : goal.decreases-loop-rest
+decreases-loop-rest l = size_left (option_map (λ t. t.now) l.rest)
+
+abbrev pub decreases-loop-label : goal.decreases-loop-label
+decreases-loop-label l = length l.code

@@ -1,0 +1,41 @@
+use Rattle.std.proofs.Common.{◌≡◌, ◌<◌, ◌≤◌, length, false, Err, rules}
+use Rattle.isa.specs.Listing.{listing}
+use Rattle.checks.specs.Faults.{IsGood, IsMended, is_line}
+use Rattle.checks.proofs.FaultsFound.{begins, ends_full, ends_good, ends_nowhere, goes_on}
+use Rattle.checks.proofs.faults.faults.Goals as goal
+
+pub faults-init : goal.faults-init
+faults-init c =
+    let same : c.in_ok-text.text.items ≡ c.args.bytes.now = search rules in
+    rw c.new-found.ensures.items (begins c.args.bytes.now c.in_ok-text.text.items same)
+
+pub returns-in-Ok : goal.returns-in-Ok
+returns-in-Ok c =
+    let few : length c.faults.found.items < 200 = search rules in
+    let good : IsGood (listing c.faults.text.items) = (c.in-Ok.field-0, rw c.as_slice.ensures.value at c.in-Ok.ensures.ok) in
+    ends_good c.args.bytes.now c.faults.text.items c.faults.found.items c.faults.invariant few good
+
+pub faults-preserved : goal.faults-preserved
+faults-preserved c =
+    let fault = c.in-Err.fault in
+    let few : length c.faults.found.items < 200 = search rules in
+    let is : listing c.faults.text.items ≡ Err (fault.line, fault.kind) =
+    rw c.as_slice.ensures.value at (c.in-Err.ensures.fault (search rules)) in
+    let mended : IsMended fault.line c.faults.text.items c.in-Some.better.items = search rules in
+    rw c.in_ok-push.ensures.items
+    (goes_on c.args.bytes.now c.faults.text.items c.in-Some.better.items c.faults.found.items fault c.faults.invariant few is mended)
+
+pub returns-in-None : goal.returns-in-None
+returns-in-None c =
+    let fault = c.in-Err.fault in
+    let few : length c.faults.found.items < 200 = search rules in
+    let is : listing c.faults.text.items ≡ Err (fault.line, fault.kind) =
+    rw c.as_slice.ensures.value at (c.in-Err.ensures.fault (search rules)) in
+    let none : is_line fault.line c.faults.text.items ≡ false = search rules in
+    rw c.in_ok-push.ensures.items
+    (ends_nowhere c.args.bytes.now c.faults.text.items c.faults.found.items fault c.faults.invariant few is none)
+
+pub returns : goal.returns
+returns c =
+    let full : 200 ≤ length c.faults.found.items = search rules in
+    ends_full c.args.bytes.now c.faults.text.items c.faults.found.items c.faults.invariant full

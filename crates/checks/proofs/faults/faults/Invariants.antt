@@ -1,0 +1,9 @@
+use Rattle.std.proofs.Common.{◌-◌, length}
+use Rattle.checks.proofs.FaultsFound.{HasFound}
+use Rattle.checks.proofs.faults.faults.Given as goal
+
+abbrev pub invariant-faults : goal.invariant-faults
+invariant-faults l = HasFound l.bytes l.text.items l.found.items
+
+abbrev pub decreases-faults : goal.decreases-faults
+decreases-faults l = 200 - length l.found.items

@@ -1,0 +1,16 @@
+use Rattle.std.proofs.Common.{◌≡◌, ℕ, List, length}
+use Rattle.std.specs.Prelude.{◌||◌}
+use Rattle.std.specs.Option.{option_map}
+use Rattle.text.specs.Operand.{operands_left}
+use Rattle.text.proofs.Splits.{size_left}
+use Rattle.isa.specs.Listing.{stands_in}
+use Rattle.checks.specs.Warnings.{has_key, operands_in}
+use Rattle.checks.proofs.warnings.operands.note_line.Given as goal
+
+abbrev pub invariant-loop-rest : goal.invariant-loop-rest
+invariant-loop-rest l =
+    (name : List ℕ) → (has_key l.operands name || stands_in (operands_left (option_map (λ t. t.now) l.rest)) name)
+    ≡ (has_key l.initial.operands name || stands_in (operands_in l.line) name)
+
+abbrev pub decreases-loop-rest : goal.decreases-loop-rest
+decreases-loop-rest l = size_left (option_map (λ t. t.now) l.rest)

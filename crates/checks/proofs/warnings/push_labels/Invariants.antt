@@ -1,0 +1,13 @@
+use Rattle.std.proofs.Common.{◌-◌}
+use Rattle.checks.specs.Parts.{IsPartOf}
+use Rattle.checks.specs.Warnings.{AreWarned}
+use Rattle.checks.proofs.warnings.push_labels.Given as goal
+
+abbrev pub invariant-loop-name : goal.invariant-loop-name
+invariant-loop-name l = record {
+  part : IsPartOf l.line l.rest;
+  warned : AreWarned l.good.file.now l.good.bytes.now l.good.program.now l.initial.text.items l.text.items;
+}
+
+abbrev pub decreases-loop-name : goal.decreases-loop-name
+decreases-loop-name l = l.rest.to - l.rest.from

@@ -1,0 +1,15 @@
+use Rattle.std.proofs.Common.{◌≡◌, drop}
+use Rattle.std.specs.Option.{option_map}
+use Rattle.text.specs.Line.{lines_of, lines_left}
+use Rattle.text.proofs.Splits.{size_left}
+use Rattle.checks.specs.Warnings.{AreWarned}
+use Rattle.checks.proofs.warnings.push_lines.Given as goal
+
+abbrev pub invariant-loop-rest : goal.invariant-loop-rest
+invariant-loop-rest l = record {
+  rest : lines_left (option_map (λ t. t.now) l.rest) ≡ drop l.number (lines_of l.good.bytes.now);
+  warned : AreWarned l.good.file.now l.good.bytes.now l.good.program.now l.initial.text.items l.text.items;
+}
+
+abbrev pub decreases-loop-rest : goal.decreases-loop-rest
+decreases-loop-rest l = size_left (option_map (λ t. t.now) l.rest)

@@ -1,0 +1,16 @@
+-- One line of a listing, and its word.
+use Rattle.std.specs.Prelude.{ℕ, zero, suc, List, Option, None, slice_get}
+use Rattle.std.specs.List.{before_first}
+use Rattle.text.specs.Blank.{is_blank}
+use Rattle.text.specs.Label.{statement_of}
+use Rattle.text.specs.Line.{before_comment}
+use Rattle.isa.specs.Listing.{Lines}
+
+-- a line by its number, counted from 1
+abbrev pub line_at : ℕ → Lines → Option (List ℕ)
+line_at zero lines = None
+line_at (suc i) lines = slice_get lines i
+
+-- the word of a line's statement
+abbrev pub word_in : List ℕ → List ℕ
+word_in line = before_first is_blank (statement_of (before_comment line))

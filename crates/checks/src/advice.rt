@@ -1,0 +1,66 @@
+//! What helps against a fault, in a sentence or two. Nothing of that is proved but that each byte is shown without harm.
+
+mod characters;
+mod labels;
+mod lists;
+mod operands;
+mod templates;
+mod words;
+
+use super::mending::Labels;
+use super::statements::statement_in;
+use isa::{FaultKind, TextFault};
+use std::alloc::{AllocError, Global};
+use text::before_comment;
+
+// How an executable begins.
+const EXECUTABLE: &[u8] = b"\x7fELF";
+
+/// These texts, one behind the other.
+pub(crate) fn joined(alloc: Global, texts: &[&[u8]]) -> Result<Vec<u8>, AllocError> {
+    let mut all = Vec::new(alloc);
+    for text in texts {
+        all.extend_from_slice(text)?;
+    }
+    Ok(all)
+}
+
+/// Nothing that helps.
+pub(crate) fn nothing(alloc: Global) -> Result<Vec<u8>, AllocError> {
+    Ok(Vec::new(alloc))
+}
+
+// Whether the code has what begins a comment in other languages.
+fn has_other_comment(code: &[u8]) -> bool {
+    (0..code.len()).any(|at| {
+        code.get(at..)
+            .is_some_and(|rest| rest.starts_with(b";") || rest.starts_with(b"//"))
+    })
+}
+
+/// What helps against the fault of a line; no byte where that is not known.
+pub(crate) fn advice(
+    alloc: Global,
+    bytes: &[u8],
+    labels: &Labels<'_>,
+    line: &[u8],
+    fault: TextFault,
+) -> Result<Vec<u8>, AllocError> {
+    let code = before_comment(line);
+    let statement = statement_in(line);
+    match fault.kind {
+        FaultKind::NotAscii if bytes.starts_with(EXECUTABLE) => joined(
+            alloc,
+            &[b"This is an executable: './ruu listing FILE' writes its listing."],
+        ),
+        FaultKind::NotAscii => characters::advice(alloc, code),
+        FaultKind::DoubleLabel => labels::double(alloc, labels, line, fault.line),
+        FaultKind::UnknownLabel => labels::unknown(alloc, bytes, &statement),
+        FaultKind::TooLong | FaultKind::Memory => nothing(alloc),
+        _ if has_other_comment(code) => joined(alloc, &[b"A comment begins with #."]),
+        FaultKind::UnknownOp => words::advice(alloc, code, &statement),
+        FaultKind::BadOperands => operands::of_other_kind(alloc, &statement),
+        FaultKind::BadRegister => operands::bad_register(alloc, &statement),
+        FaultKind::BadNumber => operands::bad_number(alloc, &statement),
+    }
+}

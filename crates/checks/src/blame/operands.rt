@@ -1,0 +1,270 @@
+//! The operand that is of another kind than is due, missing, or one too many.
+ghost use Rattle.std.specs.Prelude.{◌≤◌, ◌<◌, IfSome};
+ghost use Rattle.checks.specs.Parts.{IsPartOf, LiesIn};
+
+use super::super::parts::{Part, find, is_blank, trimmed};
+use isa::{Form, Operands, Slot, directive_text, form_of, forms};
+use text::{begins_number, first_is, is_name};
+
+/// Where the first operand of some ends: at its comma, or at their end.
+pub(crate) fn end_of_first(line: &[u8], operands: Part) -> usize
+    requires { IsPartOf line.now operands }
+    ensures least { operands.from ≤ result }
+    ensures most { result ≤ operands.to }
+{
+    match find(line, operands, b',') {
+        Some(at) => at,
+        None => operands.to,
+    }
+}
+
+/// The last operand, in which a label is due, or most numbers.
+pub(crate) fn last_operand(line: &[u8], operands: Part) -> Part
+    requires { IsPartOf line.now operands }
+    ensures { LiesIn operands result }
+{
+    let to = operands.to;
+    let mut from = operands.from;
+    while let Some(at) = find(line, Part { from, to }, b',') {
+        from = at + 1;
+    }
+    trimmed(line, Part { from, to })
+}
+
+/// Whether the word's last operand is an offset with a register, as its form says.
+pub(crate) fn has_offset(word: &[u8]) -> bool {
+    let has_offset = |form: &Form| matches!(form.operands, Operands::Load | Operands::Store);
+    forms()
+        .iter()
+        .any(|form| form.has_word(word) && has_offset(form))
+}
+
+/// The offset of an operand `offset(register)`: what stands before its first parenthesis.
+pub(crate) fn offset_in(line: &[u8], operand: Part) -> Part
+    requires { IsPartOf line.now operand }
+    ensures { LiesIn operand result }
+{
+    let to = find(line, operand, b'(').unwrap_or(operand.to);
+    let front = Part {
+        from: operand.from,
+        to,
+    };
+    trimmed(line, front)
+}
+
+/// The register of an operand `offset(register)`: what stands behind its first parenthesis, without the
+/// last byte, which is the other one.
+pub(crate) fn register_in(line: &[u8], operand: Part) -> Part
+    requires { IsPartOf line.now operand }
+    ensures { LiesIn operand result }
+{
+    let Some(open) = find(line, operand, b'(') else {
+        return operand;
+    };
+    let from = open + 1;
+    let to = from.max(operand.to - 1);
+    trimmed(line, Part { from, to })
+}
+
+// An offset with a register: the register, or the offset, or all of it where the parentheses are not there.
+fn other_address(line: &[u8], operand: Part) -> Option<Part>
+    requires { IsPartOf line.now operand }
+    ensures { IfSome result (LiesIn operand) }
+{
+    let is_whole = line[operand.from..operand.to].ends_with(b")");
+    if !is_whole || find(line, operand, b'(').is_none() {
+        return Some(operand);
+    }
+    let offset = offset_in(line, operand);
+    let front = &line[offset.from..offset.to];
+    if !front.is_empty() && !begins_number(front) {
+        return Some(offset);
+    }
+    let register = register_in(line, operand);
+    if first_is(&line[register.from..register.to], b'$') {
+        None
+    } else {
+        Some(register)
+    }
+}
+
+// The part of an operand that is of another kind than is due there.
+fn other_kind(line: &[u8], slot: Slot, operand: Part) -> Option<Part>
+    requires { IsPartOf line.now operand }
+    ensures { IfSome result (LiesIn operand) }
+{
+    let text = &line[operand.from..operand.to];
+    let is_right = match slot {
+        Slot::Into | Slot::First | Slot::Second => first_is(text, b'$'),
+        Slot::S16 | Slot::U16 | Slot::U5 => begins_number(text),
+        Slot::Label => is_name(text),
+        Slot::Offset => return other_address(line, operand),
+    };
+    if is_right { None } else { Some(operand) }
+}
+
+// The first operand, and the operands behind its comma, if it has one.
+fn next_operand(line: &[u8], operands: Part) -> (Part, Option<Part>)
+    requires { IsPartOf line.now operands }
+    ensures first { LiesIn operands result.0 }
+    ensures rest { IfSome result.1 (λ rest. LiesIn operands rest) }
+    ensures shorter { IfSome result.1 (λ rest. operands.from < rest.from) }
+{
+    let to = operands.to;
+    let end = end_of_first(line, operands);
+    let first = Part {
+        from: operands.from,
+        to: end,
+    };
+    let rest = if end < to {
+        Some(Part { from: end + 1, to })
+    } else {
+        None
+    };
+    (trimmed(line, first), rest)
+}
+
+// The first part of operands that is of another kind than is due there; all of them where that is not found.
+fn first_of_other_kind(line: &[u8], operands: Part, slots: &[Slot]) -> Part
+    requires { IsPartOf line.now operands }
+    ensures { LiesIn operands result }
+{
+    let mut rest = Some(operands);
+    for slot in slots {
+        let Some(part) = rest else {
+            break;
+        };
+        let (operand, behind) = next_operand(line, part);
+        if let Some(other) = other_kind(line, *slot, operand) {
+            return other;
+        }
+        rest = behind;
+    }
+    operands
+}
+
+// The first operand of a directive that is no number; all of them where that is not found.
+fn no_number(line: &[u8], operands: Part) -> Part
+    requires { IsPartOf line.now operands }
+    ensures { LiesIn operands result }
+{
+    let mut rest = Some(operands);
+    while let Some(part) = rest {
+        let (operand, behind) = next_operand(line, part);
+        if !begins_number(&line[operand.from..operand.to]) {
+            return operand;
+        }
+        rest = behind;
+    }
+    operands
+}
+
+// The second of two words that stand in an operand without a comma between them.
+fn second_word(line: &[u8], operand: Part) -> Option<Part>
+    requires { IsPartOf line.now operand }
+    ensures { IfSome result (LiesIn operand) }
+{
+    for at in operand.from..operand.to {
+        if is_blank(line[at]) {
+            let to = operand.to;
+            let behind = trimmed(line, Part { from: at, to });
+            let is_in_address = find(line, operand, b'(').is_some_and(|open| open <= behind.from);
+            if !is_in_address {
+                return Some(behind);
+            }
+        }
+    }
+    None
+}
+
+// The second of two operands between which there is no comma, if there are such.
+fn without_comma(line: &[u8], operands: Part) -> Option<Part>
+    requires { IsPartOf line.now operands }
+    ensures { IfSome result (LiesIn operands) }
+{
+    let mut rest = Some(operands);
+    while let Some(part) = rest {
+        let (operand, behind) = next_operand(line, part);
+        if let Some(second) = second_word(line, operand) {
+            return Some(second);
+        }
+        rest = behind;
+    }
+    None
+}
+
+// The operands from one on, counted from 0, if it is there.
+fn from_operand(line: &[u8], operands: Part, number: usize) -> Option<Part>
+    requires { IsPartOf line.now operands }
+    ensures { IfSome result (LiesIn operands) }
+{
+    let to = operands.to;
+    let mut from = operands.from;
+    for _ in 0..number {
+        from = find(line, Part { from, to }, b',')? + 1;
+    }
+    Some(trimmed(line, Part { from, to }))
+}
+
+// How many operands there are: one more than commas, where there is anything.
+fn how_many(line: &[u8], operands: Part) -> usize
+    requires { IsPartOf line.now operands }
+{
+    let text = &line[operands.from..operands.to];
+    if text.is_empty() {
+        return 0;
+    }
+    text.iter()
+        .filter(|byte| **byte == b',')
+        .count()
+        .wrapping_add(1)
+}
+
+// The most operands that a form of the word has.
+fn most_operands(word: &[u8]) -> usize {
+    let mut most = 0;
+    for form in forms() {
+        if form.has_word(word) {
+            most = form.operands.slots().len().max(most);
+        }
+    }
+    most
+}
+
+// What is missing or too many, where no form has so many operands.
+fn other_count(line: &[u8], operands: Part, most: usize) -> Part
+    requires { IsPartOf line.now operands }
+    ensures { LiesIn operands result }
+{
+    if let Some(second) = without_comma(line, operands) {
+        return second;
+    }
+    match from_operand(line, operands, most) {
+        Some(more) if more.from < more.to => more,
+        _ => Part {
+            from: operands.to,
+            to: operands.to,
+        },
+    }
+}
+
+/// The operand that is of another kind than is due, or one too many, or the place of one that is missing.
+pub(crate) fn bad_operands(line: &[u8], word: Part, operands: Part) -> Part
+    requires word { IsPartOf line.now word }
+    requires operands { IsPartOf line.now operands }
+    ensures { LiesIn operands result }
+{
+    let text = &line[word.from..word.to];
+    let count = how_many(line, operands);
+    if directive_text(text).is_some() {
+        let is_space = text.eq_ignore_ascii_case(b".space");
+        if count == 0 || (is_space && count > 1) {
+            return other_count(line, operands, 1);
+        }
+        return no_number(line, operands);
+    }
+    match form_of(text, count) {
+        Ok(form) => first_of_other_kind(line, operands, form.operands.slots()),
+        Err(_) => other_count(line, operands, most_operands(text)),
+    }
+}

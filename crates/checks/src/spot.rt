@@ -1,0 +1,56 @@
+//! The place of what is told, in the form to which editors jump, and the line with its mark.
+ghost use Rattle.std.specs.Prelude.{◌≡◌, ◌++◌, OnOk};
+ghost use Rattle.checks.specs.Parts.{IsPartOf};
+ghost use Rattle.checks.specs.Spots.{place, spot_text};
+
+use super::parts::Part;
+use super::quoting::{Layer, push_bytes, push_quote};
+use std::alloc::{AllocError, Global};
+
+/// A line of a listing by its number, with the file that has it.
+#[derive(Clone, Copy)]
+pub(crate) struct Spot<'a> {
+    pub file: &'a [u8],
+    pub number: u64,
+    pub line: &'a [u8],
+}
+
+// `FILE:LINE:COLUMN: `, each counted from 1.
+fn push_place(
+    alloc: Global,
+    text: &mut Vec<u8>,
+    spot: Spot<'_>,
+    part: Part,
+) -> Result<(), AllocError>
+    requires { IsPartOf spot.line.now part }
+    ensures { OnOk result (text.new.items
+        ≡ text.old.items ++ place spot.entry.file.now spot.entry.number part.from) }
+{
+    let number = spot.number;
+    let column = part.from + 1;
+    push_bytes(text, Layer::Name, spot.file)?;
+    let there = format!(in alloc; ":{number}:{column}: ")?;
+    text.extend_from_slice(there.as_bytes())?;
+    Ok(())
+}
+
+/// Adds the place of a part, how grave it is, what is said of it, and the line with a mark under the part.
+pub(crate) fn push_spot(
+    alloc: Global,
+    text: &mut Vec<u8>,
+    spot: Spot<'_>,
+    part: Part,
+    grade: &str,
+    said: &str,
+) -> Result<(), AllocError>
+    requires { IsPartOf spot.line.now part }
+    ensures { OnOk result (text.new.items ≡ text.old.items
+        ++ spot_text spot.entry.file.now spot.entry.number spot.entry.line.now part grade.now said.now) }
+{
+    push_place(alloc, text, spot, part)?;
+    text.extend_from_slice(grade.as_bytes())?;
+    text.extend_from_slice(said.as_bytes())?;
+    text.push(b'\n')?;
+    push_quote(text, spot.line, part)?;
+    Ok(())
+}

@@ -1,0 +1,235 @@
+//! What is odd in a listing without a fault.
+ghost use Rattle.std.specs.Prelude.{◌≡◌, ◌<◌, length, IfOk, OnOk, Some, slice_get, true};
+ghost use Rattle.text.specs.Line.{lines_of};
+ghost use Rattle.isa.specs.Listing.{instruction_lines};
+ghost use Rattle.checks.specs.Lines.{line_at};
+ghost use Rattle.checks.specs.Parts.{IsPartOf};
+ghost use Rattle.checks.specs.Reach.{IsClosed, may_leave};
+ghost use Rattle.checks.specs.Warnings.{AreOperandsOf, AreWarned, IsRight, StandsOn, said};
+
+mod operands;
+
+use super::parts::{Part, code, label_at, statement};
+use super::reach::{ends_path, has_target, is_closed, reached};
+use super::spot::{Spot, push_spot};
+use instructions::Program;
+use operands::{Operands, is_operand, operands_of};
+use std::alloc::{AllocError, Global};
+use text::next_line;
+
+// What stands before what is said.
+const WARNING: &str = "warning: ";
+
+/// What is odd.
+#[derive(Clone, Copy)]
+pub(crate) enum Warning {
+    NeverUsed,
+    Unreached,
+    PastEnd,
+}
+
+impl Warning {
+    fn said(self) -> &'static str
+        ensures { result.now ≡ said self }
+    {
+        match self {
+            Warning::NeverUsed => "No instruction names this label.",
+            Warning::Unreached => "No path reaches this instruction.",
+            Warning::PastEnd => "A run can go on behind the last instruction: break ends it.",
+        }
+    }
+}
+
+/// A listing without a fault, its program with the line of each instruction, and which of them are reached; where
+/// these are all, that is known.
+#[derive(Clone, Copy)]
+pub(crate) struct Good<'a> {
+    pub file: &'a [u8],
+    pub bytes: &'a [u8],
+    pub program: &'a Program,
+    pub lines: &'a [u64],
+    pub reached: &'a [bool],
+    pub is_closed: bool,
+}
+
+// Whether instruction k may lead behind the last one.
+fn may_leave(program: &Program, k: usize) -> bool
+    requires { k < length program.now.code }
+    ensures { result ≡ may_leave program.now k }
+{
+    let instr = program.instr(k);
+    let end = Program::START + 4 * program.len() as u32;
+    let goes_on = !ends_path(instr) && k + 1 == program.len();
+    let jumps = has_target(instr) && instr.number == end;
+    goes_on || jumps
+}
+
+fn push_warning(
+    alloc: Global,
+    text: &mut Vec<u8>,
+    good: &Good<'_>,
+    spot: Spot<'_>,
+    part: Part,
+    warning: Warning,
+) -> Result<(), AllocError>
+    requires file { spot.file.now ≡ good.now.file.now }
+    requires line { line_at spot.number (lines_of good.now.bytes.now) ≡ Some spot.line.now }
+    requires part { IsPartOf spot.line.now part }
+    requires right { IsRight good.now.bytes.now good.now.program.now spot.number spot.line.now part warning }
+    ensures { OnOk result (AreWarned good.now.file.now good.now.bytes.now good.now.program.now
+        text.old.items text.new.items) }
+{
+    push_spot(alloc, text, spot, part, WARNING, warning.said())?;
+    Ok(())
+}
+
+// Warns of the labels of a line that no instruction names, unless the first instruction is behind them, where they may
+// name the beginning for a reader.
+fn push_labels(
+    alloc: Global,
+    text: &mut Vec<u8>,
+    good: &Good<'_>,
+    operands: &Operands<'_>,
+    spot: Spot<'_>,
+    k: usize,
+) -> Result<(), AllocError>
+    requires file { spot.file.now ≡ good.now.file.now }
+    requires line { line_at spot.number (lines_of good.now.bytes.now) ≡ Some spot.line.now }
+    requires operands { AreOperandsOf (lines_of good.now.bytes.now) operands.now }
+    ensures { OnOk result (AreWarned good.now.file.now good.now.bytes.now good.now.program.now
+        text.old.items text.new.items) }
+{
+    if k == 0 {
+        return Ok(());
+    }
+    let line = spot.line;
+    let mut rest = code(line);
+    while let Some((name, behind)) = label_at(line, rest) {
+        if !is_operand(operands, &line[name.from..name.to]) {
+            push_warning(alloc, text, good, spot, name, Warning::NeverUsed)?;
+        }
+        rest = behind;
+    }
+    Ok(())
+}
+
+// Warns of an instruction that is the first of some that no path reaches, or that may lead behind the last one.
+fn push_instruction(
+    alloc: Global,
+    text: &mut Vec<u8>,
+    good: &Good<'_>,
+    spot: Spot<'_>,
+    k: usize,
+) -> Result<(), AllocError>
+    requires file { spot.file.now ≡ good.now.file.now }
+    requires line { line_at spot.number (lines_of good.now.bytes.now) ≡ Some spot.line.now }
+    requires inside { k < length good.now.program.now.code }
+    requires size { length good.now.reached.now ≡ length good.now.program.now.code }
+    requires closed { good.now.is_closed ≡ true → IsClosed good.now.program.now good.now.reached.now }
+    requires stands { StandsOn good.now.bytes.now k spot.number }
+    ensures { OnOk result (AreWarned good.now.file.now good.now.bytes.now good.now.program.now
+        text.old.items text.new.items) }
+{
+    let part = statement(spot.line, code(spot.line));
+    if good.reached[k] {
+        if may_leave(good.program, k) {
+            push_warning(alloc, text, good, spot, part, Warning::PastEnd)?;
+        }
+        return Ok(());
+    }
+    let is_first = k == 0 || good.reached[k - 1];
+    if good.is_closed && is_first {
+        push_warning(alloc, text, good, spot, part, Warning::Unreached)?;
+    }
+    Ok(())
+}
+
+// Whether instruction k stands on a line, by the lines of all.
+fn stands_on(lines: &[u64], k: usize, number: u64) -> bool
+    ensures { result ≡ true → slice_get lines.now k ≡ Some number }
+{
+    match lines.get(k) {
+        Some(line) => *line == number,
+        None => false,
+    }
+}
+
+// Warns of instruction k, if it stands on this line. The answer is the number of the first one behind the line.
+fn push_numbered(
+    alloc: Global,
+    text: &mut Vec<u8>,
+    good: &Good<'_>,
+    spot: Spot<'_>,
+    k: usize,
+) -> Result<usize, AllocError>
+    requires file { spot.file.now ≡ good.now.file.now }
+    requires line { line_at spot.number (lines_of good.now.bytes.now) ≡ Some spot.line.now }
+    requires lines { good.now.lines.now ≡ instruction_lines good.now.bytes.now }
+    requires size { length good.now.reached.now ≡ length good.now.program.now.code }
+    requires closed { good.now.is_closed ≡ true → IsClosed good.now.program.now good.now.reached.now }
+    ensures { IfOk result (λ _. AreWarned good.now.file.now good.now.bytes.now good.now.program.now
+        text.old.items text.new.items) }
+{
+    let stands = stands_on(good.lines, k, spot.number);
+    if stands && k < good.program.len() {
+        push_instruction(alloc, text, good, spot, k)?;
+        return Ok(k + 1);
+    }
+    Ok(k)
+}
+
+// Warns line by line.
+fn push_lines(
+    alloc: Global,
+    text: &mut Vec<u8>,
+    good: &Good<'_>,
+    operands: &Operands<'_>,
+) -> Result<(), AllocError>
+    requires operands { AreOperandsOf (lines_of good.now.bytes.now) operands.now }
+    requires lines { good.now.lines.now ≡ instruction_lines good.now.bytes.now }
+    requires size { length good.now.reached.now ≡ length good.now.program.now.code }
+    requires closed { good.now.is_closed ≡ true → IsClosed good.now.program.now good.now.reached.now }
+    ensures { OnOk result (AreWarned good.now.file.now good.now.bytes.now good.now.program.now
+        text.old.items text.new.items) }
+{
+    let file = good.file;
+    let mut k = 0;
+    let mut number = 0u64;
+    let mut rest = Some(good.bytes);
+    while let Some(bytes) = rest {
+        let (line, after) = next_line(bytes);
+        number += 1;
+        let spot = Spot { file, number, line };
+        push_labels(alloc, text, good, operands, spot, k)?;
+        k = push_numbered(alloc, text, good, spot, k)?;
+        rest = after;
+    }
+    Ok(())
+}
+
+/// Warns of labels that no instruction names, of instructions that no path reaches, and of those from which a run
+/// can go on behind the last one, in the order of their lines.
+pub(crate) fn push_warnings(
+    alloc: Global,
+    text: &mut Vec<u8>,
+    file: &[u8],
+    bytes: &[u8],
+    program: &Program,
+    lines: &[u64],
+) -> Result<(), AllocError>
+    requires { lines.now ≡ instruction_lines bytes.now }
+    ensures { OnOk result (AreWarned file.now bytes.now program.now text.old.items text.new.items) }
+{
+    let operands = operands_of(alloc, bytes)?;
+    let reached = reached(alloc, program)?;
+    let reached = reached.as_slice();
+    let good = Good {
+        file,
+        bytes,
+        program,
+        lines,
+        reached,
+        is_closed: is_closed(program, reached),
+    };
+    push_lines(alloc, text, &good, &operands)
+}

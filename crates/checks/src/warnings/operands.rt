@@ -1,0 +1,58 @@
+//! The operands of a listing, among which one is found by its bytes.
+ghost use Rattle.std.specs.Prelude.{◌≡◌, ◌||◌, ℕ, List, IfOk, OnOk};
+ghost use Rattle.std.specs.Str.{bytes_eq};
+ghost use Rattle.text.specs.Line.{lines_of};
+ghost use Rattle.isa.specs.Listing.{stands_in};
+ghost use Rattle.checks.specs.Warnings.{AreOperandsOf, has_key, operands_in};
+
+use super::super::lines::statement;
+use std::alloc::{AllocError, Global};
+use std::collections::BTreeMap;
+use text::{before_comment, cut_word, next_line, next_operand, operand_part};
+
+/// Operands, in the order of their bytes.
+pub(crate) type Operands<'a> = BTreeMap<&'a [u8], u8>;
+
+fn note<'a>(operands: &mut Operands<'a>, operand: &'a [u8]) -> Result<(), AllocError>
+    ensures { OnOk result ((name : List ℕ)
+        → has_key operands.new name ≡ (bytes_eq operand.now name || has_key operands.old name)) }
+{
+    operands.insert(operand, 0)?;
+    Ok(())
+}
+
+// Notes the operands of a line.
+fn note_line<'a>(operands: &mut Operands<'a>, line: &'a [u8]) -> Result<(), AllocError>
+    ensures { OnOk result ((name : List ℕ) → has_key operands.new name
+        ≡ (has_key operands.old name || stands_in (operands_in line.now) name)) }
+{
+    let (_, behind) = cut_word(statement(before_comment(line)));
+    let mut rest = operand_part(behind);
+    while let Some(text) = rest {
+        let (operand, after) = next_operand(text);
+        note(operands, operand)?;
+        rest = after;
+    }
+    Ok(())
+}
+
+/// All operands of a listing.
+pub(crate) fn operands_of(alloc: Global, bytes: &[u8]) -> Result<Operands<'_>, AllocError>
+    ensures { IfOk result (AreOperandsOf (lines_of bytes.now)) }
+{
+    let mut operands = BTreeMap::new(alloc);
+    let mut rest = Some(bytes);
+    while let Some(text) = rest {
+        let (line, after) = next_line(text);
+        note_line(&mut operands, line)?;
+        rest = after;
+    }
+    Ok(operands)
+}
+
+/// Whether this is one of the operands.
+pub(crate) fn is_operand(operands: &Operands<'_>, name: &[u8]) -> bool
+    ensures { result ≡ has_key operands.now name.now }
+{
+    operands.get(name).is_some()
+}

@@ -1,0 +1,1 @@
+x:	jr	$ra , $t0,$t1	# three
