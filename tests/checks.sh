@@ -6,12 +6,12 @@
 . "$(dirname "$0")/common.bash"
 build_refuse
 build run ruu
-build run check
+build run checker
 build run alone
 build run driver
 build run listing
 ruu=crates/ruu/out/ruu
-check=crates/check/out/check
+check=crates/checker/out/checker
 
 is_told() { # name, what is told, status, standard error
   [ "$status" -eq "$3" ] || fail "$1: status $status, and not $3"
@@ -140,7 +140,7 @@ done
 
 # each word has its help and the version
 "$ruu" --version > "$work/version" || fail 'ruu --version'
-for words in 'ruu run' 'check check' 'driver drive' listing; do
+for words in 'ruu run' 'checker check' 'driver drive' listing; do
   read -r program word <<< "$words"
   # shellcheck disable=SC2086
   for option in --version -V; do

@@ -7,10 +7,10 @@
 build run alone
 build run ruu
 build run viewer
-build run check
+build run checker
 ruu=crates/ruu/out/ruu
 viewer=crates/viewer/out/viewer
-check=crates/check/out/check
+check=crates/checker/out/checker
 
 # Runs a listing in each way, which has to end with this status and write just this file.
 ends() { # listing, status, file

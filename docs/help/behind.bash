@@ -1,6 +1,6 @@
 # Runs a listing on a terminal, and tells on standard error, behind the report, which line of the listing has the fault, or the
 # instruction at which the run stopped, unless that is a `break`. The script `ruu` reads this file for a run; the bytes of the
-# report are those of the program. Nothing is proved for it: a fault is told by the program `check` where that is built.
+# report are those of the program. Nothing is proved for it: a fault is told by the program `checker` where that is built.
 # shellcheck disable=SC2154
 
 # The name of the listing, which is the first word of the run that is a file.
@@ -44,7 +44,7 @@ status=${PIPESTATUS[0]}
 case $ending in
     'fault line 0 '*) ;;
     'fault line '*)
-        check=$here/crates/check/out/check
+        check=$here/crates/checker/out/checker
         if [ -x "$check" ]; then
             (exec -a ruu "$check" check "$file") | tail -n +2 >&2
         else

@@ -1,4 +1,4 @@
-//! The program `check`, which is `./ruu check FILE`: its words, its file and its standard streams.
+//! The program `checker`, which is `./ruu check FILE`: its words, its file and its standard streams.
 #![tactic(auto)]
 
 mod checking;

@@ -2,7 +2,7 @@
 ghost use Rattle.std.specs.Prelude.{◌≡◌, ◌-◌, ◌^◌, ◌<◌, IfSome, None};
 ghost use Rattle.devices.specs.Counted.{failures_of};
 ghost use Rattle.bench.specs.Answer.{most_taken};
-ghost use Rattle.check.specs.Checked.{IsCheck, IsSomeCheck, told_of_all};
+ghost use Rattle.checker.specs.Checked.{IsCheck, IsSomeCheck, told_of_all};
 ghost use Rattle.without_threads.specs.Replies.{HasWritten, IfRefused, IsLeftBy};
 ghost use Rattle.without_threads.specs.Went.{IsOfOneThread, refused};
 ghost use Rattle.without_threads.specs.declared.went.Line.TheVariants.{Nothing};
