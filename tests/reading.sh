@@ -6,10 +6,8 @@
 . "$(dirname "$0")/common.bash"
 build run alone
 build run ruu
-build run viewer
 build run checker
 ruu=crates/ruu/out/ruu
-viewer=crates/viewer/out/viewer
 check=crates/checker/out/checker
 
 # Runs a listing in each way, which has to end with this status and write just this file.

@@ -3,7 +3,7 @@
 # of the programs; and how the work is told and foreseen, with a kit that proves nothing. With the word `renew` those texts are
 # written anew from the programs.
 . "$(dirname "$0")/common.bash"
-programs=(ruu check chart commits driver listing)
+programs=(ruu checker chart commits driver listing)
 words=(run check chart commits drive listing)
 for program in "${programs[@]}"; do
   build run "$program"
@@ -13,6 +13,7 @@ done
 start_by() { # word
   case $1 in
     run) program=$PWD/crates/ruu/out/ruu ;;
+    check) program=$PWD/crates/checker/out/checker ;;
     drive) program=$PWD/crates/driver/out/driver ;;
     *) program=$PWD/crates/$1/out/$1 ;;
   esac
