@@ -10,6 +10,6 @@ loop-number-preserved g c =
     let told = c.push_line.new in
     let named = subst (λ x. IfSome x (λ line. IsNamed at.chooser chosen.chooser (string_bytes line))) c.in-Some.is c.in_ok-line.ensures.named in
     let written = subst (λ (line : List ℕ). IsWrittenBehind chosen.session told.session (at.number + 1) line at.out.items told.out.items)
-        (c.as_bytes-bytes.ensures.value ∙ c.as_str.ensures.value) c.in_ok-push_line-in-Some.ensures in
+    (c.as_bytes-bytes.ensures.value ∙ c.as_str.ensures.value) c.in_ok-push_line-in-Some.ensures in
     one_more_played c.args.chooser.now at.chooser chosen.chooser c.args.session.now at.session chosen.session told.session at.number
     (string_bytes c.in-Some.line) at.out.items told.out.items at.invariant c.in_ok-line.ensures.looks named written
