@@ -54,15 +54,19 @@ class Teller:
         return f"`{label}`" if label else f"line {line}" if line else f"`0x{pc:08x}`, where no instruction is"
 
     def woken(self, step):
-        """What becomes of those that had waited for a value."""
-        rest = {station: awaited(step["stations"][station]) for station in step["woke"]}
-        ready = [station for station in step["woke"] if not rest[station]]
+        """What becomes of those that had waited for a value. A value also reaches a station whose instruction was squashed."""
+        here = [station for station in step["woke"] if station in step["stations"]]
+        gone = [station for station in step["woke"] if station not in step["stations"]]
+        rest = {station: awaited(step["stations"][station]) for station in here}
+        ready = [station for station in here if not rest[station]]
         words = ""
         if ready:
             words += f" {stations(ready).capitalize()} had waited for that, and {'has' if len(ready) == 1 else 'have'} all operands now."
-        for station in step["woke"]:
+        for station in here:
             if rest[station]:
                 words += f" Station {station} had waited for that, and still needs {stations(rest[station])}."
+        if gone:
+            words += f" It comes too late for {stations(gone)}, whose instruction was squashed."
         return words
 
     def start(self, _step, _before):

@@ -133,7 +133,7 @@ def check_links(step, where):
 def check_event(step, answer, where):
     """What the command itself told: the step's own line, whom it woke, where a load got its value."""
     same(f"{where}: answer", step["answer"], answer)
-    woke = [int(it) for it in answer.split(" woke ")[1].split(" ")] if " woke " in answer else []
+    woke = [int(it) for it in answer.split(" woke ")[1].split(" ") if it in step["stations"]] if " woke " in answer else []
     same(f"{where}: woken", sorted({it["to"] for it in step.get("sent", [])}), sorted(woke))
     for it in step.get("sent", []):
         same(f"{where}: the value that went", it["value"], after("value", answer))
@@ -263,8 +263,9 @@ def check_seen(page, told, seen, listing):
         for number, card in enumerate(view["cards"]):
             check_card(page, step, number, state, card, lines, where)
         curves = sorted([link["from"], link["to"]] for link in view["links"] if link["kind"] == "wait")
+        used = [number for number in range(page["ring"]) if after("state", state[f"look {number}"][0]) != "FREE"]
         wanted = {(number, after("for station", state[f"operand {number} {k}"][0]))
-                  for number in range(page["ring"]) for k in (1, 2) if " WAIT " in state[f"operand {number} {k}"][0]}
+                  for number in used for k in (1, 2) if " WAIT " in state[f"operand {number} {k}"][0]}
         same(f"{where}: curves", curves, sorted([list(it) for it in wanted]))
         registers = {name: value for name, value in view["registers"] if value != "0"}
         report = [line.split(" ") for line in state["report"] if re.match(r"r\d|lo|hi", line)]

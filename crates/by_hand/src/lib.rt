@@ -4,5 +4,5 @@
 mod hand;
 
 pub use hand::go_by_hand;
-pub use requests::{ByHand, driven};
+pub use requests::ByHand;
 pub use without_threads::{Line, Refusal, Went, end, refused};

@@ -3,10 +3,10 @@
 
 mod driving;
 
-use by_hand::{driven, end};
+use by_hand::end;
 use devices::ClosedStreams;
 use driving::drive;
-use requests::{refuse, words};
+use requests::{driven, refuse, words};
 use std::process::ExitCode;
 
 fn main(rt: HostRuntime) -> ExitCode {

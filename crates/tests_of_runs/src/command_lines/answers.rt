@@ -1,11 +1,12 @@
 //! Command lines that are answered by a text, and those of checks.
+use super::refusal;
 use requests::*;
 use std::alloc::Global;
 use std::process::Abort;
 
-// These words are answered by help or a version with each of these parts.
-fn shows(rt: &impl Abort, alloc: Global, words: &[&str], parts: &[&str]) {
-    let Err(NoRun::Help(text)) = requested(alloc, words) else {
+// The program of a word answers these words by help or a version with each of these parts.
+fn shows(rt: &impl Abort, alloc: Global, word: &str, words: &[&str], parts: &[&str]) {
+    let Some(NoRun::Help(text)) = refusal(alloc, word, words) else {
         assert!(rt; false, "{words:?}");
         return;
     };
@@ -17,44 +18,40 @@ fn shows(rt: &impl Abort, alloc: Global, words: &[&str], parts: &[&str]) {
 
 #[test]
 fn help_and_the_version_are_shown(rt: HostRuntime) {
-    let cases: [(&[&str], &[&str]); 12] = [
-        (&["ruu", "run", "--help"], &HELP),
-        (&["ruu", "help", "run"], &HELP),
-        (&["ruu", "--help"], &[]),
-        (&["ruu", "help"], &[]),
-        (&["ruu", "-h"], &[]),
-        (&["ruu", "help", "check"], &[]),
-        (&["ruu", "check", "--help"], &[]),
-        (&["ruu", "--version"], &["ruu 0.1.0\nrattle-kit-"]),
-        (&["ruu", "-V"], &["ruu 0.1.0\nrattle-kit-"]),
-        (&["ruu", "run", "--version"], &["ruu 0.1.0\nrattle-kit-"]),
-        (&["ruu", "check", "-V"], &["ruu 0.1.0\nrattle-kit-"]),
-        (&["ruu", "drive", "--version"], &["ruu 0.1.0\nrattle-kit-"]),
-    ];
-    for (words, parts) in cases {
-        shows(&rt, rt.alloc(), words, parts);
+    shows(&rt, rt.alloc(), "run", &["ruu", "run", "--help"], &HELP);
+    for word in ["run", "chart", "commits", "check", "drive"] {
+        shows(&rt, rt.alloc(), word, &["ruu", word, "--help"], &[]);
+        shows(&rt, rt.alloc(), word, &["ruu", "help", word], &[]);
+        shows(&rt, rt.alloc(), word, &["ruu", "help"], &[word]);
+        shows(&rt, rt.alloc(), word, &["ruu", word, "-V"], &VERSION);
+        shows(&rt, rt.alloc(), word, &["ruu", "--version"], &VERSION);
     }
 }
 
+const VERSION: [&str; 1] = ["ruu 0.1.0\nrattle-kit-"];
+
 #[test]
 fn a_check_is_told_from_a_run(rt: HostRuntime) {
-    let check = ["ruu", "check", "sum.s"];
-    let Ok(Request::Check(file)) = requested(rt.alloc(), check.as_slice()) else {
-        assert!(rt; false, "a check was asked for");
-        return;
-    };
-    assert!(rt; file == "sum.s");
-    let no_run = asked(rt.alloc(), check.as_slice()).err();
-    assert!(rt; no_run.is_some_and(|e| matches!(e, NoRun::Usage(_))));
-    let run = ["ruu", "run", "-", "--limit", "7"];
-    let Ok(Request::Run(asked)) = requested(rt.alloc(), run.as_slice()) else {
-        assert!(rt; false, "a run was asked for");
-        return;
-    };
-    assert!(rt; is_standard_input(asked.file) && asked.config.limit() == 7);
+    for (words, all) in [
+        (["ruu", "check", "sum.s", "--"], false),
+        (["ruu", "check", "sum.s", "--all"], true),
+    ] {
+        match checked(rt.alloc(), words.as_slice()) {
+            Ok(checked) => {
+                assert!(rt; checked.file == "sum.s" && checked.all == all, "{words:?}")
+            },
+            Err(_no_run) => assert!(rt; false, "{words:?}"),
+        }
+        let no_run = asked(rt.alloc(), words.as_slice()).err();
+        assert!(rt;
+            no_run.is_some_and(|e| matches!(e, NoRun::Usage(_))),
+            "{words:?}"
+        );
+    }
     for file in ["", "./-", "--", "sum.s"] {
         assert!(rt; !is_standard_input(file), "{file}");
     }
+    assert!(rt; is_standard_input("-"));
 }
 
 /// A line of the help for each option, with its range and its default.
@@ -68,6 +65,6 @@ const HELP: [&str; 11] = [
     "--limit <N>     Instructions to run at most: 0 to 4294967295 [default: 1000000]\n",
     "--alone         Run the unit on one thread\n",
     "--progress      Tell on standard error how far the threads are\n",
-    "--chart         Draw behind the report what became of each tenant; needs --alone\n",
-    "--trace <FILE>  Write each turn to a log for the pipeline viewer Konata; needs --alone\n",
+    "--seed <N>      Choose each turn by this seed: 0 to 18446744073709551615; needs --alone\n",
+    "--shake <N>     Hold units back by this seed: 0 to 18446744073709551615; not with --alone\n",
 ];

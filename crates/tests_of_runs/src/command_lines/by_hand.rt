@@ -16,28 +16,22 @@ const WORDS: [&str; 8] = [
 ];
 
 fn is_usage(alloc: Global, words: &[&str]) -> bool {
-    matches!(requested(alloc, words), Err(NoRun::Usage(_)))
+    matches!(driven(alloc, words), Err(NoRun::Usage(_)))
 }
 
 #[test]
 fn a_command_line_asks_for_a_unit_to_drive(rt: HostRuntime) -> Result<(), Fail> {
     let words = WORDS;
-    let Ok(request) = requested(rt.alloc(), words.as_slice()) else {
-        return Err(Fail::new("there is no request"));
-    };
-    let Request::Drive(hand) = request else {
+    let Ok(hand) = driven(rt.alloc(), words.as_slice()) else {
         return Err(Fail::new("there is nothing to drive"));
     };
     same(&rt, &hand.file, &"double.s");
     same(&rt, &hand.config.ring(), &2);
     same(&rt, &hand.config.queue(), &2);
     same(&rt, &hand.config.first_tag(), &7);
-    assert!(rt; hand.quiet_prompt);
+    assert!(rt; hand.quiet_prompt && !hand.echo);
     let few = ["ruu", "drive", "double.s"];
-    let Ok(fewer) = requested(rt.alloc(), few.as_slice()) else {
-        return Err(Fail::new("there is no request"));
-    };
-    let Request::Drive(plain) = fewer else {
+    let Ok(plain) = driven(rt.alloc(), few.as_slice()) else {
         return Err(Fail::new("there is nothing to drive"));
     };
     same(&rt, &plain.config.ring(), &16);
@@ -45,12 +39,29 @@ fn a_command_line_asks_for_a_unit_to_drive(rt: HostRuntime) -> Result<(), Fail> 
     same(&rt, &plain.config.first_tag(), &1);
     assert!(rt; plain.predictor == BranchPredictor::Bimod);
     assert!(rt; !plain.quiet_prompt);
+    same(&rt, &plain.seed, &None);
+    same(&rt, &plain.steps, &400);
+    let chosen = [
+        "ruu",
+        "drive",
+        "double.s",
+        "--echo",
+        "--seed",
+        "9",
+        "--steps=7",
+    ];
+    let Ok(hand) = driven(rt.alloc(), chosen.as_slice()) else {
+        return Err(Fail::new("there is nothing to drive"));
+    };
+    assert!(rt; hand.echo);
+    same(&rt, &hand.seed, &Some(9));
+    same(&rt, &hand.steps, &7);
     Ok(())
 }
 
 #[test]
 fn values_out_of_range_are_mistakes(rt: HostRuntime) {
-    let cases: [(&str, &str); 8] = [
+    let cases: [(&str, &str); 10] = [
         ("--ruu-size", "3"),
         ("--ruu-size", "64"),
         ("--lsq-size", "1"),
@@ -59,18 +70,15 @@ fn values_out_of_range_are_mistakes(rt: HostRuntime) {
         ("--bpred", "none"),
         ("--units", "2"),
         ("--limit", "2"),
+        ("--steps", "7"),
+        ("--seed", "-1"),
     ];
     for (option, value) in cases {
         let words = ["ruu", "drive", "double.s", option, value];
         assert!(rt; is_usage(rt.alloc(), words.as_slice()), "{option} {value}");
     }
     let last = ["ruu", "drive", "double.s", "--first-tag", "268435454"];
-    assert!(rt;
-        matches!(
-            requested(rt.alloc(), last.as_slice()),
-            Ok(Request::Drive(_))
-        )
-    );
+    assert!(rt; driven(rt.alloc(), last.as_slice()).is_ok());
     let input = ["ruu", "drive", "-"];
     assert!(rt; is_usage(rt.alloc(), input.as_slice()));
     let none = ["ruu", "drive"];

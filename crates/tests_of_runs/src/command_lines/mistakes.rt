@@ -1,4 +1,5 @@
 //! Mistakes of command lines: each ends with the help of its command, and with status 3.
+use super::refusal;
 use requests::*;
 
 fn is_told(no_run: &NoRun, begin: &str, end: &str) -> bool {
@@ -14,12 +15,12 @@ const RUN: &str = "\n\nFor more information, try 'ruu run --help'.\n";
 
 const DRIVE: &str = "\n\nFor more information, try 'ruu drive --help'.\n";
 
-const THREADS: &str = "error: --chart and --trace need --alone\n";
+const CHART: &str = "\n\nFor more information, try 'ruu chart --help'.\n";
 
 const LISTING: &str = "error: --trace names the file of the listing\n";
 
 /// Words, and how their mistake begins and ends.
-const MISTAKES: [(&[&str], &str, &str); 27] = [
+const MISTAKES: [(&[&str], &str, &str); 32] = [
     (&[], "", ""),
     (&["ruu"], "", NONE),
     (&["ruu", "walk", "sum.s"], "", ""),
@@ -33,29 +34,37 @@ const MISTAKES: [(&[&str], &str, &str); 27] = [
     (&["ruu", "run", "sum.s", "--limit"], "", ""),
     (&["ruu", "run", "sum.s", "--units", "0"], "", RUN),
     (&["ruu", "run", "sum.s", "--bpred", "often"], "", RUN),
-    (&["ruu", "run", "sum.s", "--chart"], THREADS, RUN),
-    (&["ruu", "run", "sum.s", "--trace", "sum.log"], THREADS, RUN),
+    (&["ruu", "run", "sum.s", "--chart"], "", ""),
     (
-        &["ruu", "run", "sum.s", "--chart", "--units", "1"],
-        THREADS,
+        &["ruu", "run", "sum.s", "--seed", "1"],
+        "error: --seed needs --alone\n",
         RUN,
     ),
     (
-        &["ruu", "run", "sum.s", "--alone", "--trace", "sum.s"],
+        &["ruu", "run", "sum.s", "--alone", "--shake", "1"],
+        "error: --shake cannot stand with --alone\n",
+        RUN,
+    ),
+    (&["ruu", "chart"], "", ""),
+    (&["ruu", "chart", "sum.s", "--alone"], "", ""),
+    (
+        &["ruu", "chart", "sum.s", "--trace", "sum.s"],
         LISTING,
-        RUN,
+        CHART,
     ),
+    (&["ruu", "chart", "-", "--trace", "-"], LISTING, CHART),
     (
-        &["ruu", "run", "-", "--alone", "--trace", "-"],
-        LISTING,
-        RUN,
+        &["ruu", "chart", "sum.s", "--trace", "-"],
+        "error: --trace takes a file\n",
+        CHART,
     ),
-    (&["ruu", "run", "sum.s", "--alone", "--trace"], "", ""),
-    (&["ruu", "run", "sum.s", "--alone", "--chart=yes"], "", ""),
+    (&["ruu", "chart", "sum.s", "--trace"], "", ""),
+    (&["ruu", "chart", "sum.s", "--seed", "x"], "", CHART),
+    (&["ruu", "commits"], "", ""),
+    (&["ruu", "commits", "sum.s", "--units", "1"], "", ""),
     (&["ruu", "check"], "", ""),
     (&["ruu", "check", "sum.s", "two.s"], "", ""),
     (&["ruu", "check", "sum.s", "--limit", "1"], "", ""),
-    (&["ruu", "check", "sum.s", "--chart"], "", ""),
     (&["ruu", "drive"], "", ""),
     (&["ruu", "drive", "-"], "", DRIVE),
     (&["ruu", "drive", "sum.s", "--lsq-size", "1"], "", DRIVE),
@@ -63,12 +72,17 @@ const MISTAKES: [(&[&str], &str, &str); 27] = [
     (&["ruu", "drive", "sum.s", "--ruu-size", "64"], "", DRIVE),
     (&["ruu", "drive", "sum.s", "--first-tag", "0"], "", DRIVE),
     (&["ruu", "drive", "sum.s", "--bpred", "often"], "", DRIVE),
+    (
+        &["ruu", "drive", "sum.s", "--steps", "7"],
+        "error: --steps needs --seed\n",
+        DRIVE,
+    ),
 ];
 
 #[test]
 fn a_mistake_names_the_help_of_its_command(rt: HostRuntime) {
     for (words, begin, end) in MISTAKES {
-        let no_run = requested(rt.alloc(), words).err();
+        let no_run = refusal(rt.alloc(), words.get(1).copied().unwrap_or("run"), words);
         assert!(rt;
             no_run.is_some_and(|e| is_told(&e, begin, end) && status(&e) == 3),
             "{words:?}"
@@ -114,13 +128,15 @@ fn a_value_out_of_its_range_is_a_mistake(rt: HostRuntime) {
 /// A size of the ring that is a number has a line of its own, unless the words have another mistake.
 #[test]
 fn a_ring_of_another_size_has_its_line(rt: HostRuntime) {
-    for size in ["0", "1", "3", "15", "17", "64", "18446744073709551615"] {
-        let words = ["ruu", "run", "sum.s", "--ruu-size", size];
-        let no_run = asked(rt.alloc(), words.as_slice()).err();
-        assert!(rt;
-            no_run.is_some_and(|e| is_ring(&e) && status(&e) == 3),
-            "{size}"
-        );
+    for word in ["run", "chart", "commits"] {
+        for size in ["0", "1", "3", "15", "17", "64", "18446744073709551615"] {
+            let words = ["ruu", word, "sum.s", "--ruu-size", size];
+            let no_run = refusal(rt.alloc(), word, words.as_slice());
+            assert!(rt;
+                no_run.is_some_and(|e| is_ring(&e) && status(&e) == 3),
+                "{word} {size}"
+            );
+        }
     }
     let text = NoRun::Ring.to_string(rt.alloc());
     assert!(rt; text.is_ok_and(|t| t.as_str() == "ruu: ruu-size must be 2, 4, 8, 16 or 32"));

@@ -1,32 +1,84 @@
-//! Charts and logs, and the words that ask for them.
+//! Seeds, charts and logs, and the words that ask for them.
 use crate::same::{same, same_in};
 use requests::*;
 
+const MOST: u64 = 18_446_744_073_709_551_615;
+
 #[test]
-fn takes_a_chart_and_a_log(rt: HostRuntime) {
-    let cases: [(&[&str], bool, Option<&str>); 5] = [
-        (&["ruu", "run", "sum.s", "--alone"], false, None),
-        (&["ruu", "run", "sum.s", "--alone", "--chart"], true, None),
+fn a_run_takes_a_seed_of_its_order(rt: HostRuntime) {
+    let cases: [(&[&str], Option<u64>, Option<u64>); 5] = [
+        (&["ruu", "run", "sum.s"], None, None),
+        (&["ruu", "run", "sum.s", "--alone"], None, None),
         (
-            &["ruu", "run", "--trace", "sum.log", "sum.s", "--alone"],
-            false,
-            Some("sum.log"),
+            &["ruu", "run", "sum.s", "--alone", "--seed", "0"],
+            Some(0),
+            None,
         ),
         (
-            &["ruu", "run", "sum.s", "--chart", "--trace=a b", "--alone"],
-            true,
-            Some("a b"),
+            &["ruu", "run", "--seed=18446744073709551615", "--alone", "x"],
+            Some(MOST),
+            None,
         ),
-        (&["ruu", "run", "sum.s"], false, None),
+        (&["ruu", "run", "--shake", "7", "sum.s"], None, Some(7)),
     ];
-    for (words, chart, log) in cases {
+    for (words, seed, shake) in cases {
         match asked(rt.alloc(), words) {
             Ok(asked) => {
-                same_in(&rt, &words, &asked.watch.chart, &chart);
-                same_in(&rt, &words, &asked.watch.log, &log);
-                same(&rt, &asked.watch.is_wanted(), &(chart || log.is_some()));
+                same_in(&rt, &words, &asked.seed, &seed);
+                same_in(&rt, &words, &asked.shake, &shake);
             },
             Err(_no_run) => assert!(rt; false, "{words:?}"),
         }
+    }
+}
+
+#[test]
+fn takes_a_chart_and_a_log(rt: HostRuntime) {
+    let cases: [(&[&str], Option<u64>, Option<&str>); 3] = [
+        (&["ruu", "chart", "sum.s"], None, None),
+        (
+            &["ruu", "chart", "--trace", "sum.log", "sum.s"],
+            None,
+            Some("sum.log"),
+        ),
+        (
+            &["ruu", "chart", "sum.s", "--seed", "3", "--trace=a b"],
+            Some(3),
+            Some("a b"),
+        ),
+    ];
+    for (words, seed, log) in cases {
+        match charted(rt.alloc(), words) {
+            Ok(charted) => {
+                same_in(&rt, &words, &charted.seed, &seed);
+                same_in(&rt, &words, &charted.log, &log);
+                same(&rt, &charted.file, &"sum.s");
+            },
+            Err(_no_run) => assert!(rt; false, "{words:?}"),
+        }
+    }
+}
+
+#[test]
+fn takes_a_log_of_commits(rt: HostRuntime) {
+    let words = [
+        "ruu",
+        "commits",
+        "sum.s",
+        "--limit",
+        "9",
+        "--ruu-size=4",
+        "--seed=2",
+    ];
+    match committed(rt.alloc(), words.as_slice()) {
+        Ok(committed) => {
+            same(&rt, &committed.file, &"sum.s");
+            same(&rt, &committed.config.limit(), &9);
+            same(&rt, &committed.config.ring(), &4);
+            same(&rt, &committed.config.units(), &2);
+            same(&rt, &committed.seed, &Some(2));
+            assert!(rt; committed.predictor == BranchPredictor::Bimod);
+        },
+        Err(_no_run) => assert!(rt; false, "a log of commits"),
     }
 }
