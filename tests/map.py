@@ -16,13 +16,13 @@ LAYERS = [
     ("The unit by one thread", "unit in_order_issue bench charts"),
     ("The unit that threads share", "ruu_words station snapshots front back driving drive"),
     ("Threads", "hints counts workers run_ends pool"),
-    ("What a command line asks for", "requests checks without_threads viewing commit_log with_threads command by_hand"),
-    ("Programs", "alone ruu viewer driver commits listing"),
+    ("What a command line asks for", "requests checks without_threads commit_log with_threads command by_hand"),
+    ("Programs", "alone ruu checker chart commits driver listing"),
     ("What is run to see that all is well", "examples tests_of_calls tests_of_runs speed"),
 ]
 
 PICTURE = """\
- alone    viewer   commits          ruu      driver             listing
+ alone    chart    commits          ruu      driver             listing
    |        |         |              |          |                  |
  bench   charts   commit_log      command       |             conversion
    |        |         |              |          |                  |
