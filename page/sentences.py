@@ -137,8 +137,8 @@ class Teller:
         return (f"The load in station {step['station']}, {self.code(step['tenant'])}, is held up by the older store in "
                 f"station {step['store']}, {self.code(store['tenant'])}: {why}.")
 
-    def change(self, text, operation):
-        """A committed change in words."""
+    def change(self, text, operation, registers):
+        """A committed change in words. A register's value is that of the report, since a jump tells where it goes."""
         told = CHANGE.fullmatch(text)
         if told["address"]:
             address = int(told["address"], 16)
@@ -147,7 +147,7 @@ class Teller:
             size, digits = STORED[operation]
             return f"the {size} at {{{address}}} is `0x{told['value'][-digits:]}`"
         register = int(told["register"]) if told["register"] else PAIR[told["name"]]
-        return f"`{self.listing.register_name(register)}` is {{{int(told['value'], 16)}}}"
+        return f"`{self.listing.register_name(register)}` is {{{registers.get(register, 0)}}}"
 
     def retire(self, step, _before):
         operation = self.operation(step["tenant"])
@@ -155,7 +155,7 @@ class Teller:
         if step["answer"].startswith("Half"):
             return words + " What it made is committed with the second half."
         if step["changes"]:
-            words += f" From now on {listed(self.change(text, operation) for text in step['changes'])}."
+            words += f" From now on {listed(self.change(text, operation, step['registers']) for text in step['changes'])}."
         return words
 
     def end(self, step, _before):
