@@ -3,11 +3,11 @@ use Rattle.std.specs.Prelude.{ℕ, zero, suc, ◌+◌, ◌-◌, ◌/◌, ◌%◌
 use Rattle.isa.specs.InstrText.{instr_text}
 use Rattle.isa.specs.Report.{hexadecimal, newline, register_name, report_of}
 use Rattle.instructions.specs.Endings.{stop_word}
-use Rattle.instructions.specs.Instruction.{destination, is_pair, kind, source as source_register, width}
+use Rattle.instructions.specs.Instruction.{destination, is_pair, kind, pc_plus_4, source as source_register, width}
 use Rattle.instructions.specs.Operations.{sum}
 use Rattle.instructions.specs.Registers.{hi, lo}
 use Rattle.instructions.specs.declared.op.Kind.{Kind}
-use Rattle.instructions.specs.declared.op.Kind.TheVariants.{Stores}
+use Rattle.instructions.specs.declared.op.Kind.TheVariants.{Links, Stores}
 use Rattle.instructions.specs.Programs.{Program, instr_at}
 use Rattle.instructions.specs.declared.instr.Instr.{Instr}
 use Rattle.instructions.specs.declared.op.Half.{Half}
@@ -204,24 +204,26 @@ memory_text i row =
     codes " m " ++ (hexadecimal (sum row.first.seen.value i.number) ++ (codes "="
     ++ hexadecimal (stored (width i.op) row.second.seen.value)))
 
--- The change that a tenant makes when it retires, by the kind of its instruction
-abbrev pub change_by : Kind → Instr → Row → List ℕ
-change_by Stores i row = memory_text i row
-change_by other i row = written_text (destination i row.first.info.half) row.seen.value
+-- The change that the tenant at a pc makes when it retires, by the kind of its instruction. The word of a jump that links
+-- has the next pc, and its register gets the address behind the jump
+abbrev pub change_by : Kind → (pc : ℕ) → Instr → Row → List ℕ
+change_by Stores pc i row = memory_text i row
+change_by Links pc i row = written_text (destination i row.first.info.half) (pc_plus_4 pc)
+change_by other pc i row = written_text (destination i row.first.info.half) row.seen.value
 
--- The tenant that has retired, and what it has changed
-abbrev pub oldest_text : Option Instr → Option (ℕ × Row) → List ℕ
-oldest_text (Some i) (Some found) =
-    codes " station " ++ (decimal found.0 ++ change_by (kind i.op) i found.1)
-oldest_text instr oldest = []
+-- The tenant that has retired at a pc, and what it has changed
+abbrev pub oldest_text : (pc : ℕ) → Option Instr → Option (ℕ × Row) → List ℕ
+oldest_text pc (Some i) (Some found) =
+    codes " station " ++ (decimal found.0 ++ change_by (kind i.op) pc i found.1)
+oldest_text pc instr oldest = []
 
 -- The text of the answer of a commit
 abbrev pub commit_text : Program → Commit → Option (ℕ × Row) → List ℕ
 commit_text P (commit.Retired pc n) oldest =
     codes "Retired pc " ++ (hexadecimal pc ++ (codes " n " ++ (decimal n
-    ++ oldest_text (instr_at P pc) oldest)))
+    ++ oldest_text pc (instr_at P pc) oldest)))
 commit_text P (commit.Half pc) oldest =
-    codes "Half pc " ++ (hexadecimal pc ++ oldest_text (instr_at P pc) oldest)
+    codes "Half pc " ++ (hexadecimal pc ++ oldest_text pc (instr_at P pc) oldest)
 commit_text P commit.NotDone oldest = codes "NotDone"
 commit_text P commit.Empty oldest = codes "Empty"
 commit_text P (commit.Ended code) oldest = codes "Ended " ++ stop_word code

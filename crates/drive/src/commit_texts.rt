@@ -56,30 +56,35 @@ fn push_memory(out: &mut String, instr: &Instr, row: &Row) -> Result<(), AllocEr
     write!(out, " m {address}={value}")
 }
 
-// Adds the change that a tenant makes when it retires.
-fn push_change(out: &mut String, instr: &Instr, row: &Row) -> Result<(), AllocError>
+// Adds the change that the tenant at a pc makes when it retires.
+fn push_change(out: &mut String, pc: u32, instr: &Instr, row: &Row) -> Result<(), AllocError>
     ensures { OnOk result (string_bytes out.new
-        ≡ string_bytes out.old ++ change_by (kind instr.now.op) instr.now row.now) }
+        ≡ string_bytes out.old ++ change_by (kind instr.now.op) pc instr.now row.now) }
 {
     match instr.op().kind() {
         Kind::Stores => push_memory(out, instr, row),
+        Kind::Links => {
+            let link = pc.wrapping_add(4);
+            push_written(out, instr.destination(row.first.info.half), link)
+        }
         _ => push_written(out, instr.destination(row.first.info.half), row.seen.value),
     }
 }
 
-// Adds the tenant that has retired, and what it has changed.
+// Adds the tenant that has retired at a pc, and what it has changed.
 fn push_oldest(
     out: &mut String,
+    pc: u32,
     instr: &Option<Instr>,
     oldest: &Option<(usize, Row)>,
 ) -> Result<(), AllocError>
     ensures { OnOk result (string_bytes out.new
-        ≡ string_bytes out.old ++ oldest_text instr.now oldest.now) }
+        ≡ string_bytes out.old ++ oldest_text pc instr.now oldest.now) }
 {
     match (instr, oldest) {
         (Some(instr), Some((station, row))) => {
             write!(out, " station {station}")?;
-            push_change(out, instr, row)
+            push_change(out, pc, instr, row)
         }
         _ => Ok(()),
     }
@@ -98,16 +103,16 @@ pub(crate) fn commit_text(
     match commit {
         Commit::Retired { pc, n } => {
             let instr = program.fetch(pc);
-            let pc = Hexadecimal(pc);
-            let mut out = format!(in alloc; "Retired pc {pc} n {n}")?;
-            push_oldest(&mut out, &instr, oldest)?;
+            let shown = Hexadecimal(pc);
+            let mut out = format!(in alloc; "Retired pc {shown} n {n}")?;
+            push_oldest(&mut out, pc, &instr, oldest)?;
             Ok(out)
         }
         Commit::Half { pc } => {
             let instr = program.fetch(pc);
-            let pc = Hexadecimal(pc);
-            let mut out = format!(in alloc; "Half pc {pc}")?;
-            push_oldest(&mut out, &instr, oldest)?;
+            let shown = Hexadecimal(pc);
+            let mut out = format!(in alloc; "Half pc {shown}")?;
+            push_oldest(&mut out, pc, &instr, oldest)?;
             Ok(out)
         }
         Commit::NotDone => format!(in alloc; "NotDone"),
