@@ -114,7 +114,7 @@ bytes 4194305 '\n' > "$work/listing.s"
 has_fault "$work/listing.s" 'fault line 0 TooLong'
 "$check" check "$work/listing.s" > "$work/out"
 printf 'fault line 0 TooLong\n%s\n' \
-  'A listing has at most 4194304 bytes, 16384 instructions and 65536 bytes of data.' | cmp -s - "$work/out" \
+  "$work/listing.s: error: A listing has at most 4194304 bytes, 16384 instructions and 65536 bytes of data." | cmp -s - "$work/out" \
   || fail 'a check shows more of a listing that is too long as a whole'
 name='as many words as there may be'
 { printf '.word 0'; yes ,0 | head -n 16383 | tr -d '\n'; } > "$work/listing.s"
