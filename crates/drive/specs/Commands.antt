@@ -6,9 +6,9 @@ use Rattle.text.specs.Number.{decimal_in}
 use Rattle.drive.specs.declared.commands.Command.{Command}
 use Rattle.drive.specs.declared.commands.Command.TheVariants as call
 use Rattle.drive.specs.declared.commands.Line.{Line}
-use Rattle.drive.specs.declared.commands.Line.TheVariants.{Asks, Help as AsksHelp, Nothing, Table as AsksTable, Unknown, Wants}
+use Rattle.drive.specs.declared.commands.Line.TheVariants.{Asks, Help as AsksHelp, List as AsksList, Nothing, Quit as AsksQuit, Table as AsksTable, Unknown, Wants}
 use Rattle.drive.specs.declared.commands.Verb.{Verb}
-use Rattle.drive.specs.declared.commands.Verb.TheVariants.{Claim, Commit, Creator, Finish, Help, Info, Learn, Link, Look, Meet, Operand, Recover, Refresh, Renew, Report, Rest, Ring, Show, Station, Table, Take, Touched, Turn}
+use Rattle.drive.specs.declared.commands.Verb.TheVariants.{Claim, Commit, Creator, Finish, Help, Info, Learn, Link, List as Listing, Look, Meet, Operand, Quit, Recover, Refresh, Renew, Report, Rest, Ring, Show, Station, Table, Take, Touched, Turn}
 use Rattle.drive.specs.declared.commands.Which.{Which}
 use Rattle.drive.specs.declared.commands.Which.TheVariants.{First, Second}
 use Rattle.drive.specs.declared.parties.Party.{Party}
@@ -41,6 +41,8 @@ verb_name Report = codes "report"
 verb_name Renew = codes "renew"
 verb_name Table = codes "table"
 verb_name Help = codes "help"
+verb_name Listing = codes "list"
+verb_name Quit = codes "quit"
 
 -- No character
 abbrev pub is_empty : List ℕ → Bool
@@ -125,6 +127,8 @@ command_of Report w = without_operands w call.Report
 command_of Renew w = without_operands w call.Renew
 command_of Table w = None
 command_of Help w = None
+command_of Listing w = None
+command_of Quit w = None
 
 -- The command that these words are
 pub record AreWordsOf (w : Texts) (c : Command) : Type 0 where
@@ -143,12 +147,32 @@ pub record IsMistaken (w : Texts) (v : Verb) : Type 0 where
   pub none : command_of v w ≡ None
   pub no_table : v ≡ Table → is_empty w.first ≡ false
   pub no_help : v ≡ Help → is_empty w.first ≡ false
+  pub no_list : v ≡ Listing → is_empty w.first ≡ false
+  pub no_quit : v ≡ Quit → is_empty w.first ≡ false
+
+-- The word is none of a command
+pub record IsUnknown (w : Texts) : Type 0 where
+  pub some : w.verb ≢ []
+  pub none : (v : Verb) → w.verb ≢ verb_name v
 
 -- The line that these words are. A line without words asks for nothing
 abbrev pub IsLine : Texts → Line → Type 0
 IsLine w Nothing = w.verb ≡ []
-IsLine w Unknown = (v : Verb) → w.verb ≢ verb_name v
+IsLine w Unknown = IsUnknown w
 IsLine w (Wants v) = IsMistaken w v
 IsLine w (Asks c) = AreWordsOf w c
 IsLine w AsksTable = AsksFor Table w
 IsLine w AsksHelp = AsksFor Help w
+IsLine w AsksList = AsksFor Listing w
+IsLine w AsksQuit = AsksFor Quit w
+
+-- The line is a command, or asks for nothing
+abbrev pub is_command : Line → Bool
+is_command Unknown = false
+is_command (Wants v) = false
+is_command line = true
+
+-- The line ends its script
+abbrev pub ends_script : Line → Bool
+ends_script AsksQuit = true
+ends_script line = false

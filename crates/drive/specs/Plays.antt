@@ -1,5 +1,5 @@
 -- Sessions that are driven by a seed.
-use Rattle.std.specs.Prelude.{◌≡◌, ◌⊎◌, ℕ, suc, ◌+◌, ◌%◌, true, List, [], ◌∷◌, ◌++◌, length, codes, decimal, Option, None, Some, slice_get, take, ◌<◌}
+use Rattle.std.specs.Prelude.{◌≡◌, ◌⊎◌, ℕ, suc, ◌+◌, ◌%◌, true, List, [], ◌∷◌, ◌++◌, length, codes, decimal, Option, Some, slice_get, take, ◌<◌}
 use Rattle.std.specs.Io.KnownBytes.{Appends}
 use Rattle.rand_pcg.specs.Lcg.{Lcg}
 use Rattle.unit.specs.Seeds.{ChoosesNext, seeded}

@@ -24,7 +24,6 @@ use Rattle.front.specs.Turns.{LetsOut, Refuses}
 use Rattle.ruu_words.specs.declared.station.StationState.{StationState}
 use Rattle.snapshots.specs.declared.mark.Mark.{Mark}
 use Rattle.station.specs.declared.answers.Claim.{Claim}
-use Rattle.station.specs.declared.job.Job.{Job}
 use Rattle.station.specs.declared.answers.Claim.TheVariants.{Job as Claimed}
 use Rattle.station.specs.declared.answers.Seen.{Seen}
 use Rattle.station.specs.declared.answers.SourceState.{SourceState}

@@ -28,7 +28,9 @@ rest          the front folds what has left
 renew         a new core with fresh tags, behind a rest
 touched       how many words of the create vector were touched
 meet X Y      two of front, back and units tell each other what they have seen
+list          the instructions of the program
 help          these lines
+quit          ends the script
 ";
 
 /// The text of `HELP`.

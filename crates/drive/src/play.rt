@@ -4,7 +4,7 @@ ghost use Rattle.devices.specs.Counted.{failures_of, known_by};
 ghost use Rattle.drive.specs.Plays.{ArePlayed, HasPlayed, HasPlayedPart, IsNamed, IsPlayed, IsWrittenBehind, MayHaveLooked, command_text, unit_command};
 ghost use Rattle.drive.specs.Scripts.{failed_writes};
 
-use crate::commands::Command;
+use crate::commands::{Command, line_in};
 use crate::row_texts::push_unit;
 use crate::script::{Fault, written};
 use crate::session::Session;
@@ -88,7 +88,7 @@ fn push_line<P: Predictor + Drop, J: Naming, R: Wait>(
     ensures { OnOk result (IsWrittenBehind session.old session.new number line.now
         out.old.items out.new.items) }
 {
-    let text = written(wait, alloc, session, number, line, true)?;
+    let text = written(wait, alloc, session, number, line, line_in(line), true)?;
     out.extend_from_slice(text.as_slice())
 }
 
