@@ -2,7 +2,7 @@
 use Rattle.std.specs.Prelude.{◌≡◌, ◌≢◌, ◌==◌, ◌&&◌, ℕ, Bool, true, false, not, List, [], length, codes, Option, Some, None, if◌then◌else◌}
 use Rattle.std.specs.Option.{option_map}
 use Rattle.std.specs.Str.{bytes_eq}
-use Rattle.text.specs.Number.{decimal_in}
+use Rattle.text.specs.Number.{decimal_in, number_in}
 use Rattle.drive.specs.declared.commands.Command.{Command}
 use Rattle.drive.specs.declared.commands.Command.TheVariants as call
 use Rattle.drive.specs.declared.commands.Line.{Line}
@@ -68,6 +68,15 @@ number_of text = decimal_in 4294967295 text
 abbrev pub only_number : Texts → Option ℕ
 only_number w = if has_one w then number_of w.first else None
 
+-- The pc that is the only operand
+abbrev pub only_pc : Texts → Option ℕ
+only_pc w = if has_one w then number_in 0 4294967295 w.first else None
+
+-- A turn, and its guess where one is given
+abbrev pub turn_of : Texts → Option Command
+turn_of w =
+    if is_empty w.first then Some (call.Turn None) else option_map (λ next. call.Turn (Some next)) (only_pc w)
+
 -- Both, where both are there
 abbrev pub both : {A B : Type 0} → Option A → Option B → Option (A × B)
 both None second = None
@@ -104,7 +113,7 @@ two_parties w = if has_two w then both (party_of w.first) (party_of w.second) el
 
 -- The command of a word and its operands
 abbrev pub command_of : Verb → Texts → Option Command
-command_of Turn w = without_operands w call.Turn
+command_of Turn w = turn_of w
 command_of Recover w = without_operands w call.Recover
 command_of Claim w = option_map (λ p. call.Claim p.0 p.1) (unit_and_number w)
 command_of Finish w = option_map (λ p. call.Finish p.0 p.1) (unit_and_number w)

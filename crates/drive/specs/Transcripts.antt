@@ -18,6 +18,7 @@ use Rattle.drive.specs.Words.{words_of}
 
 -- The text that names the operands of a command
 abbrev pub operands_text : Verb → List ℕ
+operands_text verb.Turn = codes "no operand, or a pc"
 operands_text verb.Claim = codes "a unit and a station"
 operands_text verb.Finish = codes "a unit and a station"
 operands_text verb.Look = codes "a station"

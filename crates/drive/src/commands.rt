@@ -1,6 +1,6 @@
 //! The commands of a script.
 ghost use Rattle.std.specs.Prelude.{◌≡◌, ◌≢◌, IfNone, IfSome};
-ghost use Rattle.drive.specs.Commands.{IsLine, without_operands, command_of, ends_script, has_one, has_two, is_command, number_of, only_number, source_of, station_and_source, two_parties, unit_and_number, verb_name};
+ghost use Rattle.drive.specs.Commands.{IsLine, without_operands, command_of, ends_script, has_one, has_two, is_command, number_of, only_number, only_pc, source_of, station_and_source, turn_of, two_parties, unit_and_number, verb_name};
 ghost use Rattle.drive.specs.Words.{texts_of, words_of};
 ghost use Rattle.drive.specs.declared.commands.Verb.{Verb};
 
@@ -49,7 +49,8 @@ pub enum Which {
 /// A call to make. A unit is named by its place, from 0 on.
 #[derive(Clone, Copy, Debug, PartialEq, Eq)]
 pub enum Command {
-    Turn,
+    /// With a guess in place of the predictor's, where one is given.
+    Turn(Option<u32>),
     Recover,
     Claim(usize, u32),
     Finish(usize, u32),
@@ -165,6 +166,27 @@ fn only_number(words: &Words<'_>) -> Option<u32>
     }
 }
 
+fn only_pc(words: &Words<'_>) -> Option<u32>
+    ensures { result ≡ only_pc (texts_of words.now) }
+{
+    if has_one(words) {
+        text::number_in(words.first, 0, 0xffff_ffff)
+    } else {
+        None
+    }
+}
+
+// A turn, and its guess where one is given.
+fn turn_in(words: &Words<'_>) -> Option<Command>
+    ensures { result ≡ turn_of (texts_of words.now) }
+{
+    if words.first.is_empty() {
+        Some(Command::Turn(None))
+    } else {
+        only_pc(words).map(|next| Command::Turn(Some(next)))
+    }
+}
+
 fn unit_and_number(words: &Words<'_>) -> Option<(usize, u32)>
     ensures { result ≡ unit_and_number (texts_of words.now) }
 {
@@ -214,7 +236,7 @@ fn command_in(verb: Verb, words: &Words<'_>) -> Option<Command>
     ensures { result ≡ command_of verb (texts_of words.now) }
 {
     match verb {
-        Verb::Turn => bare(words, Command::Turn),
+        Verb::Turn => turn_in(words),
         Verb::Recover => bare(words, Command::Recover),
         Verb::Claim => unit_and_number(words).map(|(unit, station)| Command::Claim(unit, station)),
         Verb::Finish => unit_and_number(words).map(|(unit, station)| Command::Finish(

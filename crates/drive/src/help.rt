@@ -7,6 +7,7 @@ use std::alloc::{AllocError, Global};
 /// A line for each command. U is a unit, A to Z and AA to BL; S a station; K 1 or 2; R the number of a register.
 pub const HELP: &str = "\
 turn          lets the next instruction
+turn PC       lets it with the guess PC, where the predictor would be asked for its next pc
 recover       repairs the oldest misprediction
 claim U S     unit U claims the tenant of station S
 finish U S    unit U finishes its job of station S

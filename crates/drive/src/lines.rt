@@ -50,6 +50,7 @@ fn operands(verb: Verb) -> &'static str
     ensures { result.now ≡ operands_text verb }
 {
     match verb {
+        Verb::Turn => "no operand, or a pc",
         Verb::Claim | Verb::Finish => "a unit and a station",
         Verb::Look | Verb::Info | Verb::Station => "a station",
         Verb::Operand | Verb::Link => "a station and a source",

@@ -11,6 +11,7 @@ use crate::session::Session;
 use back::Naming;
 use devices::{Counted, write_whole};
 use instructions::Predictor;
+use isa::Hexadecimal;
 use std::alloc::{AllocError, Global};
 use std::io::Write;
 use std::sync::Wait;
@@ -34,7 +35,11 @@ fn command_text(alloc: Global, command: Command) -> Result<String, AllocError>
     ensures { IfOk result (λ text. string_bytes text ≡ command_text command) }
 {
     match command {
-        Command::Turn => format!(in alloc; "turn"),
+        Command::Turn(None) => format!(in alloc; "turn"),
+        Command::Turn(Some(next)) => {
+            let next = Hexadecimal(next);
+            format!(in alloc; "turn {next}")
+        }
         Command::Recover => format!(in alloc; "recover"),
         Command::Claim(unit, station) => text_of_unit(alloc, "claim", unit, station),
         Command::Finish(unit, station) => text_of_unit(alloc, "finish", unit, station),
