@@ -1,5 +1,5 @@
 -- What is told where a unit is driven by hand.
-use Rattle.std.specs.Prelude.{◌≡◌, ◌⊎◌, ◌<◌, ℕ, Bool, List, Option, None, Some, Result, Ok, Err, length, take}
+use Rattle.std.specs.Prelude.{◌≡◌, ◌⊎◌, ◌<◌, ℕ, Bool, true, false, List, Option, None, Some, Result, Ok, Err, length, take}
 use Rattle.std.specs.Io.KnownBytes.{Appends}
 use Rattle.isa.specs.declared.listing.fault.FaultKind.{FaultKind}
 use Rattle.instructions.specs.Programs.{Program}
@@ -13,11 +13,16 @@ use Rattle.requests.specs.declared.request.ByHand.{ByHand}
 use Rattle.without_threads.specs.declared.went.Refusal.{Refusal}
 use Rattle.without_threads.specs.declared.went.Refusal.TheVariants.{Memory, Read, Write}
 
--- all commands were answered: those of a script, or those that a seed chooses
+-- all commands were answered: those of a script, each line of which is a command or not, or those that a seed chooses
 abbrev pub AreAnswered : Option ℕ → (echo : Bool) → (first last : TheSession)
-    → (script before after : Option (List ℕ)) → Type 0
-AreAnswered None echo first last script before after = HasDriven echo script first last before after
-AreAnswered (Some seed) echo first last script before after = IsPlayed seed first last before after
+    → (script before after : Option (List ℕ)) → (each : Bool) → Type 0
+AreAnswered None echo first last script before after each = HasDriven echo script first last before after each
+AreAnswered (Some seed) echo first last script before after each = IsPlayed seed first last before after × (each ≡ true)
+
+-- the status, which tells whether each line of a script was a command
+abbrev pub status_of : Bool → ℕ
+status_of true = 0
+status_of false = 1
 
 -- some commands of a script were answered; of those that a seed chooses nothing was written
 abbrev pub AreSomeAnswered : Option ℕ → (echo : Bool) → (first : TheSession)
@@ -34,11 +39,12 @@ IsAnswerBroken (Some seed) echo first script before after = HasPlayedPart seed f
 -- all commands of a script were answered, for a program from its start on
 pub record IsTranscriptOf (hand : ByHand) (P : Program) (status : ℕ) (script before after : Option (List ℕ)) :
     Type 0 where
-  pub status_is : status ≡ 0
+  pub each : Bool
+  pub status_is : status ≡ status_of each
   pub first : TheSession
   pub last : TheSession
   pub starts : IsStartOfSession P hand.config first
-  pub driven : AreAnswered hand.seed hand.echo first last script before after
+  pub driven : AreAnswered hand.seed hand.echo first last script before after each
 
 -- what is told for a listing and a script: a transcript, or the fault of the listing
 abbrev pub IsDriven : ByHand → Result Program (ℕ × FaultKind) → (status : ℕ)

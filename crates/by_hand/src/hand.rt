@@ -3,7 +3,7 @@ ghost use Rattle.std.specs.Prelude.{◌≡◌, ◌≢◌, ◌+◌, ◌-◌, ◌^
 ghost use Rattle.isa.specs.Listing.{listing};
 ghost use Rattle.devices.specs.Counted.{failures_of, known_by};
 ghost use Rattle.drive.specs.Scripts.{failed_writes};
-ghost use Rattle.by_hand.specs.ByHand.{AreAnswered, AreSomeAnswered, IsAnswerBroken, script_refusal};
+ghost use Rattle.by_hand.specs.ByHand.{AreAnswered, AreSomeAnswered, IsAnswerBroken, script_refusal, status_of};
 ghost use Rattle.by_hand.specs.Replies.{HasAnswered, IsLeftByHand, IsUndrivenBy, listing_from};
 ghost use Rattle.requests.specs.Predictors.{IsChosen};
 ghost use Rattle.without_threads.specs.Replies.{IfRefused};
@@ -27,8 +27,8 @@ use without_threads::{Line, Refusal, Went, refused};
 const MOST_STEPS: u64 = 1_000_000;
 
 /// Reads the listing, drives its unit by the commands of the script, one a line, or by those that a
-/// seed chooses, and writes what is answered. The status is 0 at the end of the script, and 2 for a listing with a fault, whose line
-/// is written in place of answers. There is no reader where the file did not open. A failed read or
+/// seed chooses, and writes what is answered. At the end of the script the status is 0 where each line was a command, and
+/// else 1; it is 2 for a listing with a fault, whose line is written in place of answers. There is no reader where the file did not open. A failed read or
 /// write is not tried again.
 pub fn go_by_hand<T: Wait, R: Read + Drop, I: BufRead, W: Write>(
     wait: &T,
@@ -105,8 +105,7 @@ fn answered<T: Wait, I: BufRead, W: Write>(
     match parse(alloc, bytes) {
         Ok(program) => {
             let predictor = choose(hand.predictor);
-            drive_by::<Brand, T, I, W>(wait, alloc, hand, &program, predictor, script, writer)?;
-            Ok(0)
+            drive_by::<Brand, T, I, W>(wait, alloc, hand, &program, predictor, script, writer)
         },
         Err(fault) if fault.kind == FaultKind::Memory => Err(Refusal::Memory),
         Err(fault) => {
@@ -117,7 +116,14 @@ fn answered<T: Wait, I: BufRead, W: Write>(
     }
 }
 
-// Answers the commands for a program, with the predictor that is asked for.
+// The status behind a script, by whether each of its lines was a command.
+fn status_of(each: bool) -> u8
+    ensures { result ≡ status_of each }
+{
+    if each { 0 } else { 1 }
+}
+
+// Answers the commands for a program, with the predictor that is asked for, and gives the status.
 fn drive_by<J: Naming, T: Wait, I: BufRead, W: Write>(
     wait: &T,
     alloc: Global,
@@ -126,12 +132,12 @@ fn drive_by<J: Naming, T: Wait, I: BufRead, W: Write>(
     predictor: Chosen,
     script: &mut I,
     writer: &mut Counted<W>,
-) -> Result<(), Refusal>
+) -> Result<u8, Refusal>
     requires named { program.now ≡ J.program }
     requires predictor { IsChosen hand.now.predictor predictor }
     requires writer_room { failures_of writer.old < 2 ^ 64 - 1 }
-    ensures ok { OnOk result (HasAnswered W.contents hand.now
-        (Some (Ok program.now)) (I.remaining script.old) writer.old writer.new 0) }
+    ensures ok { IfOk result (HasAnswered W.contents hand.now
+        (Some (Ok program.now)) (I.remaining script.old) writer.old writer.new) }
     ensures err { IfErr result (IsUndrivenBy W.contents hand.now
         (Some (Ok program.now)) (I.remaining script.old) writer.old writer.new) }
 {
@@ -139,12 +145,12 @@ fn drive_by<J: Naming, T: Wait, I: BufRead, W: Write>(
     let told = tell(wait, alloc, hand, &mut session, script, writer);
     session.end(wait);
     match told {
-        Ok(()) => Ok(()),
+        Ok(each) => Ok(status_of(each)),
         Err(fault) => Err(script_refusal(fault)),
     }
 }
 
-// Answers the script, or the commands that the seed chooses.
+// Answers the script, or the commands that the seed chooses, and gives whether each line of it was a command.
 fn tell<J: Naming, T: Wait, I: BufRead, W: Write>(
     wait: &T,
     alloc: Global,
@@ -152,9 +158,9 @@ fn tell<J: Naming, T: Wait, I: BufRead, W: Write>(
     session: &mut Session<'_, Chosen, J>,
     script: &mut I,
     writer: &mut Counted<W>,
-) -> Result<(), Fault>
+) -> Result<bool, Fault>
     requires { failures_of writer.old < 2 ^ 64 - 1 }
-    ensures ok { OnOk result (AreAnswered hand.now.seed hand.now.echo session.old session.new
+    ensures ok { IfOk result (AreAnswered hand.now.seed hand.now.echo session.old session.new
         (I.remaining script.old) (known_by W.contents writer.old) (known_by W.contents writer.new)) }
     ensures quiet { OnOk result (failures_of writer.new ≡ failures_of writer.old) }
     ensures write { IfErr result (λ fault.
@@ -170,7 +176,8 @@ fn tell<J: Naming, T: Wait, I: BufRead, W: Write>(
         None => drive::drive(wait, alloc, session, script, writer, hand.echo),
         Some(seed) => {
             let steps = hand.steps.min(MOST_STEPS);
-            write_play(wait, alloc, session, seed, steps, writer)
+            write_play(wait, alloc, session, seed, steps, writer)?;
+            Ok(true)
         }
     }
 }

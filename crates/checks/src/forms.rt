@@ -27,7 +27,8 @@ fn push_form(text: &mut Vec<u8>, began: bool, form: &Form) -> Result<(), AllocEr
 // The forms of a table that have the word, in a line of their own.
 fn push_forms_in(text: &mut Vec<u8>, table: &[Form], word: &[u8]) -> Result<(), AllocError>
     ensures { OnOk result (text.new.items ≡ text.old.items
-        ++ alternatives false (map form_text (filter (has_word word.now) (map form_view table.now)))) }
+        ++ alternatives false
+        (map form_text (filter (has_word word.now) (map form_view table.now)))) }
 {
     let mut began = false;
     for form in table {

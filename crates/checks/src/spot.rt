@@ -45,7 +45,8 @@ pub(crate) fn push_spot(
 ) -> Result<(), AllocError>
     requires { IsPartOf spot.line.now part }
     ensures { OnOk result (text.new.items ≡ text.old.items
-        ++ spot_text spot.entry.file.now spot.entry.number spot.entry.line.now part grade.now said.now) }
+        ++ spot_text spot.entry.file.now spot.entry.number spot.entry.line.now part grade.now
+        said.now) }
 {
     push_place(alloc, text, spot, part)?;
     text.extend_from_slice(grade.as_bytes())?;

@@ -75,7 +75,8 @@ fn push_warning(
     requires file { spot.file.now ≡ good.now.file.now }
     requires line { line_at spot.number (lines_of good.now.bytes.now) ≡ Some spot.line.now }
     requires part { IsPartOf spot.line.now part }
-    requires right { IsRight good.now.bytes.now good.now.program.now spot.number spot.line.now part warning }
+    requires right { IsRight good.now.bytes.now good.now.program.now spot.number spot.line.now part
+        warning }
     ensures { OnOk result (AreWarned good.now.file.now good.now.bytes.now good.now.program.now
         text.old.items text.new.items) }
 {
@@ -125,7 +126,8 @@ fn push_instruction(
     requires line { line_at spot.number (lines_of good.now.bytes.now) ≡ Some spot.line.now }
     requires inside { k < length good.now.program.now.code }
     requires size { length good.now.reached.now ≡ length good.now.program.now.code }
-    requires closed { good.now.is_closed ≡ true → IsClosed good.now.program.now good.now.reached.now }
+    requires closed { good.now.is_closed ≡ true →
+        IsClosed good.now.program.now good.now.reached.now }
     requires stands { StandsOn good.now.bytes.now k spot.number }
     ensures { OnOk result (AreWarned good.now.file.now good.now.bytes.now good.now.program.now
         text.old.items text.new.items) }
@@ -166,7 +168,8 @@ fn push_numbered(
     requires line { line_at spot.number (lines_of good.now.bytes.now) ≡ Some spot.line.now }
     requires lines { good.now.lines.now ≡ instruction_lines good.now.bytes.now }
     requires size { length good.now.reached.now ≡ length good.now.program.now.code }
-    requires closed { good.now.is_closed ≡ true → IsClosed good.now.program.now good.now.reached.now }
+    requires closed { good.now.is_closed ≡ true →
+        IsClosed good.now.program.now good.now.reached.now }
     ensures { IfOk result (λ _. AreWarned good.now.file.now good.now.bytes.now good.now.program.now
         text.old.items text.new.items) }
 {
@@ -188,7 +191,8 @@ fn push_lines(
     requires operands { AreOperandsOf (lines_of good.now.bytes.now) operands.now }
     requires lines { good.now.lines.now ≡ instruction_lines good.now.bytes.now }
     requires size { length good.now.reached.now ≡ length good.now.program.now.code }
-    requires closed { good.now.is_closed ≡ true → IsClosed good.now.program.now good.now.reached.now }
+    requires closed { good.now.is_closed ≡ true →
+        IsClosed good.now.program.now good.now.reached.now }
     ensures { OnOk result (AreWarned good.now.file.now good.now.bytes.now good.now.program.now
         text.old.items text.new.items) }
 {

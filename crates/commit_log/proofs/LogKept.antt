@@ -111,9 +111,6 @@ appends_none (Some xs) = sym (append-nil xs)
 pub none_begun : (text : List ℕ) (known : Option (List ℕ)) → IsBegun text known known
 none_begun text known = record { n = 0; inside = omega arith; says = appends_none known }
 
-pub none_told : (whole : List ℕ) (known : Option (List ℕ)) → HasTold whole whole known known
-none_told whole known = record { text = []; says = appends_none known; is = refl }
-
 pub told_more : (whole left line rest : List ℕ) (before mid after : Option (List ℕ)) → HasTold whole left before mid → left ≡ line ++ rest → Appends mid after line →
     HasTold whole rest before after
 told_more whole left line rest before mid after h e a = record {

@@ -1,10 +1,12 @@
 -- A transcript, line by line.
-use Rattle.std.proofs.Common.{◌≡◌, ◌<◌, Bool, ℕ, ◌+◌, suc, List, [], ◌∷◌, ◌++◌, map, length, take, Option, Some, None, Result, Ok, Err, IfErr, IfSome, refl, sym, ap, ◌∙◌, subst, add-one}
+use Rattle.std.proofs.Common.{◌≡◌, ◌<◌, ◌&&◌, inl, inr, Bool, true, false, ℕ, ◌+◌, suc, List, [], ◌∷◌, ◌++◌, map, length, take, Option, Some, None, Result, Ok, Err, IfErr, IfSome, refl, sym, ap, ◌∙◌, subst, add-one}
 use Rattle.std.specs.Io.BufRead.{DropsThrough, take_through}
 use Rattle.std.specs.Io.KnownBytes.{Appends}
 use Rattle.std.proofs.KnownBytes.{Appends-trans}
 use Rattle.drive.specs.declared.script.Fault.{Fault}
 use Rattle.drive.specs.declared.script.Fault.TheVariants.{Write}
+use Rattle.drive.specs.Commands.{ends_script, is_command}
+use Rattle.drive.specs.declared.commands.Line.{Line}
 use Rattle.drive.specs.Scripts.{AreTold, HasBroken, HasDriven, LineIsCut, NothingWasLeft, LineIsTold, ReadsScript, line_of}
 use Rattle.drive.specs.Sessions.{TheSession}
 use Rattle.drive.specs.Transcripts.{IsWrittenOfLine}
@@ -13,28 +15,31 @@ length_lines : (chunks : List (List ℕ)) → length (map line_of chunks) ≡ le
 length_lines [] = refl
 length_lines (c ∷ cs) = ap suc (length_lines cs)
 
-pub one_more_told : (echo : Bool) (from mid to : Option (List ℕ)) (a b c : TheSession) (out more new : Option (List ℕ)) (count : ℕ) →
-    AreTold echo from mid a b out more count → LineIsTold echo mid to b c (count + 1) more new → AreTold echo from to a c out new (count + 1)
-one_more_told echo from mid to a b c out more new count all one =
+pub one_more_told : (echo : Bool) (from mid to : Option (List ℕ)) (a b c : TheSession) (out more new : Option (List ℕ)) (count : ℕ) (before each : Bool) (line : Line) →
+    AreTold echo from mid a b out more count before → LineIsTold echo mid to b c (count + 1) more new line → ends_script line ≡ false → each ≡ (before && is_command line) →
+    AreTold echo from to a c out new (count + 1) each
+one_more_told echo from mid to a b c out more new count before each line all one goes is =
     let number : count + 1 ≡ suc (length (map line_of all.chunks)) = add-one count ∙ ap suc (sym (length_lines all.chunks ∙ all.count_is)) in
     let told : IsWrittenOfLine echo b c (suc (length (map line_of all.chunks))) (line_of one.chunk) one.text = subst (λ n. IsWrittenOfLine echo b c n (line_of one.chunk) one.text) number one.told in
     record {
       chunks = one.chunk ∷ all.chunks;
       count_is = ap suc all.count_is ∙ sym (add-one count);
+      commands = (line, before, all.commands, one.line_is, goes, is);
       text = all.text ++ one.text;
       read = (mid, all.read, one.read);
       told = (b, all.text, one.text, all.told, told, refl);
       written = Appends-trans out more new all.text one.text all.written one.written;
     }
 
-pub all_told : (echo : Bool) (from to : Option (List ℕ)) (a b c : TheSession) (out more new : Option (List ℕ)) (count : ℕ) →
-    AreTold echo from to a b out more count → NothingWasLeft to b c more new → HasDriven echo from a c out new
-all_told echo from to a b c out more new count all end = record {
-  to = to;
-  count = count;
-  all = subst (λ s. AreTold echo from to a s out new count) (sym end.same) (subst (λ o. AreTold echo from to a b out o count) (sym end.unwritten) all);
-  ended = end.read;
-}
+pub all_told : (echo : Bool) (from to : Option (List ℕ)) (a b c : TheSession) (out more new : Option (List ℕ)) (count : ℕ) (each : Bool) →
+    AreTold echo from to a b out more count each → NothingWasLeft to b c more new → HasDriven echo from a c out new each
+all_told echo from to a b c out more new count each all end =
+    record { to = to; middle = b; between = more; count = count; all = all; ended = inl end }
+
+pub last_told : (echo : Bool) (from mid to : Option (List ℕ)) (a b c : TheSession) (out more new : Option (List ℕ)) (count : ℕ) (each : Bool) (line : Line) →
+    AreTold echo from mid a b out more count each → LineIsTold echo mid to b c (count + 1) more new line → ends_script line ≡ true → HasDriven echo from a c out new each
+last_told echo from mid to a b c out more new count each line all one ends =
+    record { to = mid; middle = b; between = more; count = count; all = all; ended = inr (record { to = to; line = line; ends = ends; told = one }) }
 
 -- A line that was read with what ends it
 pub reads : (from to : Option (List ℕ)) (old chunk : List ℕ) → old ≡ [] → IfSome from (λ xs. chunk ≡ old ++ take_through 10 xs) → DropsThrough from to 10 → ReadsScript from to chunk
@@ -52,6 +57,7 @@ pub on_err : {T Q : Type 0} (r : Result T Fault) → Q → IfErr r (λ fault. fa
 on_err (Ok x) q = tt
 on_err (Err fault) q = λ is. q
 
-pub broken : (echo : Bool) (from mid : Option (List ℕ)) (a b : TheSession) (out more new : Option (List ℕ)) (count : ℕ) →
-    AreTold echo from mid a b out more count → LineIsCut echo mid b (count + 1) more new → HasBroken echo from a out new
-broken echo from mid a b out more new count all cut = record { to = mid; new = b; between = more; count = count; all = all; cut = cut }
+pub broken : (echo : Bool) (from mid : Option (List ℕ)) (a b : TheSession) (out more new : Option (List ℕ)) (count : ℕ) (each : Bool) →
+    AreTold echo from mid a b out more count each → LineIsCut echo mid b (count + 1) more new → HasBroken echo from a out new
+broken echo from mid a b out more new count each all cut =
+    record { to = mid; new = b; between = more; count = count; each = each; all = all; cut = cut }

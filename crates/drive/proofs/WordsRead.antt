@@ -1,10 +1,8 @@
 -- What was read of the words, in a longer history.
-use Rattle.std.proofs.Common.{◌≡◌, ◌≢◌, inl, inr, ℕ, zero, suc, ◌+◌, ◌%◌, ◌<◌, ◌≤◌, ◌⊎◌, Bool, true, false, List, Option, Some, None, sym, ap, ◌∙◌, subst, add-one, arith}
+use Rattle.std.proofs.Common.{◌≡◌, ◌≢◌, inl, inr, ℕ, zero, suc, ◌+◌, ◌%◌, ◌<◌, ◌≤◌, ◌⊎◌, Bool, true, false, List, Option, Some, None, sym, ◌∙◌, subst, add-one, arith}
 use Rattle.inorder.specs.declared.history.Entry.{Entry}
 use Rattle.inorder.specs.declared.history.Source.{Source}
 use Rattle.inorder.specs.History.{StartsWith}
-use Rattle.front.specs.declared.answers.Turn.{Turn}
-use Rattle.front.specs.declared.answers.Turn.TheVariants.{Full, Let, NoInstr, QueueFull, Spent}
 use Rattle.ruu_words.specs.declared.link.LinkWord.{LinkWord}
 use Rattle.ruu_words.specs.declared.station.StationState.{StationState}
 use Rattle.station.specs.declared.answers.Seen.{Seen}

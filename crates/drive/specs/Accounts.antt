@@ -56,10 +56,10 @@ IsOfLet core old new (Let station tag pc) None = core.sizes.ring ≤ station
 IsOfLet core old new turn info = info ≡ None
 
 -- A turn, and behind it the info word of the tenant that was let
-pub record HasTurned (core : TheCore) (old new : List Entry) (turn : Turn) (info : Option Info) :
-    Type 0 where
+pub record HasTurned (core : TheCore) (given : Option ℕ) (old new : List Entry) (turn : Turn)
+    (info : Option Info) : Type 0 where
   pub middle : List Entry
-  pub says : IsTurn core old middle turn
+  pub says : IsTurn core given old middle turn
   pub info_is : IsOfLet core middle new turn info
 
 -- The producer that a refused claim waits for

@@ -2,13 +2,13 @@
 use Rattle.std.specs.Prelude.{◌≡◌, ◌≢◌, ◌==◌, ◌&&◌, ℕ, Bool, true, false, not, List, [], length, codes, Option, Some, None, if◌then◌else◌}
 use Rattle.std.specs.Option.{option_map}
 use Rattle.std.specs.Str.{bytes_eq}
-use Rattle.text.specs.Number.{decimal_in}
+use Rattle.text.specs.Number.{decimal_in, number_in}
 use Rattle.drive.specs.declared.commands.Command.{Command}
 use Rattle.drive.specs.declared.commands.Command.TheVariants as call
 use Rattle.drive.specs.declared.commands.Line.{Line}
-use Rattle.drive.specs.declared.commands.Line.TheVariants.{Asks, Help as AsksHelp, Nothing, Table as AsksTable, Unknown, Wants}
+use Rattle.drive.specs.declared.commands.Line.TheVariants.{Asks, Help as AsksHelp, List as AsksList, Nothing, Quit as AsksQuit, Table as AsksTable, Unknown, Wants}
 use Rattle.drive.specs.declared.commands.Verb.{Verb}
-use Rattle.drive.specs.declared.commands.Verb.TheVariants.{Claim, Commit, Creator, Finish, Help, Info, Learn, Link, Look, Meet, Operand, Recover, Refresh, Renew, Report, Rest, Ring, Show, Station, Table, Take, Touched, Turn}
+use Rattle.drive.specs.declared.commands.Verb.TheVariants.{Claim, Commit, Creator, Finish, Help, Info, Learn, Link, List as Listing, Look, Meet, Operand, Quit, Recover, Refresh, Renew, Report, Rest, Ring, Show, Station, Table, Take, Touched, Turn}
 use Rattle.drive.specs.declared.commands.Which.{Which}
 use Rattle.drive.specs.declared.commands.Which.TheVariants.{First, Second}
 use Rattle.drive.specs.declared.parties.Party.{Party}
@@ -41,6 +41,8 @@ verb_name Report = codes "report"
 verb_name Renew = codes "renew"
 verb_name Table = codes "table"
 verb_name Help = codes "help"
+verb_name Listing = codes "list"
+verb_name Quit = codes "quit"
 
 -- No character
 abbrev pub is_empty : List ℕ → Bool
@@ -65,6 +67,15 @@ number_of text = decimal_in 4294967295 text
 -- The number that is the only operand
 abbrev pub only_number : Texts → Option ℕ
 only_number w = if has_one w then number_of w.first else None
+
+-- The pc that is the only operand
+abbrev pub only_pc : Texts → Option ℕ
+only_pc w = if has_one w then number_in 0 4294967295 w.first else None
+
+-- A turn, and its guess where one is given
+abbrev pub turn_of : Texts → Option Command
+turn_of w =
+    if is_empty w.first then Some (call.Turn None) else option_map (λ next. call.Turn (Some next)) (only_pc w)
 
 -- Both, where both are there
 abbrev pub both : {A B : Type 0} → Option A → Option B → Option (A × B)
@@ -102,7 +113,7 @@ two_parties w = if has_two w then both (party_of w.first) (party_of w.second) el
 
 -- The command of a word and its operands
 abbrev pub command_of : Verb → Texts → Option Command
-command_of Turn w = without_operands w call.Turn
+command_of Turn w = turn_of w
 command_of Recover w = without_operands w call.Recover
 command_of Claim w = option_map (λ p. call.Claim p.0 p.1) (unit_and_number w)
 command_of Finish w = option_map (λ p. call.Finish p.0 p.1) (unit_and_number w)
@@ -125,6 +136,8 @@ command_of Report w = without_operands w call.Report
 command_of Renew w = without_operands w call.Renew
 command_of Table w = None
 command_of Help w = None
+command_of Listing w = None
+command_of Quit w = None
 
 -- The command that these words are
 pub record AreWordsOf (w : Texts) (c : Command) : Type 0 where
@@ -143,12 +156,32 @@ pub record IsMistaken (w : Texts) (v : Verb) : Type 0 where
   pub none : command_of v w ≡ None
   pub no_table : v ≡ Table → is_empty w.first ≡ false
   pub no_help : v ≡ Help → is_empty w.first ≡ false
+  pub no_list : v ≡ Listing → is_empty w.first ≡ false
+  pub no_quit : v ≡ Quit → is_empty w.first ≡ false
+
+-- The word is none of a command
+pub record IsUnknown (w : Texts) : Type 0 where
+  pub some : w.verb ≢ []
+  pub none : (v : Verb) → w.verb ≢ verb_name v
 
 -- The line that these words are. A line without words asks for nothing
 abbrev pub IsLine : Texts → Line → Type 0
 IsLine w Nothing = w.verb ≡ []
-IsLine w Unknown = (v : Verb) → w.verb ≢ verb_name v
+IsLine w Unknown = IsUnknown w
 IsLine w (Wants v) = IsMistaken w v
 IsLine w (Asks c) = AreWordsOf w c
 IsLine w AsksTable = AsksFor Table w
 IsLine w AsksHelp = AsksFor Help w
+IsLine w AsksList = AsksFor Listing w
+IsLine w AsksQuit = AsksFor Quit w
+
+-- The line is a command, or asks for nothing
+abbrev pub is_command : Line → Bool
+is_command Unknown = false
+is_command (Wants v) = false
+is_command line = true
+
+-- The line ends its script
+abbrev pub ends_script : Line → Bool
+ends_script AsksQuit = true
+ends_script line = false

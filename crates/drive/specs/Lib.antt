@@ -12,6 +12,7 @@ pub mod Retiring
 pub mod Sessions
 pub mod Texts
 pub mod Tables
+pub mod Listed
 pub mod Help
 pub mod Transcripts
 pub mod Scripts

@@ -1,6 +1,7 @@
 -- Sessions that are driven by a seed.
 use Rattle.std.specs.Prelude.{◌≡◌, ◌⊎◌, ℕ, suc, ◌+◌, ◌%◌, true, List, [], ◌∷◌, ◌++◌, length, codes, decimal, Option, None, Some, slice_get, take, ◌<◌}
 use Rattle.std.specs.Io.KnownBytes.{Appends}
+use Rattle.isa.specs.Report.{hexadecimal}
 use Rattle.rand_pcg.specs.Lcg.{Lcg}
 use Rattle.unit.specs.Seeds.{ChoosesNext, seeded}
 use Rattle.drive.specs.declared.commands.Command.{Command}
@@ -27,7 +28,8 @@ unit_command word unit station =
 
 -- A chosen command, as a script has it
 abbrev pub command_text : Command → List ℕ
-command_text ask.Turn = codes "turn"
+command_text (ask.Turn None) = codes "turn"
+command_text (ask.Turn (Some next)) = codes "turn " ++ hexadecimal next
 command_text ask.Recover = codes "recover"
 command_text (ask.Claim unit station) = unit_command (codes "claim") unit station
 command_text (ask.Finish unit station) = unit_command (codes "finish") unit station

@@ -1,12 +1,13 @@
 -- What the calls of a session answer.
-use Rattle.std.specs.Prelude.{⊤, ◌≡◌, ℕ, List, [], length, Option}
-use Rattle.instructions.specs.Programs.{Program}
+use Rattle.std.specs.Prelude.{⊤, ◌≡◌, ℕ, List, [], length, Option, Some, None}
+use Rattle.instructions.specs.Instruction.{fixed_next}
+use Rattle.instructions.specs.Programs.{Program, instr_of}
 use Rattle.inorder.specs.declared.history.Entry.{Entry}
 use Rattle.inorder.specs.declared.history.Source.{Source}
 use Rattle.inorder.specs.declared.history.Source.TheVariants.{First, Second}
 use Rattle.inorder.specs.History.{front, unit_of}
 use Rattle.inorder.specs.OneHistory.{Adds}
-use Rattle.inorder.specs.Unit.{Sizes}
+use Rattle.inorder.specs.Unit.{Sizes, front_half}
 use Rattle.back.specs.Backs.{TheBack, committed_in, unit_in}
 use Rattle.back.specs.Commits.{CommitAnswers}
 use Rattle.back.specs.declared.answers.Commit.{Commit}
@@ -24,7 +25,6 @@ use Rattle.front.specs.Turns.{LetsOut, Refuses}
 use Rattle.ruu_words.specs.declared.station.StationState.{StationState}
 use Rattle.snapshots.specs.declared.mark.Mark.{Mark}
 use Rattle.station.specs.declared.answers.Claim.{Claim}
-use Rattle.station.specs.declared.job.Job.{Job}
 use Rattle.station.specs.declared.answers.Claim.TheVariants.{Job as Claimed}
 use Rattle.station.specs.declared.answers.Seen.{Seen}
 use Rattle.station.specs.declared.answers.SourceState.{SourceState}
@@ -40,11 +40,19 @@ use Rattle.ruu_words.specs.declared.link.LinkWord.{LinkWord}
 use Rattle.drive.specs.Moments.{IsBetween}
 use Rattle.station.specs.Renewals.{HasNobody}
 
+-- Where a guess is given, that is the predicted next pc, unless the next pc is fixed
+abbrev pub IsGuess : (given fixed : Option ℕ) → (predicted : ℕ) → Type 0
+IsGuess None fixed predicted = ⊤
+IsGuess (Some next) None predicted = predicted ≡ next
+IsGuess (Some next) (Some x) predicted = predicted ≡ x
+
 -- A tenant was let, with some predicted next pc
-pub record HasLet (P : Program) (C : Sizes) (before behind : List Entry) (station tag pc : ℕ) :
-    Type 0 where
+pub record HasLet (P : Program) (C : Sizes) (given : Option ℕ) (before behind : List Entry)
+    (station tag pc : ℕ) : Type 0 where
   pub predicted : ℕ
   pub lets : LetsOut P C before behind station tag pc predicted
+  pub guess : IsGuess given
+      (fixed_next (instr_of P lets.index) (front_half P (unit_of P C lets.point).tenants) pc) predicted
 
 -- A refusal is true at its moment of the call, and adds nothing
 pub record IsTurnRefusal (P : Program) (C : Sizes) (before behind : List Entry) (turn : Turn) :
@@ -53,14 +61,14 @@ pub record IsTurnRefusal (P : Program) (C : Sizes) (before behind : List Entry) 
   pub was : Refuses P C before behind turn
 
 -- A turn of the front
-abbrev pub TurnSays : Program → Sizes → List Entry → List Entry → Turn → Type 0
-TurnSays P C before behind (Let station tag pc) = HasLet P C before behind station tag pc
-TurnSays P C before behind turn = IsTurnRefusal P C before behind turn
+abbrev pub TurnSays : Program → Sizes → Option ℕ → List Entry → List Entry → Turn → Type 0
+TurnSays P C given before behind (Let station tag pc) = HasLet P C given before behind station tag pc
+TurnSays P C given before behind turn = IsTurnRefusal P C before behind turn
 
 -- The answer of a turn of the front, and what the turn has added to the history
-abbrev pub IsTurn : TheCore → List Entry → List Entry → Turn → Type 0
-IsTurn core old new turn =
-    IsBetween old new (λ before behind. TurnSays core.program core.sizes before behind turn)
+abbrev pub IsTurn : TheCore → Option ℕ → List Entry → List Entry → Turn → Type 0
+IsTurn core given old new turn =
+    IsBetween old new (λ before behind. TurnSays core.program core.sizes given before behind turn)
 
 -- A recovery by the front
 abbrev pub IsRecovery : TheCore → List Entry → List Entry → Recovery → Type 0

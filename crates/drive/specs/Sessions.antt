@@ -190,8 +190,8 @@ MayRefuseCommand s command refusal = ⊥
 -- The answer to a command: it is allowed between the two histories, or it is a refusal that changes
 -- nothing
 abbrev pub Answers : TheSession → TheSession → Command → Reply → Type 0
-Answers old new ask.Turn (say.Turn turn info) =
-    HasTurned old.core old.seen new.seen turn info × KeepsCommits old new
+Answers old new (ask.Turn given) (say.Turn turn info) =
+    HasTurned old.core given old.seen new.seen turn info × KeepsCommits old new
 Answers old new ask.Recover (say.Recovery recovery) = IsRecovery old.core old.seen new.seen recovery
 Answers old new (ask.Claim unit station) (say.Claim answer from) =
     HasClaimedTold old.core old.seen new.seen old.units new.units unit station answer from
@@ -234,7 +234,7 @@ Answers old new command reply = ⊥
 
 -- The session with what a command may change
 abbrev pub after_command : Command → TheSession → TheSession → TheSession
-after_command ask.Turn old new =
+after_command (ask.Turn given) old new =
     record old {
       seen = new.seen;
       commits = new.commits;

@@ -1,5 +1,5 @@
 -- The texts of answers.
-use Rattle.std.specs.Prelude.{ℕ, zero, suc, ◌+◌, ◌-◌, ◌/◌, ◌%◌, ◌==◌, nat_lt, Bool, true, false, is_some, List, [], ◌∷◌, ◌++◌, Option, None, Some, codes, decimal, slice_get, if◌then◌else◌}
+use Rattle.std.specs.Prelude.{ℕ, zero, suc, ◌+◌, ◌-◌, ◌/◌, ◌%◌, ◌==◌, nat_lt, Bool, true, is_some, List, [], ◌∷◌, ◌++◌, Option, None, Some, codes, decimal, slice_get, if◌then◌else◌}
 use Rattle.isa.specs.InstrText.{instr_text}
 use Rattle.isa.specs.Report.{hexadecimal, newline, register_name, report_of}
 use Rattle.instructions.specs.Endings.{stop_word}
@@ -42,7 +42,6 @@ use Rattle.drive.specs.declared.replies.Finished.{Finished}
 use Rattle.drive.specs.declared.replies.Head.{Head}
 use Rattle.drive.specs.declared.replies.Info.{Info}
 use Rattle.drive.specs.declared.replies.Operand.{Operand}
-use Rattle.drive.specs.declared.replies.Refreshed.{Refreshed}
 use Rattle.drive.specs.declared.replies.Refusal.{Refusal}
 use Rattle.drive.specs.declared.replies.Refusal.TheVariants as no
 use Rattle.drive.specs.declared.replies.Row.{Row}

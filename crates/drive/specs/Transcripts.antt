@@ -3,11 +3,12 @@ use Rattle.std.specs.Prelude.{◌≡◌, ℕ, suc, Bool, true, false, List, [], 
 use Rattle.isa.specs.Report.{newline}
 use Rattle.drive.specs.declared.commands.Command.{Command}
 use Rattle.drive.specs.declared.commands.Line.{Line}
-use Rattle.drive.specs.declared.commands.Line.TheVariants.{Asks, Help, Nothing, Table, Unknown, Wants}
+use Rattle.drive.specs.declared.commands.Line.TheVariants.{Asks, Help, List as AsksList, Nothing, Quit, Table, Unknown, Wants}
 use Rattle.drive.specs.declared.commands.Verb.{Verb}
 use Rattle.drive.specs.declared.commands.Verb.TheVariants as verb
 use Rattle.drive.specs.declared.replies.Reply.{Reply}
 use Rattle.drive.specs.Help.{help_text}
+use Rattle.drive.specs.Listed.{list_text}
 use Rattle.drive.specs.Tables.{IsTable}
 use Rattle.drive.specs.Commands.{IsLine, verb_name}
 use Rattle.drive.specs.Moments.{GrowsLegally}
@@ -17,6 +18,7 @@ use Rattle.drive.specs.Words.{words_of}
 
 -- The text that names the operands of a command
 abbrev pub operands_text : Verb → List ℕ
+operands_text verb.Turn = codes "no operand, or a pc"
 operands_text verb.Claim = codes "a unit and a station"
 operands_text verb.Finish = codes "a unit and a station"
 operands_text verb.Look = codes "a station"
@@ -54,6 +56,8 @@ LineSays old new number (Wants v) text = (text ≡ wants_text number v) × (new 
 LineSays old new number (Asks command) text = IsAnswered old new number command text
 LineSays old new number Table text = IsTable old new text
 LineSays old new number Help text = (text ≡ help_text) × (new ≡ old)
+LineSays old new number AsksList text = (text ≡ list_text old.core.program) × (new ≡ old)
+LineSays old new number Quit text = (text ≡ []) × (new ≡ old)
 
 -- The text of what the bytes of a line come to
 pub record IsToldOfLine (old new : TheSession) (number : ℕ) (bytes text : List ℕ) : Type 0 where

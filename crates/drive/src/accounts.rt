@@ -42,12 +42,13 @@ fn info_of_let<J: Naming>(
     }
 }
 
-/// A turn of the front, and the info word of the tenant that it let.
+/// A turn of the front, by the given guess if there is one, and the info word of the tenant that it let.
 pub(crate) fn turn<P: Predictor + Drop, J: Naming>(
     core: &Core,
     all: &mut UnitSeat,
     front: &mut Front<'_, P>,
     back: &mut Back<J>,
+    given: Option<u32>,
 ) -> (Turn, Option<Info>)
     requires all { all.old.core ≡ core.now }
     requires front { front.old.core ≡ core.now }
@@ -57,9 +58,9 @@ pub(crate) fn turn<P: Predictor + Drop, J: Naming>(
     ensures told { front.new.told ≡ front.old.told }
     ensures back { IsSameBack back.old back.new }
     ensures grows { GrowsLegally core.now all.old.seen all.new.seen }
-    ensures reply { HasTurned core.now all.old.seen all.new.seen result.0 result.1 }
+    ensures reply { HasTurned core.now given all.old.seen all.new.seen result.0 result.1 }
 {
-    let answer = calls::turn(core, all, front);
+    let answer = calls::turn(core, all, front, given);
     let info = info_of_let(core, all, back, answer);
     (answer, info)
 }

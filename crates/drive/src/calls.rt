@@ -3,7 +3,9 @@ ghost use Rattle.std.specs.Prelude.{◌≡◌, ◌<◌, ◌-◌, ◌^◌, IfOk};
 ghost use Rattle.back.specs.Backs.{IsSameBack, back_state};
 ghost use Rattle.drive.specs.Accounts.{IsFinish};
 ghost use Rattle.drive.specs.Moments.{GrowsLegally};
+ghost use Rattle.front.specs.Fronts.{TurnsTo};
 ghost use Rattle.front.specs.Rests.{rested_after};
+ghost use Rattle.front.specs.Training.{given_or};
 ghost use Rattle.drive.specs.Replies.{HoldsWhatIs, IsClaim, IsCommit, IsCreatorNow, IsLook, IsRecovery, IsRefresh, IsRest, IsShown, IsTurn};
 ghost use Rattle.drive.specs.Rows.{IsAhead};
 ghost use Rattle.station.specs.Claiming.{Holds};
@@ -16,18 +18,36 @@ use instructions::{Memory, Predictor, Program, Reg};
 use station::{Claim, Core, Job, Seen, StationState, UnitSeat, a_job_is_of_the_program, jobs_stay};
 use std::sync::Wait;
 
-/// A turn of the front.
-pub fn turn<P: Predictor + Drop>(core: &Core, all: &mut UnitSeat, front: &mut Front<'_, P>) -> Turn
+// A turn by the front. A given guess stands in for the predictor's.
+fn turn_by<P: Predictor + Drop>(core: &Core, front: &mut Front<'_, P>, given: Option<u32>) -> Turn
+    requires { front.old.core ≡ core.now }
+    ensures core { front.new.core ≡ core.now }
+    ensures told { front.new.told ≡ front.old.told }
+    ensures reply { TurnsTo (given_or given P.Predicts) P.Learns core.now front.old front.new result }
+{
+    match given {
+        Some(next) => front.turn_to(core, next),
+        None => front.turn(core),
+    }
+}
+
+/// A turn of the front. A given guess stands in for the predictor's.
+pub fn turn<P: Predictor + Drop>(
+    core: &Core,
+    all: &mut UnitSeat,
+    front: &mut Front<'_, P>,
+    given: Option<u32>,
+) -> Turn
     requires all { all.old.core ≡ core.now }
     requires front { front.old.core ≡ core.now }
     ensures all { IsSameSeat all.old all.new }
     ensures front { front.new.core ≡ core.now }
     ensures told { front.new.told ≡ front.old.told }
     ensures grows { GrowsLegally core.now all.old.seen all.new.seen }
-    ensures reply { IsTurn core.now all.old.seen all.new.seen result }
+    ensures reply { IsTurn core.now given all.old.seen all.new.seen result }
 {
     front.meet(core, all);
-    let answer = front.turn(core);
+    let answer = turn_by(core, front, given);
     front.meet(core, all);
     answer
 }

@@ -1,6 +1,6 @@
 //! The commands of a script.
 ghost use Rattle.std.specs.Prelude.{◌≡◌, ◌≢◌, IfNone, IfSome};
-ghost use Rattle.drive.specs.Commands.{IsLine, without_operands, command_of, has_one, has_two, number_of, only_number, source_of, station_and_source, two_parties, unit_and_number, verb_name};
+ghost use Rattle.drive.specs.Commands.{IsLine, without_operands, command_of, ends_script, has_one, has_two, is_command, number_of, only_number, only_pc, source_of, station_and_source, turn_of, two_parties, unit_and_number, verb_name};
 ghost use Rattle.drive.specs.Words.{texts_of, words_of};
 ghost use Rattle.drive.specs.declared.commands.Verb.{Verb};
 
@@ -35,6 +35,8 @@ pub enum Verb {
     Renew,
     Table,
     Help,
+    List,
+    Quit,
 }
 
 /// Source 1 or source 2 of an instruction.
@@ -47,7 +49,8 @@ pub enum Which {
 /// A call to make. A unit is named by its place, from 0 on.
 #[derive(Clone, Copy, Debug, PartialEq, Eq)]
 pub enum Command {
-    Turn,
+    /// With a guess in place of the predictor's, where one is given.
+    Turn(Option<u32>),
     Recover,
     Claim(usize, u32),
     Finish(usize, u32),
@@ -84,6 +87,10 @@ pub enum Line {
     Table,
     /// The commands that there are.
     Help,
+    /// The instructions of the program.
+    List,
+    /// The end of the script.
+    Quit,
 }
 
 // The command with this word.
@@ -115,6 +122,8 @@ fn verb_in(word: &[u8]) -> Option<Verb>
         b"renew" => Some(Verb::Renew),
         b"table" => Some(Verb::Table),
         b"help" => Some(Verb::Help),
+        b"list" => Some(Verb::List),
+        b"quit" => Some(Verb::Quit),
         _ => None,
     }
 }
@@ -154,6 +163,27 @@ fn only_number(words: &Words<'_>) -> Option<u32>
         number_in(words.first)
     } else {
         None
+    }
+}
+
+fn only_pc(words: &Words<'_>) -> Option<u32>
+    ensures { result ≡ only_pc (texts_of words.now) }
+{
+    if has_one(words) {
+        text::number_in(words.first, 0, 0xffff_ffff)
+    } else {
+        None
+    }
+}
+
+// A turn, and its guess where one is given.
+fn turn_in(words: &Words<'_>) -> Option<Command>
+    ensures { result ≡ turn_of (texts_of words.now) }
+{
+    if words.first.is_empty() {
+        Some(Command::Turn(None))
+    } else {
+        only_pc(words).map(|next| Command::Turn(Some(next)))
     }
 }
 
@@ -201,12 +231,12 @@ fn two_parties(words: &Words<'_>) -> Option<(Party, Party)>
     Some((one, other))
 }
 
-// The command of a word and its operands. A table is none: it is many. Nor is help.
+// The command of a word and its operands. A table is none: it is many. Help, a list and the end of a script make no call.
 fn command_in(verb: Verb, words: &Words<'_>) -> Option<Command>
     ensures { result ≡ command_of verb (texts_of words.now) }
 {
     match verb {
-        Verb::Turn => bare(words, Command::Turn),
+        Verb::Turn => turn_in(words),
         Verb::Recover => bare(words, Command::Recover),
         Verb::Claim => unit_and_number(words).map(|(unit, station)| Command::Claim(unit, station)),
         Verb::Finish => unit_and_number(words).map(|(unit, station)| Command::Finish(
@@ -229,7 +259,7 @@ fn command_in(verb: Verb, words: &Words<'_>) -> Option<Command>
         Verb::Meet => two_parties(words).map(|(one, other)| Command::Meet(one, other)),
         Verb::Report => bare(words, Command::Report),
         Verb::Renew => bare(words, Command::Renew),
-        Verb::Table | Verb::Help => None,
+        Verb::Table | Verb::Help | Verb::List | Verb::Quit => None,
     }
 }
 
@@ -244,14 +274,31 @@ pub fn line_in(line: &[u8]) -> Line
     let Some(verb) = verb_in(words.verb) else {
         return Line::Unknown;
     };
-    if verb == Verb::Table && words.first.is_empty() {
-        return Line::Table;
-    }
-    if verb == Verb::Help && words.first.is_empty() {
-        return Line::Help;
+    if words.first.is_empty() {
+        match verb {
+            Verb::Table => return Line::Table,
+            Verb::Help => return Line::Help,
+            Verb::List => return Line::List,
+            Verb::Quit => return Line::Quit,
+            _ => {}
+        }
     }
     match command_in(verb, &words) {
         Some(command) => Line::Asks(command),
         None => Line::Wants(verb),
     }
+}
+
+/// The line is a command, or asks for nothing.
+pub(crate) fn is_command(line: Line) -> bool
+    ensures { result ≡ is_command line }
+{
+    !matches!(line, Line::Unknown | Line::Wants(_))
+}
+
+/// The line ends its script.
+pub(crate) fn ends_script(line: Line) -> bool
+    ensures { result ≡ ends_script line }
+{
+    matches!(line, Line::Quit)
 }

@@ -7,6 +7,7 @@ use std::alloc::{AllocError, Global};
 /// A line for each command. U is a unit, A to Z and AA to BL; S a station; K 1 or 2; R the number of a register.
 pub const HELP: &str = "\
 turn          lets the next instruction
+turn PC       lets it with the guess PC, where the predictor would be asked for its next pc
 recover       repairs the oldest misprediction
 claim U S     unit U claims the tenant of station S
 finish U S    unit U finishes its job of station S
@@ -28,7 +29,9 @@ rest          the front folds what has left
 renew         a new core with fresh tags, behind a rest
 touched       how many words of the create vector were touched
 meet X Y      two of front, back and units tell each other what they have seen
+list          the instructions of the program
 help          these lines
+quit          ends the script
 ";
 
 /// The text of `HELP`.

@@ -11,6 +11,7 @@ mod finish_texts;
 mod help;
 mod instruction_texts;
 mod lines;
+mod listed;
 mod meeting;
 mod names;
 mod parties;

@@ -1,10 +1,11 @@
 //! What is told of a line of a script.
 ghost use Rattle.std.specs.Prelude.{◌≡◌, IfOk, string_bytes};
 ghost use Rattle.drive.specs.Commands.{verb_name};
-ghost use Rattle.drive.specs.Transcripts.{IsToldOfLine, operands_text, unknown_text, wants_text};
+ghost use Rattle.drive.specs.Transcripts.{LineSays, operands_text, unknown_text, wants_text};
 
-use crate::commands::{Line, Verb, line_in};
+use crate::commands::{Line, Verb};
 use crate::help::help;
+use crate::listed::list;
 use crate::session::Session;
 use crate::tables::table;
 use crate::texts::line_of;
@@ -40,6 +41,8 @@ fn word(verb: Verb) -> &'static str
         Verb::Renew => "renew",
         Verb::Table => "table",
         Verb::Help => "help",
+        Verb::List => "list",
+        Verb::Quit => "quit",
     }
 }
 
@@ -47,6 +50,7 @@ fn operands(verb: Verb) -> &'static str
     ensures { result.now ≡ operands_text verb }
 {
     match verb {
+        Verb::Turn => "no operand, or a pc",
         Verb::Claim | Verb::Finish => "a unit and a station",
         Verb::Look | Verb::Info | Verb::Station => "a station",
         Verb::Operand | Verb::Link => "a station and a source",
@@ -70,19 +74,19 @@ fn wants(alloc: Global, number: u64, verb: Verb) -> Result<String, AllocError>
 }
 
 /// Does what the line of this number asks for, and gives the text for it. A line without a command
-/// has an empty text.
+/// has an empty text, and so has one that ends the script.
 pub fn told<P: Predictor + Drop, J: Naming, R: Wait>(
     wait: &R,
     alloc: Global,
     session: &mut Session<'_, P, J>,
     number: u64,
-    line: &[u8],
+    line: Line,
 ) -> Result<String, AllocError>
     ensures { IfOk result (λ text.
-        IsToldOfLine session.old session.new number line.now (string_bytes text)) }
+        LineSays session.old session.new number line (string_bytes text)) }
 {
-    match line_in(line) {
-        Line::Nothing => Ok(String::new(alloc)),
+    match line {
+        Line::Nothing | Line::Quit => Ok(String::new(alloc)),
         Line::Unknown => unknown(alloc, number),
         Line::Wants(verb) => wants(alloc, number, verb),
         Line::Asks(command) => {
@@ -91,5 +95,6 @@ pub fn told<P: Predictor + Drop, J: Naming, R: Wait>(
         }
         Line::Table => table(wait, alloc, session),
         Line::Help => help(alloc),
+        Line::List => list(alloc, session.program()),
     }
 }

@@ -4,13 +4,14 @@ ghost use Rattle.devices.specs.Counted.{failures_of, known_by};
 ghost use Rattle.drive.specs.Plays.{ArePlayed, HasPlayed, HasPlayedPart, IsNamed, IsPlayed, IsWrittenBehind, MayHaveLooked, command_text, unit_command};
 ghost use Rattle.drive.specs.Scripts.{failed_writes};
 
-use crate::commands::Command;
+use crate::commands::{Command, line_in};
 use crate::row_texts::push_unit;
 use crate::script::{Fault, written};
 use crate::session::Session;
 use back::Naming;
 use devices::{Counted, write_whole};
 use instructions::Predictor;
+use isa::Hexadecimal;
 use std::alloc::{AllocError, Global};
 use std::io::Write;
 use std::sync::Wait;
@@ -34,7 +35,11 @@ fn command_text(alloc: Global, command: Command) -> Result<String, AllocError>
     ensures { IfOk result (λ text. string_bytes text ≡ command_text command) }
 {
     match command {
-        Command::Turn => format!(in alloc; "turn"),
+        Command::Turn(None) => format!(in alloc; "turn"),
+        Command::Turn(Some(next)) => {
+            let next = Hexadecimal(next);
+            format!(in alloc; "turn {next}")
+        }
         Command::Recover => format!(in alloc; "recover"),
         Command::Claim(unit, station) => text_of_unit(alloc, "claim", unit, station),
         Command::Finish(unit, station) => text_of_unit(alloc, "finish", unit, station),
@@ -88,7 +93,7 @@ fn push_line<P: Predictor + Drop, J: Naming, R: Wait>(
     ensures { OnOk result (IsWrittenBehind session.old session.new number line.now
         out.old.items out.new.items) }
 {
-    let text = written(wait, alloc, session, number, line, true)?;
+    let text = written(wait, alloc, session, number, line, line_in(line), true)?;
     out.extend_from_slice(text.as_slice())
 }
 

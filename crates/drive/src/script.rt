@@ -1,10 +1,13 @@
 //! A whole script: each of its lines is answered before the next one is read.
-ghost use Rattle.std.specs.Prelude.{◌≡◌, ◌≢◌, ◌+◌, ◌-◌, ◌^◌, ◌<◌, ◌++◌, true, false, IfErr, IfOk, OnOk};
+ghost use Rattle.std.specs.Prelude.{◌≡◌, ◌≢◌, ◌+◌, ◌-◌, ◌^◌, ◌<◌, ◌++◌, ◌&&◌, IfErr, IfNone, IfOk, IfSome, OnOk};
 ghost use Rattle.std.specs.Io.BufRead.{strip_last};
 ghost use Rattle.devices.specs.Counted.{failures_of, known_by};
+ghost use Rattle.drive.specs.Commands.{IsLine, is_command};
+ghost use Rattle.drive.specs.Words.{words_of};
 ghost use Rattle.drive.specs.Transcripts.{IsWrittenOfLine, echo_text};
 ghost use Rattle.drive.specs.Scripts.{HasBroken, HasDriven, HasTold, LineIsCut, LineIsTold, NothingWasLeft, failed_writes, line_of};
 
+use crate::commands::{Line, ends_script, is_command, line_in};
 use crate::lines::told;
 use crate::session::Session;
 use back::Naming;
@@ -84,19 +87,21 @@ pub(crate) fn written<P: Predictor + Drop, J: Naming, R: Wait>(
     session: &mut Session<'_, P, J>,
     number: u64,
     line: &[u8],
+    asked: Line,
     echo: bool,
 ) -> Result<Vec<u8>, AllocError>
+    requires { IsLine (words_of line.now) asked }
     ensures { IfOk result (λ text.
         IsWrittenOfLine echo session.old session.new number line.now text.items) }
 {
     let mut out = Vec::new(alloc);
     push_echo(&mut out, echo, line)?;
-    let text = told(wait, alloc, session, number, line)?;
+    let text = told(wait, alloc, session, number, asked)?;
     out.extend_from_slice(text.as_str().as_bytes())?;
     Ok(out)
 }
 
-// Reads the line of this number, and tells what is told of it. False at the end of the script.
+// Reads the line of this number, tells what is told of it, and gives the line. There is none at the end of the script.
 fn tell_line<P: Predictor + Drop, J: Naming, R: Wait, I: BufRead, W: Write>(
     wait: &R,
     alloc: Global,
@@ -105,15 +110,15 @@ fn tell_line<P: Predictor + Drop, J: Naming, R: Wait, I: BufRead, W: Write>(
     writer: &mut Counted<W>,
     number: u64,
     echo: bool,
-) -> Result<bool, Fault>
+) -> Result<Option<Line>, Fault>
     requires { failures_of writer.old < 2 ^ 64 - 1 }
     ensures quiet { OnOk result (failures_of writer.new ≡ failures_of writer.old) }
-    ensures more { IfOk result (λ more. more ≡ true →
-        LineIsTold echo (I.remaining reader.old) (I.remaining reader.new) session.old session.new number
-        (known_by W.contents writer.old) (known_by W.contents writer.new)) }
-    ensures end { IfOk result (λ more. more ≡ false →
-        NothingWasLeft (I.remaining reader.old) session.old session.new
-        (known_by W.contents writer.old) (known_by W.contents writer.new)) }
+    ensures line { IfOk result (λ told. IfSome told
+        (LineIsTold echo (I.remaining reader.old) (I.remaining reader.new) session.old session.new number
+        (known_by W.contents writer.old) (known_by W.contents writer.new))) }
+    ensures end { IfOk result (λ told. IfNone told
+        (NothingWasLeft (I.remaining reader.old) session.old session.new
+        (known_by W.contents writer.old) (known_by W.contents writer.new))) }
     ensures silent { IfErr result (λ fault. fault ≢ Fault.Write → writer.new ≡ writer.old) }
     ensures write { IfErr result (λ fault.
         failures_of writer.new ≡ failures_of writer.old + failed_writes fault) }
@@ -132,16 +137,24 @@ fn tell_line<P: Predictor + Drop, J: Naming, R: Wait, I: BufRead, W: Write>(
         }
     };
     if count == 0 {
-        return Ok(false);
+        return Ok(None);
     }
     let line = line_in_chunk(chunk.as_slice());
-    let text = written(wait, alloc, session, number, line, echo)?;
+    let asked = line_in(line);
+    let text = written(wait, alloc, session, number, line, asked, echo)?;
     write_whole(writer, text.as_slice())?;
-    Ok(true)
+    Ok(Some(asked))
 }
 
-/// Answers the lines of a script, up to its end, each behind the line itself where that is wanted. What is written is
-/// the transcript.
+// Whether each line up to this one is a command.
+fn is_each(each: bool, line: Line) -> bool
+    ensures { result ≡ (each && is_command line) }
+{
+    each && is_command(line)
+}
+
+/// Answers the lines of a script, up to its end or a line that ends it, each behind the line itself where that is wanted.
+/// What is written is the transcript. Gives whether each line was a command.
 pub fn drive<P: Predictor + Drop, J: Naming, R: Wait, I: BufRead, W: Write>(
     wait: &R,
     alloc: Global,
@@ -149,9 +162,9 @@ pub fn drive<P: Predictor + Drop, J: Naming, R: Wait, I: BufRead, W: Write>(
     reader: &mut I,
     writer: &mut Counted<W>,
     echo: bool,
-) -> Result<(), Fault>
+) -> Result<bool, Fault>
     requires { failures_of writer.old < 2 ^ 64 - 1 }
-    ensures ok { OnOk result (HasDriven echo (I.remaining reader.old) session.old session.new
+    ensures ok { IfOk result (HasDriven echo (I.remaining reader.old) session.old session.new
         (known_by W.contents writer.old) (known_by W.contents writer.new)) }
     ensures quiet { OnOk result (failures_of writer.new ≡ failures_of writer.old) }
     // The writer is blamed for one failed call, and only then.
@@ -166,10 +179,16 @@ pub fn drive<P: Predictor + Drop, J: Naming, R: Wait, I: BufRead, W: Write>(
         HasBroken echo (I.remaining reader.old) session.old
         (known_by W.contents writer.old) (known_by W.contents writer.new)) }
 {
+    let mut each = true;
     for number in 0..u64::MAX {
-        if !tell_line(wait, alloc, session, reader, writer, number + 1, echo)? {
-            return Ok(());
+        let told = tell_line(wait, alloc, session, reader, writer, number + 1, echo)?;
+        let Some(line) = told else {
+            return Ok(each);
+        };
+        if ends_script(line) {
+            return Ok(each);
         }
+        each = is_each(each, line);
     }
     Err(Fault::Read)
 }

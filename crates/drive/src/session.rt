@@ -100,15 +100,15 @@ impl<'a, P: Predictor + Drop, J: Naming> Session<'a, P, J> {
         }
     }
 
-    fn turn(&mut self) -> Reply
+    fn turn(&mut self, given: Option<u32>) -> Reply
         ensures core { self.new.core ≡ self.old.core }
         ensures grows { GrowsLegally self.old.core self.old.seen self.new.seen }
-        ensures kept { self.new ≡ after_command Command.Turn self.old self.new }
-        ensures reply { Answers self.old self.new Command.Turn result }
+        ensures kept { self.new ≡ after_command (Command.Turn given) self.old self.new }
+        ensures reply { Answers self.old self.new (Command.Turn given) result }
     {
         self.rested = false;
         let (core, all, back) = (&self.core, &mut self.all, &mut self.back);
-        let (turn, info) = accounts::turn(core, all, &mut self.front, back);
+        let (turn, info) = accounts::turn(core, all, &mut self.front, back, given);
         Reply::Turn(turn, info)
     }
 
@@ -196,7 +196,7 @@ impl<'a, P: Predictor + Drop, J: Naming> Session<'a, P, J> {
         ensures reply { Answers self.old self.new command result }
     {
         match command {
-            Command::Turn => self.turn(),
+            Command::Turn(given) => self.turn(given),
             Command::Recover => self.recover(),
             Command::Claim(unit, station) => self.claim(unit, station),
             Command::Finish(unit, station) => self.finish(unit, station),

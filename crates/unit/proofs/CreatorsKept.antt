@@ -14,11 +14,6 @@ use Rattle.unit.proofs.Slots.{place_next, place_slot}
 
 -- Lists
 
-written_within : (ws : List Station) (k r : ℕ) → written_by (slice_get ws k) ≡ Some r → k < length ws
-written_within [] k r e = absurd (cc e)
-written_within (w ∷ ws) zero r e = omega arith
-written_within (w ∷ ws) (suc k) r e = let more : k < length ws = written_within ws k r e in omega (arith, more)
-
 took : {X : Type 0} (m : ℕ) (xs : List X) (k : ℕ) (x : X) → slice_get (take m xs) k ≡ Some x → (k < m) × (slice_get xs k ≡ Some x)
 took zero xs k x e = absurd (cc e)
 took (suc m) [] k x e = absurd (cc e)

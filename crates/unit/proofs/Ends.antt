@@ -91,9 +91,6 @@ ends_over limit b later c h t e q f =
     let k : limit - b.committed.count ≡ suc (limit - b.committed.count - 1) = omega (arith, q) in
     ap (λ s. (ByStop c, s)) f ∙ sym (ap (λ x. end_from P x b.committed) k ∙ end_halts P (limit - b.committed.count - 1) b.committed c (halts_of (step P b.committed) c stops))
 
-pub ends_limit : (limit : ℕ) (b : Pipeline) → limit ≤ b.committed.count → (ByLimit, b.committed) ≡ end_from b.program.now (limit - b.committed.count) b.committed
-ends_limit limit b h = let k : limit - b.committed.count ≡ 0 = omega (arith, h) in sym (ap (λ x. end_from b.program.now x b.committed) k)
-
 -- The measure of a run
 
 -- the retirements of the next instruction that are still to come, but for its last
@@ -141,16 +138,6 @@ left_falls limit b later (Over c) h n f = absurd (n c refl)
 
 -- Turns up to a retirement
 
--- a turn that neither retires an instruction nor ends the unit leaves the committed state
-pub committed_stays : (b later : Pipeline) (answer : Turn) → ((c : Stop) → answer ≡ Over c → ⊥) → (answer ≡ Retired → ⊥) → Falls answer b later → later.committed ≡ b.committed
-committed_stays b later Recovered n m f = f.0
-committed_stays b later Let n m f = f.0
-committed_stays b later Ran n m f = f.0
-committed_stays b later Loaded n m f = f.0
-committed_stays b later Halved n m f = f.0
-committed_stays b later (Over c) n m f = absurd (n c refl)
-committed_stays b later Retired n m f = absurd (m refl)
-
 run_alike : (b start : Pipeline) (limit : ℕ) → b.program ≡ start.program → b.committed ≡ start.committed → run_from b limit ≡ run_from start limit
 run_alike b start limit p e = ap (λ q. end_from q.now (limit - b.committed.count) b.committed) p ∙ ap (λ s. end_from start.program.now (limit - s.count) s) e
 
@@ -174,7 +161,3 @@ one_over start b later c h l e p s f limit less =
     let count : b.committed.count ≡ start.committed.count = ap (λ x. x.count) s in
     let below : b.committed.count < limit = omega (arith, count, less) in
     ends_over limit b later c h l e below f ∙ run_alike b start limit p s
-
--- and the measure of a run falls
-pub one_falls : (limit : ℕ) (b later : Pipeline) → b.committed.count < limit → RetiresOne None b later → left limit later < left limit b
-one_falls limit b later less o = left_falls limit b later Retired less (λ c e. absurd (cc)) o.0

@@ -44,12 +44,6 @@ same_entries registers W i h =
     ∙ sym (entries_left registers (take i W) (Rattle.std.specs.Prelude.drop i W) i le)
     ∙ ap (λ l. entries registers l i) (Rattle.std.proofs.Common.take-append-drop i W)
 
--- the same of a station in its place
-pub idle_gives : (registers memory : List ℕ) (W : List Station) (w : Station) (i : ℕ) → slice_get W i ≡ Some w → waits w ≡ None → gives (load_in registers memory) W i ≡ None
-idle_gives registers memory W w i e h =
-    ap (λ o. given_at (load_in registers memory) W o i) e
-    ∙ ap (loaded_over (entries registers (take i W) (length (take i W))) memory w.instr.op) h
-
 -- a load that is given a value waits for it
 pub answered_waits : (registers memory : List ℕ) (ws : List Station) (w : Station) (v : ℕ) → load_in registers memory ws w ≡ Some v → (a : ℕ) × (waits w ≡ Some a)
 answered_waits registers memory ws w v e = go (waits w) refl

@@ -79,10 +79,6 @@ source_live registers W i r at w n l h less e d =
     (unwritten_to r (Some (slice_index registers r)) W (at + 1) i j (λ k from below f. let q = h k below f in absurd (omega (arith, q.youngest, from))))
     (ap (slice_get W) one ∙ e) d
 
--- before the oldest there is nobody
-pub creator_none : (W : List Station) (r at : ℕ) → IsCreator W 0 r at
-creator_none W r at k less e = absurd (omega (arith, less))
-
 -- a place before one that is there is there
 pub place_there : (W : List Station) (i at : ℕ) → i ≤ length W → at < i → slice_get W at ≢ None
 place_there W i at le less e = let p = slice_get-some W at (omega (arith, le, less)) in absurd (cc (p.1, e))

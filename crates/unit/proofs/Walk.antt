@@ -182,8 +182,3 @@ pub looked_past : (registers : List ℕ) (W : List Station) (a n i at : ℕ) (y 
 looked_past registers W a n i at y o u h le known =
     let there : min i (at + 1) ≡ min i at = omega (arith, le) in
     known ∙ ap (λ k. after y (older_of (entries registers W k) a n)) there ∙ ap (after y) (walked registers W a n i at o u h)
-
-pub looked_all : (registers : List ℕ) (W : List Station) (a n i : ℕ) (y : Older) → Looked registers W a n i y None → y ≡ older_of (entries registers W i) a n
-looked_all registers W a n i y known =
-    let none : min i 0 ≡ 0 = omega arith in
-    sym (known ∙ ap (λ k. after y (older_of (entries registers W k) a n)) none ∙ after_end y)

@@ -11,9 +11,6 @@ use Rattle.unit.specs.Window.{further_on}
 use Rattle.unit.proofs.CreatorsKept.{known_let, known_pop, known_put, known_shift, known_start}
 use Rattle.unit.proofs.Slots.{ring_cut, ring_get, ring_length, ring_push, ring_set, ring_shift, slot_small}
 
-pub window_start : (S : List Station) (C : List Creators) (newest : List ℕ) → length S ≡ 32 → length C ≡ 32 → length newest ≡ 34 → IsWindow S C newest 0 0
-window_start S C newest s c n = record { begins = omega arith; most = omega arith; every_station = s; every_creator = c; known = known_start newest n }
-
 -- another stage
 pub window_put : (S : List Station) (C : List Creators) (newest : List ℕ) (start len i : ℕ) (x : Station) → IsWindow S C newest start len → i < len → IsOfSame x (slice_get (ring_of S start len) i) →
     IsWindow (set S (slot_of start i) x) C newest start len

@@ -83,10 +83,3 @@ pub thread_answers : (asked : Asked) (found : Result Program (ℕ × FaultKind))
     → went ≡ written_whole status (Tally totals) → IsAnswerFor asked found text went
 thread_answers asked found P r end totals status text went is parsed right within turns ended same reported told =
     rw (parsed, reported, told, same) (thread_reports asked P end totals is (run_known asked.config P r end totals right within turns ended))
-
--- what the threads could not have is blamed on no device
-pub refused_by_threads : {R W : Type 0} (remaining : R → Option (List ℕ)) (contents : W → Option (List ℕ)) (r r' : Counted R) (w w' : Counted W)
-    (IsText : List ℕ → List ℕ → Type 0) (why : RunRefusal) → HasNoReply 0 remaining most_taken r r' w w'
-    → IsUnansweredBy remaining contents r r' w w' IsText (run_refusal why)
-refused_by_threads remaining contents r r' w w' IsText refusal.Memory is = is
-refused_by_threads remaining contents r r' w w' IsText refusal.Thread is = is

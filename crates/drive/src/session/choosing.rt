@@ -68,7 +68,7 @@ impl<'a, P: Predictor + Drop, J: Naming> Session<'a, P, J> {
         let (core, all, back) = (&self.core, &mut self.all, &mut self.back);
         let (head, ahead) = rows::ring(core, all, &mut self.front, back);
         if head.free > 0 && self.program.fetch(ahead.pc).is_some() {
-            choices.push(Command::Turn)?;
+            choices.push(Command::Turn(None))?;
         }
         Ok(())
     }

@@ -1,5 +1,4 @@
-use Rattle.std.proofs.Common.{◌+◌, ◌%◌, ◌≤◌, arith, rules, sym, subst}
-use Rattle.std.proofs.lemmas.Grind.{common_steps}
+use Rattle.std.proofs.Common.{◌+◌, ◌%◌, ◌≤◌, rules, sym, subst}
 use Rattle.drive.specs.declared.replies.Head.{Head}
 use Rattle.drive.proofs.Histories.{grows_on}
 use Rattle.drive.proofs.WordsRead.{few_more, one_more_look}

@@ -8,5 +8,5 @@ abbrev pub invariant-loop-number : goal.invariant-loop-number
 invariant-loop-number g l = record {
   quiet : failures_of l.writer ≡ failures_of l.fn.writer;
   told : AreTold l.echo (g.I.Read.remaining l.fn.reader) (g.I.Read.remaining l.reader) l.fn.session l.session
-      (known_by g.W.Write.contents l.fn.writer) (known_by g.W.Write.contents l.writer) l.number;
+      (known_by g.W.Write.contents l.fn.writer) (known_by g.W.Write.contents l.writer) l.number l.each;
 }

@@ -1,0 +1,9 @@
+use Rattle.std.proofs.Common.{◌++◌, ◌∙◌, ap, sym, add-one}
+use Rattle.drive.specs.Listed.{all_listed, listed}
+use Rattle.drive.proofs.listed.list.Goals as goal
+
+pub loop-index-preserved : goal.loop-index-preserved
+loop-index-preserved g =
+    let at = g.loop-index in
+    let P = g.args.program.now in
+    g.in_ok-push_listed.ensures ∙ ap (λ t. t ++ listed P at.index) at.invariant ∙ ap (all_listed P) (sym (add-one at.index))
