@@ -27,9 +27,9 @@ use without_threads::{Line, Refusal, Went, refused};
 const MOST_STEPS: u64 = 1_000_000;
 
 /// Reads the listing, drives its unit by the commands of the script, one a line, or by those that a
-/// seed chooses, and writes what is answered. At the end of the script the status is 0 where each line was a command, and
-/// else 1; it is 2 for a listing with a fault, whose line is written in place of answers. There is no reader where the file did not open. A failed read or
-/// write is not tried again.
+/// seed chooses, and writes what is answered. At the end of the script the status is 0 where each line
+/// was a command, and else 1; it is 2 for a listing with a fault, whose line is written in place of
+/// answers. There is no reader where the file did not open. A failed read or write is not tried again.
 pub fn go_by_hand<T: Wait, R: Read + Drop, I: BufRead, W: Write>(
     wait: &T,
     alloc: Global,

@@ -1,5 +1,6 @@
 //! The load/store queue: memory instructions in program order, and the rule for one load over the
-//! older stores.
+//! older stores. The one-thread unit and the shared one ask it store by store, by `lacks_address`, `overlaps` and
+//! `taken_from`; `Queue` answers a load over all its entries at once.
 #![tactic(auto)]
 
 mod answer;

@@ -170,5 +170,6 @@ Example: ruu drive examples/drive/relet.s --ruu-size 4 < examples/drive/relet.tx
 
 The commands are explained in docs/TEACHING.md.
 
-Exit status: 0 all commands were answered, 2 a fault in the listing, 3 a mistake on the
-command line, 5 no memory, or a file could not be opened, read or written.";
+Exit status: 0 all commands were answered, 1 a line of the script is no command, 2 a fault in
+the listing, 3 a mistake on the command line, 5 no memory, or a file could not be opened, read
+or written.";
