@@ -27,8 +27,6 @@ WRITTEN = {
 }
 # how many lines a page may have
 MOST_LINES = {"README.md": 120, "docs/CONTRIBUTING.md": 120, "docs/DECISIONS.md": 350}
-# pages with blocks that are wider than a page
-WIDE = {"docs/LISTING.md", "docs/TEACHING.md"}
 found = []
 
 
@@ -282,7 +280,7 @@ def check_shape(page):
         wrong(page, f"{lines} lines")
     for _, block in blocks(page):
         for line in block:
-            if len(line.expandtabs(8)) > 100 and page not in WIDE:
+            if len(line.expandtabs(8)) > 100:
                 wrong(page, f"{len(line.expandtabs(8))} columns: {line}")
     for line in prose(page).splitlines():
         for cell in line.split(" | ") if line.startswith("| ") else []:

