@@ -3,11 +3,13 @@ use super::{Shape, plain, run_listing, run_listing_in_turns};
 use crate::same::same;
 use pool::{Gate, Open, Run, Tally};
 use snapshots::Snap;
+use std::alloc::Global;
 use std::process::Abort;
+use std::sync::Wait;
 use std::sync::atomic::AtomicU64;
 use std::sync::atomic::Ordering::SeqCst;
 use std::test::*;
-use std::thread::available_parallelism;
+use std::thread::{Threads, available_parallelism};
 
 const LISTING: &[u8] = b"addiu $1,$0,5\naddu $2,$1,$1\nbreak\n";
 
@@ -51,11 +53,15 @@ impl Gate for Slow {
 }
 
 // The number of units that have asked the gate in a run of 2,000 instructions that wait for nothing.
-fn active_units(rt: &HostRuntime, listing: &[u8]) -> Result<u32, Fail> {
+fn active_units<R: Threads + Wait + Abort + Sync>(
+    rt: &R,
+    alloc: Global,
+    listing: &[u8],
+) -> Result<u32, Fail> {
     let gate = Slow {
         units: AtomicU64::new(0),
     };
-    let run = run_listing(rt, rt.alloc(), listing, &plain(4), &gate)?;
+    let run = run_listing(rt, alloc, listing, &plain(4), &gate)?;
     let Run::Ended(end, _) = run else {
         return Err(Fail::from("no end"));
     };
@@ -79,7 +85,7 @@ fn more_units_are_active_where_there_is_work(rt: HostRuntime) -> Result<(), Fail
     let mut most = 0;
     for _ in 0..40 {
         if most < 2 {
-            most = active_units(&rt, listing.as_slice())?;
+            most = active_units(&rt, rt.alloc(), listing.as_slice())?;
         }
     }
     assert!(rt; processors < 4 || 1 < most);
