@@ -1,22 +1,67 @@
 -- Comments with the names of functions.
-use Rattle.std.proofs.Common.{◌≡◌, ℕ, zero, suc, ◌+◌, ◌≤◌, ◌<◌, true, List, [], ◌∷◌, ◌++◌, length, get_or, take, Ok, refl, ap, ◌∙◌, sym, arith, append_assoc}
-use Rattle.std.specs.Prelude.{codes, Result, Err, OnOk}
-use Rattle.std.specs.List.{list_all}
-use Rattle.std.proofs.lemmas.Bool.{and_from, le-leb}
-use Rattle.std.proofs.lemmas.List.{append-nil, length-append, take_more}
+use Rattle.std.proofs.Common.{◌≡◌, ℕ, zero, suc, ◌+◌, ◌≤◌, true, not, nat_le, List, [], ◌∷◌, ◌++◌, length, length-take, take, drop, take_all, Option, None, Some, Ok, inl, inr, refl, ap, ◌∙◌, sym, arith, append_assoc}
+use Rattle.std.specs.Prelude.{codes, Result, Err, OnOk, position}
+use Rattle.std.specs.List.{list_all, position_or_len}
+use Rattle.std.proofs.lemmas.Bool.{and_from, and_parts, cases_Bool, cases_lt, le-leb, leb-true, lt-ltb, le-ltb}
+use Rattle.std.proofs.lemmas.List.{append-nil, length-append}
+use Rattle.executables.specs.Symbols.{is_graphic, up_to, first_at_most, name_window, printable_at}
 use Rattle.text.specs.Label.{labels_of, statement_of}
 use Rattle.isa.specs.Statement.{statement}
 use Rattle.isa.specs.Listing.{Lines}
-use Rattle.isa.proofs.TextBytes.{of_append, of_all, all_of}
 use Rattle.conversion.proofs.Pushed.{unlines_push}
 use Rattle.conversion.specs.Writing.{as_line, unlines, printable, IsBlankLine, AllQuiet, IsQuieter, gap_lines, comment_line}
 
-pub shown_more : (name : List ℕ) (k : ℕ) → k < length name → 32 ≤ get_or name k 0 → get_or name k 0 ≤ 126 → list_all printable (take k name) ≡ true
-    → list_all printable (take (k + 1) name) ≡ true
-shown_more name k lt low high h =
-    rw (take_more name k 0 lt)
-    (all_of printable (take k name ++ get_or name k 0 ∷ [])
-    (of_append printable (take k name) (get_or name k 0 ∷ []) (of_all printable (take k name) h) (and_from _ _ (le-leb 32 (get_or name k 0) low) (le-leb (get_or name k 0) 126 high), tt)))
+-- ---- a name in an executable
+
+graphic_printable : (b : ℕ) → is_graphic b ≡ true → printable b ≡ true
+graphic_printable b h =
+    let both = and_parts (nat_le 33 b) (nat_le b 126) h in
+    let low = leb-true 33 b both.0 in
+    and_from (nat_le 32 b) (nat_le b 126) (le-leb 32 b (omega (arith, low))) both.1
+
+graphic_front : (xs : List ℕ) → list_all printable (take (position_or_len (λ b. not (is_graphic b)) xs) xs) ≡ true
+graphic_front [] = refl
+graphic_front (x ∷ xs) = elim (cases_Bool (is_graphic x)) [
+  | inl graphic ↦ (
+      let n = position_or_len (λ b. not (is_graphic b)) xs in
+      let place : 1 + n ≡ suc n = omega arith in
+      rw (graphic, place) (and_from (printable x) (list_all printable (take n xs)) (graphic_printable x graphic) (graphic_front xs)))
+  | inr other ↦ rw other refl
+]
+
+graphic_up_to : (xs : List ℕ) → list_all printable (up_to (position (λ b. not (is_graphic b)) xs) xs) ≡ true
+graphic_up_to xs =
+    let n = position_or_len (λ b. not (is_graphic b)) xs in
+    elim (cases_lt n (length xs)) [
+      | inl lt ↦ rw (lt-ltb _ _ lt) (graphic_front xs)
+      | inr le ↦ rw (le-ltb _ _ le) (ap (list_all printable) (sym (take_all n xs le)) ∙ graphic_front xs)
+    ]
+
+up_to_short : (end : Option ℕ) (xs : List ℕ) → length (up_to end xs) ≤ length xs
+up_to_short None xs = omega arith
+up_to_short (Some n) xs = omega (arith, length-take n xs)
+
+first_short : (most : ℕ) (xs : List ℕ) → length (first_at_most most xs) ≤ most
+first_short most xs = elim (cases_lt (length xs) most) [
+  | inl lt ↦ rw (lt-ltb _ _ lt) (omega (arith, lt))
+  | inr le ↦ rw (le-ltb _ _ le) (omega (arith, length-take most xs))
+]
+
+window_short : (file : List ℕ) (at : ℕ) → length (name_window file at) ≤ 60
+window_short file at = elim (cases_lt (length file) at) [
+  | inl lt ↦ rw (lt-ltb _ _ lt) (omega arith)
+  | inr le ↦ rw (le-ltb _ _ le) (first_short 60 (drop at file))
+]
+
+pub name_short : (file name : List ℕ) (at : ℕ) → name ≡ printable_at file at → length name ≤ 60
+name_short file name at is =
+    let window = name_window file at in
+    omega (arith, ap length is, up_to_short (position (λ b. not (is_graphic b)) window) window, window_short file at)
+
+pub name_plain : (file name : List ℕ) (at : ℕ) → name ≡ printable_at file at → list_all printable name ≡ true
+name_plain file name at is = ap (list_all printable) is ∙ graphic_up_to (name_window file at)
+
+-- ---- the comment
 
 empty_quiet : IsBlankLine []
 unfolding labels_of statement_of statement

@@ -1,5 +1,5 @@
 //! The text of a listing.
-ghost use Rattle.std.specs.Prelude.{◌≡◌, ℕ, ◌<◌, ◌≤◌, ◌++◌, Ok, false, OnOk, IfOk, IfSome, IsNone, true, length, string_bytes, take};
+ghost use Rattle.std.specs.Prelude.{◌≡◌, ℕ, ◌<◌, ◌≤◌, ◌++◌, Ok, false, OnOk, IfOk, IfSome, IsNone, true, length, string_bytes};
 ghost use Rattle.std.specs.List.{list_all};
 ghost use Rattle.instructions.specs.Programs.{address};
 ghost use Rattle.isa.specs.Listing.{listing};
@@ -13,9 +13,6 @@ use executables::{Function, name_at};
 use instructions::{Instr, Program};
 use std::alloc::{AllocError, Global};
 use std::str;
-
-/// How many bytes of a function's name are in a listing.
-const MOST_NAME: usize = 100;
 
 // the number of the instruction at an address, among so many
 fn index_of(len: usize, at: u32) -> Option<usize>
@@ -85,22 +82,6 @@ fn names(
     Ok(names)
 }
 
-// how many bytes at the front of a name can be shown
-#[tactic(auto, using(crate::proofs::Names::shown_more))]
-fn shown(name: &[u8]) -> usize
-    ensures inside { result ≤ length name.now }
-    ensures short { result ≤ 100 }
-    ensures plain { list_all printable (take result name.now) ≡ true }
-{
-    let most = name.len().min(MOST_NAME);
-    'bytes: for k in 0..most {
-        if name[k] < 0x20 || name[k] > 0x7e {
-            return k;
-        }
-    }
-    most
-}
-
 // an empty line before each comment but the first line
 fn push_gap(out: &mut String, k: usize) -> Result<(), AllocError>
     ensures { OnOk result (string_bytes out.new ≡ string_bytes out.old ++ unlines (gap_lines k)) }
@@ -121,10 +102,11 @@ fn push_text(out: &mut String, text: &str) -> Result<(), AllocError>
 // the comment that names a function
 #[tactic(auto, using(crate::proofs::Names::quieter_name, crate::proofs::Names::quieter_none))]
 fn push_name(out: &mut String, name: &[u8], k: usize) -> Result<(), AllocError>
+    requires short { length name.now ≤ 60 }
+    requires plain { list_all printable name.now ≡ true }
     ensures { OnOk result (IsQuieter 110 (string_bytes out.old) (string_bytes out.new)) }
 {
-    let most = shown(name);
-    let Ok(text) = str::from_utf8(&name[..most]) else {
+    let Ok(text) = str::from_utf8(name) else {
         return Ok(());
     };
     push_gap(out, k)?;
@@ -132,7 +114,7 @@ fn push_name(out: &mut String, name: &[u8], k: usize) -> Result<(), AllocError>
 }
 
 // the comment that names a function, where there is one
-#[tactic(auto, using(crate::proofs::Names::quieter_none))]
+#[tactic(auto, using(crate::proofs::Names::quieter_none, crate::proofs::Names::name_short, crate::proofs::Names::name_plain))]
 fn push_comment(
     out: &mut String,
     file: &[u8],
