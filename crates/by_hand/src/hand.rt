@@ -161,16 +161,19 @@ fn tell<J: Naming, T: Wait, I: BufRead, W: Write>(
 ) -> Result<bool, Fault>
     requires { failures_of writer.old < 2 ^ 64 - 1 }
     ensures ok { IfOk result (AreAnswered hand.now.seed hand.now.echo session.old session.new
-        (I.remaining script.old) (known_by W.contents writer.old) (known_by W.contents writer.new)) }
+        (I.remaining script.old) (known_by W.contents writer.old)
+        (known_by W.contents writer.new)) }
     ensures quiet { OnOk result (failures_of writer.new ≡ failures_of writer.old) }
     ensures write { IfErr result (λ fault.
         failures_of writer.new ≡ failures_of writer.old + failed_writes fault) }
     ensures told { IfErr result (λ fault. fault ≢ Fault.Write →
         AreSomeAnswered hand.now.seed hand.now.echo session.old
-        (I.remaining script.old) (known_by W.contents writer.old) (known_by W.contents writer.new)) }
+        (I.remaining script.old) (known_by W.contents writer.old)
+        (known_by W.contents writer.new)) }
     ensures broken { IfErr result (λ fault. fault ≡ Fault.Write →
         IsAnswerBroken hand.now.seed hand.now.echo session.old
-        (I.remaining script.old) (known_by W.contents writer.old) (known_by W.contents writer.new)) }
+        (I.remaining script.old) (known_by W.contents writer.old)
+        (known_by W.contents writer.new)) }
 {
     match hand.seed {
         None => drive::drive(wait, alloc, session, script, writer, hand.echo),

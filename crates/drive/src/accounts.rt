@@ -108,8 +108,8 @@ pub(crate) fn claim<J: Naming>(
     ensures grows { GrowsLegally core.now all.old.seen all.new.seen }
     ensures workers { AreWorkers core.now units.new.items }
     ensures places { vec_len units.new ≡ vec_len units.old }
-    ensures reply { HasClaimedTold core.now all.old.seen all.new.seen units.old.items units.new.items
-        unit station result.0 result.1 }
+    ensures reply { HasClaimedTold core.now all.old.seen all.new.seen units.old.items
+        units.new.items unit station result.0 result.1 }
 {
     let answer = claim_by(core, all, units, unit, station);
     let from = awaited(core, all, back, station, &answer);

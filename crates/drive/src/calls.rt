@@ -23,7 +23,8 @@ fn turn_by<P: Predictor + Drop>(core: &Core, front: &mut Front<'_, P>, given: Op
     requires { front.old.core ≡ core.now }
     ensures core { front.new.core ≡ core.now }
     ensures told { front.new.told ≡ front.old.told }
-    ensures reply { TurnsTo (given_or given P.Predicts) P.Learns core.now front.old front.new result }
+    ensures reply { TurnsTo (given_or given P.Predicts) P.Learns core.now front.old front.new
+        result }
 {
     match given {
         Some(next) => front.turn_to(core, next),

@@ -41,7 +41,8 @@ pub(crate) fn push_half(
     instr: &Option<Instr>,
     info: &Option<Info>,
 ) -> Result<(), AllocError>
-    ensures { OnOk result (string_bytes out.new ≡ string_bytes out.old ++ half_of_pair instr.now info.now) }
+    ensures { OnOk result (string_bytes out.new
+        ≡ string_bytes out.old ++ half_of_pair instr.now info.now) }
 {
     match (instr, info) {
         (Some(instr), Some(info)) if instr.op().is_pair() => {

@@ -114,8 +114,8 @@ fn tell_line<P: Predictor + Drop, J: Naming, R: Wait, I: BufRead, W: Write>(
     requires { failures_of writer.old < 2 ^ 64 - 1 }
     ensures quiet { OnOk result (failures_of writer.new ≡ failures_of writer.old) }
     ensures line { IfOk result (λ told. IfSome told
-        (LineIsTold echo (I.remaining reader.old) (I.remaining reader.new) session.old session.new number
-        (known_by W.contents writer.old) (known_by W.contents writer.new))) }
+        (LineIsTold echo (I.remaining reader.old) (I.remaining reader.new) session.old session.new
+        number (known_by W.contents writer.old) (known_by W.contents writer.new))) }
     ensures end { IfOk result (λ told. IfNone told
         (NothingWasLeft (I.remaining reader.old) session.old session.new
         (known_by W.contents writer.old) (known_by W.contents writer.new))) }
