@@ -47,5 +47,6 @@ pub record HasOddRing (rows : List Row) : Type 0 where
 abbrev pub IsRefusedBy : List Row → NoRun → Type 0
 IsRefusedBy rows no_run = AreRefused rows HasValues HasOddRing no_run
 
+-- why the words of `ruu chart` are refused
 abbrev pub IsRefusedIn : List Text → NoRun → Type 0
 IsRefusedIn words no_run = IsRefused chart words HasValues HasOddRing no_run

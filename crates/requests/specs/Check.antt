@@ -25,5 +25,6 @@ pub record NamesFile (rows : List Row) : Type 0 where
 abbrev pub IsRefusedBy : List Row → NoRun → Type 0
 IsRefusedBy rows no_run = AreRefused rows NamesFile NoneOdd no_run
 
+-- why the words of `ruu check` are refused
 abbrev pub IsRefusedIn : List Text → NoRun → Type 0
 IsRefusedIn words no_run = IsRefused check words NamesFile NoneOdd no_run

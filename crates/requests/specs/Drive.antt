@@ -44,5 +44,6 @@ CanBeDriven rows = (hand : ByHand) × IsDrivenBy rows hand
 abbrev pub IsRefusedBy : List Row → NoRun → Type 0
 IsRefusedBy rows no_run = AreRefused rows CanBeDriven NoneOdd no_run
 
+-- why the words of `ruu drive` are refused
 abbrev pub IsRefusedIn : List Text → NoRun → Type 0
 IsRefusedIn words no_run = IsRefused drive words CanBeDriven NoneOdd no_run

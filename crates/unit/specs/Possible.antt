@@ -22,10 +22,12 @@ pub data Possible : Type 0 where
 
 -- A fate by its name
 
+-- A misprediction that is known
 abbrev pub is_miss : Fate → Bool
 is_miss (Miss x) = true
 is_miss _ = false
 
+-- A tenant that is not claimed yet
 abbrev pub is_open : Fate → Bool
 is_open Open = true
 is_open _ = false
