@@ -11,12 +11,12 @@ import sys
 ROOT = os.path.dirname(os.path.dirname(os.path.realpath(__file__)))
 
 LAYERS = [
-    ("The language, and bytes in and out", "text instructions isa machine_words executables conversion devices"),
-    ("The machine, and the unit as definitions", "lsq inorder lockstep ruu_step executable_runs"),
-    ("The unit by one thread", "unit in_order_issue bench charts"),
-    ("The unit that threads share", "ruu_words station snapshots front back driving drive"),
+    ("The language, and bytes in and out", "lexical instructions isa encoding elf disassembly counted_io"),
+    ("The machine, and the one_thread as definitions", "lsq inorder lockstep ruu_step elf_runs"),
+    ("The one_thread by one thread", "one_thread in_order_issue bench charts"),
+    ("The one_thread that threads share", "ruu_words station snapshots front back client session"),
     ("Threads", "hints counts workers run_ends pool"),
-    ("What a command line asks for", "requests checks without_threads commit_log with_threads command by_hand"),
+    ("What a command line asks for", "command_line checks without_threads commit_log with_threads command by_hand"),
     ("Programs", "alone ruu checker chart commits driver listing"),
     ("What is run to see that all is well", "examples tests_of_calls tests_of_runs speed"),
 ]
@@ -24,12 +24,12 @@ LAYERS = [
 PICTURE = """\
  alone    chart    commits          ruu      driver             listing
    |        |         |              |          |                  |
- bench   charts   commit_log      command       |             conversion
+ bench   charts   commit_log      command       |             disassembly
    |        |         |              |          |                  |
-   +--------+---------+            pool       drive           executables
+   +--------+---------+            pool      session              elf
             |                        |          |
-          unit                       +----+-----+
-     by one thread                        |
+       one_thread                    +----+-----+
+                                          |
             |                       front   back -- snapshots
             |                           \\   /
             |                          station        seats and their calls
@@ -40,7 +40,7 @@ PICTURE = """\
                            |
                         inorder -- lsq                the in-order machine, the unit as
                            |                          definitions, and the theorem
-                     instructions -- isa -- text      operations; listings"""
+                     instructions -- isa -- lexical   operations; listings"""
 
 HEAD = """# Map of the code
 

@@ -1,7 +1,7 @@
 -- Which fault is answered for what failed.
 use Rattle.std.specs.Prelude.{ℕ, List}
-use Rattle.devices.specs.declared.reply.Unanswered.{Unanswered}
-use Rattle.devices.specs.declared.reply.Unanswered.TheVariants as no
+use Rattle.counted_io.specs.declared.reply.Unanswered.{Unanswered}
+use Rattle.counted_io.specs.declared.reply.Unanswered.TheVariants as no
 use Rattle.instructions.specs.declared.memory.Memory.{Memory as NoRoom}
 use Rattle.bench.specs.Answer.{IsAnswerAlone}
 use Rattle.bench.specs.declared.outcome.Fault.{Fault}

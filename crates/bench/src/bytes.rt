@@ -1,19 +1,19 @@
 //! From the bytes of a reader to the bytes of a writer.
 ghost use Rattle.std.specs.Prelude.{◌≡◌, ◌-◌, ◌^◌, ◌<◌, IfOk, IfErr, take};
-ghost use Rattle.devices.specs.Counted.{failures_of};
-ghost use Rattle.devices.specs.Replies.{HasReplied, IsUnanswered};
+ghost use Rattle.counted_io.specs.Counted.{failures_of};
+ghost use Rattle.counted_io.specs.Replies.{HasReplied, IsUnanswered};
 ghost use Rattle.bench.specs.Answer.{IsAnswerAlone, most_taken};
 ghost use Rattle.bench.specs.Enough.{taken_is_enough};
 ghost use Rattle.bench.specs.Faults.{HasAnAnswer, unanswered};
 
 use crate::outcome::{Fault, Status};
 use crate::run::run;
-use devices::{Counted, Reply, reply_to};
+use counted_io::{Counted, Reply, reply_to};
 use instructions::{Config, Memory, Predictor};
 use isa::{FaultKind, fault_text, parse, report_text};
+use one_thread::{Chooser, Order};
 use std::alloc::Global;
 use std::io::{Read, Write};
-use unit::{Chooser, Order};
 
 /// The most bytes of a listing that are taken: one more than it may have.
 pub const MOST_TAKEN: usize = 4_194_305;

@@ -6,6 +6,6 @@ mod outcome;
 mod run;
 
 pub use bytes::{MOST_TAKEN, alone, alone_in};
-pub use devices::Counted;
+pub use counted_io::Counted;
+pub use one_thread::{Bench, Turn};
 pub use outcome::{Fault, Status};
-pub use unit::{Bench, Turn};

@@ -3,7 +3,7 @@ ghost use Rattle.std.specs.Prelude.{◌≡◌};
 ghost use Rattle.bench.specs.Answer.{ending_status};
 ghost use Rattle.bench.specs.Faults.{unanswered};
 
-use devices::Unanswered;
+use counted_io::Unanswered;
 use instructions::{Ending, Memory, Stop};
 use thiserror::Error;
 

@@ -3,8 +3,8 @@ ghost use Rattle.std.specs.Prelude.{◌≡◌, IfOk};
 ghost use Rattle.inorder.specs.Runs.{end_of, end_state};
 
 use instructions::{Config, End, Memory, Predictor, Program};
+use one_thread::{Bench, Chooser, Order};
 use std::alloc::Global;
-use unit::{Bench, Chooser, Order};
 
 /// Runs a program on the one-thread unit in an order, up to the limit of the configuration.
 pub(crate) fn run<P: Predictor + Drop, C: Chooser + Drop>(

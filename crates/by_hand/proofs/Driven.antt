@@ -5,10 +5,10 @@ use Rattle.isa.specs.declared.listing.fault.FaultKind.{FaultKind}
 use Rattle.isa.specs.Listing.{listing}
 use Rattle.instructions.specs.Programs.{Program}
 use Rattle.isa.specs.Report.{fault_line}
-use Rattle.devices.specs.declared.counted.Counted.{Counted}
+use Rattle.counted_io.specs.declared.counted.Counted.{Counted}
 use Rattle.bench.specs.Answer.{most_taken}
 use Rattle.bench.specs.Enough.{listing_taken}
-use Rattle.requests.specs.declared.request.ByHand.{ByHand}
+use Rattle.command_line.specs.declared.request.ByHand.{ByHand}
 use Rattle.without_threads.specs.declared.went.Refusal.{Refusal}
 use Rattle.without_threads.specs.declared.went.Refusal.TheVariants.{Open, Read, Memory, Thread, Write, Trace}
 use Rattle.by_hand.specs.ByHand.{IsDriven}

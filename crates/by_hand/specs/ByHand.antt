@@ -4,12 +4,12 @@ use Rattle.std.specs.Io.KnownBytes.{Appends}
 use Rattle.isa.specs.declared.listing.fault.FaultKind.{FaultKind}
 use Rattle.instructions.specs.Programs.{Program}
 use Rattle.isa.specs.Report.{fault_line}
-use Rattle.drive.specs.Sessions.{IsStartOfSession, TheSession}
-use Rattle.drive.specs.Plays.{HasPlayedPart, IsPlayed}
-use Rattle.drive.specs.Scripts.{HasBroken, HasDriven, HasTold}
-use Rattle.drive.specs.declared.script.Fault.{Fault as ScriptFault}
-use Rattle.drive.specs.declared.script.Fault.TheVariants as script
-use Rattle.requests.specs.declared.request.ByHand.{ByHand}
+use Rattle.session.specs.Sessions.{IsStartOfSession, TheSession}
+use Rattle.session.specs.Plays.{HasPlayedPart, IsPlayed}
+use Rattle.session.specs.Scripts.{HasBroken, HasDriven, HasTold}
+use Rattle.session.specs.declared.script.Fault.{Fault as ScriptFault}
+use Rattle.session.specs.declared.script.Fault.TheVariants as script
+use Rattle.command_line.specs.declared.request.ByHand.{ByHand}
 use Rattle.without_threads.specs.declared.went.Refusal.{Refusal}
 use Rattle.without_threads.specs.declared.went.Refusal.TheVariants.{Memory, Read, Write}
 

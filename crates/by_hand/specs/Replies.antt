@@ -3,9 +3,9 @@ use Rattle.std.specs.Prelude.{◌≡◌, ◌+◌, ℕ, List, Option, None, IfSom
 use Rattle.isa.specs.declared.listing.fault.FaultKind.{FaultKind}
 use Rattle.isa.specs.Listing.{listing}
 use Rattle.instructions.specs.Programs.{Program}
-use Rattle.devices.specs.Counted.{failures_of, known_by}
-use Rattle.devices.specs.declared.counted.Counted.{Counted}
-use Rattle.requests.specs.declared.request.ByHand.{ByHand}
+use Rattle.counted_io.specs.Counted.{failures_of, known_by}
+use Rattle.counted_io.specs.declared.counted.Counted.{Counted}
+use Rattle.command_line.specs.declared.request.ByHand.{ByHand}
 use Rattle.without_threads.specs.declared.went.Refusal.{Refusal}
 use Rattle.without_threads.specs.declared.went.Refusal.TheVariants.{Open, Read, Memory, Thread, Write, Trace}
 use Rattle.by_hand.specs.ByHand.{IsBroken, IsDriven, WasBrokenOff}

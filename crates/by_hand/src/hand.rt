@@ -1,21 +1,21 @@
 //! A unit that is driven by commands.
 ghost use Rattle.std.specs.Prelude.{◌≡◌, ◌≢◌, ◌+◌, ◌-◌, ◌^◌, ◌<◌, IfSome, IfOk, IfErr, OnOk, Ok, Some, None};
 ghost use Rattle.isa.specs.Listing.{listing};
-ghost use Rattle.devices.specs.Counted.{failures_of, known_by};
-ghost use Rattle.drive.specs.Scripts.{failed_writes};
+ghost use Rattle.counted_io.specs.Counted.{failures_of, known_by};
+ghost use Rattle.session.specs.Scripts.{failed_writes};
 ghost use Rattle.by_hand.specs.ByHand.{AreAnswered, AreSomeAnswered, IsAnswerBroken, script_refusal, status_of};
 ghost use Rattle.by_hand.specs.Replies.{HasAnswered, IsLeftByHand, IsUndrivenBy, listing_from};
-ghost use Rattle.requests.specs.Predictors.{IsChosen};
+ghost use Rattle.command_line.specs.Predictors.{IsChosen};
 ghost use Rattle.without_threads.specs.Replies.{IfRefused};
 ghost use Rattle.without_threads.specs.Went.{IsOfOneThread, refused};
 ghost use Rattle.without_threads.specs.declared.went.Line.TheVariants.{Nothing};
 
 use bench::MOST_TAKEN;
-use devices::{Counted, read_up_to, write_whole};
-use drive::{Fault, Session, write_play};
+use command_line::{ByHand, Chosen, choose};
+use counted_io::{Counted, read_up_to, write_whole};
 use instructions::Program;
 use isa::{FaultKind, fault_text, parse};
-use requests::{ByHand, Chosen, choose};
+use session::{Fault, Session, write_play};
 use snapshots::Naming;
 use std::alloc::Global;
 use std::io::{BufRead, Read, Write};
@@ -176,7 +176,7 @@ fn tell<J: Naming, T: Wait, I: BufRead, W: Write>(
         (known_by W.contents writer.new)) }
 {
     match hand.seed {
-        None => drive::drive(wait, alloc, session, script, writer, hand.echo),
+        None => session::drive(wait, alloc, session, script, writer, hand.echo),
         Some(seed) => {
             let steps = hand.steps.min(MOST_STEPS);
             write_play(wait, alloc, session, seed, steps, writer)?;

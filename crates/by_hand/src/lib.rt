@@ -3,6 +3,6 @@
 
 mod hand;
 
+pub use command_line::ByHand;
 pub use hand::go_by_hand;
-pub use requests::ByHand;
 pub use without_threads::{Line, Refusal, Went, end, refused};

@@ -4,7 +4,7 @@ use Rattle.std.specs.Io.KnownBytes.{Appends}
 use Rattle.isa.specs.declared.listing.fault.FaultKind.{FaultKind}
 use Rattle.instructions.specs.Programs.{Program}
 use Rattle.isa.specs.Report.{fault_line}
-use Rattle.requests.specs.declared.request.Charted.{Charted}
+use Rattle.command_line.specs.declared.request.Charted.{Charted}
 use Rattle.chart.specs.Watched.{IsBegun, IsWatched, Outputs}
 use Rattle.without_threads.specs.declared.went.Refusal.TheVariants.{Write}
 

@@ -10,10 +10,10 @@ use Rattle.charts.specs.declared.telling.Format.TheVariants.{Chart, Kanata}
 use Rattle.charts.specs.declared.watched.Fault.{Fault}
 use Rattle.charts.specs.declared.watched.Fault.TheVariants as fault
 use Rattle.charts.specs.Watched.{IsTold, IsBegun as IsPartOf, guides, sizes_by}
-use Rattle.requests.specs.Predictors.{IsChosen, LearnsAs, PredictsAs}
-use Rattle.requests.specs.declared.chosen.Chosen.{Chosen}
-use Rattle.requests.specs.declared.request.Charted.{Charted}
-use Rattle.unit.specs.Seeds.{ChoosesNext, order_by}
+use Rattle.command_line.specs.Predictors.{IsChosen, LearnsAs, PredictsAs}
+use Rattle.command_line.specs.declared.chosen.Chosen.{Chosen}
+use Rattle.command_line.specs.declared.request.Charted.{Charted}
+use Rattle.one_thread.specs.Seeds.{ChoosesNext, order_by}
 use Rattle.without_threads.specs.declared.went.Refusal.{Refusal}
 use Rattle.without_threads.specs.declared.went.Refusal.TheVariants.{Memory, Trace, Write}
 use Rattle.without_threads.specs.Went.{status_number}

@@ -1,18 +1,18 @@
 //! What became of each instruction of a run: its chart and its log.
 ghost use Rattle.std.specs.Prelude.{◌≡◌, ◌≢◌, ◌+◌, ◌-◌, ◌^◌, ◌<◌, IfErr, OnOk, OnErr, is_some};
-ghost use Rattle.devices.specs.Counted.{failures_of, known_by};
+ghost use Rattle.counted_io.specs.Counted.{failures_of, known_by};
 ghost use Rattle.chart.specs.Watched.{HasBegun, HasToldWhole, IsLogged, IsRefusalOfFault};
 ghost use Rattle.chart.specs.Watched.{chart_refusal, log_failures, log_refusal, writer_failures};
 ghost use Rattle.without_threads.specs.Went.{IsOfOneThread};
 ghost use Rattle.without_threads.specs.declared.went.Line.TheVariants.{Refused};
 
 use charts::{Fault, Format, watch};
-use devices::Counted;
+use command_line::{Charted, choose};
+use counted_io::Counted;
 use instructions::Program;
-use requests::{Charted, choose};
+use one_thread::Order;
 use std::alloc::Global;
 use std::io::Write;
-use unit::Order;
 use without_threads::Refusal;
 
 /// Draws the chart.

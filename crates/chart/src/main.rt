@@ -5,9 +5,9 @@ mod drawing;
 mod log_file;
 mod watching;
 
-use devices::{ClosedStreams, Counted};
+use command_line::{Charted, charted, is_standard_input, refuse, words};
+use counted_io::{ClosedStreams, Counted};
 use log_file::{NoLog, open_log};
-use requests::{Charted, charted, is_standard_input, refuse, words};
 use std::fs::{File, Metadata};
 use std::io::Read;
 use std::path::Path;

@@ -1,7 +1,7 @@
 //! The report of a run of the one-thread unit, its chart behind it, and its log.
 ghost use Rattle.std.specs.Prelude.{◌≡◌, ◌≢◌, ◌+◌, ◌-◌, ◌^◌, ◌<◌, IfSome, IfOk, IfErr, Ok, OnOk, None};
 ghost use Rattle.isa.specs.Listing.{listing};
-ghost use Rattle.devices.specs.Counted.{failures_of, known_by};
+ghost use Rattle.counted_io.specs.Counted.{failures_of, known_by};
 ghost use Rattle.inorder.specs.Runs.{end_of, end_state};
 ghost use Rattle.chart.specs.Watched.{IsBegun, IsWatched, log_failures, outputs, writer_failures};
 ghost use Rattle.without_threads.specs.Went.{HoldsOfInput, IsOfOneThread, refused, status_number};
@@ -9,13 +9,13 @@ ghost use Rattle.without_threads.specs.declared.went.Line.TheVariants.{Nothing, 
 
 use crate::drawing::{draw, trace};
 use bench::{MOST_TAKEN, Status};
-use devices::{Counted, read_up_to, write_whole};
+use command_line::{Charted, choose};
+use counted_io::{Counted, read_up_to, write_whole};
 use instructions::{End, Memory, Program};
 use isa::{FaultKind, fault_text, parse, report_text};
-use requests::{Charted, choose};
+use one_thread::{Bench, Order};
 use std::alloc::Global;
 use std::io::{Read, Write};
-use unit::{Bench, Order};
 use without_threads::{Line, Refusal, Went, refused, written};
 
 /// Reads the listing, runs it on the one-thread unit in the order of the seed, and writes its report; behind

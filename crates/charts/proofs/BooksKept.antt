@@ -1,13 +1,13 @@
 -- The books behind a turn.
 use Rattle.std.proofs.Common.{◌≡◌, ℕ, List, [], ◌++◌, length, Option, ap, ◌∙◌, append_assoc}
 use Rattle.std.specs.Prelude.{is_some}
-use Rattle.unit.specs.declared.bench.Turn.{Turn}
-use Rattle.unit.specs.declared.station.Station.{Station}
+use Rattle.one_thread.specs.declared.bench.Turn.{Turn}
+use Rattle.one_thread.specs.declared.station.Station.{Station}
 use Rattle.charts.specs.declared.event.Event.{Event}
 use Rattle.charts.specs.declared.row.Row.{Row}
 use Rattle.charts.specs.Events.{entry_events, events, left_events, moved_events}
 use Rattle.charts.specs.Rows.{SoFar, all_seen, newcomer, next_kept, retires, staying, with_row}
-use Rattle.devices.specs.Counted.{counted, raised}
+use Rattle.counted_io.specs.Counted.{counted, raised}
 
 -- the rows that stay, as the turn left them
 seen_rows : (k : SoFar) (answer : Turn) (W : List Station) (turn : ℕ) (stay later : List Row) → turn ≡ raised k.turns →

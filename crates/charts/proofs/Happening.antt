@@ -7,11 +7,11 @@ use Rattle.std.specs.Prelude.{nat_lt, slice_get}
 use Rattle.instructions.specs.Programs.{Program}
 use Rattle.inorder.specs.Tenants.{Retired as HasRetired, Squashed, Tenant}
 use Rattle.inorder.specs.Unit.{Sizes, UpdateUnit}
-use Rattle.unit.specs.declared.bench.Turn.{Turn}
-use Rattle.unit.specs.declared.bench.Turn.TheVariants.{Halved, Let, Loaded, Over, Ran, Recovered, Retired}
-use Rattle.unit.specs.declared.station.Station.{Station}
-use Rattle.unit.specs.Turns.{Before, Does, Now, Nowhere}
-use Rattle.unit.specs.Window.{window}
+use Rattle.one_thread.specs.declared.bench.Turn.{Turn}
+use Rattle.one_thread.specs.declared.bench.Turn.TheVariants.{Halved, Let, Loaded, Over, Ran, Recovered, Retired}
+use Rattle.one_thread.specs.declared.station.Station.{Station}
+use Rattle.one_thread.specs.Turns.{Before, Does, Now, Nowhere}
+use Rattle.one_thread.specs.Window.{window}
 use Rattle.charts.specs.declared.event.Event.TheVariants.{Moved}
 use Rattle.charts.specs.declared.row.Row.{Row}
 use Rattle.charts.specs.Events.{entry_events, events, is_same, left_events, went_on, moved_events, retirement, squash, squashes}
@@ -19,7 +19,7 @@ use Rattle.charts.specs.Happened.{Happened, HasGone, StandsAs}
 use Rattle.charts.specs.Named.{IsRowOf, StandsIn, live_positions}
 use Rattle.charts.specs.Rows.{SoFar, all_seen, is_recovery, let_row, newcomer, phase_of, retires as leaves_one, staying}
 use Rattle.charts.specs.Watched.{AreTurns, Passed, unit_behind, events_at, kept_behind}
-use Rattle.devices.specs.Counted.{raised}
+use Rattle.counted_io.specs.Counted.{raised}
 use Rattle.charts.proofs.LivePositions.{Fewer, OneLess, OneMore}
 use Rattle.charts.proofs.RowsNamed.{Named, as_before, each_row, fewer_left, matched, named, one_less, position_of, positions_length, row_count, stands_at}
 use Rattle.charts.proofs.TurnPositions.{grows, lets, loads, recovers, retires, runs}

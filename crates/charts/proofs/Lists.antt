@@ -6,7 +6,7 @@ use Rattle.std.proofs.lemmas.Bool.{lt-ltb}
 use Rattle.std.specs.Prelude.{nat_lt, slice_get}
 use Rattle.charts.specs.declared.event.Event.{Event}
 use Rattle.charts.specs.declared.row.Row.{Row}
-use Rattle.unit.specs.declared.station.Station.{Station}
+use Rattle.one_thread.specs.declared.station.Station.{Station}
 use Rattle.charts.specs.Rows.{all_seen, listed, seen_in}
 use Rattle.charts.specs.Events.{went_on, moved_events, squash, squashes}
 

@@ -10,16 +10,16 @@ use Rattle.instructions.specs.Programs.{Program}
 use Rattle.inorder.specs.Tenants.{Live, Retired as HasRetired, Squashed, Standing, Tenant, is_live, stands_live}
 use Rattle.inorder.specs.Unit.{Sizes, UpdateUnit}
 use Rattle.inorder.proofs.Positions.{at_more, at_new}
-use Rattle.unit.specs.declared.bench.Turn.{Turn}
-use Rattle.unit.specs.declared.bench.Turn.TheVariants.{Halved, Let, Loaded, Over, Ran, Recovered, Retired}
-use Rattle.unit.specs.declared.station.Station.{Station}
-use Rattle.unit.specs.Turns.{Before, Does, Now, Nowhere}
-use Rattle.unit.specs.Window.{station_of, window}
+use Rattle.one_thread.specs.declared.bench.Turn.{Turn}
+use Rattle.one_thread.specs.declared.bench.Turn.TheVariants.{Halved, Let, Loaded, Over, Ran, Recovered, Retired}
+use Rattle.one_thread.specs.declared.station.Station.{Station}
+use Rattle.one_thread.specs.Turns.{Before, Does, Now, Nowhere}
+use Rattle.one_thread.specs.Window.{station_of, window}
 use Rattle.charts.specs.declared.row.Row.{Row}
 use Rattle.charts.specs.Named.{AreNamed, IsRowOf, StandsIn, live_positions}
 use Rattle.charts.specs.Rows.{SoFar, all_seen, let_row, listed, newcomer, next_kept, seen_in, staying, with_row}
 use Rattle.charts.specs.Watched.{AreTurns, Passed, unit_behind, kept_behind}
-use Rattle.devices.specs.Counted.{counted, raised}
+use Rattle.counted_io.specs.Counted.{counted, raised}
 use Rattle.charts.proofs.LivePositions.{Fewer, OneLess, OneMore}
 use Rattle.charts.proofs.Lists.{take_next}
 use Rattle.charts.proofs.TurnPositions.{grows, lets, loads, recovers, retires, runs}

@@ -9,9 +9,9 @@ use Rattle.inorder.specs.declared.history.Step.TheVariants as step
 use Rattle.inorder.specs.Steps.{new_tenant}
 use Rattle.inorder.specs.Tenants.{Tenant}
 use Rattle.inorder.specs.Unit.{Sizes, UpdateUnit}
-use Rattle.unit.specs.declared.bench.Turn.{Turn}
-use Rattle.unit.specs.declared.bench.Turn.TheVariants.{Halved, Let, Loaded, Over, Ran, Recovered, Retired}
-use Rattle.unit.specs.Turns.{Before, Does, Lets, LoadsOne, Now, Nowhere, Recovers, Retires, Runs}
+use Rattle.one_thread.specs.declared.bench.Turn.{Turn}
+use Rattle.one_thread.specs.declared.bench.Turn.TheVariants.{Halved, Let, Loaded, Over, Ran, Recovered, Retired}
+use Rattle.one_thread.specs.Turns.{Before, Does, Lets, LoadsOne, Now, Nowhere, Recovers, Retires, Runs}
 use Rattle.inorder.specs.Moves.{IsDeliver, IsLink, run_on}
 use Rattle.inorder.proofs.OneCaller.Sequences.{all_more, all_weaker}
 use Rattle.charts.proofs.LivePositions.{Fewer, IsQuiet, OneLess, OneMore, Stay, all_stand, mend_keeps, positions_live, quiet_after, quiet_run, retire_once, squash_run}

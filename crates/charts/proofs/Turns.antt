@@ -4,26 +4,26 @@ use Rattle.std.proofs.KnownBytes.{Appends-trans}
 use Rattle.std.proofs.Math.Seq.{take-append-add}
 use Rattle.std.proofs.lemmas.List.{take-append-le}
 use Rattle.std.specs.Io.KnownBytes.{Appends}
-use Rattle.devices.specs.Counted.{raised}
+use Rattle.counted_io.specs.Counted.{raised}
 use Rattle.instructions.specs.declared.instr.Instr.{Instr}
 use Rattle.instructions.specs.declared.stop.Stop.{Stop}
 use Rattle.inorder.specs.Committed.{committed}
 use Rattle.instructions.specs.declared.end.Ending.TheVariants.{Stop as ByStop, Limit as ByLimit}
 use Rattle.inorder.specs.Runs.{end_from}
-use Rattle.unit.specs.declared.bench.Turn.{Turn}
-use Rattle.unit.specs.declared.bench.Turn.TheVariants.{Halved, Let, Loaded, Over, Ran, Recovered, Retired}
-use Rattle.unit.specs.Changes.{run_from}
-use Rattle.unit.proofs.Ends.{ends_over, ends_same}
+use Rattle.one_thread.specs.declared.bench.Turn.{Turn}
+use Rattle.one_thread.specs.declared.bench.Turn.TheVariants.{Halved, Let, Loaded, Over, Ran, Recovered, Retired}
+use Rattle.one_thread.specs.Changes.{run_from}
+use Rattle.one_thread.proofs.Ends.{ends_over, ends_same}
 use Rattle.instructions.specs.Programs.{Program}
 use Rattle.inorder.specs.Unit.{Sizes, UpdateUnit}
 use Rattle.inorder.specs.Moves.{IsReached}
-use Rattle.unit.specs.declared.order.Order.{Order}
-use Rattle.unit.specs.declared.pipeline.Pipeline.{Pipeline}
-use Rattle.unit.specs.declared.station.Station.{Station}
-use Rattle.unit.specs.Ordered.{DoesIn, IsTurnIn, TurnedIn}
-use Rattle.unit.specs.StandsFor.{StandsFor, StandsForSome, sizes}
-use Rattle.unit.specs.Turns.{BenchFields, Falls, Moves, SizesStay, Trains}
-use Rattle.unit.specs.Window.{window}
+use Rattle.one_thread.specs.declared.order.Order.{Order}
+use Rattle.one_thread.specs.declared.pipeline.Pipeline.{Pipeline}
+use Rattle.one_thread.specs.declared.station.Station.{Station}
+use Rattle.one_thread.specs.Ordered.{DoesIn, IsTurnIn, TurnedIn}
+use Rattle.one_thread.specs.StandsFor.{StandsFor, StandsForSome, sizes}
+use Rattle.one_thread.specs.Turns.{BenchFields, Falls, Moves, SizesStay, Trains}
+use Rattle.one_thread.specs.Window.{window}
 use Rattle.charts.specs.declared.telling.Format.{Format}
 use Rattle.charts.specs.Events.{events}
 use Rattle.charts.specs.Rows.{SoFar, next_kept}

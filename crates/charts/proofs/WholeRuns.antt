@@ -11,11 +11,11 @@ use Rattle.instructions.specs.Settings.{Settings}
 use Rattle.inorder.specs.Committed.{committed}
 use Rattle.inorder.specs.Runs.{end_state}
 use Rattle.inorder.specs.Unit.{Sizes, empty_unit}
-use Rattle.unit.specs.Changes.{run_from}
-use Rattle.unit.specs.declared.order.Order.{Order}
-use Rattle.unit.specs.declared.pipeline.Pipeline.{Pipeline}
-use Rattle.unit.specs.StandsFor.{StandsFor, sizes}
-use Rattle.unit.specs.Turns.{BenchFields}
+use Rattle.one_thread.specs.Changes.{run_from}
+use Rattle.one_thread.specs.declared.order.Order.{Order}
+use Rattle.one_thread.specs.declared.pipeline.Pipeline.{Pipeline}
+use Rattle.one_thread.specs.StandsFor.{StandsFor, sizes}
+use Rattle.one_thread.specs.Turns.{BenchFields}
 use Rattle.charts.specs.declared.telling.Format.{Format}
 use Rattle.charts.specs.Rows.{SoFar, start_kept}
 use Rattle.charts.specs.Telling.{first_text, last_text}

@@ -8,7 +8,7 @@ use Rattle.instructions.specs.declared.op.Half.{Half}
 use Rattle.instructions.specs.declared.op.Half.TheVariants.{High, Low}
 use Rattle.instructions.specs.declared.op.Kind.{Kind}
 use Rattle.instructions.specs.declared.op.Kind.TheVariants.{Loads}
-use Rattle.unit.specs.declared.station.Station.{Station}
+use Rattle.one_thread.specs.declared.station.Station.{Station}
 use Rattle.charts.specs.declared.event.Way.{Way}
 use Rattle.charts.specs.declared.event.Way.TheVariants.{Retired, Squashed}
 use Rattle.charts.specs.declared.row.Row.{Row}

@@ -1,8 +1,8 @@
 -- What became of the tenants at a turn, in the order of its steps.
 use Rattle.std.specs.Prelude.{ℕ, zero, suc, ◌+◌, Bool, true, false, List, [], ◌∷◌, ◌++◌, length, Option, Some, None, nat_lt, if◌then◌else◌, slice_get}
 use Rattle.instructions.specs.Instruction.{first_of, second_of}
-use Rattle.unit.specs.declared.bench.Turn.{Turn}
-use Rattle.unit.specs.declared.station.Station.{Station}
+use Rattle.one_thread.specs.declared.bench.Turn.{Turn}
+use Rattle.one_thread.specs.declared.station.Station.{Station}
 use Rattle.charts.specs.declared.event.Event.{Event}
 use Rattle.charts.specs.declared.event.Event.TheVariants.{Let, Moved, Left}
 use Rattle.charts.specs.declared.event.Way.TheVariants.{Retired, Squashed}
@@ -10,7 +10,7 @@ use Rattle.charts.specs.declared.row.Phase.{Phase}
 use Rattle.charts.specs.declared.row.Phase.TheVariants.{Waiting, Address, Done, Miss, Stop}
 use Rattle.charts.specs.declared.row.Row.{Row}
 use Rattle.charts.specs.Rows.{SoFar, all_seen, awaited, is_recovery, newcomer, phase_of, retires, staying}
-use Rattle.devices.specs.Counted.{raised}
+use Rattle.counted_io.specs.Counted.{raised}
 
 -- The squash of a tenant, if there is one
 abbrev pub squash : Option Row → List Event

@@ -4,7 +4,7 @@ use Rattle.instructions.specs.Programs.{Program}
 use Rattle.inorder.specs.Tenants.{Standing, Tenant}
 use Rattle.inorder.specs.Tenants as tenant
 use Rattle.inorder.specs.Unit.{at}
-use Rattle.unit.specs.declared.station.Station.{Station}
+use Rattle.one_thread.specs.declared.station.Station.{Station}
 use Rattle.charts.specs.declared.event.Event.{Event}
 use Rattle.charts.specs.declared.event.Event.TheVariants.{Left, Let, Moved}
 use Rattle.charts.specs.declared.event.Way.TheVariants.{Retired, Squashed}

@@ -4,8 +4,8 @@ use Rattle.std.specs.List.{AllByRecursion}
 use Rattle.instructions.specs.Programs.{Program}
 use Rattle.inorder.specs.Tenants.{Live, Tenant, is_live}
 use Rattle.inorder.specs.Unit.{at}
-use Rattle.unit.specs.declared.station.Station.{Station}
-use Rattle.unit.specs.Window.{station_of}
+use Rattle.one_thread.specs.declared.station.Station.{Station}
+use Rattle.one_thread.specs.Window.{station_of}
 use Rattle.charts.specs.declared.row.Row.{Row}
 
 -- The positions of the live tenants, the oldest first

@@ -1,15 +1,15 @@
 -- The rows of the live tenants of a run, from turn to turn.
 use Rattle.std.specs.Prelude.{ℕ, ◌+◌, Bool, true, false, List, [], ◌∷◌, ◌++◌, length, take, drop, Option, Some, None, is_some, ◌==◌, nat_lt, if◌then◌else◌, slice_get}
-use Rattle.unit.specs.declared.bench.Turn.{Turn}
-use Rattle.unit.specs.declared.bench.Turn.TheVariants.{Halved, Let, Over, Recovered, Retired}
-use Rattle.unit.specs.declared.station.Stage.{Stage}
-use Rattle.unit.specs.declared.station.Stage.TheVariants.{Open, Addr, Done as IsDone, Miss as Misses, Stops}
-use Rattle.unit.specs.declared.station.Station.{Station}
+use Rattle.one_thread.specs.declared.bench.Turn.{Turn}
+use Rattle.one_thread.specs.declared.bench.Turn.TheVariants.{Halved, Let, Over, Recovered, Retired}
+use Rattle.one_thread.specs.declared.station.Stage.{Stage}
+use Rattle.one_thread.specs.declared.station.Stage.TheVariants.{Open, Addr, Done as IsDone, Miss as Misses, Stops}
+use Rattle.one_thread.specs.declared.station.Station.{Station}
 use Rattle.charts.specs.declared.row.Phase.{Phase}
 use Rattle.charts.specs.declared.row.Phase.TheVariants.{Waiting, Address, Done, Miss, Stop}
 use Rattle.charts.specs.declared.row.Row.{Row}
 use Rattle.charts.specs.declared.books.Books.{Books}
-use Rattle.devices.specs.Counted.{counted, raised}
+use Rattle.counted_io.specs.Counted.{counted, raised}
 
 -- The phase of a tenant, by the stage of its station
 abbrev pub phase_of : Stage → Phase

@@ -7,7 +7,7 @@ use Rattle.charts.specs.declared.telling.Format.TheVariants.{Chart, Kanata}
 use Rattle.charts.specs.Drawings.{line, live_lines, way_mark}
 use Rattle.charts.specs.Kanata.{event_lines, head, tick}
 use Rattle.charts.specs.Rows.{SoFar}
-use Rattle.devices.specs.Counted.{raised}
+use Rattle.counted_io.specs.Counted.{raised}
 
 -- The text before the first turn
 abbrev pub first_text : Format → List ℕ

@@ -1,8 +1,8 @@
 -- A run that is told turn by turn.
 use Rattle.std.specs.Prelude.{⊤, ◌≡◌, ◌≤◌, ◌<◌, length, ℕ, List, [], ◌∷◌, ◌++◌, take, Option}
 use Rattle.std.specs.Io.KnownBytes.{Appends}
-use Rattle.devices.specs.Counted.{Gives, raised}
-use Rattle.devices.specs.declared.counted.Counted.{Counted}
+use Rattle.counted_io.specs.Counted.{Gives, raised}
+use Rattle.counted_io.specs.declared.counted.Counted.{Counted}
 use Rattle.instructions.specs.Programs.{Program}
 use Rattle.instructions.specs.Settings.{Settings}
 use Rattle.instructions.specs.declared.end.Ending.{Ending}
@@ -12,14 +12,14 @@ use Rattle.instructions.specs.declared.stop.Stop.{Stop}
 use Rattle.inorder.specs.Committed.{committed}
 use Rattle.inorder.specs.Machine.{State}
 use Rattle.inorder.specs.Unit.{Sizes, UpdateUnit, empty_unit}
-use Rattle.unit.specs.declared.bench.Turn.{Turn}
-use Rattle.unit.specs.declared.bench.Turn.TheVariants.{Over}
-use Rattle.unit.specs.Changes.{run_from}
-use Rattle.unit.specs.StandsFor.{StandsFor, sizes}
-use Rattle.unit.specs.declared.order.Order.{Order}
-use Rattle.unit.specs.Ordered.{AsksFor}
-use Rattle.unit.specs.Turns.{BenchFields, Does, Trains}
-use Rattle.unit.specs.Window.{window}
+use Rattle.one_thread.specs.declared.bench.Turn.{Turn}
+use Rattle.one_thread.specs.declared.bench.Turn.TheVariants.{Over}
+use Rattle.one_thread.specs.Changes.{run_from}
+use Rattle.one_thread.specs.StandsFor.{StandsFor, sizes}
+use Rattle.one_thread.specs.declared.order.Order.{Order}
+use Rattle.one_thread.specs.Ordered.{AsksFor}
+use Rattle.one_thread.specs.Turns.{BenchFields, Does, Trains}
+use Rattle.one_thread.specs.Window.{window}
 use Rattle.inorder.specs.Moves.{IsReached}
 use Rattle.charts.specs.declared.telling.Format.{Format}
 use Rattle.charts.specs.declared.event.Event.{Event}

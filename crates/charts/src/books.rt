@@ -4,14 +4,14 @@ ghost use Rattle.charts.specs.Events.{entry_events, events, went_on, moved_event
 ghost use Rattle.charts.specs.Rows.{all_seen as all_seen_of, kept};
 ghost use Rattle.charts.specs.Rows.{let_row as let_row_of, next_kept};
 ghost use Rattle.charts.specs.Rows.{seen_in, start_kept, with_row};
-ghost use Rattle.devices.specs.Counted.{counted as counted_of, raised as raised_of};
+ghost use Rattle.counted_io.specs.Counted.{counted as counted_of, raised as raised_of};
 
 use crate::event::Event;
 use crate::leaving::{leave, retires};
 use crate::row::{Row, is_same, phase_of};
 use crate::waits::entry;
+use one_thread::{Station, Turn};
 use std::alloc::{AllocError, Global};
-use unit::{Station, Turn};
 
 /// Counts of the turns that were made, the tenants that were let and those that have retired; and a row for each live
 /// tenant, the oldest first.

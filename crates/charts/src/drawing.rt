@@ -9,8 +9,8 @@ ghost use Rattle.charts.specs.Drawings.{settled_mark as settled_mark_of, tenant_
 use crate::row::Row;
 use instructions::{Half, Instr, Kind};
 use isa::{Hexadecimal, InstrText};
+use one_thread::Station;
 use std::alloc::{AllocError, Global};
-use unit::Station;
 
 /// The columns that an instruction takes.
 const COLUMNS: usize = 26;

@@ -5,8 +5,8 @@ ghost use Rattle.charts.specs.Rows.{retires as retires_by, staying};
 
 use crate::event::{Event, Way};
 use crate::row::Row;
+use one_thread::Turn;
 use std::alloc::AllocError;
-use unit::Turn;
 
 fn row_at(rows: &[Row], i: usize) -> Option<Row>
     ensures { result ≡ slice_get rows.now i }

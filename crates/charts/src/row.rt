@@ -3,7 +3,7 @@ ghost use Rattle.std.specs.Prelude.{◌≡◌};
 ghost use Rattle.charts.specs.Events.{is_same as is_same_in};
 ghost use Rattle.charts.specs.Rows.{phase_of as phase_in, ran_by as ran_in, settled_turn, seen};
 
-use unit::{Stage, Station};
+use one_thread::{Stage, Station};
 
 /// How far a tenant has come.
 #[derive(Clone, Copy, Debug, PartialEq, Eq)]

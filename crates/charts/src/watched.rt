@@ -1,6 +1,6 @@
 //! A run that is told while it goes.
 ghost use Rattle.std.specs.Prelude.{◌≡◌, ◌<◌, ◌+◌, ◌-◌, ◌^◌, IfErr, IfOk, OnErr, OnOk};
-ghost use Rattle.devices.specs.Counted.{failures_of, known_by};
+ghost use Rattle.counted_io.specs.Counted.{failures_of, known_by};
 ghost use Rattle.inorder.specs.Runs.{end_of, end_state};
 ghost use Rattle.charts.specs.Watched.{IsBegun, IsTold, guides, sizes_by};
 ghost use Rattle.charts.specs.declared.watched.Fault.TheVariants.{Memory as NoRoom, Write as Unwritten};
@@ -8,11 +8,11 @@ ghost use Rattle.charts.specs.declared.watched.Fault.TheVariants.{Memory as NoRo
 use crate::books::Books;
 use crate::telling::Format;
 use crate::watching::{tell_first, tell_last, tell_turns};
-use devices::{Counted, WriteFailed};
+use counted_io::{Counted, WriteFailed};
 use instructions::{Config, End, Memory, Predictor, Program};
+use one_thread::{Bench, Chooser, Order};
 use std::alloc::{AllocError, Global};
 use std::io::Write;
-use unit::{Bench, Chooser, Order};
 
 /// Why a run was not told to its end. There is no second try.
 #[derive(Clone, Copy, Debug, PartialEq, Eq)]

@@ -1,13 +1,13 @@
 //! The turns of a run, each told as it was made.
 ghost use Rattle.std.specs.Prelude.{◌≡◌, ◌<◌, ◌+◌, ◌-◌, ◌^◌, ◌++◌, ℕ, List, Option};
 ghost use Rattle.std.specs.Prelude.{IfErr, IfOk, IsOk, OnErr, OnOk, string_bytes};
-ghost use Rattle.devices.specs.Counted.{failures_of, known_by, Gives};
+ghost use Rattle.counted_io.specs.Counted.{failures_of, known_by, Gives};
 ghost use Rattle.instructions.specs.Programs.{Program};
 ghost use Rattle.inorder.specs.Unit.{Sizes};
-ghost use Rattle.unit.specs.Changes.{run_from};
+ghost use Rattle.one_thread.specs.Changes.{run_from};
 ghost use Rattle.charts.specs.Events.{events};
 ghost use Rattle.charts.specs.Rows.{kept, listed, next_kept};
-ghost use Rattle.devices.specs.Counted.{raised as raised_of};
+ghost use Rattle.counted_io.specs.Counted.{raised as raised_of};
 ghost use Rattle.charts.specs.Telling.{first_text, last_text, turn_text};
 ghost use Rattle.charts.specs.Watched.{GivesUpTo, GoesOn, Guides, IsBegun, IsThrough};
 
@@ -15,11 +15,11 @@ use crate::books::{Books, raised};
 use crate::drawing::push_live;
 use crate::telling::{Format, push_events, push_first, push_turn};
 use crate::watched::Fault;
-use devices::{Counted, write_whole};
+use counted_io::{Counted, write_whole};
 use instructions::Predictor;
+use one_thread::{Bench, Chooser, Order, Station, Turn};
 use std::alloc::{AllocError, Global};
 use std::io::Write;
-use unit::{Bench, Chooser, Order, Station, Turn};
 
 // Adds a station, if there is one.
 fn push_station(window: &mut Vec<Station>, station: Option<Station>) -> Result<(), AllocError>

@@ -1,6 +1,6 @@
 //! A listing that is read and not run.
 ghost use Rattle.std.specs.Prelude.{◌≡◌, ◌-◌, ◌^◌, ◌<◌, IfSome, None};
-ghost use Rattle.devices.specs.Counted.{failures_of};
+ghost use Rattle.counted_io.specs.Counted.{failures_of};
 ghost use Rattle.bench.specs.Answer.{most_taken};
 ghost use Rattle.checker.specs.Checked.{IsCheck, IsSomeCheck, told_of_all};
 ghost use Rattle.without_threads.specs.Replies.{HasWritten, IfRefused, IsLeftBy};
@@ -9,9 +9,9 @@ ghost use Rattle.without_threads.specs.declared.went.Line.TheVariants.{Nothing};
 
 use bench::MOST_TAKEN;
 use checks::told;
-use devices::{Counted, Reply, Unanswered, reply_to};
+use command_line::Checked;
+use counted_io::{Counted, Reply, Unanswered, reply_to};
 use instructions::Memory;
-use requests::Checked;
 use std::alloc::Global;
 use std::io::{Read, Write};
 use without_threads::{Line, Refusal, Went, refused};

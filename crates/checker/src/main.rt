@@ -4,8 +4,8 @@
 mod checking;
 
 use checking::check;
-use devices::{ClosedStreams, Counted};
-use requests::{Checked, checked, is_standard_input, refuse, words};
+use command_line::{Checked, checked, is_standard_input, refuse, words};
+use counted_io::{ClosedStreams, Counted};
 use std::fs::File;
 use std::io::Read;
 use std::process::ExitCode;

@@ -1,6 +1,6 @@
 -- Explanations, one behind the other.
 use Rattle.std.proofs.Common.{◌≡◌, ◌+◌, ◌<◌, ℕ, zero, suc, Bool, List, [], ◌∷◌, length, drop, slice_index_or, Result, Err, refl, subst, arith}
-use Rattle.text.specs.Line.{lines_of}
+use Rattle.lexical.specs.Line.{lines_of}
 use Rattle.instructions.specs.Programs.{Program}
 use Rattle.isa.specs.declared.listing.fault.FaultKind.{FaultKind}
 use Rattle.isa.specs.declared.listing.fault.TextFault.{TextFault}

@@ -4,7 +4,7 @@ use Rattle.std.proofs.lemmas.Bool.{cases_Bool}
 use Rattle.std.proofs.lemmas.List.{length-take}
 use Rattle.std.specs.List.{slice_split, onto_first, position_or_len}
 use Rattle.std.specs.Str.Lines.{strip_carriage_return}
-use Rattle.text.specs.Line.{lines_of, before_comment}
+use Rattle.lexical.specs.Line.{lines_of, before_comment}
 
 -- the bytes of lines, and one more for each
 abbrev pub total : List (List ℕ) → ℕ

@@ -2,7 +2,7 @@
 use Rattle.std.proofs.Common.{◌≡◌, ◌+◌, ◌≤◌, ◌<◌, ℕ, zero, suc, List, [], ◌∷◌, length, drop, Some, slice_get, slice_index_or, refl, subst, sym, arith}
 use Rattle.checks.specs.Lines.{line_at}
 use Rattle.checks.proofs.Lengths.{total, lines_fit}
-use Rattle.text.specs.Line.{lines_of}
+use Rattle.lexical.specs.Line.{lines_of}
 
 -- line n stands behind n others, and the rest behind it
 pub next_get : (ls left : List (List ℕ)) (n : ℕ) (l : List ℕ) → drop n ls ≡ l ∷ left → slice_get ls n ≡ Some l

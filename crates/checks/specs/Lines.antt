@@ -1,9 +1,9 @@
 -- One line of a listing, and its word.
 use Rattle.std.specs.Prelude.{ℕ, zero, suc, List, Option, None, slice_get}
 use Rattle.std.specs.List.{before_first}
-use Rattle.text.specs.Blank.{is_blank}
-use Rattle.text.specs.Label.{statement_of}
-use Rattle.text.specs.Line.{before_comment}
+use Rattle.lexical.specs.Blank.{is_blank}
+use Rattle.lexical.specs.Label.{statement_of}
+use Rattle.lexical.specs.Line.{before_comment}
 use Rattle.isa.specs.Listing.{Lines}
 
 -- a line by its number, counted from 1

@@ -1,6 +1,6 @@
 -- A line of a listing as it is quoted: without harm to a terminal, cut where it is long, and a mark below a part of it.
 use Rattle.std.specs.Prelude.{ℕ, ◌+◌, ◌-◌, ◌/◌, ◌%◌, ◌==◌, ◌&&◌, ◌||◌, min, Bool, not, nat_le, nat_lt, List, [], ◌∷◌, ◌++◌, length, codes, slice_range, flat_map, if◌then◌else◌}
-use Rattle.text.specs.Name.{is_plain}
+use Rattle.lexical.specs.Name.{is_plain}
 use Rattle.isa.specs.Report.{newline}
 use Rattle.checks.specs.declared.parts.Part.{Part}
 use Rattle.checks.specs.declared.quoting.Layer.{Layer}

@@ -5,10 +5,10 @@ use Rattle.std.specs.Borrow.{Bor}
 use Rattle.std.specs.BTreeMap.{BTreeMap, get_by}
 use Rattle.std.specs.Cmp.Lexicographic.{slice_cmp}
 use Rattle.std.specs.Ordering.{nat_cmp}
-use Rattle.text.specs.Blank.{is_blank}
-use Rattle.text.specs.Label.{statement_of}
-use Rattle.text.specs.Line.{before_comment, lines_of}
-use Rattle.text.specs.Operand.{operands}
+use Rattle.lexical.specs.Blank.{is_blank}
+use Rattle.lexical.specs.Label.{statement_of}
+use Rattle.lexical.specs.Line.{before_comment, lines_of}
+use Rattle.lexical.specs.Operand.{operands}
 use Rattle.instructions.specs.Programs.{Program}
 use Rattle.isa.specs.Listing.{Lines, stands_in, instruction_lines}
 use Rattle.checks.specs.Lines.{line_at}

@@ -10,8 +10,8 @@ mod words;
 use super::mending::Labels;
 use super::statements::statement_in;
 use isa::{FaultKind, TextFault};
+use lexical::before_comment;
 use std::alloc::{AllocError, Global};
-use text::before_comment;
 
 // How an executable begins.
 const EXECUTABLE: &[u8] = b"\x7fELF";

@@ -9,11 +9,11 @@ mod registers;
 use super::mending::Labels;
 use super::parts::{Part, code, label_at, operands, statement, word};
 use isa::{FaultKind, TextFault};
+use lexical::is_plain_text;
 use numbers::bad_number;
 use operands::{bad_operands, last_operand};
 use registers::bad_register;
 use std::alloc::{AllocError, Global};
-use text::is_plain_text;
 
 /// How many bytes a character has at most.
 const MOST_BYTES: usize = 4;

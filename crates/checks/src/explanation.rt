@@ -1,7 +1,7 @@
 //! What is told of faults.
 ghost use Rattle.std.specs.Prelude.{◌≡◌, ◌++◌, IfOk, OnOk, None, Some};
 ghost use Rattle.std.specs.Option.{option_map};
-ghost use Rattle.text.specs.Line.{lines_of};
+ghost use Rattle.lexical.specs.Line.{lines_of};
 ghost use Rattle.checks.specs.Checks.{AreExplained, IsExplained, IsExplanationBehind};
 ghost use Rattle.checks.specs.Lines.{line_at};
 ghost use Rattle.checks.specs.Checks.{advice_line, form_note, has_form, sentence};

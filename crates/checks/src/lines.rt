@@ -1,11 +1,11 @@
 //! One line of a listing, and its word.
 ghost use Rattle.std.specs.Prelude.{◌≡◌};
 ghost use Rattle.std.specs.Option.{option_map};
-ghost use Rattle.text.specs.Line.{lines_of};
-ghost use Rattle.text.specs.Label.{statement_of};
+ghost use Rattle.lexical.specs.Line.{lines_of};
+ghost use Rattle.lexical.specs.Label.{statement_of};
 ghost use Rattle.checks.specs.Lines.{line_at, word_in};
 
-use text::{before_comment, cut_word, next_label, next_line, trim};
+use lexical::{before_comment, cut_word, next_label, next_line, trim};
 
 /// A line by its number, counted from 1.
 pub(crate) fn line_at(text: &[u8], number: u64) -> Option<&[u8]>

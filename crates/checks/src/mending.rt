@@ -4,9 +4,9 @@ ghost use Rattle.checks.specs.Parts.{IsPartOf};
 ghost use Rattle.checks.specs.Faults.{IsLonger, IsMended, feeds, is_line};
 
 use super::parts::{Part, code, label_at};
+use lexical::{cut, next_line};
 use std::alloc::{AllocError, Global};
 use std::collections::BTreeMap;
-use text::{cut, next_line};
 
 /// Where a label stands: its line, counted from 1, and the byte of the line at which it begins.
 #[derive(Clone, Copy, PartialEq, Eq)]

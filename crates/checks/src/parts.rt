@@ -2,7 +2,7 @@
 ghost use Rattle.std.specs.Prelude.{◌≤◌, ◌<◌, IfSome};
 ghost use Rattle.checks.specs.Parts.{IsPartOf, LiesIn};
 
-use text::is_name;
+use lexical::is_name;
 
 /// A part of a line: from the byte `from` up to the byte `to`, which is behind it.
 #[derive(Clone, Copy)]

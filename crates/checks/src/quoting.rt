@@ -1,6 +1,6 @@
 //! A line of a listing as it is quoted, with a mark below a part of it.
 ghost use Rattle.std.specs.Prelude.{◌≡◌, ◌≤◌, ◌<◌, ◌++◌, OnOk, flat_map, length};
-ghost use Rattle.text.specs.Name.{is_plain};
+ghost use Rattle.lexical.specs.Name.{is_plain};
 ghost use Rattle.checks.specs.Parts.{IsPartOf};
 ghost use Rattle.checks.specs.Quotes.{caret, cut, digit, is_in_name, number, quote, quoted, three_if, underline, written};
 

@@ -1,7 +1,7 @@
 //! A statement as it is written: its word and its operands.
 
 use super::lines::statement;
-use text::{before_comment, count_operands, cut_word, next_operand, operand_part};
+use lexical::{before_comment, count_operands, cut_word, next_operand, operand_part};
 
 /// A word, how many operands stand behind it, and the first three of them, each empty where it is missing.
 #[derive(Clone, Copy)]

@@ -1,13 +1,13 @@
 //! What a good listing holds.
 ghost use Rattle.std.specs.Prelude.{◌≡◌, ◌≤◌, length, IfOk};
-ghost use Rattle.text.specs.Label.{labels_of};
-ghost use Rattle.text.specs.Line.{lines_of};
+ghost use Rattle.lexical.specs.Label.{labels_of};
+ghost use Rattle.lexical.specs.Line.{lines_of};
 ghost use Rattle.isa.specs.Listing.{labels};
 ghost use Rattle.checks.specs.Checks.{counts_text, how_many_labels};
 
 use instructions::Program;
+use lexical::{before_comment, next_label, next_line};
 use std::alloc::{AllocError, Global};
-use text::{before_comment, next_label, next_line};
 
 fn labels_in(code: &[u8]) -> usize
     ensures number { result ≡ length (labels_of code.now) }

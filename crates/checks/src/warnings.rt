@@ -1,6 +1,6 @@
 //! What is odd in a listing without a fault.
 ghost use Rattle.std.specs.Prelude.{◌≡◌, ◌<◌, length, IfOk, OnOk, Some, slice_get, true};
-ghost use Rattle.text.specs.Line.{lines_of};
+ghost use Rattle.lexical.specs.Line.{lines_of};
 ghost use Rattle.isa.specs.Listing.{instruction_lines};
 ghost use Rattle.checks.specs.Lines.{line_at};
 ghost use Rattle.checks.specs.Parts.{IsPartOf};
@@ -13,9 +13,9 @@ use super::parts::{Part, code, label_at, statement};
 use super::reach::{ends_path, has_target, is_closed, reached};
 use super::spot::{Spot, push_spot};
 use instructions::Program;
+use lexical::next_line;
 use operands::{Operands, is_operand, operands_of};
 use std::alloc::{AllocError, Global};
-use text::next_line;
 
 // What stands before what is said.
 const WARNING: &str = "warning: ";

@@ -8,9 +8,9 @@ use Rattle.ruu_words.specs.Views.{IsHeir}
 use Rattle.station.specs.Finishing.{OnlyUnits}
 use Rattle.station.specs.Quiet.{IsQuiet}
 use Rattle.station.specs.Seats.{Caller, TheCore}
-use Rattle.driving.specs.declared.seats.Seats.{Seats}
-use Rattle.driving.specs.Hands.{AreAll, HaveHeard, HasHeardMore}
-use Rattle.driving.proofs.Histories.{at_least, same_between, starts_on}
+use Rattle.client.specs.declared.seats.Seats.{Seats}
+use Rattle.client.specs.Hands.{AreAll, HaveHeard, HasHeardMore}
+use Rattle.client.proofs.Histories.{at_least, same_between, starts_on}
 
 -- All but the first unit have only looked and met from s to z
 pub record Stand (s z : Seats) : Type 0 where

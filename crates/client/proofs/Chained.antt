@@ -21,15 +21,15 @@ use Rattle.station.specs.Following.{ComesFrom, LetsAreAsked}
 use Rattle.station.specs.Letting.{MayLetOut, let_of}
 use Rattle.station.specs.Quiet.{IsClaimable}
 use Rattle.station.specs.Seats.{TheCore}
-use Rattle.driving.specs.declared.seats.Seats.{Seats}
-use Rattle.driving.specs.Chains.{IsChain, WorksOut, first_result}
-use Rattle.driving.specs.Done.{GoesOnAlone, HasReady, HaveDone, InAll, IsAskedNext, IsLetNext, CallLeads, MayAskNext, MayLetNext, unit_after}
-use Rattle.driving.proofs.FirstWorks.{either, made}
-use Rattle.driving.proofs.SetUp.{IsSetUp, first_of_two, second_of_two}
-use Rattle.driving.proofs.Known.{exactly}
-use Rattle.driving.proofs.LinkedTenants.{a_done, asked, b_linked, b_ready, two, value_is}
-use Rattle.driving.proofs.TwoTenants.{a_of, first_station, low_half, may_let_second, next_half, reads_it, second_station, small_tag}
-use Rattle.driving.proofs.Begins.{needs_first}
+use Rattle.client.specs.declared.seats.Seats.{Seats}
+use Rattle.client.specs.Chains.{IsChain, WorksOut, first_result}
+use Rattle.client.specs.Done.{GoesOnAlone, HasReady, HaveDone, InAll, IsAskedNext, IsLetNext, CallLeads, MayAskNext, MayLetNext, unit_after}
+use Rattle.client.proofs.FirstWorks.{either, made}
+use Rattle.client.proofs.SetUp.{IsSetUp, first_of_two, second_of_two}
+use Rattle.client.proofs.Known.{exactly}
+use Rattle.client.proofs.LinkedTenants.{a_done, asked, b_linked, b_ready, two, value_is}
+use Rattle.client.proofs.TwoTenants.{a_of, first_station, low_half, may_let_second, next_half, reads_it, second_station, small_tag}
+use Rattle.client.proofs.Begins.{needs_first}
 
 -- a let, to the letter
 let_is : (core : TheCore) (u : Seats) (t : NewTenant) (tag : ℕ) (old : List Entry) (g : GoesOnAlone core u front old (IsLetNext core t tag)) → g.all ≡ entry front (let_of t) ∷ old

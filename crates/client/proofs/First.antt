@@ -14,8 +14,8 @@ use Rattle.inorder.specs.Unit.{Sizes, can_be_written, creator, value_of}
 use Rattle.station.specs.declared.answers.Supply.TheVariants.{Known}
 use Rattle.station.specs.declared.answers.Tenant.{Tenant}
 use Rattle.station.specs.Letting.{MayLetOut}
-use Rattle.driving.specs.declared.drive.Worked.{Worked}
-use Rattle.driving.specs.Works.{IsFirstOutcome, IsWorkedRight}
+use Rattle.client.specs.declared.drive.Worked.{Worked}
+use Rattle.client.specs.Works.{IsFirstOutcome, IsWorkedRight}
 
 abbrev pub first_tenant : ℕ → Tenant
 first_tenant predicted = record { index = 0; half = Low; predicted = predicted; sources = (Known 0, Known 0) }

@@ -22,11 +22,11 @@ use Rattle.station.specs.declared.answers.Finish.{Finish as Answer}
 use Rattle.station.specs.declared.answers.Finish.TheVariants.{Finished, Stale}
 use Rattle.station.specs.Seats.{TheCore}
 use Rattle.station.specs.Writeback.{FinishAnswers, IsCarried, IsWalk, job_outcome}
-use Rattle.driving.specs.Chains.{IsWorkedOut, first_result}
-use Rattle.driving.proofs.SetUp.{IsSetUp}
-use Rattle.driving.proofs.Known.{exactly}
-use Rattle.driving.proofs.LinkedTenants.{a_busy, a_done, b_linked, b_ready, is_claim, is_finish, nobody_squashed, two, walked}
-use Rattle.driving.proofs.TwoTenants.{a_of}
+use Rattle.client.specs.Chains.{IsWorkedOut, first_result}
+use Rattle.client.proofs.SetUp.{IsSetUp}
+use Rattle.client.proofs.Known.{exactly}
+use Rattle.client.proofs.LinkedTenants.{a_busy, a_done, b_linked, b_ready, is_claim, is_finish, nobody_squashed, two, walked}
+use Rattle.client.proofs.TwoTenants.{a_of}
 
 pub either : (x : Bool) (n : ℕ) → cond x n n ≡ n
 either true n = refl

@@ -2,8 +2,8 @@
 use Rattle.std.proofs.Common.{◌≡◌, [], ◌∙◌, subst}
 use Rattle.inorder.specs.OneHistory.{Adds}
 use Rattle.station.specs.Seats.{Caller, IsSameSeat, TheCore}
-use Rattle.driving.specs.Hands.{HasHeardMore}
-use Rattle.driving.proofs.Histories.{starts_on}
+use Rattle.client.specs.Hands.{HasHeardMore}
+use Rattle.client.proofs.Histories.{starts_on}
 
 pub later : (core : TheCore) (v w : Caller) → IsSameSeat v w → w.heirs ≡ v.heirs → Adds core.program core.sizes v.by v.seen w.seen [] → HasHeardMore core v w
 later core v w same heirs adds = record { core_is = same.core; by_is = same.by; heirs_are = heirs; adds = adds }

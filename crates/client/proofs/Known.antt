@@ -9,10 +9,10 @@ use Rattle.inorder.specs.History.{IsLegal, IsUnit, StartsWith, back, entry, fron
 use Rattle.inorder.specs.OneHistory.{Adds}
 use Rattle.ruu_words.specs.Views.{IsHeir}
 use Rattle.station.specs.Seats.{Caller, TheCore}
-use Rattle.driving.specs.declared.seats.Seats.{Seats}
-use Rattle.driving.specs.Done.{GoesOnAlone, HaveDone}
-use Rattle.driving.specs.Hands.{AreAll, HaveMetTwice, HasHeardMore}
-use Rattle.driving.proofs.Histories.{at_least, own-append, same_between, starts_on, starts_same}
+use Rattle.client.specs.declared.seats.Seats.{Seats}
+use Rattle.client.specs.Done.{GoesOnAlone, HaveDone}
+use Rattle.client.specs.Hands.{AreAll, HaveMetTwice, HasHeardMore}
+use Rattle.client.proofs.Histories.{at_least, own-append, same_between, starts_on, starts_same}
 use Rattle.inorder.proofs.Histories.{none_from, own_else, own_here}
 
 -- Histories

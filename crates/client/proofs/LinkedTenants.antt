@@ -20,8 +20,8 @@ use Rattle.inorder.specs.Tenants.{AtLet, Busy, Done, Linked, Live, Open, Squashe
 use Rattle.inorder.specs.Unit.{Sizes, UpdateUnit, older, value_of}
 use Rattle.station.specs.Asking.{IsQuestion}
 use Rattle.station.specs.Writeback.{IsDeliveryOf}
-use Rattle.driving.specs.Chains.{IsChain}
-use Rattle.driving.proofs.TwoTenants.{a_of, made_none, one_of, reads_it, two_at}
+use Rattle.client.specs.Chains.{IsChain}
+use Rattle.client.proofs.TwoTenants.{a_of, made_none, one_of, reads_it, two_at}
 
 abbrev pub two : Tenant → Tenant → UpdateUnit
 two b a = record { tenants = b ∷ a ∷ []; fresh = 2 }

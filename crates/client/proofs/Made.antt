@@ -4,8 +4,8 @@ use Rattle.inorder.specs.History.{IsUnit}
 use Rattle.ruu_words.specs.Views.{IsHeir, half, other_half}
 use Rattle.station.specs.Making.{first_unit, other_units}
 use Rattle.station.specs.Quiet.{SplitsShareNumbers, UnitsAreNumbered}
-use Rattle.driving.specs.declared.seats.Seats.{Seats}
-use Rattle.driving.specs.Hands.{IsUnits}
+use Rattle.client.specs.declared.seats.Seats.{Seats}
+use Rattle.client.specs.Hands.{IsUnits}
 
 pub no_third : UnitsAreNumbered → SplitsShareNumbers → (s : Seats) → s.one.by ≡ first_unit → s.one.heirs ≡ half other_units → s.other.by ≡ other_units.first
     → s.other.heirs ≡ other_half other_units → (n : ℕ) → IsUnit n → IsUnits s n

@@ -4,9 +4,9 @@ use Rattle.inorder.specs.History.{IsUnit, StartsWith}
 use Rattle.ruu_words.specs.declared.rule.Heirs.{Heirs}
 use Rattle.ruu_words.specs.Views.{IsHeir}
 use Rattle.station.specs.Seats.{Caller, IsSameSeat, TheCore}
-use Rattle.driving.specs.declared.seats.Seats.{Seats}
-use Rattle.driving.specs.Hands.{AreAll}
-use Rattle.driving.proofs.Histories.{starts_on, starts_same}
+use Rattle.client.specs.declared.seats.Seats.{Seats}
+use Rattle.client.specs.Hands.{AreAll}
+use Rattle.client.proofs.Histories.{starts_on, starts_same}
 
 pub record GoesOn (v w : Caller) : Type 0 where
   pub core : w.core ≡ v.core

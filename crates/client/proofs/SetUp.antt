@@ -13,12 +13,12 @@ use Rattle.inorder.specs.Unit.{Sizes}
 use Rattle.station.specs.declared.answers.Supply.TheVariants.{From, Known}
 use Rattle.station.specs.declared.answers.Tenant.{Tenant as NewTenant}
 use Rattle.station.specs.Seats.{TheCore}
-use Rattle.driving.specs.declared.seats.Seats.{Seats}
-use Rattle.driving.specs.Chains.{IsChain}
-use Rattle.driving.specs.Done.{HaveDone}
-use Rattle.driving.specs.Hands.{AreNew}
-use Rattle.driving.proofs.First.{predicts as predicts_it}
-use Rattle.driving.proofs.Histories.{starts_same}
+use Rattle.client.specs.declared.seats.Seats.{Seats}
+use Rattle.client.specs.Chains.{IsChain}
+use Rattle.client.specs.Done.{HaveDone}
+use Rattle.client.specs.Hands.{AreNew}
+use Rattle.client.proofs.First.{predicts as predicts_it}
+use Rattle.client.proofs.Histories.{starts_same}
 
 abbrev pub first_of_two : NewTenant
 first_of_two = record { index = 0; half = Low; predicted = address 1; sources = (Known 0, Known 0) }

@@ -15,7 +15,7 @@ use Rattle.inorder.specs.Replies.{last_tag}
 use Rattle.inorder.specs.Steps.{MayLet, new_tenant}
 use Rattle.inorder.specs.Tenants.{Tenant, made_at_let}
 use Rattle.inorder.specs.Unit.{Sizes, UpdateUnit, at, can_be_written, creator, empty_unit, front_half, front_pc, half_after, how_many, next_station, next_tag, recent, value_of}
-use Rattle.driving.specs.Chains.{IsChain, passed}
+use Rattle.client.specs.Chains.{IsChain, passed}
 
 -- Instructions
 

@@ -28,12 +28,12 @@ use Rattle.station.specs.Moments.{WasOnce}
 use Rattle.station.specs.Quiet.{ClaimsGiveJobs, IsClaimable, IsLetAs, LetsAreOut}
 use Rattle.station.specs.Seats.{Caller, IsSameSeat, TheCore}
 use Rattle.station.specs.Writeback.{FinishAnswers, job_outcome}
-use Rattle.driving.specs.declared.seats.Seats.{Seats}
-use Rattle.driving.specs.Hands.{AreAll, HaveHeard, KnowsUnits}
-use Rattle.driving.specs.Works.{HasCome, HasBothValues, IsWorkedRight}
-use Rattle.driving.proofs.Begins.{claim_begins, finish_begins, needs_first}
-use Rattle.driving.proofs.Alone.{Stand, only_units, quiet, stand_on, stand_still}
-use Rattle.driving.proofs.Histories.{at_least, same_between, starts_on, starts_same}
+use Rattle.client.specs.declared.seats.Seats.{Seats}
+use Rattle.client.specs.Hands.{AreAll, HaveHeard, KnowsUnits}
+use Rattle.client.specs.Works.{HasCome, HasBothValues, IsWorkedRight}
+use Rattle.client.proofs.Begins.{claim_begins, finish_begins, needs_first}
+use Rattle.client.proofs.Alone.{Stand, only_units, quiet, stand_on, stand_still}
+use Rattle.client.proofs.Histories.{at_least, same_between, starts_on, starts_same}
 use Rattle.inorder.proofs.Histories.{same_fronts}
 
 -- What a job has of a tenant that was let with its values

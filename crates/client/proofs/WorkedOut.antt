@@ -12,9 +12,9 @@ use Rattle.station.specs.Quiet.{ClaimsGiveJobs, IsClaimable, IsJobOf}
 use Rattle.station.specs.Seats.{TheCore}
 use Rattle.station.specs.Writeback.{job_outcome}
 use Rattle.inorder.specs.Replies.{job_of}
-use Rattle.driving.specs.declared.seats.Seats.{Seats}
-use Rattle.driving.specs.Chains.{WorksOut}
-use Rattle.driving.specs.Done.{GoesOnAlone, IsClaimedNext, IsFinishedNext, unit_after}
+use Rattle.client.specs.declared.seats.Seats.{Seats}
+use Rattle.client.specs.Chains.{WorksOut}
+use Rattle.client.specs.Done.{GoesOnAlone, IsClaimedNext, IsFinishedNext, unit_after}
 
 module _ (core : TheCore) (t : Seats) (by : ℕ) (unit : IsUnit by) (station : ℕ) where
   -- the claim is a job

@@ -19,7 +19,7 @@ use Rattle.station.specs.Quiet.{IsClaimable}
 use Rattle.station.specs.Seats.{TheCore}
 use Rattle.station.specs.Writeback.{FinishAnswers, job_outcome}
 use Rattle.inorder.specs.History.{own}
-use Rattle.driving.specs.Done.{unit_after}
+use Rattle.client.specs.Done.{unit_after}
 
 -- The outcome of the first instruction, where all registers are 0
 abbrev pub first_result : Program → Outcome

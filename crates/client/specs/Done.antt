@@ -17,7 +17,7 @@ use Rattle.station.specs.Letting.{MayLetOut, let_of}
 use Rattle.station.specs.Quiet.{IsClaimable}
 use Rattle.station.specs.Seats.{TheCore}
 use Rattle.station.specs.Writeback.{FinishAnswers}
-use Rattle.driving.specs.declared.seats.Seats.{Seats}
+use Rattle.client.specs.declared.seats.Seats.{Seats}
 
 -- This is all that was done, behind that with which the core opened: each caller has seen it, and has
 -- done nothing since

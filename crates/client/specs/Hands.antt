@@ -7,7 +7,7 @@ use Rattle.inorder.specs.OneHistory.{Adds}
 use Rattle.ruu_words.specs.Views.{IsHeir}
 use Rattle.station.specs.Paths.{IsTakenOver, unit_in}
 use Rattle.station.specs.Seats.{Caller, TheCore}
-use Rattle.driving.specs.declared.seats.Seats.{Seats}
+use Rattle.client.specs.declared.seats.Seats.{Seats}
 
 -- The number of one of the two units, or one that no seat was made for
 abbrev pub IsUnits : Seats → ℕ → Type 0

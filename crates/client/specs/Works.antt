@@ -15,8 +15,8 @@ use Rattle.station.specs.declared.answers.Tenant.{Tenant}
 use Rattle.station.specs.Finishing.{HasOutcome}
 use Rattle.station.specs.Moments.{WasOnce}
 use Rattle.station.specs.Seats.{TheCore}
-use Rattle.driving.specs.declared.seats.Seats.{Seats}
-use Rattle.driving.specs.declared.drive.Worked.{Worked}
+use Rattle.client.specs.declared.seats.Seats.{Seats}
+use Rattle.client.specs.declared.drive.Worked.{Worked}
 
 -- The unit as the front has seen it
 abbrev pub unit_at : TheCore → Seats → UpdateUnit

@@ -1,8 +1,8 @@
 //! Two instructions, of which the second waits for what the first makes.
 ghost use Rattle.std.specs.Prelude.{◌≡◌, ◌<◌, IfOk, IsTrue};
-ghost use Rattle.driving.specs.Chains.{IsChain, IsSecondOutcome, WorksOut};
-ghost use Rattle.driving.specs.Done.{HasReady, InAll, CallLeads};
-ghost use Rattle.driving.specs.Hands.{AreAll};
+ghost use Rattle.client.specs.Chains.{IsChain, IsSecondOutcome, WorksOut};
+ghost use Rattle.client.specs.Done.{HasReady, InAll, CallLeads};
+ghost use Rattle.client.specs.Hands.{AreAll};
 
 use crate::hand::{ask_next, claim_next, finish_next, let_next};
 use crate::seats::{Seats, make};

@@ -2,8 +2,8 @@
 ghost use Rattle.std.specs.Prelude.{◌≡◌, ◌<◌, IfOk, length};
 ghost use Rattle.inorder.specs.Unit.{next_station, recent};
 ghost use Rattle.station.specs.Letting.{MayLetOut};
-ghost use Rattle.driving.specs.Hands.{AreAll, KnowsUnits};
-ghost use Rattle.driving.specs.Works.{HasBothValues, IsFirstOutcome, IsWorked, unit_at};
+ghost use Rattle.client.specs.Hands.{AreAll, KnowsUnits};
+ghost use Rattle.client.specs.Works.{HasBothValues, IsFirstOutcome, IsWorked, unit_at};
 
 use crate::seats::{Seats, gather, make};
 use instructions::{Config, Half, Memory, Outcome, Program};

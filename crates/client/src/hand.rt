@@ -3,8 +3,8 @@
 ghost use Rattle.std.specs.Prelude.{◌≡◌, ◌<◌};
 ghost use Rattle.inorder.specs.History.{front};
 ghost use Rattle.station.specs.Writeback.{job_outcome};
-ghost use Rattle.driving.specs.Done.{HoldsNext, InAll, IsAskedNext, IsClaimedNext, IsFinishedNext, IsLetNext, CallLeads, MayAskNext, MayLetNext};
-ghost use Rattle.driving.specs.Hands.{AreAll, HaveMetTwice};
+ghost use Rattle.client.specs.Done.{HoldsNext, InAll, IsAskedNext, IsClaimedNext, IsFinishedNext, IsLetNext, CallLeads, MayAskNext, MayLetNext};
+ghost use Rattle.client.specs.Hands.{AreAll, HaveMetTwice};
 
 use crate::seats::{Seats, gather};
 use instructions::Outcome;

@@ -3,6 +3,6 @@
 
 mod running;
 
-pub use requests::{Asked, BranchPredictor, NoRun, asked, is_standard_input, status};
+pub use command_line::{Asked, BranchPredictor, NoRun, asked, is_standard_input, status};
 pub use running::go;
 pub use without_threads::{Line, Progress, Refusal, Went, end};

@@ -1,15 +1,15 @@
 //! The run that a command line asks for.
 ghost use Rattle.std.specs.Prelude.{◌≡◌, ◌-◌, ◌^◌, ◌<◌, IfSome, None, true};
-ghost use Rattle.devices.specs.Counted.{failures_of, Gives};
+ghost use Rattle.counted_io.specs.Counted.{failures_of, Gives};
 ghost use Rattle.without_threads.specs.Answers.{IsAnswerTo, IsAsAlone, IsSomeAnswerTo};
 ghost use Rattle.without_threads.specs.Replies.{HasWritten, IfRefused, IsLeftBy};
 ghost use Rattle.without_threads.specs.Went.{HoldsOfInput, IsOfOneThread, IsWhole, WasWritten, refused};
 
 use crate::{Asked, Refusal, Went};
-use devices::Counted;
+use command_line::Chosen;
+use counted_io::Counted;
 use instructions::Program;
 use pool::{Gate, run};
-use requests::Chosen;
 use std::alloc::Global;
 use std::io::{Read, Write};
 use std::sync::Wait;

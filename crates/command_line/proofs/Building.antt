@@ -5,7 +5,7 @@ use Rattle.clap.specs.Faults.{is_simple_and_free}
 use Rattle.clap.proofs.OnLiterals.{clap_on_literals}
 use Rattle.clap.specs.declared.builder.arg.Arg.{Arg}
 use Rattle.clap.specs.declared.builder.command.Command.{Command}
-use Rattle.requests.specs.Tool.{Becomes, IsArg, IsCommand, chart, check, commits, drive, run, tool}
+use Rattle.command_line.specs.Tool.{Becomes, IsArg, IsCommand, chart, check, commits, drive, run, tool}
 
 pub extended : {app : App} {rule : Rule} {old new : Command} {arg : Arg}
     → IsCommand app old → IsArg rule arg → AddsArg old arg new → IsCommand (with_rule app rule) new

@@ -1,11 +1,11 @@
 -- Ring sizes that are refused, and configurations with one that is not.
 use Rattle.std.proofs.Common.{◌^◌, ◌-◌, ℕ, sym, subst, codes, List, Option}
 use Rattle.instructions.specs.Settings.{Settings}
-use Rattle.requests.specs.declared.no_run.NoRun.{NoRun}
-use Rattle.requests.specs.declared.no_run.NoRun.TheVariants as no
-use Rattle.requests.specs.Reading.{AreRefused}
-use Rattle.requests.specs.Rings.{AreSizes, IsBadRing, IsOddRing, IsRinged, greatest}
-use Rattle.requests.specs.Values.{IsNoNumberFrom, IsNumberFrom}
+use Rattle.command_line.specs.declared.no_run.NoRun.{NoRun}
+use Rattle.command_line.specs.declared.no_run.NoRun.TheVariants as no
+use Rattle.command_line.specs.Reading.{AreRefused}
+use Rattle.command_line.specs.Rings.{AreSizes, IsBadRing, IsOddRing, IsRinged, greatest}
+use Rattle.command_line.specs.Values.{IsNoNumberFrom, IsNumberFrom}
 use Rattle.clap.specs.Words.{Row, Text, first_of}
 
 -- a ring size of the rows that is refused

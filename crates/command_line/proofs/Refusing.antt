@@ -6,10 +6,10 @@ use Rattle.clap.specs.Kinds.{HasKind, IsAmong, Kinds}
 use Rattle.clap.specs.declared.error.Error.{Error}
 use Rattle.clap.specs.declared.error.kind.ErrorKind.{ErrorKind}
 use Rattle.clap.specs.declared.error.kind.ErrorKind.TheVariants.{DisplayHelp, DisplayVersion, OutOfMemory}
-use Rattle.requests.specs.declared.no_run.NoRun.{NoRun}
-use Rattle.requests.specs.declared.no_run.NoRun.TheVariants as no
-use Rattle.requests.specs.Reading.{AreRefused, HoldsIn, IsEntered, IsMistake, IsNotEntered, IsRefusalOf, IsRefused, IsUsage}
-use Rattle.requests.specs.Tool.{tool}
+use Rattle.command_line.specs.declared.no_run.NoRun.{NoRun}
+use Rattle.command_line.specs.declared.no_run.NoRun.TheVariants as no
+use Rattle.command_line.specs.Reading.{AreRefused, HoldsIn, IsEntered, IsMistake, IsNotEntered, IsRefusalOf, IsRefused, IsUsage}
+use Rattle.command_line.specs.Tool.{tool}
 
 not_one : (kind : ErrorKind) (kinds : Kinds) → kinds ≡ [] → kinds ≢ kind ∷ []
 not_one kind kinds none some = absurd (cc)

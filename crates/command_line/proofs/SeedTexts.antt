@@ -5,8 +5,8 @@ use Rattle.std.proofs.lemmas.Bool.{false≢true}
 use Rattle.std.proofs.lemmas.Option.{none-some}
 use denote.Ref.{Bor}
 use Rattle.clap.specs.Words.{Row, Text, first_of}
-use Rattle.requests.specs.Steps.{AreNoSteps, IsCounted}
-use Rattle.requests.specs.Values.{IsNoNumberFrom, IsNoSeed, IsNumberFrom, IsSeed}
+use Rattle.command_line.specs.Steps.{AreNoSteps, IsCounted}
+use Rattle.command_line.specs.Values.{IsNoNumberFrom, IsNoSeed, IsNumberFrom, IsSeed}
 
 -- without a text there is no seed
 pub without_text : (found : Option (Bor Text)) (text : Option Text) → option_map (λ s. s.now) found ≡ text

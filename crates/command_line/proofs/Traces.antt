@@ -2,7 +2,7 @@
 use Rattle.std.proofs.Common.{◌≡◌, ◌∙◌, sym, ap, subst, Bool, true, false, List, Option, Some, codes}
 use Rattle.std.proofs.lemmas.Bool.{false≢true}
 use Rattle.clap.specs.Words.{Row, Text, first_of}
-use Rattle.requests.specs.Logs.{IsNoLog, IsOther, is_file, is_other}
+use Rattle.command_line.specs.Logs.{IsNoLog, IsOther, is_file, is_other}
 
 -- the log of the rows is no file
 pub no_file : (rows : List Row) (log : Option Text) (taken : Bool) → log ≡ first_of (codes "trace") rows → taken ≡ is_file log

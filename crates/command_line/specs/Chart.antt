@@ -2,14 +2,14 @@
 use Rattle.std.specs.Prelude.{◌≡◌, ℕ, false, List, Option, Some, codes}
 use Rattle.clap.specs.Words.{Row, Text, first_of}
 use Rattle.instructions.specs.Settings.{is_ring}
-use Rattle.requests.specs.declared.no_run.NoRun.{NoRun}
-use Rattle.requests.specs.declared.request.BranchPredictor.{BranchPredictor}
-use Rattle.requests.specs.declared.request.Charted.{Charted}
-use Rattle.requests.specs.Logs.{IsLog}
-use Rattle.requests.specs.Reading.{AreRefused, HoldsIn, IsRefused}
-use Rattle.requests.specs.Rings.{AreSizes, HaveSizes, greatest}
-use Rattle.requests.specs.Tool.{chart}
-use Rattle.requests.specs.Values.{IsPredictor, IsSeed, text_behind}
+use Rattle.command_line.specs.declared.no_run.NoRun.{NoRun}
+use Rattle.command_line.specs.declared.request.BranchPredictor.{BranchPredictor}
+use Rattle.command_line.specs.declared.request.Charted.{Charted}
+use Rattle.command_line.specs.Logs.{IsLog}
+use Rattle.command_line.specs.Reading.{AreRefused, HoldsIn, IsRefused}
+use Rattle.command_line.specs.Rings.{AreSizes, HaveSizes, greatest}
+use Rattle.command_line.specs.Tool.{chart}
+use Rattle.command_line.specs.Values.{IsPredictor, IsSeed, text_behind}
 
 -- file, values and log are those that the rows hold, or the defaults, each in its range
 pub record IsChartedBy (rows : List Row) (charted : Charted) : Type 0 where

@@ -1,11 +1,11 @@
 -- The check that the words of `ruu check` ask for.
 use Rattle.std.specs.Prelude.{◌≡◌, List, Some, codes}
 use Rattle.clap.specs.Words.{Row, Text, first_of}
-use Rattle.requests.specs.declared.no_run.NoRun.{NoRun}
-use Rattle.requests.specs.declared.request.Checked.{Checked}
-use Rattle.requests.specs.Reading.{AreRefused, HoldsIn, IsRefused, NoneOdd}
-use Rattle.requests.specs.Tool.{check}
-use Rattle.requests.specs.Values.{is_true}
+use Rattle.command_line.specs.declared.no_run.NoRun.{NoRun}
+use Rattle.command_line.specs.declared.request.Checked.{Checked}
+use Rattle.command_line.specs.Reading.{AreRefused, HoldsIn, IsRefused, NoneOdd}
+use Rattle.command_line.specs.Tool.{check}
+use Rattle.command_line.specs.Values.{is_true}
 
 -- file and flag are those that the rows hold
 pub record IsCheckedBy (rows : List Row) (checked : Checked) : Type 0 where

@@ -2,13 +2,13 @@
 use Rattle.std.specs.Prelude.{◌≡◌, ℕ, false, List, Option, Some, codes}
 use Rattle.clap.specs.Words.{Row, Text, first_of}
 use Rattle.instructions.specs.Settings.{is_ring}
-use Rattle.requests.specs.declared.no_run.NoRun.{NoRun}
-use Rattle.requests.specs.declared.request.BranchPredictor.{BranchPredictor}
-use Rattle.requests.specs.declared.request.Committed.{Committed}
-use Rattle.requests.specs.Reading.{AreRefused, HoldsIn, IsRefused}
-use Rattle.requests.specs.Rings.{AreSizes, HaveSizes, greatest}
-use Rattle.requests.specs.Tool.{commits}
-use Rattle.requests.specs.Values.{IsPredictor, IsSeed}
+use Rattle.command_line.specs.declared.no_run.NoRun.{NoRun}
+use Rattle.command_line.specs.declared.request.BranchPredictor.{BranchPredictor}
+use Rattle.command_line.specs.declared.request.Committed.{Committed}
+use Rattle.command_line.specs.Reading.{AreRefused, HoldsIn, IsRefused}
+use Rattle.command_line.specs.Rings.{AreSizes, HaveSizes, greatest}
+use Rattle.command_line.specs.Tool.{commits}
+use Rattle.command_line.specs.Values.{IsPredictor, IsSeed}
 
 -- file and values are those that the rows hold, or the defaults, each in its range
 pub record IsCommittedBy (rows : List Row) (committed : Committed) : Type 0 where

@@ -3,13 +3,13 @@ use Rattle.std.specs.Prelude.{◌≡◌, ◌^◌, ◌-◌, false, List, Some, co
 use Rattle.std.specs.Str.{bytes_eq}
 use Rattle.clap.specs.Words.{Row, Text, first_of}
 use Rattle.instructions.specs.Settings.{IsValid, Settings}
-use Rattle.requests.specs.declared.no_run.NoRun.{NoRun}
-use Rattle.requests.specs.declared.request.ByHand.{ByHand}
-use Rattle.requests.specs.Reading.{AreRefused, HoldsIn, IsRefused, NoneOdd}
-use Rattle.requests.specs.Rings.{greatest}
-use Rattle.requests.specs.Steps.{AreSteps}
-use Rattle.requests.specs.Tool.{drive}
-use Rattle.requests.specs.Values.{IsNumberFrom, IsPredictor, IsQueueCut, is_true}
+use Rattle.command_line.specs.declared.no_run.NoRun.{NoRun}
+use Rattle.command_line.specs.declared.request.ByHand.{ByHand}
+use Rattle.command_line.specs.Reading.{AreRefused, HoldsIn, IsRefused, NoneOdd}
+use Rattle.command_line.specs.Rings.{greatest}
+use Rattle.command_line.specs.Steps.{AreSteps}
+use Rattle.command_line.specs.Tool.{drive}
+use Rattle.command_line.specs.Values.{IsNumberFrom, IsPredictor, IsQueueCut, is_true}
 
 -- the configuration has what a run has that is asked for nothing more, and as many units as can be driven
 pub record IsOfAUnit (config : Settings) : Type 0 where

@@ -3,9 +3,9 @@ use Rattle.std.specs.Prelude.{◌≡◌, ℕ, List, replicate}
 use Rattle.instructions.specs.declared.instr.Instr.{Instr}
 use Rattle.instructions.specs.Instruction.{pc_plus_4}
 use Rattle.instructions.specs.Prediction.{taken_target, trained, two_bit}
-use Rattle.requests.specs.declared.chosen.Chosen.{Chosen}
-use Rattle.requests.specs.declared.request.BranchPredictor.{BranchPredictor}
-use Rattle.requests.specs.declared.request.BranchPredictor.TheVariants.{NotTaken, Taken, Bimod}
+use Rattle.command_line.specs.declared.chosen.Chosen.{Chosen}
+use Rattle.command_line.specs.declared.request.BranchPredictor.{BranchPredictor}
+use Rattle.command_line.specs.declared.request.BranchPredictor.TheVariants.{NotTaken, Taken, Bimod}
 
 -- the pc behind an instruction, as it is predicted
 abbrev pub answer_of : BranchPredictor → (counters : List ℕ) → (pc : ℕ) → Instr → ℕ

@@ -4,9 +4,9 @@ use Rattle.clap.specs.Words.{App, Row, Text, subcommand_of, fault_of}
 use Rattle.clap.specs.Kinds.{IsAmong}
 use Rattle.clap.specs.declared.error.kind.ErrorKind.{ErrorKind}
 use Rattle.clap.specs.declared.error.kind.ErrorKind.TheVariants.{DisplayHelp, DisplayVersion, OutOfMemory}
-use Rattle.requests.specs.declared.no_run.NoRun.{NoRun}
-use Rattle.requests.specs.declared.no_run.NoRun.TheVariants as no
-use Rattle.requests.specs.Tool.{tool}
+use Rattle.command_line.specs.declared.no_run.NoRun.{NoRun}
+use Rattle.command_line.specs.declared.no_run.NoRun.TheVariants as no
+use Rattle.command_line.specs.Tool.{tool}
 
 -- clap finds no fault in the words of the program, and its exact matches of the program's word have these rows
 pub record IsEntered (word : App) (words : List Text) (rows : List Row) : Type 0 where

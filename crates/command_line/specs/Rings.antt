@@ -2,9 +2,9 @@
 use Rattle.std.specs.Prelude.{◌≡◌, ◌≤◌, ◌^◌, ◌-◌, ℕ, ⊤, false, List, Option, codes, min}
 use Rattle.clap.specs.Words.{Row, Text, first_of}
 use Rattle.instructions.specs.Settings.{IsValid, Settings, is_ring}
-use Rattle.requests.specs.declared.no_run.NoRun.{NoRun}
-use Rattle.requests.specs.declared.no_run.NoRun.TheVariants as no
-use Rattle.requests.specs.Values.{IsNoNumberFrom, IsNumber, IsNumberFrom, IsQueueCut}
+use Rattle.command_line.specs.declared.no_run.NoRun.{NoRun}
+use Rattle.command_line.specs.declared.no_run.NoRun.TheVariants as no
+use Rattle.command_line.specs.Values.{IsNoNumberFrom, IsNumber, IsNumberFrom, IsQueueCut}
 
 -- the greatest limit and number of turns
 abbrev pub greatest : ℕ

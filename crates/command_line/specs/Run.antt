@@ -2,14 +2,14 @@
 use Rattle.std.specs.Prelude.{◌≡◌, ℕ, false, List, Option, Some, codes}
 use Rattle.clap.specs.Words.{Row, Text, first_of}
 use Rattle.instructions.specs.Settings.{is_ring}
-use Rattle.requests.specs.declared.no_run.NoRun.{NoRun}
-use Rattle.requests.specs.declared.request.Asked.{Asked}
-use Rattle.requests.specs.declared.request.BranchPredictor.{BranchPredictor}
-use Rattle.requests.specs.Reading.{AreRefused, HoldsIn, IsRefused}
-use Rattle.requests.specs.Rings.{AreSizes, HaveSizes, greatest}
-use Rattle.requests.specs.Seeds.{AreSeeds}
-use Rattle.requests.specs.Tool.{run}
-use Rattle.requests.specs.Values.{IsNumberFrom, IsPredictor, is_true}
+use Rattle.command_line.specs.declared.no_run.NoRun.{NoRun}
+use Rattle.command_line.specs.declared.request.Asked.{Asked}
+use Rattle.command_line.specs.declared.request.BranchPredictor.{BranchPredictor}
+use Rattle.command_line.specs.Reading.{AreRefused, HoldsIn, IsRefused}
+use Rattle.command_line.specs.Rings.{AreSizes, HaveSizes, greatest}
+use Rattle.command_line.specs.Seeds.{AreSeeds}
+use Rattle.command_line.specs.Tool.{run}
+use Rattle.command_line.specs.Values.{IsNumberFrom, IsPredictor, is_true}
 
 -- file, values and flags are those that the rows hold, or the defaults, each in its range
 pub record IsAskedBy (rows : List Row) (asked : Asked) : Type 0 where

@@ -1,7 +1,7 @@
 -- The seeds of a run.
 use Rattle.std.specs.Prelude.{◌≡◌, ℕ, Bool, true, false, List, Option, None, codes}
 use Rattle.clap.specs.Words.{Row, first_of}
-use Rattle.requests.specs.Values.{IsSeed, is_true}
+use Rattle.command_line.specs.Values.{IsSeed, is_true}
 
 -- a seed chooses turns on one thread alone, and holds units back on several alone
 abbrev pub IsOrder : (alone : Bool) → (turns shake : Option ℕ) → Type 0

@@ -1,7 +1,7 @@
 -- The exit statuses of a command line that gives no run, and what is printed for it.
 use Rattle.std.specs.Prelude.{ℕ, List, codes, string_bytes}
-use Rattle.requests.specs.declared.no_run.NoRun.{NoRun}
-use Rattle.requests.specs.declared.no_run.NoRun.TheVariants.{Help, Usage, Ring, Memory}
+use Rattle.command_line.specs.declared.no_run.NoRun.{NoRun}
+use Rattle.command_line.specs.declared.no_run.NoRun.TheVariants.{Help, Usage, Ring, Memory}
 
 -- of a command line that gives no run
 abbrev pub status_of : NoRun → ℕ

@@ -1,7 +1,7 @@
 -- The commands that a seed chooses.
 use Rattle.std.specs.Prelude.{◌≡◌, ℕ, ⊤, List, Option, Some, None, codes}
 use Rattle.clap.specs.Words.{Row, Text, first_of}
-use Rattle.requests.specs.Values.{IsNumberFrom, IsSeed}
+use Rattle.command_line.specs.Values.{IsNumberFrom, IsSeed}
 
 -- a number of commands is given with a seed alone
 abbrev pub IsCounted : (seed : Option ℕ) → (steps : Option Text) → Type 0

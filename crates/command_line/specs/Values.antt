@@ -6,8 +6,8 @@ use Rattle.std.specs.Str.Parse.{IsNumeral, digits_value, without_leading_plus}
 use Rattle.std.specs.Str.{bytes_eq}
 use Rattle.clap.specs.Words.{Text, first_of, found_of, rows_of}
 use Rattle.clap.specs.declared.parser.matches.ArgMatches.{ArgMatches}
-use Rattle.requests.specs.declared.request.BranchPredictor.{BranchPredictor}
-use Rattle.requests.specs.declared.request.BranchPredictor.TheVariants.{NotTaken, Taken, Bimod}
+use Rattle.command_line.specs.declared.request.BranchPredictor.{BranchPredictor}
+use Rattle.command_line.specs.declared.request.BranchPredictor.TheVariants.{NotTaken, Taken, Bimod}
 
 -- the text behind a reference
 abbrev pub text_behind : Option (Bor Text) → Option Text

@@ -1,6 +1,6 @@
 //! The predictor that a command line asks for.
 ghost use Rattle.std.specs.Prelude.{◌≡◌, replicate};
-ghost use Rattle.requests.specs.Predictors.{IsChosen};
+ghost use Rattle.command_line.specs.Predictors.{IsChosen};
 
 use crate::BranchPredictor;
 use instructions::{Bimod, Instr, NotTaken, Predictor, Taken};
@@ -23,7 +23,7 @@ pub fn choose(which: BranchPredictor) -> Chosen
 }
 
 impl Predictor for Chosen {
-    ghost use Rattle.requests.specs.Predictors.{LearnsAs, PredictsAs};
+    ghost use Rattle.command_line.specs.Predictors.{LearnsAs, PredictsAs};
 
     ghost Predicts = { PredictsAs };
 

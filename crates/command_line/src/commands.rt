@@ -1,6 +1,6 @@
 //! The words of the programs, each with its options.
 ghost use Rattle.std.specs.Prelude.{IfOk};
-ghost use Rattle.requests.specs.Tool.{Becomes, IsCommand, bounded, chart, check, commits, drive, ordered, run, watched};
+ghost use Rattle.command_line.specs.Tool.{Becomes, IsCommand, bounded, chart, check, commits, drive, ordered, run, watched};
 
 use crate::options::{headed, with_file, with_flag, with_option, with_sizes};
 use clap::Command;

@@ -1,8 +1,8 @@
 //! The matches of a program's word.
 ghost use Rattle.std.specs.Prelude.{◌≡◌, IfOk, IfErr, map, true};
 ghost use Rattle.clap.specs.Words.{app_of, found_of, is_simple_and_free, rows_of};
-ghost use Rattle.requests.specs.Reading.{IsEntered, IsNotEntered};
-ghost use Rattle.requests.specs.Tool.{IsCommand, tool};
+ghost use Rattle.command_line.specs.Reading.{IsEntered, IsNotEntered};
+ghost use Rattle.command_line.specs.Tool.{IsCommand, tool};
 
 use crate::NoRun;
 use crate::options::tool;

@@ -1,8 +1,8 @@
 //! The entries of the matches, each read as what it stands for.
 ghost use Rattle.std.specs.Prelude.{◌≡◌, IfOk, IfErr, Some, None, codes};
-ghost use Rattle.requests.specs.Values.{IsNumberFrom, IsNoNumberFrom, IsPredictor, IsNoPredictor};
-ghost use Rattle.requests.specs.Values.{IsNoSeed, IsSeed, value_in};
-ghost use Rattle.requests.specs.Reading.{IsUsage};
+ghost use Rattle.command_line.specs.Values.{IsNumberFrom, IsNoNumberFrom, IsPredictor, IsNoPredictor};
+ghost use Rattle.command_line.specs.Values.{IsNoSeed, IsSeed, value_in};
+ghost use Rattle.command_line.specs.Reading.{IsUsage};
 
 use crate::refusals::{bad_number, usage};
 use crate::values::{number_in, predictor_in};

@@ -1,6 +1,6 @@
 //! Why a command line gives no run.
 ghost use Rattle.std.specs.Prelude.{◌≡◌, Some};
-ghost use Rattle.requests.specs.Statuses.{status_of, no_run_text};
+ghost use Rattle.command_line.specs.Statuses.{status_of, no_run_text};
 
 use std::alloc::{AllocError, AllocFailed};
 use std::fmt;
@@ -43,7 +43,7 @@ impl fmt::Display for NoRun {
 }
 
 impl From<AllocError> for NoRun {
-    ghost use Rattle.requests.specs.declared.no_run.NoRun.{NoRun};
+    ghost use Rattle.command_line.specs.declared.no_run.NoRun.{NoRun};
 
     ghost from_gives = { λ _ e. e ≡ NoRun.Memory };
 

@@ -1,8 +1,8 @@
 //! Options, as `clap` reads them and as help shows them.
 ghost use Rattle.std.specs.Prelude.{◌≡◌, IfOk, codes};
 ghost use Rattle.clap.specs.Words.{app_of, new_app, with_rule};
-ghost use Rattle.requests.specs.Tool.{Becomes, IsArg, IsCommand, ToolOf};
-ghost use Rattle.requests.specs.Tool.{file_rule, flag_rule, option_rule, sized, with_version};
+ghost use Rattle.command_line.specs.Tool.{Becomes, IsArg, IsCommand, ToolOf};
+ghost use Rattle.command_line.specs.Tool.{file_rule, flag_rule, option_rule, sized, with_version};
 
 use clap::{Arg, ArgAction, Command};
 use std::alloc::{AllocError, Global};

@@ -1,8 +1,8 @@
 //! What each program does with its command line.
 ghost use Rattle.std.specs.Prelude.{◌≡◌, IfErr};
 ghost use Rattle.std.specs.Process.{exit_status};
-ghost use Rattle.requests.specs.Reading.{IsUsage};
-ghost use Rattle.requests.specs.Statuses.{status_of};
+ghost use Rattle.command_line.specs.Reading.{IsUsage};
+ghost use Rattle.command_line.specs.Statuses.{status_of};
 
 use crate::{NoRun, status};
 use std::env;

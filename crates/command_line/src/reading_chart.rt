@@ -1,7 +1,7 @@
 //! Reading a command line that asks for the chart of a run.
 ghost use Rattle.std.specs.Prelude.{IfOk, IfErr, map};
 ghost use Rattle.clap.specs.Words.{found_of, rows_of};
-ghost use Rattle.requests.specs.Chart.{IsChartedBy, IsChartedIn, IsRefusedBy, IsRefusedIn};
+ghost use Rattle.command_line.specs.Chart.{IsChartedBy, IsChartedIn, IsRefusedBy, IsRefusedIn};
 
 use crate::commands::chart;
 use crate::entered::entered;

@@ -1,7 +1,7 @@
 //! Reading a command line that asks for a check of a listing.
 ghost use Rattle.std.specs.Prelude.{IfOk, IfErr, map};
 ghost use Rattle.clap.specs.Words.{found_of, rows_of};
-ghost use Rattle.requests.specs.Check.{IsCheckedBy, IsCheckedIn, IsRefusedBy, IsRefusedIn};
+ghost use Rattle.command_line.specs.Check.{IsCheckedBy, IsCheckedIn, IsRefusedBy, IsRefusedIn};
 
 use crate::commands::check;
 use crate::entered::entered;

@@ -1,7 +1,7 @@
 //! Reading a command line that asks for the commits of a run.
 ghost use Rattle.std.specs.Prelude.{IfOk, IfErr, map};
 ghost use Rattle.clap.specs.Words.{found_of, rows_of};
-ghost use Rattle.requests.specs.Commits.{IsCommittedBy, IsCommittedIn, IsRefusedBy, IsRefusedIn};
+ghost use Rattle.command_line.specs.Commits.{IsCommittedBy, IsCommittedIn, IsRefusedBy, IsRefusedIn};
 
 use crate::commands::commits;
 use crate::entered::entered;

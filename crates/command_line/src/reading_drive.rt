@@ -1,7 +1,7 @@
 //! Reading a command line that asks for a unit to drive.
 ghost use Rattle.std.specs.Prelude.{IfOk, IfErr, map};
 ghost use Rattle.clap.specs.Words.{found_of, rows_of};
-ghost use Rattle.requests.specs.Drive.{IsDrivenBy, IsDrivenIn, IsRefusedBy, IsRefusedIn};
+ghost use Rattle.command_line.specs.Drive.{IsDrivenBy, IsDrivenIn, IsRefusedBy, IsRefusedIn};
 
 use crate::commands::drive;
 use crate::entered::entered;

@@ -1,7 +1,7 @@
 //! Reading a command line that asks for a run.
 ghost use Rattle.std.specs.Prelude.{IfOk, IfErr, map};
 ghost use Rattle.clap.specs.Words.{found_of, rows_of};
-ghost use Rattle.requests.specs.Run.{IsAskedBy, IsAskedIn, IsRefusedBy, IsRefusedIn};
+ghost use Rattle.command_line.specs.Run.{IsAskedBy, IsAskedIn, IsRefusedBy, IsRefusedIn};
 
 use crate::commands::run;
 use crate::entered::entered;

@@ -1,6 +1,6 @@
 //! What a refused command line is told.
 ghost use Rattle.clap.specs.Words.{kind_of};
-ghost use Rattle.requests.specs.Reading.{IsRefusalOf, IsUsage};
+ghost use Rattle.command_line.specs.Reading.{IsRefusalOf, IsUsage};
 
 use crate::NoRun;
 use crate::options::VERSION;

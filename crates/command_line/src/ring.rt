@@ -1,7 +1,7 @@
 //! The ring size of a configuration.
 ghost use Rattle.std.specs.Prelude.{IfOk, IfErr, codes};
-ghost use Rattle.requests.specs.Rings.{AreInRange, IsBadRing, IsRinged};
-ghost use Rattle.requests.specs.Values.{value_in};
+ghost use Rattle.command_line.specs.Rings.{AreInRange, IsBadRing, IsRinged};
+ghost use Rattle.command_line.specs.Values.{value_in};
 
 use crate::NoRun;
 use crate::entries::number;

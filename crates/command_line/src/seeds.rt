@@ -1,9 +1,9 @@
 //! The seeds of a run.
 ghost use Rattle.std.specs.Prelude.{◌≡◌, IfOk, IfErr, codes};
 ghost use Rattle.clap.specs.Words.{found_of, rows_of};
-ghost use Rattle.requests.specs.Reading.{IsUsage};
-ghost use Rattle.requests.specs.Seeds.{AreNoSeeds, AreSeeds};
-ghost use Rattle.requests.specs.Values.{is_true, value_in};
+ghost use Rattle.command_line.specs.Reading.{IsUsage};
+ghost use Rattle.command_line.specs.Seeds.{AreNoSeeds, AreSeeds};
+ghost use Rattle.command_line.specs.Values.{is_true, value_in};
 
 use crate::NoRun;
 use crate::entries::seed;

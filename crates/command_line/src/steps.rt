@@ -1,8 +1,8 @@
 //! The commands that a seed chooses.
 ghost use Rattle.std.specs.Prelude.{IfOk, IfErr};
 ghost use Rattle.clap.specs.Words.{found_of, rows_of};
-ghost use Rattle.requests.specs.Reading.{IsUsage};
-ghost use Rattle.requests.specs.Steps.{AreNoSteps, AreSteps};
+ghost use Rattle.command_line.specs.Reading.{IsUsage};
+ghost use Rattle.command_line.specs.Steps.{AreNoSteps, AreSteps};
 
 use crate::NoRun;
 use crate::entries::{number, seed};

@@ -1,9 +1,9 @@
 //! The log of a run whose chart is drawn.
 ghost use Rattle.std.specs.Prelude.{◌≡◌, IfOk, IfErr, Some, codes};
 ghost use Rattle.clap.specs.Words.{found_of, rows_of};
-ghost use Rattle.requests.specs.Reading.{IsUsage};
-ghost use Rattle.requests.specs.Logs.{IsLog, IsNoLog, is_file, is_other};
-ghost use Rattle.requests.specs.Values.{text_behind, value_in};
+ghost use Rattle.command_line.specs.Reading.{IsUsage};
+ghost use Rattle.command_line.specs.Logs.{IsLog, IsNoLog, is_file, is_other};
+ghost use Rattle.command_line.specs.Values.{text_behind, value_in};
 
 use crate::NoRun;
 use crate::refusals::usage;

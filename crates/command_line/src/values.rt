@@ -1,7 +1,7 @@
 //! What the text of an option stands for.
 ghost use Rattle.std.specs.Prelude.{◌≡◌, IfSome, IfNone};
-ghost use Rattle.requests.specs.Values.{IsNumberFrom, IsNoNumberFrom, IsPredictor, IsNoPredictor};
-ghost use Rattle.requests.specs.Values.{text_behind, predictor_word, is_true};
+ghost use Rattle.command_line.specs.Values.{IsNumberFrom, IsNoNumberFrom, IsPredictor, IsNoPredictor};
+ghost use Rattle.command_line.specs.Values.{text_behind, predictor_word, is_true};
 
 use crate::BranchPredictor;
 

@@ -14,13 +14,13 @@ use Rattle.inorder.specs.Committed.{with_low}
 use Rattle.inorder.specs.Machine.{Goes, Halts, Ran, State, start, step}
 use Rattle.inorder.specs.Runs.{end_after, end_from, end_state}
 use Rattle.inorder.specs.Unit.{empty_unit}
-use Rattle.unit.specs.declared.bench.Turn.TheVariants.{Over}
-use Rattle.unit.specs.declared.pipeline.Pipeline.{Pipeline}
-use Rattle.unit.specs.declared.station.Station.{Station}
-use Rattle.unit.specs.Changes.{registers_of, run_from}
-use Rattle.unit.specs.StandsFor.{StandsFor, StandsForSome}
-use Rattle.unit.specs.Turns.{Falls, Moves, SizesStay}
-use Rattle.unit.proofs.Ends.{one_over}
+use Rattle.one_thread.specs.declared.bench.Turn.TheVariants.{Over}
+use Rattle.one_thread.specs.declared.pipeline.Pipeline.{Pipeline}
+use Rattle.one_thread.specs.declared.station.Station.{Station}
+use Rattle.one_thread.specs.Changes.{registers_of, run_from}
+use Rattle.one_thread.specs.StandsFor.{StandsFor, StandsForSome}
+use Rattle.one_thread.specs.Turns.{Falls, Moves, SizesStay}
+use Rattle.one_thread.proofs.Ends.{one_over}
 use Rattle.commit_log.specs.Lines.{commit_line}
 use Rattle.commit_log.specs.Logs.{last_line, line_at, log, log_behind, log_from}
 use Rattle.commit_log.specs.Retirements.{HasCommitted, HasTold, IsBegun, IsOver, last_of, log_left}

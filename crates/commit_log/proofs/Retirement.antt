@@ -22,18 +22,18 @@ use Rattle.inorder.proofs.OneCaller.Middle.{at_middle, older_middle, sound_from}
 use Rattle.inorder.proofs.OneCaller.Sequences.{sound_of}
 use Rattle.inorder.proofs.Pairs.{and_left, and_right}
 use Rattle.inorder.proofs.Sound.{IsSettled, IsSound, IsSoundAt, SettledBy}
-use Rattle.unit.specs.declared.bench.Turn.{Turn}
-use Rattle.unit.specs.declared.bench.Turn.TheVariants.{Halved, Let, Loaded, Over, Ran, Recovered, Retired}
-use Rattle.unit.specs.declared.pipeline.Pipeline.{Pipeline}
-use Rattle.unit.specs.declared.station.Station.{Station}
-use Rattle.unit.specs.Changes.{registers_of}
-use Rattle.unit.specs.StandsFor.{StandsFor, StandsForSome, sizes}
-use Rattle.unit.specs.Turns.{Falls, Halves, Moves, Retires, SizesStay}
-use Rattle.unit.specs.Window.{station_of, window}
-use Rattle.unit.proofs.Ends.{one_retired}
-use Rattle.unit.proofs.Found.{window_middle, window_none}
-use Rattle.unit.proofs.Known.{ahead_stands}
-use Rattle.unit.proofs.Waiting.{first_writes}
+use Rattle.one_thread.specs.declared.bench.Turn.{Turn}
+use Rattle.one_thread.specs.declared.bench.Turn.TheVariants.{Halved, Let, Loaded, Over, Ran, Recovered, Retired}
+use Rattle.one_thread.specs.declared.pipeline.Pipeline.{Pipeline}
+use Rattle.one_thread.specs.declared.station.Station.{Station}
+use Rattle.one_thread.specs.Changes.{registers_of}
+use Rattle.one_thread.specs.StandsFor.{StandsFor, StandsForSome, sizes}
+use Rattle.one_thread.specs.Turns.{Falls, Halves, Moves, Retires, SizesStay}
+use Rattle.one_thread.specs.Window.{station_of, window}
+use Rattle.one_thread.proofs.Ends.{one_retired}
+use Rattle.one_thread.proofs.Found.{window_middle, window_none}
+use Rattle.one_thread.proofs.Known.{ahead_stands}
+use Rattle.one_thread.proofs.Waiting.{first_writes}
 use Rattle.commit_log.specs.Retirements.{HasCommitted, registers_behind}
 
 -- Who has left

@@ -11,9 +11,9 @@ use Rattle.instructions.specs.declared.op.Op.TheVariants.{Beq, Bne, Blez, Bgtz, 
 use Rattle.instructions.specs.declared.instr.Instr.{Instr}
 use Rattle.inorder.proofs.Pairs.{and_left, and_right}
 use Rattle.instructions.specs.Instruction.{operations}
-use Rattle.machine_words.specs.Layouts.{has_layout, layout}
-use Rattle.machine_words.specs.Words.{decode, packed}
-use Rattle.machine_words.proofs.Rebuilt.{packed_back}
+use Rattle.encoding.specs.Layouts.{has_layout, layout}
+use Rattle.encoding.specs.Words.{decode, packed}
+use Rattle.encoding.proofs.Rebuilt.{packed_back}
 use Rattle.commit_log.specs.Words.{AWordSaysItsInstruction, IsWordOf, is_said, is_same, says, word_of}
 
 -- an operation is found again by its opcode and what selects it

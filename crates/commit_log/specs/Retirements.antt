@@ -4,9 +4,9 @@ use Rattle.std.specs.Io.KnownBytes.{Appends}
 use Rattle.instructions.specs.Programs.{instr_at}
 use Rattle.instructions.specs.declared.end.Ending.{Ending}
 use Rattle.inorder.specs.Machine.{State, write}
-use Rattle.unit.specs.declared.pipeline.Pipeline.{Pipeline}
-use Rattle.unit.specs.declared.station.Station.{Station}
-use Rattle.unit.specs.Changes.{RetiresOne, registers_of, run_from}
+use Rattle.one_thread.specs.declared.pipeline.Pipeline.{Pipeline}
+use Rattle.one_thread.specs.declared.station.Station.{Station}
+use Rattle.one_thread.specs.Changes.{RetiresOne, registers_of, run_from}
 use Rattle.commit_log.specs.Logs.{last_line, log_from}
 
 -- the registers behind the retirement of a station's tenant

@@ -1,8 +1,8 @@
 -- The machine word of an instruction, where MIPS I has one.
 use Rattle.std.specs.Prelude.{◌≡◌, ◌≢◌, ◌<◌, ℕ, ◌^◌, ◌==◌, ◌&&◌, Bool, false, nat_lt, Option, Some, None, if◌then◌else◌}
 use Rattle.instructions.specs.declared.instr.Instr.{Instr}
-use Rattle.machine_words.specs.Layouts.{has_layout, layout}
-use Rattle.machine_words.specs.Words.{decode, packed}
+use Rattle.encoding.specs.Layouts.{has_layout, layout}
+use Rattle.encoding.specs.Words.{decode, packed}
 
 -- two instructions are one: the same operation, by its opcode and what selects it, the same registers and number
 abbrev pub is_same : Instr → Instr → Bool

@@ -1,7 +1,7 @@
 //! From the bytes of a listing to the log of its commits.
 ghost use Rattle.std.specs.Prelude.{◌≡◌, ◌≢◌, ◌+◌, ◌-◌, ◌^◌, ◌<◌, IfErr, IfOk, IfSome, None, Ok, OnErr, OnOk};
 ghost use Rattle.isa.specs.Listing.{listing};
-ghost use Rattle.devices.specs.Counted.{failures_of, known_by};
+ghost use Rattle.counted_io.specs.Counted.{failures_of, known_by};
 ghost use Rattle.without_threads.specs.Went.{HoldsOfInput, IsOfOneThread, refused, status_number};
 ghost use Rattle.without_threads.specs.declared.went.Line.TheVariants.{Nothing, Refused};
 ghost use Rattle.commit_log.specs.Answers.{IsLogged, IsOfWriting, writer_failures};
@@ -10,13 +10,13 @@ ghost use Rattle.commit_log.specs.Retirements.{IsBegun};
 
 use crate::logging::log_run;
 use bench::{MOST_TAKEN, Status};
-use devices::{Counted, read_up_to, write_whole};
+use command_line::{Committed, choose};
+use counted_io::{Counted, read_up_to, write_whole};
 use instructions::Program;
 use isa::{FaultKind, fault_text, parse};
-use requests::{Committed, choose};
+use one_thread::Order;
 use std::alloc::Global;
 use std::io::{Read, Write};
-use unit::Order;
 use without_threads::{Line, Refusal, Went, refused, written};
 
 /// Reads the listing, runs it on the one-thread unit in the order of the seed, and writes a line for each instruction that

@@ -1,9 +1,9 @@
 //! The log of a run, a line for each commit before the next one is made.
 ghost use Rattle.std.specs.Prelude.{◌≡◌, ◌<◌, ◌+◌, ◌-◌, ◌^◌, ℕ, List, IfErr, IfOk, IsOk, OnErr, OnOk};
 ghost use Rattle.std.specs.Prelude.{string_bytes};
-ghost use Rattle.devices.specs.Counted.{failures_of, known_by, Gives};
+ghost use Rattle.counted_io.specs.Counted.{failures_of, known_by, Gives};
 ghost use Rattle.inorder.specs.Runs.{end_of, end_state};
-ghost use Rattle.unit.specs.Changes.{registers_of, run_from};
+ghost use Rattle.one_thread.specs.Changes.{registers_of, run_from};
 ghost use Rattle.commit_log.specs.Answers.{IsOfWriting, writer_failures};
 ghost use Rattle.commit_log.specs.Lines.{commit_line as line_of};
 ghost use Rattle.commit_log.specs.Logs.{last_line as last_line_of, log};
@@ -11,11 +11,11 @@ ghost use Rattle.commit_log.specs.Retirements.{HasTold, IsBegun, last_of, log_le
 
 use crate::line::{commit_line, stop_line};
 use crate::retiring::next_commit;
-use devices::{Counted, write_whole};
+use counted_io::{Counted, write_whole};
 use instructions::{Config, End, Ending, Predictor, Program};
+use one_thread::{Bench, Chooser, Order, Station};
 use std::alloc::{AllocError, Global};
 use std::io::Write;
-use unit::{Bench, Chooser, Order, Station};
 use without_threads::Refusal;
 
 // Writes a line, if there was room for it.

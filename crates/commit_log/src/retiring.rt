@@ -1,11 +1,11 @@
 //! The next instruction that commits.
 ghost use Rattle.std.specs.Prelude.{◌≡◌, ◌<◌, IfSome, IsNone};
 ghost use Rattle.inorder.specs.Machine.{write as written};
-ghost use Rattle.unit.specs.Changes.{registers_of};
+ghost use Rattle.one_thread.specs.Changes.{registers_of};
 ghost use Rattle.commit_log.specs.Retirements.{HasCommitted, IsOver, registers_behind};
 
 use instructions::{Predictor, Reg};
-use unit::{Bench, Chooser, Order, Station, Turn};
+use one_thread::{Bench, Chooser, Order, Station, Turn};
 
 // A write to register 0 is dropped.
 fn write(registers: &mut [u32; 34], r: Reg, value: u32)

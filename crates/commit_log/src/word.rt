@@ -3,9 +3,9 @@ ghost use Rattle.std.specs.Prelude.{◌≡◌, Some};
 ghost use Rattle.commit_log.specs.Words.{word_of as word_at};
 ghost use Rattle.commit_log.specs.Lines.{word_text};
 
+use encoding::{Decoded, encode};
 use instructions::Instr;
 use isa::Hexadecimal;
-use machine_words::{Decoded, encode};
 use std::fmt;
 
 /// The word of an instruction at a pc, where MIPS I has one.

@@ -1,9 +1,9 @@
 //! The program `commits`, which is `./ruu commits FILE`: its words, its file and its standard streams.
 #![tactic(auto)]
 
+use command_line::{Committed, committed, is_standard_input, refuse, words};
 use commit_log::{end, log_commits};
-use devices::{ClosedStreams, Counted};
-use requests::{Committed, committed, is_standard_input, refuse, words};
+use counted_io::{ClosedStreams, Counted};
 use std::fs::File;
 use std::io::Read;
 use std::process::ExitCode;

@@ -1,8 +1,8 @@
 -- A reply that is of one kind is of another.
 use Rattle.std.proofs.Common.{◌≡◌, ℕ, List, Option, Some, None, IfSome}
-use Rattle.devices.specs.Counted.{known_by, Gives, GivesPart}
-use Rattle.devices.specs.Replies.{HasReplied, HasReplyBegun, HasText, HasTextFor}
-use Rattle.devices.specs.declared.counted.Counted.{Counted}
+use Rattle.counted_io.specs.Counted.{known_by, Gives, GivesPart}
+use Rattle.counted_io.specs.Replies.{HasReplied, HasReplyBegun, HasText, HasTextFor}
+use Rattle.counted_io.specs.declared.counted.Counted.{Counted}
 
 pub text_as : (known : Option (List ℕ)) (A B : List ℕ → List ℕ → Type 0) (P : List ℕ → Type 0)
     → ((input text : List ℕ) → A input text → B input text) → HasTextFor known A P → HasTextFor known B P

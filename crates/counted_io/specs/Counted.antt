@@ -1,7 +1,7 @@
 -- What clauses read of a counted reader or writer, and what it takes or gives.
 use Rattle.std.specs.Prelude.{◌≡◌, ℕ, ◌+◌, ◌-◌, ◌^◌, ◌<◌, ◌≤◌, min, Bool, true, false, ◌==◌, nat_lt, Result, Ok, Err, Option, List, ◌++◌, length, take, if◌then◌else◌}
 use Rattle.std.specs.Io.KnownBytes.{Consumes, Appends}
-use Rattle.devices.specs.declared.counted.Counted.{Counted}
+use Rattle.counted_io.specs.declared.counted.Counted.{Counted}
 
 -- what it passes calls on to
 abbrev pub inner_of : {I : Type 0} → Counted I → I

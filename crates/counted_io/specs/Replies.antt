@@ -1,9 +1,9 @@
 -- An input that is read, answered, and the answer written.
 use Rattle.std.specs.Prelude.{◌≡◌, ℕ, ◌+◌, Option, List, IfSome, take}
-use Rattle.devices.specs.Counted.{failures_of, known_by, Gives, GivesPart, Takes, TakesUpTo}
-use Rattle.devices.specs.declared.counted.Counted.{Counted}
-use Rattle.devices.specs.declared.reply.Unanswered.{Unanswered}
-use Rattle.devices.specs.declared.reply.Unanswered.TheVariants.{Read, Refused, Write}
+use Rattle.counted_io.specs.Counted.{failures_of, known_by, Gives, GivesPart, Takes, TakesUpTo}
+use Rattle.counted_io.specs.declared.counted.Counted.{Counted}
+use Rattle.counted_io.specs.declared.reply.Unanswered.{Unanswered}
+use Rattle.counted_io.specs.declared.reply.Unanswered.TheVariants.{Read, Refused, Write}
 
 -- P of some text of this kind
 pub record HasText (Is P : List ℕ → Type 0) : Type 0 where

@@ -3,7 +3,7 @@
 ghost use Rattle.std.specs.Prelude.{◌≡◌, OnOk, OnErr, length};
 ghost use Rattle.std.specs.Io.KnownBytes.{ReadConsumes, WriteAppends, Keeps};
 ghost use Rattle.std.specs.Io.{ReadsAtMost, WritesAtMost};
-ghost use Rattle.devices.specs.Counted.{inner_of, failures_of, known_by, raised, counted, write_fails};
+ghost use Rattle.counted_io.specs.Counted.{inner_of, failures_of, known_by, raised, counted, write_fails};
 
 use std::io::{self, Read, Write};
 

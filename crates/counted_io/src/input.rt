@@ -2,8 +2,8 @@
 
 ghost use Rattle.std.specs.Prelude.{◌≡◌, ◌+◌, ◌-◌, ◌^◌, ◌<◌, ◌≤◌, ◌++◌, IfOk, IfErr, OnOk, OnErr, IfSome, length, take, vec_len};
 ghost use Rattle.std.specs.Io.KnownBytes.{IsAtEnd};
-ghost use Rattle.devices.specs.Counted.{failures_of, known_by, Takes, TakesUpTo, TakesOnto};
-ghost use Rattle.devices.specs.declared.input.InputFault.TheVariants.{Memory};
+ghost use Rattle.counted_io.specs.Counted.{failures_of, known_by, Takes, TakesUpTo, TakesOnto};
+ghost use Rattle.counted_io.specs.declared.input.InputFault.TheVariants.{Memory};
 
 use crate::counted::Counted;
 use std::alloc::{AllocError, Global};

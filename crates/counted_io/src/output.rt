@@ -1,7 +1,7 @@
 //! Writing a whole text.
 
 ghost use Rattle.std.specs.Prelude.{◌≡◌, ◌+◌, ◌-◌, ◌^◌, ◌<◌, OnOk, OnErr};
-ghost use Rattle.devices.specs.Counted.{failures_of, Gives, GivesPart};
+ghost use Rattle.counted_io.specs.Counted.{failures_of, Gives, GivesPart};
 
 use crate::counted::Counted;
 use std::io::Write;

@@ -1,8 +1,8 @@
 //! An input that is read, answered, and the answer written.
 
 ghost use Rattle.std.specs.Prelude.{◌≡◌, ◌-◌, ◌^◌, ◌<◌, ℕ, List, IfErr, IfOk, take};
-ghost use Rattle.devices.specs.Counted.{failures_of};
-ghost use Rattle.devices.specs.Replies.{HasReplied, IsUnanswered};
+ghost use Rattle.counted_io.specs.Counted.{failures_of};
+ghost use Rattle.counted_io.specs.Replies.{HasReplied, IsUnanswered};
 
 use crate::counted::Counted;
 use crate::input::{InputFault, read_up_to};

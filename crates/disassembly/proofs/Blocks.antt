@@ -6,8 +6,8 @@ use Rattle.std.specs.List.{list_all, slice_split}
 use Rattle.std.proofs.lemmas.Bool.{cases_Bool}
 use Rattle.std.proofs.lemmas.Bool.Decides.{nat_tests}
 use Rattle.std.proofs.lemmas.List.{append-nil}
-use Rattle.text.specs.Line.{before_comment}
-use Rattle.text.specs.Label.{labels_of, statement_of}
+use Rattle.lexical.specs.Line.{before_comment}
+use Rattle.lexical.specs.Label.{labels_of, statement_of}
 use Rattle.instructions.specs.declared.op.Op.{Op}
 use Rattle.instructions.specs.declared.op.Op.TheVariants.{Beq, Bne, Blez, Bgtz, Bltz, Bgez, J, Jal}
 use Rattle.instructions.specs.declared.instr.Instr.{Instr}
@@ -21,13 +21,13 @@ use Rattle.isa.specs.InstrText.{text_of, label_text, said_of, is_nop, IsWritable
 use Rattle.isa.proofs.TextBytes.{Of, of_append, all_of, of_other, inner, part_of, part_trimmed, before_whole, split_at}
 use Rattle.isa.proofs.TextOperands.{label_part, label_is_name}
 use Rattle.isa.proofs.TextRead.{in_code, text_code, indent_in_code, code_read, code_unlabelled, spoken, text_spoken, spoken_stands}
-use Rattle.conversion.specs.Meaning.{has_target}
-use Rattle.conversion.specs.Writing.{as_line, unlines, printable, label_line, label_lines, code_line, marked, with_mark, IsReadAs, IsText, IsQuieter, IsSound, AllSound}
-use Rattle.conversion.proofs.Pushed.{text_all_quiet, text_label, text_code as code_added}
-use Rattle.conversion.proofs.Printed.{code_printable, inner_printable}
-use Rattle.conversion.proofs.LabelNames.{single}
-use Rattle.conversion.proofs.Sizes.{code_length}
-use Rattle.conversion.proofs.Sound.{sound_at}
+use Rattle.disassembly.specs.Meaning.{has_target}
+use Rattle.disassembly.specs.Writing.{as_line, unlines, printable, label_line, label_lines, code_line, marked, with_mark, IsReadAs, IsText, IsQuieter, IsSound, AllSound}
+use Rattle.disassembly.proofs.Pushed.{text_all_quiet, text_label, text_code as code_added}
+use Rattle.disassembly.proofs.Printed.{code_printable, inner_printable}
+use Rattle.disassembly.proofs.LabelNames.{single}
+use Rattle.disassembly.proofs.Sizes.{code_length}
+use Rattle.disassembly.proofs.Sound.{sound_at}
 
 -- ---- the line of a label
 

@@ -9,9 +9,9 @@ use Rattle.std.proofs.lemmas.List.{length-append}
 use Rattle.std.proofs.lemmas.List.Sums.{suffix_len_is}
 use Rattle.std.proofs.lemmas.Nat.{le_bytes_4}
 use Rattle.std.proofs.lemmas.Fmt.{length-decimal-le}
-use Rattle.text.specs.Blank.{is_blank, trim, trim_end}
-use Rattle.text.specs.Line.{before_comment}
-use Rattle.text.specs.Label.{labels_of, statement_of}
+use Rattle.lexical.specs.Blank.{is_blank, trim, trim_end}
+use Rattle.lexical.specs.Line.{before_comment}
+use Rattle.lexical.specs.Label.{labels_of, statement_of}
 use Rattle.isa.specs.Report.{hex8, hexadecimal}
 use Rattle.isa.specs.Statement.{space, words, data_words, with_operands, statement, gives_bytes}
 use Rattle.isa.specs.Listing.{read, labels}
@@ -19,9 +19,9 @@ use Rattle.isa.specs.InstrText.{with_operands_text}
 use Rattle.isa.proofs.TextBytes.{Of, of_append, of_all, all_of, of_other, inner, IsPart, part_of, AreParts, Starts, Ends, before_at, split_whole}
 use Rattle.isa.proofs.TextNumbers.{number_of, decimal_part}
 use Rattle.isa.proofs.TextRead.{in_code, IsCode, no_comment, no_colon, blank_behind, with_operands_code, indent_in_code, start_trimmed, code_read, code_unlabelled}
-use Rattle.conversion.specs.Writing.{printable, row_word, row_words, row_line, space_line}
-use Rattle.conversion.proofs.Printed.{code_printable, inner_printable}
-use Rattle.conversion.proofs.HexNumbers.{hex_part, hex_number}
+use Rattle.disassembly.specs.Writing.{printable, row_word, row_words, row_line, space_line}
+use Rattle.disassembly.proofs.Printed.{code_printable, inner_printable}
+use Rattle.disassembly.proofs.HexNumbers.{hex_part, hex_number}
 
 -- ---- a line of code with blanks and a comment behind it
 

@@ -8,10 +8,10 @@ use Rattle.std.specs.List.{list_all}
 use Rattle.std.proofs.lemmas.Bool.{and_parts, ne_eqb}
 use Rattle.std.proofs.lemmas.List.{append-nil, length-append, length-replicate}
 use Rattle.instructions.specs.declared.instr.Instr.{Instr}
-use Rattle.conversion.specs.Writing.{as_line, unlines, IsText, row_word, row_line, space_line, space_lines, AddsData}
-use Rattle.conversion.proofs.Pushed.{text_bytes}
-use Rattle.conversion.proofs.Blocks.{more_room}
-use Rattle.conversion.proofs.DataLines.{AllBytes, row_read, row_bare, row_printable, row_size, space_read, space_bare, space_printable, space_size}
+use Rattle.disassembly.specs.Writing.{as_line, unlines, IsText, row_word, row_line, space_line, space_lines, AddsData}
+use Rattle.disassembly.proofs.Pushed.{text_bytes}
+use Rattle.disassembly.proofs.Blocks.{more_room}
+use Rattle.disassembly.proofs.DataLines.{AllBytes, row_read, row_bare, row_printable, row_size, space_read, space_bare, space_printable, space_size}
 
 -- the rows before row k are written, but for zeros at their end
 pub record RowsSoFar (bytes old now : List ℕ) (k zeros : ℕ) : Type 0 where

@@ -2,12 +2,12 @@
 use Rattle.std.proofs.Common.{◌≡◌, ℕ, ◌+◌, ◌*◌, ◌/◌, ◌%◌, ◌^◌, ◌<◌, true, Some, Ok, refl, ap, arith}
 use Rattle.std.specs.Char.{is_digit}
 use Rattle.std.proofs.lemmas.Bool.{le-leb}
-use Rattle.text.specs.Number.{magnitude, numeral, number_in}
+use Rattle.lexical.specs.Number.{magnitude, numeral, number_in}
 use Rattle.isa.specs.Operands.{number}
 use Rattle.isa.specs.Report.{hex_digit, hex8, hexadecimal}
 use Rattle.isa.proofs.TextBytes.{inner, IsPart}
-use Rattle.conversion.proofs.LabelNames.{digit_back}
-use Rattle.conversion.proofs.Few.{all_under, under}
+use Rattle.disassembly.proofs.LabelNames.{digit_back}
+use Rattle.disassembly.proofs.Few.{all_under, under}
 
 digits_are : all_under (λ d. is_digit (hex_digit d) 16) 16 ≡ true
 digits_are = refl

@@ -12,8 +12,8 @@ use Rattle.isa.specs.Report.{hex_digit, hex8}
 use Rattle.isa.specs.InstrText.{label_text}
 use Rattle.isa.specs.Listing.{stands_in, is_double}
 use Rattle.isa.proofs.LabelTable.{lookup_push, lookup_keep, stands_among}
-use Rattle.conversion.specs.Writing.{marked, with_mark}
-use Rattle.conversion.proofs.Few.{all_under, under}
+use Rattle.disassembly.specs.Writing.{marked, with_mark}
+use Rattle.disassembly.proofs.Few.{all_under, under}
 
 -- ---- digits
 

@@ -5,8 +5,8 @@ use Rattle.std.proofs.lemmas.Bool.{cases_eq}
 use Rattle.std.proofs.lemmas.List.{take_more}
 use Rattle.instructions.specs.declared.instr.Instr.{Instr}
 use Rattle.instructions.specs.Programs.{address}
-use Rattle.conversion.specs.Meaning.{has_target, is_inside}
-use Rattle.conversion.specs.Writing.{IsLabelled, AllMarked}
+use Rattle.disassembly.specs.Meaning.{has_target, is_inside}
+use Rattle.disassembly.specs.Writing.{IsLabelled, AllMarked}
 
 set_at : (marks : List Bool) (k j : ℕ) → k < length marks → get_or marks j false ≡ true → get_or (set marks k true) j false ≡ true
 set_at marks k j lt h = elim (cases_eq j k) [

@@ -4,12 +4,12 @@ use Rattle.std.specs.Prelude.{codes, Result, Err, OnOk, position}
 use Rattle.std.specs.List.{list_all, position_or_len}
 use Rattle.std.proofs.lemmas.Bool.{and_from, and_parts, cases_Bool, cases_lt, le-leb, leb-true, lt-ltb, le-ltb}
 use Rattle.std.proofs.lemmas.List.{append-nil, length-append}
-use Rattle.executables.specs.Symbols.{is_graphic, up_to, first_at_most, name_window, printable_at}
-use Rattle.text.specs.Label.{labels_of, statement_of}
+use Rattle.elf.specs.Symbols.{is_graphic, up_to, first_at_most, name_window, printable_at}
+use Rattle.lexical.specs.Label.{labels_of, statement_of}
 use Rattle.isa.specs.Statement.{statement}
 use Rattle.isa.specs.Listing.{Lines}
-use Rattle.conversion.proofs.Pushed.{unlines_push}
-use Rattle.conversion.specs.Writing.{as_line, unlines, printable, IsBlankLine, AllQuiet, IsQuieter, gap_lines, comment_line}
+use Rattle.disassembly.proofs.Pushed.{unlines_push}
+use Rattle.disassembly.specs.Writing.{as_line, unlines, printable, IsBlankLine, AllQuiet, IsQuieter, gap_lines, comment_line}
 
 -- ---- a name in an executable
 

@@ -4,13 +4,13 @@ use Rattle.std.specs.List.{list_all, slice_split, prefix_len}
 use Rattle.std.specs.Str.Lines.{strip_carriage_return}
 use Rattle.std.proofs.lemmas.Bool.{cases_Bool}
 use Rattle.std.proofs.lemmas.Bool.Decides.{nat_tests}
-use Rattle.text.specs.Line.{lines_of, before_comment}
-use Rattle.text.specs.Name.{is_plain, is_plain_text}
-use Rattle.text.proofs.Runs.{strip_whole}
+use Rattle.lexical.specs.Line.{lines_of, before_comment}
+use Rattle.lexical.specs.Name.{is_plain, is_plain_text}
+use Rattle.lexical.proofs.Runs.{strip_whole}
 use Rattle.isa.specs.Listing.{Lines}
 use Rattle.isa.proofs.TextBytes.{Of, of_all, all_of, of_other, split_at, inner}
 use Rattle.isa.proofs.TextRead.{in_code}
-use Rattle.conversion.specs.Writing.{unlines, printable, AllPrintable}
+use Rattle.disassembly.specs.Writing.{unlines, printable, AllPrintable}
 
 no_feed : (b : ℕ) → printable b ≡ true → (b == 10) ≡ false
 no_feed b h = grind (arith, nat_tests)

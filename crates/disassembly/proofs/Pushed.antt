@@ -9,8 +9,8 @@ use Rattle.isa.specs.Statement.{Parsed}
 use Rattle.isa.specs.Listing.{Lines, read, labels, labels_at, table, numbered, memory, instruction_count, is_double, all_labels, fault_in, first_fault}
 use Rattle.isa.proofs.Behind.{numbered_push, table_push, memory_push, names_are as labels_are_names}
 use Rattle.isa.proofs.FirstFault.{first_behind, behind_none}
-use Rattle.conversion.specs.Writing.{as_line, unlines, printable, AllPrintable, Faultless, IsReadAs, AllRead, LinesSay, AllQuiet, IsText}
-use Rattle.conversion.proofs.Printed.{line_plain}
+use Rattle.disassembly.specs.Writing.{as_line, unlines, printable, AllPrintable, Faultless, IsReadAs, AllRead, LinesSay, AllQuiet, IsText}
+use Rattle.disassembly.proofs.Printed.{line_plain}
 
 -- ---- lists
 

@@ -5,20 +5,20 @@ use Rattle.std.specs.Map.{lookup}
 use Rattle.std.specs.Str.{bytes_eq}
 use Rattle.std.proofs.lemmas.Bool.{le-ltb, cases_Bool}
 use Rattle.std.proofs.lemmas.List.{append-nil}
-use Rattle.text.specs.Line.{lines_of}
-use Rattle.text.specs.Label.{labels_of, statement_of}
+use Rattle.lexical.specs.Line.{lines_of}
+use Rattle.lexical.specs.Label.{labels_of, statement_of}
 use Rattle.instructions.specs.declared.instr.Instr.{Instr}
 use Rattle.instructions.specs.Programs.{address}
 use Rattle.isa.specs.Statement.{Parsed, statement}
 use Rattle.isa.specs.InstrText.{label_text, ReadsAsBy}
 use Rattle.isa.specs.Listing.{Lines, read, labels, table, numbered, memory, resolve_number, numbered_with, resolve, resolved, listing}
-use Rattle.conversion.specs.Meaning.{has_target}
-use Rattle.conversion.specs.Writing.{AllRead, AllSound, AllMarked, IsLabelled, marked, IsText, AddsData}
-use Rattle.conversion.proofs.Printed.{lines_are}
-use Rattle.conversion.proofs.Pushed.{push_bytes, faultless_none, text_all_quiet, text_nothing}
-use Rattle.conversion.proofs.LabelNames.{found_at}
-use Rattle.conversion.proofs.Names.{data_head}
-use Rattle.conversion.proofs.Blocks.{more_room}
+use Rattle.disassembly.specs.Meaning.{has_target}
+use Rattle.disassembly.specs.Writing.{AllRead, AllSound, AllMarked, IsLabelled, marked, IsText, AddsData}
+use Rattle.disassembly.proofs.Printed.{lines_are}
+use Rattle.disassembly.proofs.Pushed.{push_bytes, faultless_none, text_all_quiet, text_nothing}
+use Rattle.disassembly.proofs.LabelNames.{found_at}
+use Rattle.disassembly.proofs.Names.{data_head}
+use Rattle.disassembly.proofs.Blocks.{more_room}
 
 empty_labels : labels [] ≡ []
 unfolding labels_of

@@ -16,8 +16,8 @@ use Rattle.isa.specs.Report.{hex8}
 use Rattle.isa.specs.Forms.{operation_word, slots_of}
 use Rattle.isa.specs.InstrText.{register_text, signed_text, label_text, operand_text, with_operands_text, is_nop, text_of, Fits, AllFit, IsSignedHalf, IsWritable}
 use Rattle.isa.proofs.TextNumbers.{signed_positive, signed_negative, below_zero}
-use Rattle.conversion.specs.Writing.{code_line}
-use Rattle.conversion.proofs.Few.{all_under, under}
+use Rattle.disassembly.specs.Writing.{code_line}
+use Rattle.disassembly.proofs.Few.{all_under, under}
 
 names_short : all_under (λ r. nat_le (length (register_text Names r)) 5) 32 ≡ true
 unfolding digits

@@ -4,12 +4,12 @@ use Rattle.std.specs.Prelude.{slice_get, slice_index, if◌then◌else◌}
 use Rattle.std.proofs.lemmas.Bool.{cases_Bool}
 use Rattle.instructions.specs.declared.instr.Instr.{Instr}
 use Rattle.instructions.specs.Programs.{address}
-use Rattle.machine_words.specs.Words.{decode}
-use Rattle.machine_words.proofs.Written.{each_is_written}
-use Rattle.conversion.specs.declared.refusal.Refusal.{Refusal}
-use Rattle.conversion.specs.declared.refusal.Refusal.TheVariants.{Target, Slot}
-use Rattle.conversion.specs.Meaning.{has_target, is_inside, has_slot, with_delay_slot, checked, checked_if, meant, appended, with_next, meant_up_to}
-use Rattle.conversion.specs.Writing.{IsSound, AllSound}
+use Rattle.encoding.specs.Words.{decode}
+use Rattle.encoding.proofs.Written.{each_is_written}
+use Rattle.disassembly.specs.declared.refusal.Refusal.{Refusal}
+use Rattle.disassembly.specs.declared.refusal.Refusal.TheVariants.{Target, Slot}
+use Rattle.disassembly.specs.Meaning.{has_target, is_inside, has_slot, with_delay_slot, checked, checked_if, meant, appended, with_next, meant_up_to}
+use Rattle.disassembly.specs.Writing.{IsSound, AllSound}
 
 sound_push : (n : ℕ) (is : List Instr) (i : Instr) → AllSound n is → IsSound n i → AllSound n (is ++ i ∷ [])
 sound_push n [] i h s = (s, tt)

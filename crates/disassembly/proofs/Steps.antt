@@ -2,8 +2,8 @@
 use Rattle.std.proofs.Common.{◌≡◌, ℕ, zero, suc, ◌+◌, ◌<◌, ◌≤◌, inl, inr, List, [], Ok, Err, refl, arith, ap, ◌∙◌, sym, add-one, length}
 use Rattle.std.proofs.lemmas.Bool.{cases_lt}
 use Rattle.instructions.specs.declared.instr.Instr.{Instr}
-use Rattle.conversion.specs.declared.refusal.Refusal.{Refusal}
-use Rattle.conversion.specs.Meaning.{appended, meant, with_next, meant_up_to}
+use Rattle.disassembly.specs.declared.refusal.Refusal.{Refusal}
+use Rattle.disassembly.specs.Meaning.{appended, meant, with_next, meant_up_to}
 
 pub meant_none : (words : List ℕ) → meant_up_to words 0 ≡ Ok []
 unfolding meant_up_to

@@ -3,13 +3,13 @@ use Rattle.std.specs.Prelude.{◌≡◌, ℕ, List, length, Result, Ok, Err}
 use Rattle.instructions.specs.declared.instr.Instr.{Instr}
 use Rattle.instructions.specs.Programs.{Program}
 use Rattle.isa.specs.Listing.{listing}
-use Rattle.executables.specs.declared.refusal.Refusal.{Refusal as FileRefusal}
-use Rattle.executables.specs.declared.refusal.Refusal.TheVariants as file
-use Rattle.executables.specs.Images.{Loaded}
-use Rattle.executables.specs.Placing.{loaded_from}
-use Rattle.conversion.specs.declared.refusal.Refusal.{Refusal}
-use Rattle.conversion.specs.declared.refusal.Refusal.TheVariants.{File, Memory}
-use Rattle.conversion.specs.Meaning.{meant_up_to}
+use Rattle.elf.specs.declared.refusal.Refusal.{Refusal as FileRefusal}
+use Rattle.elf.specs.declared.refusal.Refusal.TheVariants as file
+use Rattle.elf.specs.Images.{Loaded}
+use Rattle.elf.specs.Placing.{loaded_from}
+use Rattle.disassembly.specs.declared.refusal.Refusal.{Refusal}
+use Rattle.disassembly.specs.declared.refusal.Refusal.TheVariants.{File, Memory}
+use Rattle.disassembly.specs.Meaning.{meant_up_to}
 
 -- why a file gives no listing, where it is no program for this machine
 abbrev pub refusal_by_file : FileRefusal → Refusal

@@ -1,8 +1,8 @@
 -- Words that are no operation of a listing, by their names in MIPS I.
 use Rattle.std.specs.Prelude.{ℕ, Bool, ◌/◌, ◌==◌, ◌||◌, if◌then◌else◌}
-use Rattle.machine_words.specs.Fields.{opcode_of, rt_of, funct_of}
-use Rattle.conversion.specs.declared.foreign.Foreign.{Foreign}
-use Rattle.conversion.specs.declared.foreign.Foreign.TheVariants.{Syscall, Break, Bltzal, Bgezal, Lwl, Lwr, Swl, Swr, Coprocessor, Unknown}
+use Rattle.encoding.specs.Fields.{opcode_of, rt_of, funct_of}
+use Rattle.disassembly.specs.declared.foreign.Foreign.{Foreign}
+use Rattle.disassembly.specs.declared.foreign.Foreign.TheVariants.{Syscall, Break, Bltzal, Bgezal, Lwl, Lwr, Swl, Swr, Coprocessor, Unknown}
 
 -- with opcode 0, by the function
 abbrev pub special : ℕ → Foreign

@@ -7,10 +7,10 @@ use Rattle.instructions.specs.declared.op.Kind.TheVariants.{Jumps, Links}
 use Rattle.instructions.specs.declared.instr.Instr.{Instr}
 use Rattle.instructions.specs.Instruction.{kind}
 use Rattle.instructions.specs.Programs.{text_start, address}
-use Rattle.machine_words.specs.Words.{decode}
-use Rattle.conversion.specs.declared.refusal.Refusal.{Refusal}
-use Rattle.conversion.specs.declared.refusal.Refusal.TheVariants.{Word, Target, Slot, NoSlot}
-use Rattle.conversion.specs.Foreign.{foreign_of}
+use Rattle.encoding.specs.Words.{decode}
+use Rattle.disassembly.specs.declared.refusal.Refusal.{Refusal}
+use Rattle.disassembly.specs.declared.refusal.Refusal.TheVariants.{Word, Target, Slot, NoSlot}
+use Rattle.disassembly.specs.Foreign.{foreign_of}
 
 -- branches and jumps have a delay slot: the word behind them
 abbrev pub has_slot_by : Kind → Bool

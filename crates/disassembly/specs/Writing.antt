@@ -10,7 +10,7 @@ use Rattle.instructions.specs.Programs.{address}
 use Rattle.isa.specs.Statement.{Parsed}
 use Rattle.isa.specs.Listing.{Lines, read, labels, table, numbered, memory, fault_in}
 use Rattle.isa.specs.InstrText.{with_operands_text, text_of, label_text, IsWritable, ReadsAs}
-use Rattle.conversion.specs.Meaning.{has_target, is_inside}
+use Rattle.disassembly.specs.Meaning.{has_target, is_inside}
 
 -- ---- lines
 

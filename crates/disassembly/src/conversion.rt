@@ -1,11 +1,11 @@
 //! From the bytes of an executable to a listing.
 ghost use Rattle.std.specs.Prelude.{◌≡◌, ◌≢◌, Err, IfOk, IfErr, string_bytes};
-ghost use Rattle.conversion.specs.Conversion.{IsSaid, program_in};
+ghost use Rattle.disassembly.specs.Conversion.{IsSaid, program_in};
 
 use crate::Refusal;
 use crate::meaning::instructions;
 use crate::writing::text_of;
-use executables::{read_functions, read_image};
+use elf::{read_functions, read_image};
 use std::alloc::Global;
 
 /// The listing of an executable, or why it has none. `parse` gives of the listing exactly the program

@@ -1,7 +1,7 @@
 //! The bytes of data memory as lines of a listing.
 ghost use Rattle.std.specs.Prelude.{◌≡◌, ◌≤◌, ◌<◌, ◌+◌, ◌++◌, ◌^◌, ◌==◌, [], length, OnOk, string_bytes};
 ghost use Rattle.std.specs.List.{list_all};
-ghost use Rattle.conversion.specs.Writing.{as_line, unlines, row_word as word_of, row_line, space_lines, AddsData};
+ghost use Rattle.disassembly.specs.Writing.{as_line, unlines, row_word as word_of, row_line, space_lines, AddsData};
 
 use isa::Hexadecimal;
 use std::alloc::AllocError;

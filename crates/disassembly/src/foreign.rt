@@ -1,6 +1,6 @@
 //! Words that are no operation of a listing.
 ghost use Rattle.std.specs.Prelude.{◌≡◌};
-ghost use Rattle.conversion.specs.Foreign.{foreign_of};
+ghost use Rattle.disassembly.specs.Foreign.{foreign_of};
 
 use thiserror::Error;
 
@@ -31,7 +31,7 @@ pub enum Foreign {
 
 // the name of a word with opcode 0
 fn special(function: u32) -> Foreign
-    ensures { result ≡ Rattle.conversion.specs.Foreign.special function }
+    ensures { result ≡ Rattle.disassembly.specs.Foreign.special function }
 {
     match function {
         12 => Foreign::Syscall,
@@ -42,7 +42,7 @@ fn special(function: u32) -> Foreign
 
 // the name of a word with opcode 1
 fn linking(selected: u32) -> Foreign
-    ensures { result ≡ Rattle.conversion.specs.Foreign.linking selected }
+    ensures { result ≡ Rattle.disassembly.specs.Foreign.linking selected }
 {
     match selected {
         16 => Foreign::Bltzal,
@@ -53,7 +53,7 @@ fn linking(selected: u32) -> Foreign
 
 // the name of a word with another opcode
 fn other(opcode: u32) -> Foreign
-    ensures { result ≡ Rattle.conversion.specs.Foreign.other opcode }
+    ensures { result ≡ Rattle.disassembly.specs.Foreign.other opcode }
 {
     match opcode {
         34 => Foreign::Lwl,

@@ -1,6 +1,6 @@
 //! Lines of a listing, added to its text.
 ghost use Rattle.std.specs.Prelude.{◌≡◌, ◌≤◌, ◌++◌, OnOk, string_bytes};
-ghost use Rattle.conversion.specs.Writing.{as_line, code_line, label_line};
+ghost use Rattle.disassembly.specs.Writing.{as_line, code_line, label_line};
 
 use crate::meaning::address_of;
 use instructions::Instr;

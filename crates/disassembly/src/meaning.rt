@@ -1,13 +1,13 @@
 //! What the words of a text mean.
 ghost use Rattle.std.specs.Prelude.{◌≡◌, ◌≢◌, ◌<◌, ◌≤◌, Ok, Err, IfOk, IfErr, length};
 ghost use Rattle.instructions.specs.Programs.{address as address_at};
-ghost use Rattle.conversion.specs.Writing.{AllSound};
-ghost use Rattle.conversion.specs.Meaning.{has_slot as has_slot_of, has_target as has_target_of, is_inside as is_inside_of, checked as checked_by, meant as meant_by, meant_up_to};
+ghost use Rattle.disassembly.specs.Writing.{AllSound};
+ghost use Rattle.disassembly.specs.Meaning.{has_slot as has_slot_of, has_target as has_target_of, is_inside as is_inside_of, checked as checked_by, meant as meant_by, meant_up_to};
 
 use crate::Refusal;
 use crate::foreign::foreign_word;
+use encoding::decode;
 use instructions::{Instr, Kind, Op, Program};
-use machine_words::decode;
 use std::alloc::Global;
 
 /// The address of word `k`.

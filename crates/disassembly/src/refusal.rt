@@ -1,10 +1,10 @@
 //! Why a file gives no listing.
 ghost use Rattle.std.specs.Prelude.{◌≡◌};
-ghost use Rattle.conversion.specs.declared.refusal.Refusal.TheVariants.{Memory};
-ghost use Rattle.conversion.specs.Conversion.{refusal_by_file};
+ghost use Rattle.disassembly.specs.declared.refusal.Refusal.TheVariants.{Memory};
+ghost use Rattle.disassembly.specs.Conversion.{refusal_by_file};
 
 use crate::Foreign;
-use executables::Refusal as FileRefusal;
+use elf::Refusal as FileRefusal;
 use std::alloc::{AllocError, AllocFailed};
 use thiserror::Error;
 

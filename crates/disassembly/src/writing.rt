@@ -3,13 +3,13 @@ ghost use Rattle.std.specs.Prelude.{◌≡◌, ℕ, ◌<◌, ◌≤◌, ◌++◌
 ghost use Rattle.std.specs.List.{list_all};
 ghost use Rattle.instructions.specs.Programs.{address};
 ghost use Rattle.isa.specs.Listing.{listing};
-ghost use Rattle.conversion.specs.Meaning.{is_inside, has_target as has_target_of};
-ghost use Rattle.conversion.specs.Writing.{IsQuieter, IsLabelled, AllSound, AllMarked, as_line, unlines, label_lines, gap_lines, comment_line, printable};
+ghost use Rattle.disassembly.specs.Meaning.{is_inside, has_target as has_target_of};
+ghost use Rattle.disassembly.specs.Writing.{IsQuieter, IsLabelled, AllSound, AllMarked, as_line, unlines, label_lines, gap_lines, comment_line, printable};
 
 use crate::data::push_data;
 use crate::lines::{push_label, push_line};
 use crate::meaning::has_target;
-use executables::{Function, name_at};
+use elf::{Function, name_at};
 use instructions::{Instr, Program};
 use std::alloc::{AllocError, Global};
 use std::str;

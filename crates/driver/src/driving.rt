@@ -1,6 +1,6 @@
 //! A unit that is driven from standard input.
 use by_hand::{ByHand, Refusal, Went, go_by_hand, refused};
-use devices::Counted;
+use counted_io::Counted;
 use std::fs::File;
 use std::io::{self, BufReader, IsTerminal, Read};
 use std::sync::Wait;

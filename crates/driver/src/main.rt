@@ -4,9 +4,9 @@
 mod driving;
 
 use by_hand::end;
-use devices::ClosedStreams;
+use command_line::{driven, refuse, words};
+use counted_io::ClosedStreams;
 use driving::drive;
-use requests::{driven, refuse, words};
 use std::process::ExitCode;
 
 fn main(rt: HostRuntime) -> ExitCode {

@@ -1,10 +1,10 @@
 -- One word more, and one segment more.
 use Rattle.std.proofs.Common.{◌≡◌, ℕ, zero, suc, ◌+◌, ◌*◌, ◌<◌, ◌≤◌, inl, inr, List, [], ◌∷◌, ◌++◌, Ok, Err, refl, arith, ap, ◌∙◌, sym, add-one, length, length-append}
-use Rattle.executables.specs.declared.refusal.Refusal.{Refusal}
-use Rattle.executables.specs.Bytes.{word_at, words}
-use Rattle.executables.specs.Images.{Loaded, nothing_loaded}
-use Rattle.executables.specs.Headers.{segment_of}
-use Rattle.executables.specs.Placing.{placed, placed_behind, placed_up_to}
+use Rattle.elf.specs.declared.refusal.Refusal.{Refusal}
+use Rattle.elf.specs.Bytes.{word_at, words}
+use Rattle.elf.specs.Images.{Loaded, nothing_loaded}
+use Rattle.elf.specs.Headers.{segment_of}
+use Rattle.elf.specs.Placing.{placed, placed_behind, placed_up_to}
 use Rattle.std.proofs.lemmas.Bool.{cases_lt}
 
 pub words_none : (file : List ℕ) (at : ℕ) → words file at 0 ≡ []

@@ -1,6 +1,6 @@
 -- One section more, and one symbol more.
 use Rattle.std.proofs.Common.{◌≡◌, ℕ, ◌+◌, ◌*◌, List, [], None, refl, add-one}
-use Rattle.executables.specs.Symbols.{section_of, symbols_or, symbols_up_to, with_function, functions_up_to}
+use Rattle.elf.specs.Symbols.{section_of, symbols_or, symbols_up_to, with_function, functions_up_to}
 
 pub symbols_none : (file : List ℕ) (at count : ℕ) → symbols_up_to file at count 0 ≡ None
 unfolding symbols_up_to

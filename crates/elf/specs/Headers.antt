@@ -1,11 +1,11 @@
 -- The header of an ELF32 file, and where its program headers are.
 use Rattle.std.specs.Prelude.{ℕ, ◌+◌, ◌*◌, ◌==◌, ◌&&◌, Bool, not, nat_lt, List, length, slice_index, Option, Some, None, Result, Ok, Err, if◌then◌else◌}
 use Rattle.instructions.specs.Programs.{text_start}
-use Rattle.executables.specs.declared.header.Table.{Table}
-use Rattle.executables.specs.declared.segment.Segment.{Segment}
-use Rattle.executables.specs.declared.refusal.Refusal.{Refusal}
-use Rattle.executables.specs.declared.refusal.Refusal.TheVariants.{NotElf, Cut, Class, ByteOrder, Kind, Machine, Entry, Headers}
-use Rattle.executables.specs.Bytes.{half_at, word_at}
+use Rattle.elf.specs.declared.header.Table.{Table}
+use Rattle.elf.specs.declared.segment.Segment.{Segment}
+use Rattle.elf.specs.declared.refusal.Refusal.{Refusal}
+use Rattle.elf.specs.declared.refusal.Refusal.TheVariants.{NotElf, Cut, Class, ByteOrder, Kind, Machine, Entry, Headers}
+use Rattle.elf.specs.Bytes.{half_at, word_at}
 
 -- the first four bytes: 0x7f and `ELF`
 abbrev pub has_magic : List ℕ → Bool

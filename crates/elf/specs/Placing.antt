@@ -1,13 +1,13 @@
 -- What the segments of a file load.
 use Rattle.std.specs.Prelude.{ℕ, zero, suc, ◌+◌, ◌*◌, ◌/◌, ◌%◌, ◌==◌, ◌&&◌, ◌||◌, Bool, not, nat_lt, List, ◌++◌, length, take, drop, slice_range, Result, Ok, Err, if◌then◌else◌}
 use Rattle.instructions.specs.Programs.{text_start}
-use Rattle.executables.specs.declared.header.Table.{Table}
-use Rattle.executables.specs.declared.segment.Segment.{Segment}
-use Rattle.executables.specs.declared.refusal.Refusal.{Refusal}
-use Rattle.executables.specs.declared.refusal.Refusal.TheVariants.{Cut, Segment as NoRoom, NoText}
-use Rattle.executables.specs.Bytes.{words}
-use Rattle.executables.specs.Images.{Loaded, data_size, nothing_loaded}
-use Rattle.executables.specs.Headers.{segment_of, table_of}
+use Rattle.elf.specs.declared.header.Table.{Table}
+use Rattle.elf.specs.declared.segment.Segment.{Segment}
+use Rattle.elf.specs.declared.refusal.Refusal.{Refusal}
+use Rattle.elf.specs.declared.refusal.Refusal.TheVariants.{Cut, Segment as NoRoom, NoText}
+use Rattle.elf.specs.Bytes.{words}
+use Rattle.elf.specs.Images.{Loaded, data_size, nothing_loaded}
+use Rattle.elf.specs.Headers.{segment_of, table_of}
 
 -- the text is one segment of whole words, all of them in the file
 abbrev pub is_text : Segment → Loaded → Bool

@@ -1,9 +1,9 @@
 -- The functions that a file's table of symbols names.
 use Rattle.std.specs.Prelude.{ℕ, zero, suc, ◌+◌, ◌*◌, ◌/◌, ◌%◌, ◌==◌, ◌&&◌, Bool, not, nat_lt, nat_le, List, [], ◌∷◌, ◌++◌, length, take, drop, slice_index, position, Option, Some, None, if◌then◌else◌}
-use Rattle.executables.specs.declared.section.Section.{Section}
-use Rattle.executables.specs.declared.symbol.Symbols.{Symbols}
-use Rattle.executables.specs.declared.symbol.Function.{Function}
-use Rattle.executables.specs.Bytes.{half_at, word_at}
+use Rattle.elf.specs.declared.section.Section.{Section}
+use Rattle.elf.specs.declared.symbol.Symbols.{Symbols}
+use Rattle.elf.specs.declared.symbol.Function.{Function}
+use Rattle.elf.specs.Bytes.{half_at, word_at}
 
 -- the section headers, of 40 bytes each, are inside the file
 abbrev pub has_sections : List ℕ → Bool

@@ -1,7 +1,7 @@
 //! Numbers in a file, the lowest byte first.
 ghost use Rattle.std.specs.Prelude.{◌≡◌, ◌≤◌, ◌<◌, ◌+◌, ◌*◌, ◌^◌, IfOk, length};
-ghost use Rattle.executables.specs.Bytes.{half_at as half_of, word_at as word_of, words as words_of};
-ghost use Rattle.executables.specs.Images.{zeros as zeros_of};
+ghost use Rattle.elf.specs.Bytes.{half_at as half_of, word_at as word_of, words as words_of};
+ghost use Rattle.elf.specs.Images.{zeros as zeros_of};
 
 use std::alloc::{AllocError, Global};
 

@@ -1,6 +1,6 @@
 //! The header of a file.
 ghost use Rattle.std.specs.Prelude.{◌≡◌, ◌≤◌, ◌+◌, ◌*◌, IfOk, length};
-ghost use Rattle.executables.specs.Headers.{has_magic as has_magic_of, unfit as unfit_of, table_in as table_inside, table_of as table_by};
+ghost use Rattle.elf.specs.Headers.{has_magic as has_magic_of, unfit as unfit_of, table_in as table_inside, table_of as table_by};
 
 use crate::Refusal;
 use crate::bytes::{half_at, word_at};

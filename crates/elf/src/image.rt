@@ -1,7 +1,7 @@
 //! What a file loads.
 ghost use Rattle.std.specs.Prelude.{◌≡◌, ◌≢◌, ◌≤◌, ◌<◌, ◌+◌, ◌*◌, Ok, Err, length, IfOk, IfErr, IsTrue};
-ghost use Rattle.executables.specs.Images.{Loaded, nothing_loaded};
-ghost use Rattle.executables.specs.Placing.{overlaid as overlaid_with, is_text as is_text_of, with_text as with_text_of, with_data as with_data_of, placed as placed_with, placed_up_to, loaded_from};
+ghost use Rattle.elf.specs.Images.{Loaded, nothing_loaded};
+ghost use Rattle.elf.specs.Placing.{overlaid as overlaid_with, is_text as is_text_of, with_text as with_text_of, with_data as with_data_of, placed as placed_with, placed_up_to, loaded_from};
 
 use crate::Refusal;
 use crate::bytes::{words, zeros};

@@ -1,6 +1,6 @@
 //! Why a file is refused.
 ghost use Rattle.std.specs.Prelude.{◌≡◌};
-ghost use Rattle.executables.specs.declared.refusal.Refusal.TheVariants.{Memory};
+ghost use Rattle.elf.specs.declared.refusal.Refusal.TheVariants.{Memory};
 
 use std::alloc::{AllocError, AllocFailed};
 use thiserror::Error;

@@ -1,6 +1,6 @@
 //! Section headers.
 ghost use Rattle.std.specs.Prelude.{◌≡◌, ◌≤◌, ◌+◌, length};
-ghost use Rattle.executables.specs.Symbols.{section_of};
+ghost use Rattle.elf.specs.Symbols.{section_of};
 
 use crate::bytes::word_at;
 

@@ -1,6 +1,6 @@
 //! Program headers.
 ghost use Rattle.std.specs.Prelude.{◌≡◌, ◌≤◌, ◌+◌, length};
-ghost use Rattle.executables.specs.Headers.{segment_of};
+ghost use Rattle.elf.specs.Headers.{segment_of};
 
 use crate::bytes::word_at;
 

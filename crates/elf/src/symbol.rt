@@ -1,6 +1,6 @@
 //! The table of symbols, and the functions that it names.
 ghost use Rattle.std.specs.Prelude.{◌≡◌, ◌≤◌, ◌+◌, ◌*◌, IfOk, IfSome, length, not, position};
-ghost use Rattle.executables.specs.Symbols.{has_sections as has_sections_of, is_symbols as is_symbols_of, symbols_of, symbols_up_to, symbols_in as symbols_by, with_function, functions_up_to, functions_in, is_graphic as is_graphic_of, name_window as window_of, printable_at};
+ghost use Rattle.elf.specs.Symbols.{has_sections as has_sections_of, is_symbols as is_symbols_of, symbols_of, symbols_up_to, symbols_in as symbols_by, with_function, functions_up_to, functions_in, is_graphic as is_graphic_of, name_window as window_of, printable_at};
 
 use crate::bytes::{half_at, word_at};
 use crate::section::Section;

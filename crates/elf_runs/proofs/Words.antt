@@ -6,15 +6,15 @@ use Rattle.instructions.specs.declared.instr.Instr.{Instr}
 use Rattle.instructions.specs.declared.op.Op.TheVariants.{Break}
 use Rattle.instructions.specs.Programs.{Program, address}
 use Rattle.inorder.specs.Machine.{start}
-use Rattle.machine_words.specs.Words.{decode}
-use Rattle.executables.specs.Images.{Loaded}
-use Rattle.conversion.specs.declared.refusal.Refusal.{Refusal}
-use Rattle.conversion.specs.declared.refusal.Refusal.TheVariants.{Target, Slot}
-use Rattle.conversion.specs.Conversion.{program_by, with_memory}
-use Rattle.conversion.specs.Meaning.{has_target, is_inside, has_slot, with_delay_slot, checked, checked_if, meant, appended, with_next, meant_up_to}
+use Rattle.encoding.specs.Words.{decode}
+use Rattle.elf.specs.Images.{Loaded}
+use Rattle.disassembly.specs.declared.refusal.Refusal.{Refusal}
+use Rattle.disassembly.specs.declared.refusal.Refusal.TheVariants.{Target, Slot}
+use Rattle.disassembly.specs.Conversion.{program_by, with_memory}
+use Rattle.disassembly.specs.Meaning.{has_target, is_inside, has_slot, with_delay_slot, checked, checked_if, meant, appended, with_next, meant_up_to}
 use Rattle.lockstep.specs.Law.{IsTextOf}
 use Rattle.lockstep.proofs.TheStep.{the_run}
-use Rattle.executable_runs.specs.Law.{ARunOfAnExecutable}
+use Rattle.elf_runs.specs.Law.{ARunOfAnExecutable}
 
 none : Instr
 none = record { op = Break; target = 0; first = 0; second = 0; number = 0 }

@@ -1,8 +1,8 @@
 -- Steps over the words of an executable are the run of its listing.
 use Rattle.std.specs.Prelude.{◌≡◌, ℕ, List, Some, Ok}
-use Rattle.executables.specs.Images.{Loaded}
-use Rattle.executables.specs.Placing.{loaded_from}
-use Rattle.conversion.specs.Conversion.{IsSaid}
+use Rattle.elf.specs.Images.{Loaded}
+use Rattle.elf.specs.Placing.{loaded_from}
+use Rattle.disassembly.specs.Conversion.{IsSaid}
 use Rattle.inorder.specs.Machine.{start}
 use Rattle.inorder.specs.Runs.{end_of}
 use Rattle.lockstep.specs.Law.{end_over}

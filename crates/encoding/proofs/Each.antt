@@ -6,9 +6,9 @@ use Rattle.instructions.specs.declared.op.Op.TheVariants.{Mult, Multu, Div, Divu
 use Rattle.instructions.specs.declared.op.Op.TheVariants.{Addiu, Addi, Slti, Sltiu, Andi, Ori, Xori, Lui, Lb, Lbu, Lh, Lhu, Lw, Sb, Sh, Sw}
 use Rattle.instructions.specs.declared.op.Op.TheVariants.{Beq, Bne, Blez, Bgtz, Bltz, Bgez, J, Jal, Jr, Jalr, Break}
 use Rattle.instructions.specs.Operations.{extended}
-use Rattle.machine_words.specs.Layouts.{operation_of}
-use Rattle.machine_words.specs.Words.{instruction, branch_target, region_target, read, decode}
-use Rattle.machine_words.specs.Laws.{EachOperationHasAWord}
+use Rattle.encoding.specs.Layouts.{operation_of}
+use Rattle.encoding.specs.Words.{instruction, branch_target, region_target, read, decode}
+use Rattle.encoding.specs.Laws.{EachOperationHasAWord}
 
 pub each_has_a_word : EachOperationHasAWord
 unfolding decode operation_of read

@@ -4,8 +4,8 @@ use Rattle.std.proofs.lemmas.Int.{ints}
 use Rattle.std.specs.Int.{w16}
 use Rattle.instructions.specs.Operations.{extended}
 use Rattle.instructions.specs.Instruction.{pc_plus_4}
-use Rattle.machine_words.specs.Fields.{opcode_of, rs_of, rt_of, rd_of, shift_of, funct_of, immediate_of, region_index_of}
-use Rattle.machine_words.specs.Words.{registers, immediate, distance, branch_target, region_target}
+use Rattle.encoding.specs.Fields.{opcode_of, rs_of, rt_of, rd_of, shift_of, funct_of, immediate_of, region_index_of}
+use Rattle.encoding.specs.Words.{registers, immediate, distance, branch_target, region_target}
 
 -- the upper fields and the lower 16 bits are the word
 pub upper_and_half : (w : ℕ) → opcode_of w * 2 ^ 26 + (rs_of w * 2 ^ 21 + (rt_of w * 2 ^ 16 + immediate_of w)) ≡ w

@@ -5,15 +5,15 @@ use Rattle.std.specs.Int.{w16}
 use Rattle.instructions.specs.declared.op.Op.{Op}
 use Rattle.instructions.specs.declared.instr.Instr.{Instr}
 use Rattle.instructions.specs.Operations.{extended}
-use Rattle.machine_words.specs.declared.layout.Shape.{Shape}
-use Rattle.machine_words.specs.declared.layout.Shape.TheVariants.{ThreeRegisters, ShiftByAmount, ShiftByRegister, TwoRegisters, MoveFrom, MoveTo, JumpRegister, LinkRegister, Bare, SignedHalf}
-use Rattle.machine_words.specs.declared.layout.Shape.TheVariants.{UnsignedHalf, UpperHalf, Store, BranchOnTwo, BranchOnOne, Region}
-use Rattle.machine_words.specs.Fields.{opcode_of, rs_of, rt_of, rd_of, shift_of, funct_of, immediate_of}
-use Rattle.machine_words.specs.Layouts.{layout, operation_of}
-use Rattle.machine_words.specs.Words.{only_if, read, decode_as, decode, written, packed, registers, immediate}
-use Rattle.machine_words.specs.Laws.{OneWordForEachInstruction}
-use Rattle.machine_words.proofs.Halves.{all_fields, immediate_is, half_small, extended_half, distance_back, index_back, opcode_and_index}
-use Rattle.machine_words.proofs.Table.{Matches, by_function, operation_matches, select_is_function}
+use Rattle.encoding.specs.declared.layout.Shape.{Shape}
+use Rattle.encoding.specs.declared.layout.Shape.TheVariants.{ThreeRegisters, ShiftByAmount, ShiftByRegister, TwoRegisters, MoveFrom, MoveTo, JumpRegister, LinkRegister, Bare, SignedHalf}
+use Rattle.encoding.specs.declared.layout.Shape.TheVariants.{UnsignedHalf, UpperHalf, Store, BranchOnTwo, BranchOnOne, Region}
+use Rattle.encoding.specs.Fields.{opcode_of, rs_of, rt_of, rd_of, shift_of, funct_of, immediate_of}
+use Rattle.encoding.specs.Layouts.{layout, operation_of}
+use Rattle.encoding.specs.Words.{only_if, read, decode_as, decode, written, packed, registers, immediate}
+use Rattle.encoding.specs.Laws.{OneWordForEachInstruction}
+use Rattle.encoding.proofs.Halves.{all_fields, immediate_is, half_small, extended_half, distance_back, index_back, opcode_and_index}
+use Rattle.encoding.proofs.Table.{Matches, by_function, operation_matches, select_is_function}
 
 -- an instruction is of the operation, and gives the word back
 pub record Rebuilds (shape : Shape) (select : ℕ) (op : Op) (pc w : ℕ) (i : Instr) : Type 0 where

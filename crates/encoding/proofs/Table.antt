@@ -7,11 +7,11 @@ use Rattle.instructions.specs.declared.op.Op.TheVariants.{Addu, Subu, Add, Sub, 
 use Rattle.instructions.specs.declared.op.Op.TheVariants.{Mult, Multu, Div, Divu, Mflo, Mfhi, Mtlo, Mthi}
 use Rattle.instructions.specs.declared.op.Op.TheVariants.{Addiu, Addi, Slti, Sltiu, Andi, Ori, Xori, Lui, Lb, Lbu, Lh, Lhu, Lw, Sb, Sh, Sw}
 use Rattle.instructions.specs.declared.op.Op.TheVariants.{Beq, Bne, Blez, Bgtz, Bltz, Bgez, J, Jal, Jr, Jalr, Break}
-use Rattle.machine_words.specs.declared.layout.Shape.{Shape}
-use Rattle.machine_words.specs.declared.layout.Shape.TheVariants.{ThreeRegisters, ShiftByAmount, ShiftByRegister, TwoRegisters, MoveFrom, MoveTo, JumpRegister, LinkRegister, Bare}
-use Rattle.machine_words.specs.Fields.{opcode_of, select_of, funct_of}
+use Rattle.encoding.specs.declared.layout.Shape.{Shape}
+use Rattle.encoding.specs.declared.layout.Shape.TheVariants.{ThreeRegisters, ShiftByAmount, ShiftByRegister, TwoRegisters, MoveFrom, MoveTo, JumpRegister, LinkRegister, Bare}
+use Rattle.encoding.specs.Fields.{opcode_of, select_of, funct_of}
 use Rattle.instructions.specs.Instruction.{operations}
-use Rattle.machine_words.specs.Layouts.{layout, has_layout, operation_of}
+use Rattle.encoding.specs.Layouts.{layout, has_layout, operation_of}
 
 -- what is found passes the test
 found : {X : Type 0} (test : X → Bool) (xs : List X) (x : X) → find test xs ≡ Some x → test x ≡ true

@@ -10,10 +10,10 @@ use Rattle.instructions.specs.declared.op.Op.TheVariants.{Beq, Bne, Blez, Bgtz, 
 use Rattle.instructions.specs.declared.instr.Instr.{Instr}
 use Rattle.instructions.specs.Operations.{extended}
 use Rattle.isa.specs.InstrText.{IsWritable, IsSignedHalf}
-use Rattle.machine_words.specs.Fields.{shift_of, immediate_of}
-use Rattle.machine_words.specs.Layouts.{layout, operation_of}
-use Rattle.machine_words.specs.Words.{branch_target, region_target, only_if, read, decode, decode_as}
-use Rattle.machine_words.specs.Laws.{EachWordIsWritten}
+use Rattle.encoding.specs.Fields.{shift_of, immediate_of}
+use Rattle.encoding.specs.Layouts.{layout, operation_of}
+use Rattle.encoding.specs.Words.{branch_target, region_target, only_if, read, decode, decode_as}
+use Rattle.encoding.specs.Laws.{EachWordIsWritten}
 
 r : (n : ℕ) → n % 32 < 32
 r n = omega arith

@@ -3,7 +3,7 @@ use Rattle.std.specs.Prelude.{◌≡◌, ℕ, ◌<◌, ◌^◌, Some}
 use Rattle.instructions.specs.declared.op.Op.{Op}
 use Rattle.instructions.specs.declared.instr.Instr.{Instr}
 use Rattle.isa.specs.InstrText.{IsWritable}
-use Rattle.machine_words.specs.Words.{decode}
+use Rattle.encoding.specs.Words.{decode}
 
 -- two words that say one instruction at an address are one word
 abbrev pub OneWordForEachInstruction : Type 0

@@ -7,10 +7,10 @@ use Rattle.instructions.specs.declared.op.Op.TheVariants.{Mult, Multu, Div, Divu
 use Rattle.instructions.specs.declared.op.Op.TheVariants.{Addiu, Addi, Slti, Sltiu, Andi, Ori, Xori, Lui, Lb, Lbu, Lh, Lhu, Lw, Sb, Sh, Sw}
 use Rattle.instructions.specs.declared.op.Op.TheVariants.{Beq, Bne, Blez, Bgtz, Bltz, Bgez, J, Jal, Jr, Jalr, Break}
 use Rattle.instructions.specs.Instruction.{operations}
-use Rattle.machine_words.specs.declared.layout.Layout.{Layout}
-use Rattle.machine_words.specs.declared.layout.Shape.{Shape}
-use Rattle.machine_words.specs.declared.layout.Shape.TheVariants.{ThreeRegisters, ShiftByAmount, ShiftByRegister, TwoRegisters, MoveFrom, MoveTo, JumpRegister, LinkRegister, Bare, SignedHalf, UnsignedHalf, UpperHalf, Store, BranchOnTwo, BranchOnOne, Region}
-use Rattle.machine_words.specs.Fields.{opcode_of, select_of}
+use Rattle.encoding.specs.declared.layout.Layout.{Layout}
+use Rattle.encoding.specs.declared.layout.Shape.{Shape}
+use Rattle.encoding.specs.declared.layout.Shape.TheVariants.{ThreeRegisters, ShiftByAmount, ShiftByRegister, TwoRegisters, MoveFrom, MoveTo, JumpRegister, LinkRegister, Bare, SignedHalf, UnsignedHalf, UpperHalf, Store, BranchOnTwo, BranchOnOne, Region}
+use Rattle.encoding.specs.Fields.{opcode_of, select_of}
 
 -- a row of the table
 abbrev pub layout_of : ℕ → ℕ → Shape → Layout

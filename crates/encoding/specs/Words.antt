@@ -6,11 +6,11 @@ use Rattle.instructions.specs.declared.instr.Instr.{Instr}
 use Rattle.instructions.specs.Instruction.{pc_plus_4}
 use Rattle.instructions.specs.Operations.{extended}
 use Rattle.isa.specs.Statement.{implied_target, implied_source}
-use Rattle.machine_words.specs.declared.decoding.Decoded.{Decoded}
-use Rattle.machine_words.specs.declared.layout.Shape.{Shape}
-use Rattle.machine_words.specs.declared.layout.Shape.TheVariants.{ThreeRegisters, ShiftByAmount, ShiftByRegister, TwoRegisters, MoveFrom, MoveTo, JumpRegister, LinkRegister, Bare, SignedHalf, UnsignedHalf, UpperHalf, Store, BranchOnTwo, BranchOnOne, Region}
-use Rattle.machine_words.specs.Fields.{rs_of, rt_of, rd_of, shift_of, immediate_of, region_index_of}
-use Rattle.machine_words.specs.Layouts.{layout, operation_of}
+use Rattle.encoding.specs.declared.decoding.Decoded.{Decoded}
+use Rattle.encoding.specs.declared.layout.Shape.{Shape}
+use Rattle.encoding.specs.declared.layout.Shape.TheVariants.{ThreeRegisters, ShiftByAmount, ShiftByRegister, TwoRegisters, MoveFrom, MoveTo, JumpRegister, LinkRegister, Bare, SignedHalf, UnsignedHalf, UpperHalf, Store, BranchOnTwo, BranchOnOne, Region}
+use Rattle.encoding.specs.Fields.{rs_of, rt_of, rd_of, shift_of, immediate_of, region_index_of}
+use Rattle.encoding.specs.Layouts.{layout, operation_of}
 
 -- ---- targets
 

@@ -2,7 +2,7 @@
 ghost use Rattle.std.specs.Prelude.{◌≡◌};
 ghost use Rattle.std.specs.Option.{option_map};
 ghost use Rattle.isa.specs.Statement.{implied_target as implied_target_of, implied_source as implied_source_of};
-ghost use Rattle.machine_words.specs.Words.{instruction_of, decode as decode_of, read as read_of, branch_target as branch_target_of, region_target as region_target_of};
+ghost use Rattle.encoding.specs.Words.{instruction_of, decode as decode_of, read as read_of, branch_target as branch_target_of, region_target as region_target_of};
 
 use crate::fields;
 use crate::layout::{Layout, Shape, layout_of, operation_of};

@@ -1,6 +1,6 @@
 //! From an instruction to its word.
 ghost use Rattle.std.specs.Prelude.{◌≡◌, ◌≢◌, ℕ, ◌<◌, ◌^◌, Some, IfSome, IsNone, IsTrue};
-ghost use Rattle.machine_words.specs.Words.{instruction_of, decode as decode_of, written as written_of, packed as packed_of, registers as registers_of, immediate as immediate_of, distance as distance_of};
+ghost use Rattle.encoding.specs.Words.{instruction_of, decode as decode_of, written as written_of, packed as packed_of, registers as registers_of, immediate as immediate_of, distance as distance_of};
 
 use crate::decoding::{Decoded, decode};
 use crate::layout::{Layout, Shape, layout_of};

@@ -2,7 +2,7 @@
 ghost use Rattle.std.specs.Prelude.{◌≡◌, ◌<◌, ◌^◌};
 ghost use Rattle.std.specs.Int.{w16};
 ghost use Rattle.instructions.specs.Operations.{extended};
-ghost use Rattle.machine_words.specs.Fields.{opcode_of, select_of, rs_of, rt_of, rd_of, shift_of, funct_of, immediate_of, region_index_of};
+ghost use Rattle.encoding.specs.Fields.{opcode_of, select_of, rs_of, rt_of, rd_of, shift_of, funct_of, immediate_of, region_index_of};
 
 use instructions::Reg;
 

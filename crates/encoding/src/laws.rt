@@ -1,5 +1,5 @@
 //! What holds of every word. Each function is a law: it does nothing, and its contract is proved.
-ghost use Rattle.machine_words.specs.Laws.{OneWordForEachInstruction, EachOperationHasAWord, EachWordIsWritten};
+ghost use Rattle.encoding.specs.Laws.{OneWordForEachInstruction, EachOperationHasAWord, EachWordIsWritten};
 
 /// Two words that say one instruction at an address are one word: no bit of a word is without a
 /// meaning.

@@ -1,7 +1,7 @@
 //! How each operation lies in its word.
 ghost use Rattle.std.specs.Prelude.{◌≡◌, ◌<◌, ◌&&◌, ◌==◌};
 ghost use Rattle.std.specs.List.{find};
-ghost use Rattle.machine_words.specs.Layouts.{layout as layout_by, operation_of as operation, has_layout};
+ghost use Rattle.encoding.specs.Layouts.{layout as layout_by, operation_of as operation, has_layout};
 
 use crate::fields;
 use instructions::Op;

@@ -2,7 +2,7 @@
 use crate::example::Example;
 use bench::{Status, alone};
 use command::{asked, go};
-use devices::Counted;
+use counted_io::Counted;
 use inorder::{Ended, Machine};
 use instructions::{End, Ending, NotTaken};
 use isa::{parse, report_text};

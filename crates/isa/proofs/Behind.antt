@@ -4,9 +4,9 @@ use Rattle.std.specs.Prelude.{nat_lt}
 use Rattle.std.proofs.lemmas.Bool.{lt-ltb, le-ltb, cases_Bool}
 use Rattle.std.proofs.lemmas.List.{length-append, length-map, append-nil}
 use Rattle.std.proofs.lemmas.Grind.{flat_map-append}
-use Rattle.text.specs.Line.{before_comment}
-use Rattle.text.specs.Name.{is_plain_text}
-use Rattle.text.specs.Label.{labels_of, statement_of}
+use Rattle.lexical.specs.Line.{before_comment}
+use Rattle.lexical.specs.Name.{is_plain_text}
+use Rattle.lexical.specs.Label.{labels_of, statement_of}
 use Rattle.instructions.specs.declared.instr.Instr.{Instr}
 use Rattle.isa.specs.declared.listing.fault.FaultKind.{FaultKind}
 use Rattle.isa.specs.declared.listing.fault.FaultKind.TheVariants.{NotAscii, TooLong}

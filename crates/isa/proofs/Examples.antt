@@ -1,9 +1,9 @@
 -- Operands and listings at the edges, computed by the definitions.
 use Rattle.std.proofs.Common.{◌≡◌, [], ◌∷◌, ◌++◌, Ok, Err, refl}
 use Rattle.std.specs.Prelude.{codes}
-use Rattle.text.specs.Label.{labels_of, statement_of}
-use Rattle.text.specs.Operand.{operands, parenthesized}
-use Rattle.text.specs.Number.{number_in, decimal_in, magnitude, decimal, numeral}
+use Rattle.lexical.specs.Label.{labels_of, statement_of}
+use Rattle.lexical.specs.Operand.{operands, parenthesized}
+use Rattle.lexical.specs.Number.{number_in, decimal_in, magnitude, decimal, numeral}
 use Rattle.instructions.specs.declared.op.Op.TheVariants.{J, Jalr, Sll, Break}
 use Rattle.isa.specs.declared.listing.fault.FaultKind.TheVariants.{NotAscii, UnknownOp, BadRegister, BadNumber, BadOperands, UnknownLabel, DoubleLabel}
 use Rattle.isa.specs.RegisterNames.{register, register_number}

@@ -9,9 +9,9 @@ use Rattle.std.specs.Option.{option_map, option_or, option_and_then}
 use Rattle.std.proofs.lemmas.Bool.{cases_Bool, cases_eq, cases_lt, le-ltb}
 use Rattle.std.proofs.lemmas.List.{length-append, length-map}
 use Rattle.std.proofs.lemmas.Option.{slice_get_past}
-use Rattle.text.specs.Line.{lines_of, before_comment}
-use Rattle.text.specs.Name.{is_plain_text}
-use Rattle.text.specs.Label.{statement_of}
+use Rattle.lexical.specs.Line.{lines_of, before_comment}
+use Rattle.lexical.specs.Name.{is_plain_text}
+use Rattle.lexical.specs.Label.{statement_of}
 use Rattle.instructions.specs.declared.instr.Instr.{Instr}
 use Rattle.instructions.specs.Programs.{Program}
 use Rattle.isa.specs.declared.listing.fault.FaultKind.{FaultKind}

@@ -5,10 +5,10 @@ use Rattle.std.specs.List.{flat_map, find, before_first, after_first}
 use Rattle.std.specs.Option.{option_or}
 use Rattle.std.proofs.lemmas.Bool.{cases_Bool, eqb-true, ne_eqb}
 use Rattle.std.proofs.lemmas.List.{append-nil}
-use Rattle.text.specs.Blank.{is_blank}
-use Rattle.text.specs.Name.{is_name}
-use Rattle.text.specs.Number.{first_is, begins_number, number_in}
-use Rattle.text.specs.Operand.{operands, parenthesized}
+use Rattle.lexical.specs.Blank.{is_blank}
+use Rattle.lexical.specs.Name.{is_name}
+use Rattle.lexical.specs.Number.{first_is, begins_number, number_in}
+use Rattle.lexical.specs.Operand.{operands, parenthesized}
 use Rattle.isa.specs.declared.listing.fault.FaultKind.{FaultKind}
 use Rattle.isa.specs.declared.listing.fault.FaultKind.TheVariants.{UnknownOp, BadOperands, BadRegister, BadNumber}
 use Rattle.isa.specs.declared.listing.slot.Slot.{Slot}

@@ -3,10 +3,10 @@ use Rattle.std.proofs.Common.{◌≡◌, ℕ, zero, suc, Bool, true, false, ◌&
 use Rattle.std.specs.Prelude.{◌==◌, slice_get, codes, if◌then◌else◌}
 use Rattle.std.specs.List.{list_all, flat_map, before_first, after_first}
 use Rattle.std.proofs.lemmas.List.Folds.{list_all-append}
-use Rattle.text.specs.Blank.{is_blank}
-use Rattle.text.specs.Line.{before_comment}
-use Rattle.text.specs.Label.{statement_of}
-use Rattle.text.specs.Operand.{operands, parenthesized}
+use Rattle.lexical.specs.Blank.{is_blank}
+use Rattle.lexical.specs.Line.{before_comment}
+use Rattle.lexical.specs.Label.{statement_of}
+use Rattle.lexical.specs.Operand.{operands, parenthesized}
 use Rattle.isa.specs.declared.listing.fault.FaultKind.{FaultKind}
 use Rattle.isa.specs.declared.listing.fault.FaultKind.TheVariants.{TooLong, UnknownLabel}
 use Rattle.isa.specs.declared.listing.slot.Slot.{Slot}

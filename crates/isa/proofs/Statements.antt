@@ -2,8 +2,8 @@
 use Rattle.std.proofs.Common.{◌≡◌, ℕ, true, false, List, [], length, Ok, Err, refl}
 use Rattle.std.specs.Prelude.{codes, ◌==◌}
 use Rattle.std.specs.List.{before_first, after_first}
-use Rattle.text.specs.Blank.{is_blank}
-use Rattle.text.specs.Operand.{operands}
+use Rattle.lexical.specs.Blank.{is_blank}
+use Rattle.lexical.specs.Operand.{operands}
 use Rattle.isa.specs.declared.listing.fault.FaultKind.{FaultKind}
 use Rattle.isa.specs.Statement.{Parsed, is_word, space, data_words, instruction, with_operands, statement, gives_code, gives_bytes}
 

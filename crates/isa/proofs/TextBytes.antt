@@ -5,8 +5,8 @@ use Rattle.std.proofs.lemmas.Bool.{ne_eqb, and_parts, and_from}
 use Rattle.std.proofs.lemmas.Bool.Decides.{nat_tests}
 use Rattle.std.proofs.lemmas.List.{take_all}
 use Rattle.std.proofs.lemmas.List.Sums.{suffix_len_is}
-use Rattle.text.specs.Blank.{is_blank, trim, trim_start, trim_end}
-use Rattle.text.specs.Operand.{operands}
+use Rattle.lexical.specs.Blank.{is_blank, trim, trim_start, trim_end}
+use Rattle.lexical.specs.Operand.{operands}
 
 -- each byte is of a kind
 abbrev pub Of : (ℕ → Bool) → List ℕ → Type 0

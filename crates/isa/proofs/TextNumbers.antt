@@ -10,7 +10,7 @@ use Rattle.std.proofs.lemmas.Bool.Decides.{nat_tests}
 use Rattle.std.proofs.lemmas.Fmt.{decimal_is_IsNumeral, decimal_digit, first_decimal, decimal_nonempty}
 use Rattle.std.proofs.lemmas.Int.{to_z_pos}
 use Rattle.std.proofs.lemmas.Str.Parse.{digit_from_value}
-use Rattle.text.specs.Number.{numeral, has_leading_zero, decimal, starts_hex, magnitude, first_is, begins_number, negated, number_in}
+use Rattle.lexical.specs.Number.{numeral, has_leading_zero, decimal, starts_hex, magnitude, first_is, begins_number, negated, number_in}
 use Rattle.isa.specs.Operands.{number, signed_half}
 use Rattle.isa.specs.InstrText.{signed_text, IsSignedHalf}
 use Rattle.isa.proofs.TextBytes.{Of, inner, IsPart, of_other}

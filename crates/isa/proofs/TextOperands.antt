@@ -6,10 +6,10 @@ use Rattle.std.specs.Fmt.{digits}
 use Rattle.std.specs.List.{list_all}
 use Rattle.std.proofs.lemmas.Bool.{ne_eqb, cases_lt, and_parts}
 use Rattle.std.proofs.lemmas.Bool.Decides.{nat_tests}
-use Rattle.text.specs.Cut.{after_byte}
-use Rattle.text.specs.Name.{is_name, goes_on_name}
-use Rattle.text.specs.Number.{numeral, decimal, decimal_in}
-use Rattle.text.specs.Operand.{parenthesized, before_close}
+use Rattle.lexical.specs.Cut.{after_byte}
+use Rattle.lexical.specs.Name.{is_name, goes_on_name}
+use Rattle.lexical.specs.Number.{numeral, decimal, decimal_in}
+use Rattle.lexical.specs.Operand.{parenthesized, before_close}
 use Rattle.instructions.specs.declared.instr.Instr.{Instr}
 use Rattle.isa.specs.declared.listing.fault.FaultKind.{FaultKind}
 use Rattle.isa.specs.declared.listing.slot.Slot.{Slot}

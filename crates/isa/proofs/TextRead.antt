@@ -5,9 +5,9 @@ use Rattle.std.specs.List.{after_first, join_with_byte, prefix_len}
 use Rattle.std.proofs.lemmas.Bool.{and_parts, cases_Bool}
 use Rattle.std.proofs.lemmas.Bool.Decides.{nat_tests}
 use Rattle.std.proofs.lemmas.List.{length-map}
-use Rattle.text.specs.Blank.{is_blank, trim, trim_start}
-use Rattle.text.specs.Label.{labels_of, statement_of}
-use Rattle.text.specs.Operand.{operands}
+use Rattle.lexical.specs.Blank.{is_blank, trim, trim_start}
+use Rattle.lexical.specs.Label.{labels_of, statement_of}
+use Rattle.lexical.specs.Operand.{operands}
 use Rattle.instructions.specs.declared.op.Op.{Op}
 use Rattle.instructions.specs.declared.op.Op.TheVariants.{Addu, Sll}
 use Rattle.instructions.specs.declared.instr.Instr.{Instr}

@@ -2,12 +2,12 @@
 use Rattle.std.specs.Prelude.{◌≡◌, ℕ, zero, suc, ◌%◌, ◌<◌, ◌==◌, ◌||◌, Bool, true, false, not, nat_lt, List, [], ◌∷◌, ◌++◌, length, take, drop, slice_get, Option, Some, None, is_none, if◌then◌else◌, codes}
 use Rattle.std.specs.List.{flat_map, find, before_first, after_first}
 use Rattle.std.specs.Option.{option_map}
-use Rattle.text.specs.Blank.{is_blank}
-use Rattle.text.specs.Name.{is_name, is_plain_text}
-use Rattle.text.specs.Number.{first_is, begins_number, number_in}
-use Rattle.text.specs.Operand.{operands, parenthesized}
-use Rattle.text.specs.Line.{before_comment}
-use Rattle.text.specs.Label.{statement_of}
+use Rattle.lexical.specs.Blank.{is_blank}
+use Rattle.lexical.specs.Name.{is_name, is_plain_text}
+use Rattle.lexical.specs.Number.{first_is, begins_number, number_in}
+use Rattle.lexical.specs.Operand.{operands, parenthesized}
+use Rattle.lexical.specs.Line.{before_comment}
+use Rattle.lexical.specs.Label.{statement_of}
 use Rattle.isa.specs.declared.listing.fault.FaultKind.{FaultKind}
 use Rattle.isa.specs.declared.listing.fault.FaultKind.TheVariants.{NotAscii, DoubleLabel, UnknownOp, BadOperands, BadRegister, BadNumber, TooLong}
 use Rattle.isa.specs.declared.listing.slot.Slot.{Slot}

@@ -5,7 +5,7 @@ use Rattle.instructions.specs.declared.instr.Instr.{Instr}
 use Rattle.isa.specs.declared.listing.line.Target.{Target}
 use Rattle.std.specs.Option.{option_map}
 use Rattle.isa.specs.Statement.{Parsed, Line}
-use Rattle.text.specs.Line.{lines_of, lines_left}
+use Rattle.lexical.specs.Line.{lines_of, lines_left}
 use Rattle.isa.specs.Listing.{Lines, table, numbered, memory, first_fault}
 use Rattle.isa.specs.Late.{Mark, IsLateLine, pairs, double_line, or_other}
 

@@ -4,9 +4,9 @@ use Rattle.std.specs.List.{flat_map, list_any}
 use Rattle.std.specs.Option.{option_map, option_or, option_and_then}
 use Rattle.std.specs.Map.{lookup}
 use Rattle.std.specs.Str.{bytes_eq}
-use Rattle.text.specs.Line.{lines_of, before_comment}
-use Rattle.text.specs.Name.{is_plain_text}
-use Rattle.text.specs.Label.{labels_of, statement_of}
+use Rattle.lexical.specs.Line.{lines_of, before_comment}
+use Rattle.lexical.specs.Name.{is_plain_text}
+use Rattle.lexical.specs.Label.{labels_of, statement_of}
 use Rattle.instructions.specs.declared.instr.Instr.{Instr}
 use Rattle.isa.specs.declared.listing.fault.FaultKind.{FaultKind}
 use Rattle.isa.specs.declared.listing.fault.FaultKind.TheVariants.{NotAscii, DoubleLabel, TooLong, UnknownLabel}

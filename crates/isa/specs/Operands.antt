@@ -1,8 +1,8 @@
 -- What an operand has to be.
 use Rattle.std.specs.Prelude.{ℕ, ◌==◌, List, length, Result, Ok, Err, ok_or, if◌then◌else◌}
-use Rattle.text.specs.Name.{is_name}
-use Rattle.text.specs.Number.{begins_number, number_in}
-use Rattle.text.specs.Operand.{parenthesized}
+use Rattle.lexical.specs.Name.{is_name}
+use Rattle.lexical.specs.Number.{begins_number, number_in}
+use Rattle.lexical.specs.Operand.{parenthesized}
 use Rattle.isa.specs.declared.listing.fault.FaultKind.{FaultKind}
 use Rattle.isa.specs.declared.listing.fault.FaultKind.TheVariants.{BadOperands, BadNumber}
 use Rattle.isa.specs.Reading.{◌>>=◌}

@@ -2,7 +2,7 @@
 use Rattle.std.specs.Prelude.{ℕ, nat_lt, List, [], ◌∷◌, drop, Option, Some, None, Result, Err, ok_or, if◌then◌else◌, codes}
 use Rattle.std.specs.Map.{lookup}
 use Rattle.std.specs.Str.{bytes_eq}
-use Rattle.text.specs.Number.{first_is, decimal_in}
+use Rattle.lexical.specs.Number.{first_is, decimal_in}
 use Rattle.isa.specs.declared.listing.fault.FaultKind.{FaultKind}
 use Rattle.isa.specs.declared.listing.fault.FaultKind.TheVariants.{BadOperands, BadRegister}
 use Rattle.instructions.specs.Registers.{general_count}

@@ -4,8 +4,8 @@ use Rattle.std.specs.List.{before_first, after_first}
 use Rattle.std.specs.Option.{option_map}
 use Rattle.std.specs.Int.{w32, to_le_bytes}
 use Rattle.std.specs.Str.{str_eq_ignore_ascii_case}
-use Rattle.text.specs.Blank.{is_blank}
-use Rattle.text.specs.Operand.{operands, only}
+use Rattle.lexical.specs.Blank.{is_blank}
+use Rattle.lexical.specs.Operand.{operands, only}
 use Rattle.instructions.specs.declared.op.Op.{Op}
 use Rattle.instructions.specs.declared.op.Op.TheVariants.{Mflo, Mfhi, Mtlo, Mthi, Jal, Jalr}
 use Rattle.instructions.specs.declared.instr.Instr.{Instr}

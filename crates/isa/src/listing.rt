@@ -1,6 +1,6 @@
 //! The listing language: from bytes to a program, or to the first fault.
 ghost use Rattle.std.specs.Prelude.{◌≡◌, ◌≢◌, ◌≤◌, ◌/◌, ◌%◌, ℕ, List, [], map, Option, Some, None, Ok, Err, length, OnOk, IfOk, IfErr};
-ghost use Rattle.text.specs.Line.{lines_of};
+ghost use Rattle.lexical.specs.Line.{lines_of};
 ghost use Rattle.isa.specs.Listing.{instruction_lines, resolve_number, resolved, first_fault, listing};
 ghost use Rattle.isa.specs.Late.{mark, pairs, double_line, or_other};
 ghost use Rattle.isa.specs.Held.{name_of, rows, LinesAreRead};

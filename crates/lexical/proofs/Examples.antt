@@ -1,11 +1,11 @@
 -- Numbers, lines and labels at the edges, computed by the definitions.
 use Rattle.std.proofs.Common.{◌≡◌, [], ◌∷◌, ◌++◌, Some, None, refl}
 use Rattle.std.specs.Prelude.{codes, true, false}
-use Rattle.text.specs.Name.{is_name, is_plain_text}
-use Rattle.text.specs.Line.{lines_of, before_comment}
-use Rattle.text.specs.Label.{labels_of, statement_of}
-use Rattle.text.specs.Operand.{operands}
-use Rattle.text.specs.Number.{number_in, decimal_in, magnitude, decimal, numeral}
+use Rattle.lexical.specs.Name.{is_name, is_plain_text}
+use Rattle.lexical.specs.Line.{lines_of, before_comment}
+use Rattle.lexical.specs.Label.{labels_of, statement_of}
+use Rattle.lexical.specs.Operand.{operands}
+use Rattle.lexical.specs.Number.{number_in, decimal_in, magnitude, decimal, numeral}
 
 -- ---- numbers
 

@@ -4,13 +4,13 @@ use Rattle.std.specs.List.{position}
 use Rattle.std.specs.Char.{is_ascii_digit}
 use Rattle.std.proofs.lemmas.Bool.{cases_lt, not_from_true, not_from_false, eqb-true}
 use Rattle.std.proofs.lemmas.List.{length-take-le, length-drop, drop_all, take-take}
-use Rattle.text.specs.Name.{goes_on_name, is_code_byte}
-use Rattle.text.specs.Label.{labels_of, statement_of, IsLabelLine}
-use Rattle.text.specs.Line.{plain_code, IsFirstCode}
-use Rattle.text.proofs.Splits.{position_some}
-use Rattle.text.proofs.Runs.{run_passes, first_at, in_front}
-use Rattle.text.proofs.Labels.{label_first}
-use Rattle.text.proofs.Lines.{code_first}
+use Rattle.lexical.specs.Name.{goes_on_name, is_code_byte}
+use Rattle.lexical.specs.Label.{labels_of, statement_of, IsLabelLine}
+use Rattle.lexical.specs.Line.{plain_code, IsFirstCode}
+use Rattle.lexical.proofs.Splits.{position_some}
+use Rattle.lexical.proofs.Runs.{run_passes, first_at, in_front}
+use Rattle.lexical.proofs.Labels.{label_first}
+use Rattle.lexical.proofs.Lines.{code_first}
 
 -- a byte of a name is one of code
 name_is_code : (b : ℕ) → goes_on_name b ≡ true → is_code_byte b ≡ true

@@ -5,11 +5,11 @@ use Rattle.std.specs.Char.{is_ascii_digit}
 use Rattle.std.proofs.lemmas.Bool.{and_from, not_from_false, ne_eqb}
 use Rattle.std.proofs.lemmas.List.{length-take-le}
 use Rattle.std.proofs.lemmas.List.Splits.{join_with_byte-slice_split}
-use Rattle.text.specs.Blank.{is_blank, trim}
-use Rattle.text.specs.Name.{goes_on_name, is_name}
-use Rattle.text.specs.Label.{labels_of, statement_of}
-use Rattle.text.proofs.Splits.{position_some, split_some}
-use Rattle.text.proofs.Runs.{run_passes, pass_together, first_at, other_byte, in_front, trim_whole}
+use Rattle.lexical.specs.Blank.{is_blank, trim}
+use Rattle.lexical.specs.Name.{goes_on_name, is_name}
+use Rattle.lexical.specs.Label.{labels_of, statement_of}
+use Rattle.lexical.proofs.Splits.{position_some, split_some}
+use Rattle.lexical.proofs.Runs.{run_passes, pass_together, first_at, other_byte, in_front, trim_whole}
 
 -- a cut has one part or more
 pub split_shape : (p : ℕ → Bool) (xs : List ℕ) → (q : List ℕ) × (qs : List (List ℕ)) × (slice_split p xs ≡ q ∷ qs)

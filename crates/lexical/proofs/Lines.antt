@@ -4,10 +4,10 @@ use Rattle.std.proofs.lemmas.Bool.{cases_Bool}
 use Rattle.std.specs.Prelude.{nat_le}
 use Rattle.std.specs.List.{slice_split, position}
 use Rattle.std.specs.Str.Lines.{strip_carriage_return}
-use Rattle.text.specs.Name.{is_code_byte, is_plain, is_plain_text}
-use Rattle.text.specs.Line.{before_comment, plain_code, IsFirstCode}
-use Rattle.text.proofs.Splits.{position_some, split_whole, split_some}
-use Rattle.text.proofs.Runs.{run_passes, all_pass, pass_together, first_at, none_passes, whole_before, other_byte, in_front, front_length, strip_whole}
+use Rattle.lexical.specs.Name.{is_code_byte, is_plain, is_plain_text}
+use Rattle.lexical.specs.Line.{before_comment, plain_code, IsFirstCode}
+use Rattle.lexical.proofs.Splits.{position_some, split_whole, split_some}
+use Rattle.lexical.proofs.Runs.{run_passes, all_pass, pass_together, first_at, none_passes, whole_before, other_byte, in_front, front_length, strip_whole}
 
 plain_too : (x y z w : Bool) → (x || (y && (z && w))) ≡ true → (x || (y && z)) ≡ true
 plain_too true y z w h = refl

@@ -7,7 +7,7 @@ use Rattle.std.proofs.lemmas.Bool.{cases_lt}
 use Rattle.std.proofs.lemmas.Bool.Decides.{nat_tests}
 use Rattle.std.proofs.Math.Nat.{mul-le-mul_left}
 use Rattle.std.proofs.lemmas.List.{drop_more}
-use Rattle.text.specs.Number.{capped, at_most}
+use Rattle.lexical.specs.Number.{capped, at_most}
 
 pub capped_step : (radix v w d : ℕ) → 1 ≤ radix → capped v ≡ capped w → capped (v * radix + d) ≡ capped (w * radix + d)
 capped_step radix v w d r e = elim (cases_lt v 4294967296) [

@@ -1,8 +1,8 @@
 -- The operands that are left.
 use Rattle.std.proofs.Common.{◌≡◌, ℕ, eqb, List, ◌∷◌, ◌∙◌, map, Some, None, sym, ap}
-use Rattle.text.specs.Blank.{trim}
-use Rattle.text.specs.Operand.{operands_left, only}
-use Rattle.text.proofs.Labels.{split_shape}
+use Rattle.lexical.specs.Blank.{trim}
+use Rattle.lexical.specs.Operand.{operands_left, only}
+use Rattle.lexical.proofs.Labels.{split_shape}
 
 -- where something is left behind an operand, it is not the only one
 pub only_more : (part : List (List ℕ)) (t rest : List ℕ) → part ≡ t ∷ operands_left (Some rest) → None ≡ only part

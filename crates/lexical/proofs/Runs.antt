@@ -6,8 +6,8 @@ use Rattle.std.proofs.lemmas.Bool.{not-false, lt-ltb, cases_eq, ne_eqb, both_way
 use Rattle.std.proofs.lemmas.List.{take_all, get_or-take, length-take}
 use Rattle.std.proofs.lemmas.List.Elements.{All-from_get_or}
 use Rattle.std.proofs.lemmas.List.Sums.{fails_before_first, position_or_len_is, suffix_len_is, list_all-from_AllPass}
-use Rattle.text.specs.Blank.{is_blank, trim}
-use Rattle.text.proofs.Splits.{position_none, position_some}
+use Rattle.lexical.specs.Blank.{is_blank, trim}
+use Rattle.lexical.proofs.Splits.{position_none, position_some}
 
 module _ (p : ℕ → Bool) (xs : List ℕ) where
   -- each byte before the first other one is of the kind

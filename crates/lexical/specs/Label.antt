@@ -2,9 +2,9 @@
 -- and then at most one statement.
 use Rattle.std.specs.Prelude.{◌≡◌, ℕ, ◌==◌, List, [], ◌∷◌, Some, if◌then◌else◌}
 use Rattle.std.specs.List.{slice_split, join_with_byte}
-use Rattle.text.specs.Blank.{trim}
-use Rattle.text.specs.Name.{is_name}
-use Rattle.text.specs.Line.{lines_of, plain_code}
+use Rattle.lexical.specs.Blank.{trim}
+use Rattle.lexical.specs.Name.{is_name}
+use Rattle.lexical.specs.Line.{lines_of, plain_code}
 
 -- Of the parts between colons, the names at the front are labels; the last part is none.
 abbrev pub labels_in : List (List ℕ) → List (List ℕ)

@@ -2,7 +2,7 @@
 use Rattle.std.specs.Prelude.{◌≡◌, ℕ, ◌==◌, List, [], ◌∷◌, map, Option, Some, None, if◌then◌else◌}
 use Rattle.std.specs.List.{slice_split, before_first}
 use Rattle.std.specs.Str.Lines.{strip_carriage_return}
-use Rattle.text.specs.Name.{is_plain_text}
+use Rattle.lexical.specs.Name.{is_plain_text}
 
 -- Lines end by a line feed, and the last one may lack it. A carriage return just before a line
 -- feed, or at the very end, is dropped.

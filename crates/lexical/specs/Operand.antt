@@ -1,8 +1,8 @@
 -- The operands of a statement.
 use Rattle.std.specs.Prelude.{ℕ, ◌-◌, ◌==◌, ◌&&◌, not, List, [], ◌∷◌, map, length, take, slice_index, Option, Some, None, if◌then◌else◌}
 use Rattle.std.specs.List.{slice_split, before_first}
-use Rattle.text.specs.Blank.{trim}
-use Rattle.text.specs.Cut.{after_byte}
+use Rattle.lexical.specs.Blank.{trim}
+use Rattle.lexical.specs.Cut.{after_byte}
 
 -- the operands of what is left of an operand part
 abbrev pub operands_left : Option (List ℕ) → List (List ℕ)

@@ -2,7 +2,7 @@
 
 ghost use Rattle.std.specs.Prelude.{◌≡◌, ◌==◌, position};
 ghost use Rattle.std.specs.List.{before_first, after_first};
-ghost use Rattle.text.specs.Blank.{is_blank, trim, trim_start, trim_end};
+ghost use Rattle.lexical.specs.Blank.{is_blank, trim, trim_start, trim_end};
 
 fn is_blank(b: u8) -> bool
     ensures { result ≡ is_blank b }

@@ -3,7 +3,7 @@
 ghost use Rattle.std.specs.Prelude.{◌≡◌, ◌==◌, ◌<◌, ◌∷◌, length, IfSome, IfNone, position};
 ghost use Rattle.std.specs.List.{before_first, slice_split};
 ghost use Rattle.std.specs.Option.{option_map};
-ghost use Rattle.text.specs.Cut.{after_byte, parts_left};
+ghost use Rattle.lexical.specs.Cut.{after_byte, parts_left};
 
 fn find_byte(text: &[u8], at: u8) -> Option<usize>
     ensures { result ≡ position (λ b. b == at) text.now }

@@ -1,8 +1,8 @@
 //! The labels at the front of a line.
 
 ghost use Rattle.std.specs.Prelude.{◌≡◌, ◌∷◌, ◌<◌, [], length, IfSome, IfNone};
-ghost use Rattle.text.specs.Blank.{trim};
-ghost use Rattle.text.specs.Label.{labels_of, statement_of, IsLabelLine};
+ghost use Rattle.lexical.specs.Blank.{trim};
+ghost use Rattle.lexical.specs.Label.{labels_of, statement_of, IsLabelLine};
 
 use crate::blank::trim;
 use crate::cuts::cut;

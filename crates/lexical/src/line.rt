@@ -3,7 +3,7 @@
 ghost use Rattle.std.specs.Prelude.{◌≡◌, ◌∷◌, ◌<◌, Some, length, IfSome};
 ghost use Rattle.std.specs.Option.{option_map};
 ghost use Rattle.std.specs.Str.Lines.{strip_carriage_return};
-ghost use Rattle.text.specs.Line.{lines_of, lines_left, before_comment, plain_code, IsFirstCode};
+ghost use Rattle.lexical.specs.Line.{lines_of, lines_left, before_comment, plain_code, IsFirstCode};
 
 use crate::cuts::cut;
 use crate::name::{end_of_code, is_plain_text};

@@ -2,7 +2,7 @@
 
 ghost use Rattle.std.specs.Prelude.{◌≡◌, not, position};
 ghost use Rattle.std.specs.List.{list_all};
-ghost use Rattle.text.specs.Name.{goes_on_name, is_name, is_plain_text, is_code_byte};
+ghost use Rattle.lexical.specs.Name.{goes_on_name, is_name, is_plain_text, is_code_byte};
 
 /// Each byte of a name stands at its own place, and a comma at each other place.
 static NAME_BYTES: [u8; 256] = *b"\

@@ -2,8 +2,8 @@
 
 ghost use Rattle.std.specs.Prelude.{◌≡◌, ◌≤◌, IfSome};
 ghost use Rattle.std.specs.Option.{option_map};
-ghost use Rattle.text.specs.Number.{capped, first_is, numeral, has_leading_zero, decimal, starts_hex, magnitude};
-ghost use Rattle.text.specs.Number.{begins_number, without_sign, at_most, number_in, decimal_in};
+ghost use Rattle.lexical.specs.Number.{capped, first_is, numeral, has_leading_zero, decimal, starts_hex, magnitude};
+ghost use Rattle.lexical.specs.Number.{begins_number, without_sign, at_most, number_in, decimal_in};
 
 /// Above every number that is asked for. A magnitude that is greater is taken for this one.
 const CAP: u64 = 0x1_0000_0000;

@@ -2,7 +2,7 @@
 
 ghost use Rattle.std.specs.Prelude.{◌≡◌, ◌∷◌, ◌<◌, ◌-◌, Some, length, IfSome, ℕ, List};
 ghost use Rattle.std.specs.Option.{option_map};
-ghost use Rattle.text.specs.Operand.{operands, operands_left, only, parenthesized, before_close};
+ghost use Rattle.lexical.specs.Operand.{operands, operands_left, only, parenthesized, before_close};
 
 use crate::blank::trim;
 use crate::cuts::cut;

@@ -1,6 +1,6 @@
 -- Which text is a listing of a file.
 use Rattle.std.specs.Prelude.{⊤, ℕ, List, length, ◌<◌}
-use Rattle.conversion.specs.Conversion.{IsSaid}
+use Rattle.disassembly.specs.Conversion.{IsSaid}
 
 -- one byte more than a file may have
 abbrev pub most_of_file : ℕ

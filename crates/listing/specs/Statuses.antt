@@ -1,8 +1,8 @@
 -- The exit statuses of the program.
 use Rattle.std.specs.Prelude.{ℕ}
-use Rattle.conversion.specs.declared.refusal.Refusal.TheVariants.{Memory}
-use Rattle.devices.specs.declared.reply.Unanswered.{Unanswered}
-use Rattle.devices.specs.declared.reply.Unanswered.TheVariants as no
+use Rattle.disassembly.specs.declared.refusal.Refusal.TheVariants.{Memory}
+use Rattle.counted_io.specs.declared.reply.Unanswered.{Unanswered}
+use Rattle.counted_io.specs.declared.reply.Unanswered.TheVariants as no
 use Rattle.listing.specs.declared.no_listing.NoListing.{NoListing}
 use Rattle.listing.specs.declared.no_listing.NoListing.TheVariants.{Refused}
 

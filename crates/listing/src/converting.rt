@@ -1,13 +1,13 @@
 //! From the bytes of a reader to the listing that a writer gets.
 ghost use Rattle.std.specs.Prelude.{◌≡◌, ◌-◌, ◌^◌, ◌<◌, IfErr, OnOk};
-ghost use Rattle.devices.specs.Counted.{failures_of};
-ghost use Rattle.devices.specs.Replies.{HasReplied, IsUnanswered};
+ghost use Rattle.counted_io.specs.Counted.{failures_of};
+ghost use Rattle.counted_io.specs.Replies.{HasReplied, IsUnanswered};
 ghost use Rattle.listing.specs.Listings.{HasListing, IsListingOf, most_of_file};
 ghost use Rattle.listing.specs.Whole.{whole};
 
 use crate::no_listing::NoListing;
-use conversion::listing_of;
-use devices::{Counted, Reply, Unanswered, reply_to};
+use counted_io::{Counted, Reply, Unanswered, reply_to};
+use disassembly::listing_of;
 use std::alloc::Global;
 use std::io::{Read, Write};
 

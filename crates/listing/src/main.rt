@@ -8,9 +8,9 @@ ghost use Rattle.listing.specs.Statuses.{status_without_listing};
 mod converting;
 mod no_listing;
 
-use conversion::Refusal;
 use converting::convert;
-use devices::{ClosedStreams, Counted, Unanswered};
+use counted_io::{ClosedStreams, Counted, Unanswered};
+use disassembly::Refusal;
 use no_listing::NoListing;
 use std::env;
 use std::fs::File;

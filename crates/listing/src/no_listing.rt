@@ -1,9 +1,9 @@
 //! Why a file has no listing.
 ghost use Rattle.std.specs.Prelude.{◌≡◌};
-ghost use Rattle.conversion.specs.declared.refusal.Refusal.TheVariants.{Memory};
+ghost use Rattle.disassembly.specs.declared.refusal.Refusal.TheVariants.{Memory};
 ghost use Rattle.listing.specs.declared.no_listing.NoListing.TheVariants.{Refused};
 
-use conversion::Refusal;
+use disassembly::Refusal;
 use std::alloc::AllocError;
 use std::fmt;
 

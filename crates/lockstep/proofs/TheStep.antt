@@ -13,7 +13,7 @@ use Rattle.instructions.specs.Programs.{Program, address, instr_at, instr_of, te
 use Rattle.inorder.specs.Machine.{Goes, Halts, Ran, State, after_access, fetched, ran, step}
 use Rattle.inorder.specs.Runs.{end_after, end_from}
 use Rattle.inorder.proofs.Basics.{length_put}
-use Rattle.machine_words.specs.Words.{decode}
+use Rattle.encoding.specs.Words.{decode}
 use Rattle.lockstep.specs.Step.{step_at, step_by, step_over, word_at}
 use Rattle.lockstep.specs.Law.{ARunIsTheMachines, AStepIsTheMachines, IsTextOf, end_behind, end_over}
 

@@ -5,7 +5,7 @@ use Rattle.instructions.specs.declared.end.Ending.TheVariants.{Stop as ByStop, L
 use Rattle.instructions.specs.Programs.{Program, address, instr_of}
 use Rattle.inorder.specs.Machine.{State, Ran, Goes, Halts, step}
 use Rattle.inorder.specs.Runs.{end_from}
-use Rattle.machine_words.specs.Words.{decode}
+use Rattle.encoding.specs.Words.{decode}
 use Rattle.lockstep.specs.Step.{step_over}
 
 -- each word of a text says the instruction of a program that stands at its address

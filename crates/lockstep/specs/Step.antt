@@ -4,7 +4,7 @@ use Rattle.instructions.specs.declared.instr.Instr.{Instr}
 use Rattle.instructions.specs.declared.stop.Stop.TheVariants.{BadPc}
 use Rattle.instructions.specs.Programs.{text_start, address}
 use Rattle.inorder.specs.Machine.{State, Ran, Goes, Halts, fetched}
-use Rattle.machine_words.specs.Words.{decode}
+use Rattle.encoding.specs.Words.{decode}
 use Rattle.lockstep.specs.declared.stepping.Answer.{Answer}
 use Rattle.lockstep.specs.declared.stepping.Answer.TheVariants.{Went, Stopped, NoOperation}
 

@@ -2,12 +2,12 @@
 ghost use Rattle.std.specs.Prelude.{◌≡◌, ◌≤◌, ◌+◌, length, slice_index};
 ghost use Rattle.instructions.specs.Instruction.{kind as kind_of, width as width_of, pc_plus_4 as pc_plus_4_of};
 ghost use Rattle.inorder.specs.Machine.{after_access, write as written};
-ghost use Rattle.machine_words.specs.Words.{decode as decode_of};
+ghost use Rattle.encoding.specs.Words.{decode as decode_of};
 ghost use Rattle.lockstep.specs.Step.{word_at as word_of, step_over, state_of, Holds, IsStepped};
 
+use encoding::decode;
 use inorder::data::{number, store};
 use instructions::{Half, Instr, Kind, Outcome, Program, Reg, Stop, loaded, outcome, pc_plus_4};
-use machine_words::decode;
 
 /// The answer of a step.
 #[derive(Clone, Copy, Debug, PartialEq, Eq)]

@@ -2,12 +2,12 @@
 use Rattle.std.proofs.Common.{◌≡◌, ◌<◌, ◌≤◌, ◌-◌, ◌+◌, ℕ, zero, suc, Bool, true, false, cond, List, [], ◌∷◌, ◌++◌, length, take, drop, set, Option, Some, None, refl, sym, ap, ◌∙◌, arith}
 use Rattle.std.specs.Prelude.{slice_get}
 use Rattle.circular_buffer.proofs.Places.{slice_get-take}
-use Rattle.unit.specs.declared.station.Station.{Station}
-use Rattle.unit.specs.Creators.{IsOfSame}
-use Rattle.unit.specs.Slots.{ring_of, slot_of}
-use Rattle.unit.specs.Window.{access_at, accesses, reaches_memory}
-use Rattle.unit.proofs.Scan.{get_end, get_left}
-use Rattle.unit.proofs.Slots.{ring_cut, ring_length, ring_push, ring_set, ring_shift}
+use Rattle.one_thread.specs.declared.station.Station.{Station}
+use Rattle.one_thread.specs.Creators.{IsOfSame}
+use Rattle.one_thread.specs.Slots.{ring_of, slot_of}
+use Rattle.one_thread.specs.Window.{access_at, accesses, reaches_memory}
+use Rattle.one_thread.proofs.Scan.{get_end, get_left}
+use Rattle.one_thread.proofs.Slots.{ring_cut, ring_length, ring_push, ring_set, ring_shift}
 
 -- Lists
 

@@ -6,20 +6,20 @@ use Rattle.instructions.specs.declared.op.Half.TheVariants.{Low}
 use Rattle.inorder.specs.Committed.{with_low}
 use Rattle.inorder.specs.Unit.{half_after}
 use Rattle.inorder.proofs.SettledRegisters.{length_registers}
-use Rattle.unit.specs.declared.dispatch.Fetched.{Fetched}
-use Rattle.unit.specs.declared.future.Future.{Future}
-use Rattle.unit.specs.declared.pipeline.Pipeline.{Pipeline}
-use Rattle.unit.specs.declared.station.Station.{Station}
-use Rattle.unit.specs.Changes.{registers_of}
-use Rattle.unit.specs.Givers.{Chosen, NoneGives}
-use Rattle.unit.specs.Notes.{AreSettled, miss_in, settled_at}
-use Rattle.unit.specs.StandsFor.{StandsForSome}
-use Rattle.unit.specs.Steady.{AwaitRetirement, AwaitsRetirement, EndsWith, Follows, Foresees}
-use Rattle.unit.specs.Window.{half_behind, half_in}
-use Rattle.unit.proofs.Found.{get_append}
-use Rattle.unit.proofs.Known.{ahead_stands}
-use Rattle.unit.proofs.Scan.{get_end}
-use Rattle.unit.proofs.Settled.{settled_no_miss}
+use Rattle.one_thread.specs.declared.dispatch.Fetched.{Fetched}
+use Rattle.one_thread.specs.declared.future.Future.{Future}
+use Rattle.one_thread.specs.declared.pipeline.Pipeline.{Pipeline}
+use Rattle.one_thread.specs.declared.station.Station.{Station}
+use Rattle.one_thread.specs.Changes.{registers_of}
+use Rattle.one_thread.specs.Givers.{Chosen, NoneGives}
+use Rattle.one_thread.specs.Notes.{AreSettled, miss_in, settled_at}
+use Rattle.one_thread.specs.StandsFor.{StandsForSome}
+use Rattle.one_thread.specs.Steady.{AwaitRetirement, AwaitsRetirement, EndsWith, Follows, Foresees}
+use Rattle.one_thread.specs.Window.{half_behind, half_in}
+use Rattle.one_thread.proofs.Found.{get_append}
+use Rattle.one_thread.proofs.Known.{ahead_stands}
+use Rattle.one_thread.proofs.Scan.{get_end}
+use Rattle.one_thread.proofs.Settled.{settled_no_miss}
 
 pub none_is : {X : Type 0} → (o : Option X) → is_some o ≡ false → o ≡ None
 none_is None e = refl

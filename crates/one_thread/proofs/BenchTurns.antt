@@ -9,32 +9,32 @@ use Rattle.instructions.specs.declared.stop.Stop.{Stop}
 use Rattle.inorder.specs.Tenants.{instr}
 use Rattle.inorder.specs.Unit.{UpdateUnit}
 use Rattle.inorder.specs.Moves.{IsReached}
-use Rattle.unit.specs.declared.bench.Turn.{Turn}
-use Rattle.unit.specs.declared.bench.Turn.TheVariants.{Halved, Let, Loaded, Over, Ran, Recovered, Retired}
-use Rattle.unit.specs.declared.dispatch.Fetched.{Fetched}
+use Rattle.one_thread.specs.declared.bench.Turn.{Turn}
+use Rattle.one_thread.specs.declared.bench.Turn.TheVariants.{Halved, Let, Loaded, Over, Ran, Recovered, Retired}
+use Rattle.one_thread.specs.declared.dispatch.Fetched.{Fetched}
 use Rattle.instructions.specs.declared.guessing.Leaver.{Leaver}
-use Rattle.unit.specs.declared.pipeline.Pipeline.{Pipeline}
-use Rattle.unit.specs.Givers.{NoneGives}
-use Rattle.unit.specs.Leavers.{leaver}
-use Rattle.unit.specs.Notes.{AreNoted, miss_in}
-use Rattle.unit.specs.Stages.{CanLet, RecoversTo}
-use Rattle.unit.specs.StandsFor.{HasStopped, OverIs, StandsFor, StandsForSome, sizes}
-use Rattle.unit.specs.Turns.{Before, BenchFields, Falls, IsPlain, Moves, SizesStay, Trains, rank}
-use Rattle.unit.specs.Order.{IsTurn, MovesFirst}
-use Rattle.unit.specs.Possible.{ToRecover}
-use Rattle.unit.specs.Steps.{MadeAs, Makes, named}
-use Rattle.unit.specs.declared.possible.Step.{Step}
-use Rattle.unit.specs.declared.possible.Step.TheVariants.{Let as LetStep}
-use Rattle.unit.proofs.Moved.{MovesAs, moves_as}
-use Rattle.unit.proofs.Tests.{no_miss}
-use Rattle.unit.specs.Window.{let_at}
-use Rattle.unit.proofs.Inside.{window_room}
-use Rattle.unit.proofs.Idle.{Comes, Shows, same_rest}
-use Rattle.unit.proofs.LetTurns.{LetTurned, let_turn}
-use Rattle.unit.proofs.Noted.{noted_more}
-use Rattle.unit.proofs.Ranks.{let_falls, recover_falls}
-use Rattle.unit.proofs.Start.{unit_next}
-use Rattle.unit.proofs.Turns.{none_in, recovered_first, recovered_turn}
+use Rattle.one_thread.specs.declared.pipeline.Pipeline.{Pipeline}
+use Rattle.one_thread.specs.Givers.{NoneGives}
+use Rattle.one_thread.specs.Leavers.{leaver}
+use Rattle.one_thread.specs.Notes.{AreNoted, miss_in}
+use Rattle.one_thread.specs.Stages.{CanLet, RecoversTo}
+use Rattle.one_thread.specs.StandsFor.{HasStopped, OverIs, StandsFor, StandsForSome, sizes}
+use Rattle.one_thread.specs.Turns.{Before, BenchFields, Falls, IsPlain, Moves, SizesStay, Trains, rank}
+use Rattle.one_thread.specs.Order.{IsTurn, MovesFirst}
+use Rattle.one_thread.specs.Possible.{ToRecover}
+use Rattle.one_thread.specs.Steps.{MadeAs, Makes, named}
+use Rattle.one_thread.specs.declared.possible.Step.{Step}
+use Rattle.one_thread.specs.declared.possible.Step.TheVariants.{Let as LetStep}
+use Rattle.one_thread.proofs.Moved.{MovesAs, moves_as}
+use Rattle.one_thread.proofs.Tests.{no_miss}
+use Rattle.one_thread.specs.Window.{let_at}
+use Rattle.one_thread.proofs.Inside.{window_room}
+use Rattle.one_thread.proofs.Idle.{Comes, Shows, same_rest}
+use Rattle.one_thread.proofs.LetTurns.{LetTurned, let_turn}
+use Rattle.one_thread.proofs.Noted.{noted_more}
+use Rattle.one_thread.proofs.Ranks.{let_falls, recover_falls}
+use Rattle.one_thread.proofs.Start.{unit_next}
+use Rattle.one_thread.proofs.Turns.{none_in, recovered_first, recovered_turn}
 
 -- The unit has ended before
 

@@ -10,24 +10,24 @@ use Rattle.inorder.specs.Tenants.{operand_value}
 use Rattle.inorder.proofs.Sound.{IsSound}
 use Rattle.inorder.proofs.OneCaller.Middle.{sound_from}
 use Rattle.inorder.proofs.OneCaller.Sequences.{sound_of}
-use Rattle.unit.specs.declared.execute.Operands.{Operands}
-use Rattle.unit.specs.declared.pipeline.Pipeline.{Pipeline}
-use Rattle.unit.specs.declared.station.Stage.{Stage}
-use Rattle.unit.specs.declared.station.Stage.TheVariants.{Open as Opens, Addr as HasAddr, Done as IsDone, Miss as Misses, Stops}
-use Rattle.unit.specs.declared.station.Station.{Station}
-use Rattle.unit.specs.Changes.{registers_of}
-use Rattle.unit.specs.Givers.{NoneGives, given_at, gives}
-use Rattle.unit.specs.Leaves.{HasEnded, OldestHasEnded}
-use Rattle.unit.specs.Loads.{load_in, waits_by}
-use Rattle.unit.specs.Notes.{miss_in}
-use Rattle.unit.specs.Stages.{CannotLet}
-use Rattle.unit.specs.StandsFor.{StandsForSome, sizes}
-use Rattle.unit.specs.Window.{miss_of, operands_by, operands_in, source_in, where_open}
-use Rattle.unit.proofs.Found.{Found, found}
-use Rattle.unit.specs.Notes.{settled_at, settled_by}
-use Rattle.unit.specs.Loads.{loaded_over}
-use Rattle.unit.proofs.Inside.{IsAccess, IsLoad, IsStore, access_of, are_inside, comes_to}
-use Rattle.unit.proofs.Fates.{addr_fate}
+use Rattle.one_thread.specs.declared.execute.Operands.{Operands}
+use Rattle.one_thread.specs.declared.pipeline.Pipeline.{Pipeline}
+use Rattle.one_thread.specs.declared.station.Stage.{Stage}
+use Rattle.one_thread.specs.declared.station.Stage.TheVariants.{Open as Opens, Addr as HasAddr, Done as IsDone, Miss as Misses, Stops}
+use Rattle.one_thread.specs.declared.station.Station.{Station}
+use Rattle.one_thread.specs.Changes.{registers_of}
+use Rattle.one_thread.specs.Givers.{NoneGives, given_at, gives}
+use Rattle.one_thread.specs.Leaves.{HasEnded, OldestHasEnded}
+use Rattle.one_thread.specs.Loads.{load_in, waits_by}
+use Rattle.one_thread.specs.Notes.{miss_in}
+use Rattle.one_thread.specs.Stages.{CannotLet}
+use Rattle.one_thread.specs.StandsFor.{StandsForSome, sizes}
+use Rattle.one_thread.specs.Window.{miss_of, operands_by, operands_in, source_in, where_open}
+use Rattle.one_thread.proofs.Found.{Found, found}
+use Rattle.one_thread.specs.Notes.{settled_at, settled_by}
+use Rattle.one_thread.specs.Loads.{loaded_over}
+use Rattle.one_thread.proofs.Inside.{IsAccess, IsLoad, IsStore, access_of, are_inside, comes_to}
+use Rattle.one_thread.proofs.Fates.{addr_fate}
 use Rattle.inorder.specs.Unit.{can_be_written}
 
 -- What the tests of the earlier turns leave

@@ -9,22 +9,22 @@ use Rattle.inorder.specs.Steps.{settled}
 use Rattle.inorder.specs.Tenants.{Live, Tenant}
 use Rattle.inorder.specs.Unit.{UpdateUnit, how_many}
 use Rattle.inorder.specs.Tenants.{is_live}
-use Rattle.unit.proofs.Windows.{window_length}
+use Rattle.one_thread.proofs.Windows.{window_length}
 use Rattle.inorder.specs.Moves.{IsDeliver, IsReached, Leads, with_tenants}
 use Rattle.inorder.specs.Still.{AreStill}
 use Rattle.inorder.proofs.OneCaller.Execution.{ActRun}
 use Rattle.inorder.proofs.OneCaller.Sequences.{all_more, all_weaker, committed_on, deliver_quiet, sound_of}
-use Rattle.unit.specs.declared.pipeline.Pipeline.{Pipeline}
-use Rattle.unit.specs.declared.station.Station.{Station}
-use Rattle.unit.specs.Leavers.{leaver}
-use Rattle.unit.specs.StandsFor.{StandsFor, sizes}
-use Rattle.unit.specs.Window.{station_of, window}
-use Rattle.unit.proofs.Waiting.{LeavesSame, same_alike, same_both, same_put}
-use Rattle.unit.proofs.Found.{window_alike, window_middle}
-use Rattle.unit.proofs.Leavers.{leaver_alike, leaver_put, told_live}
-use Rattle.unit.proofs.Scan.{set_middle}
-use Rattle.unit.proofs.Turns.{FoundIn, stand_on}
-use Rattle.unit.proofs.Known.{IsSplit}
+use Rattle.one_thread.specs.declared.pipeline.Pipeline.{Pipeline}
+use Rattle.one_thread.specs.declared.station.Station.{Station}
+use Rattle.one_thread.specs.Leavers.{leaver}
+use Rattle.one_thread.specs.StandsFor.{StandsFor, sizes}
+use Rattle.one_thread.specs.Window.{station_of, window}
+use Rattle.one_thread.proofs.Waiting.{LeavesSame, same_alike, same_both, same_put}
+use Rattle.one_thread.proofs.Found.{window_alike, window_middle}
+use Rattle.one_thread.proofs.Leavers.{leaver_alike, leaver_put, told_live}
+use Rattle.one_thread.proofs.Scan.{set_middle}
+use Rattle.one_thread.proofs.Turns.{FoundIn, stand_on}
+use Rattle.one_thread.proofs.Known.{IsSplit}
 
 -- One tenant is changed in place, and all that is due delivered
 pub changed_stands : (b later : Pipeline) (U : UpdateUnit) (ys : List Tenant) (t u : Tenant) (ts : List Tenant) (steps : List Step) (w : Station) → b.over ≡ None → IsReached b.program.now (sizes b) U →

@@ -6,28 +6,28 @@ use Rattle.std.proofs.lemmas.Option.{slice_get-map}
 use Rattle.instructions.specs.declared.instr.Instr.{Instr}
 use Rattle.instructions.specs.declared.stop.Stop.{Stop}
 use Rattle.instructions.specs.declared.stop.Stop.TheVariants.{BadPc}
-use Rattle.unit.specs.declared.bench.Turn.{Turn}
-use Rattle.unit.specs.declared.bench.Turn.TheVariants.{Over}
-use Rattle.unit.specs.declared.dispatch.Fetched.{Fetched}
-use Rattle.unit.specs.declared.pipeline.Pipeline.{Pipeline}
-use Rattle.unit.specs.declared.possible.Step.{Step}
-use Rattle.unit.specs.declared.possible.Step.TheVariants.{Retire}
-use Rattle.unit.specs.declared.recovery.Missed.{Missed}
-use Rattle.unit.specs.declared.station.Station.{Station}
-use Rattle.unit.specs.Changes.{NextOf, registers_of}
-use Rattle.unit.specs.Choices.{IsTurnBy, Nothing, OneOf}
-use Rattle.unit.specs.Loads.{load_in}
-use Rattle.unit.specs.Notes.{settled_at}
-use Rattle.unit.specs.Possible.{possible, steps_of}
-use Rattle.unit.specs.Stages.{FirstMiss}
-use Rattle.unit.specs.StandsFor.{HasStopped, OverIs, StandsForSome, sizes}
-use Rattle.unit.specs.Steps.{ArePossible, Makes, load_at, loads_of, named, next_let, recovery, retirement_of, run_at, runs_of}
-use Rattle.unit.specs.Turns.{Before, BenchFields, Moves}
-use Rattle.unit.specs.Window.{operands_in}
-use Rattle.unit.proofs.CanLeave.{Refused, refused_settles}
-use Rattle.unit.proofs.Leaving.{nowhere_turn}
-use Rattle.unit.proofs.Listed.{given_none}
-use Rattle.unit.proofs.PossibleUnit.{one_stopped, possible_is}
+use Rattle.one_thread.specs.declared.bench.Turn.{Turn}
+use Rattle.one_thread.specs.declared.bench.Turn.TheVariants.{Over}
+use Rattle.one_thread.specs.declared.dispatch.Fetched.{Fetched}
+use Rattle.one_thread.specs.declared.pipeline.Pipeline.{Pipeline}
+use Rattle.one_thread.specs.declared.possible.Step.{Step}
+use Rattle.one_thread.specs.declared.possible.Step.TheVariants.{Retire}
+use Rattle.one_thread.specs.declared.recovery.Missed.{Missed}
+use Rattle.one_thread.specs.declared.station.Station.{Station}
+use Rattle.one_thread.specs.Changes.{NextOf, registers_of}
+use Rattle.one_thread.specs.Choices.{IsTurnBy, Nothing, OneOf}
+use Rattle.one_thread.specs.Loads.{load_in}
+use Rattle.one_thread.specs.Notes.{settled_at}
+use Rattle.one_thread.specs.Possible.{possible, steps_of}
+use Rattle.one_thread.specs.Stages.{FirstMiss}
+use Rattle.one_thread.specs.StandsFor.{HasStopped, OverIs, StandsForSome, sizes}
+use Rattle.one_thread.specs.Steps.{ArePossible, Makes, load_at, loads_of, named, next_let, recovery, retirement_of, run_at, runs_of}
+use Rattle.one_thread.specs.Turns.{Before, BenchFields, Moves}
+use Rattle.one_thread.specs.Window.{operands_in}
+use Rattle.one_thread.proofs.CanLeave.{Refused, refused_settles}
+use Rattle.one_thread.proofs.Leaving.{nowhere_turn}
+use Rattle.one_thread.proofs.Listed.{given_none}
+use Rattle.one_thread.proofs.PossibleUnit.{one_stopped, possible_is}
 
 -- The list that is chosen from
 

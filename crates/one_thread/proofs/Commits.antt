@@ -14,14 +14,14 @@ use Rattle.inorder.proofs.Pairs.{first_half_computes}
 use Rattle.inorder.proofs.SettledRegisters.{next_leaves}
 use Rattle.inorder.proofs.Sound.{DoneBy, FateIs, IsSoundAt}
 use Rattle.inorder.specs.Still.{IsNotBusy}
-use Rattle.unit.specs.declared.pipeline.Pipeline.{Pipeline}
-use Rattle.unit.specs.Changes.{ahead_of, registers_of}
-use Rattle.unit.specs.Leavers.{told_at, told_by, told_of}
-use Rattle.unit.specs.Leaves.{memory_with, with_station}
-use Rattle.unit.specs.Window.{source_in, stage_of, station_of}
-use Rattle.unit.proofs.Leavers.{told_done, told_store}
-use Rattle.unit.proofs.CanLeave.{source_first}
-use Rattle.unit.proofs.Inside.{comes_to}
+use Rattle.one_thread.specs.declared.pipeline.Pipeline.{Pipeline}
+use Rattle.one_thread.specs.Changes.{ahead_of, registers_of}
+use Rattle.one_thread.specs.Leavers.{told_at, told_by, told_of}
+use Rattle.one_thread.specs.Leaves.{memory_with, with_station}
+use Rattle.one_thread.specs.Window.{source_in, stage_of, station_of}
+use Rattle.one_thread.proofs.Leavers.{told_done, told_store}
+use Rattle.one_thread.proofs.CanLeave.{source_first}
+use Rattle.one_thread.proofs.Inside.{comes_to}
 
 -- the station of the tenant, and the tenant that has retired, commit the same
 pub record CommitsSame (P : Program) (t : Tenant) (s : State) : Type 0 where

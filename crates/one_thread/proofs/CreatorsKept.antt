@@ -6,11 +6,11 @@ use Rattle.std.proofs.lemmas.List.{get_or-set_same, get_or-set_other, length-set
 use Rattle.std.proofs.lemmas.Option.{slice_get_within}
 use Rattle.circular_buffer.proofs.Places.{slice_get-append_left, slice_get-drop, slice_get-last, slice_get-push, slice_get-take}
 use Rattle.instructions.specs.Instruction.{first_of, second_of}
-use Rattle.unit.specs.declared.creators.Creators.{Creators}
-use Rattle.unit.specs.declared.station.Station.{Station}
-use Rattle.unit.specs.Creators.{HasCreators, IsCreator, IsOfSame, KnowsCreators, places_of, written_by}
-use Rattle.unit.specs.Slots.{place_from, slot_of}
-use Rattle.unit.proofs.Slots.{place_next, place_slot}
+use Rattle.one_thread.specs.declared.creators.Creators.{Creators}
+use Rattle.one_thread.specs.declared.station.Station.{Station}
+use Rattle.one_thread.specs.Creators.{HasCreators, IsCreator, IsOfSame, KnowsCreators, places_of, written_by}
+use Rattle.one_thread.specs.Slots.{place_from, slot_of}
+use Rattle.one_thread.proofs.Slots.{place_next, place_slot}
 
 -- Lists
 

@@ -19,33 +19,33 @@ use Rattle.inorder.specs.Moves.{IsReached}
 use Rattle.inorder.specs.Still.{AreStill}
 use Rattle.inorder.proofs.OneCaller.Middle.{all_from, sound_from}
 use Rattle.inorder.proofs.OneCaller.Sequences.{sound_of}
-use Rattle.unit.specs.declared.bench.Turn.{Turn}
-use Rattle.unit.specs.declared.bench.Turn.TheVariants.{Halved, Over, Retired}
-use Rattle.unit.specs.declared.pipeline.Pipeline.{Pipeline}
-use Rattle.unit.specs.declared.station.Stage.{Stage}
-use Rattle.unit.specs.declared.station.Stage.TheVariants.{Open as Opens, Addr as HasAddr, Done as IsDone, Miss as Misses, Stops}
-use Rattle.unit.specs.declared.station.Station.{Station}
-use Rattle.unit.specs.Ahead.{low_of, waiting_half}
-use Rattle.unit.specs.Leaves.{HasEnded, LeavesTo, OldestHasEnded, PassesTo, RetiresTo}
-use Rattle.unit.specs.Notes.{miss_in}
-use Rattle.unit.specs.StandsFor.{OverIs, StandsFor, StandsForSome, sizes}
-use Rattle.unit.specs.Turns.{Falls, Nowhere, Now}
-use Rattle.unit.specs.Window.{half_in, window}
-use Rattle.unit.proofs.Found.{Found, found}
-use Rattle.unit.proofs.Known.{cannot_let, nobody_claims, nobody_loads}
-use Rattle.unit.proofs.Tests.{no_miss}
-use Rattle.unit.proofs.Turns.{none_in}
-use Rattle.unit.proofs.Waiting.{low_if, low_over, none_low}
-use Rattle.unit.proofs.Windows.{half_worth}
-use Rattle.unit.specs.Notes.{settled_at}
-use Rattle.unit.specs.Choices.{step_made}
-use Rattle.unit.specs.Possible.{ToRetire}
-use Rattle.unit.specs.Order.{EndIsFirst, IsFirst, MovedFirst, MovesFirst, RetirementIsFirst}
-use Rattle.unit.specs.Turns.{Before, Does, EndsHere}
-use Rattle.unit.specs.declared.bench.Turn.TheVariants.{Let, Loaded, Ran, Recovered}
-use Rattle.unit.proofs.CanLeave.{Refused, refused_settles}
-use Rattle.unit.proofs.Leaving.{leave, nowhere_turn}
-use Rattle.unit.proofs.Moved.{MovesAs}
+use Rattle.one_thread.specs.declared.bench.Turn.{Turn}
+use Rattle.one_thread.specs.declared.bench.Turn.TheVariants.{Halved, Over, Retired}
+use Rattle.one_thread.specs.declared.pipeline.Pipeline.{Pipeline}
+use Rattle.one_thread.specs.declared.station.Stage.{Stage}
+use Rattle.one_thread.specs.declared.station.Stage.TheVariants.{Open as Opens, Addr as HasAddr, Done as IsDone, Miss as Misses, Stops}
+use Rattle.one_thread.specs.declared.station.Station.{Station}
+use Rattle.one_thread.specs.Ahead.{low_of, waiting_half}
+use Rattle.one_thread.specs.Leaves.{HasEnded, LeavesTo, OldestHasEnded, PassesTo, RetiresTo}
+use Rattle.one_thread.specs.Notes.{miss_in}
+use Rattle.one_thread.specs.StandsFor.{OverIs, StandsFor, StandsForSome, sizes}
+use Rattle.one_thread.specs.Turns.{Falls, Nowhere, Now}
+use Rattle.one_thread.specs.Window.{half_in, window}
+use Rattle.one_thread.proofs.Found.{Found, found}
+use Rattle.one_thread.proofs.Known.{cannot_let, nobody_claims, nobody_loads}
+use Rattle.one_thread.proofs.Tests.{no_miss}
+use Rattle.one_thread.proofs.Turns.{none_in}
+use Rattle.one_thread.proofs.Waiting.{low_if, low_over, none_low}
+use Rattle.one_thread.proofs.Windows.{half_worth}
+use Rattle.one_thread.specs.Notes.{settled_at}
+use Rattle.one_thread.specs.Choices.{step_made}
+use Rattle.one_thread.specs.Possible.{ToRetire}
+use Rattle.one_thread.specs.Order.{EndIsFirst, IsFirst, MovedFirst, MovesFirst, RetirementIsFirst}
+use Rattle.one_thread.specs.Turns.{Before, Does, EndsHere}
+use Rattle.one_thread.specs.declared.bench.Turn.TheVariants.{Let, Loaded, Ran, Recovered}
+use Rattle.one_thread.proofs.CanLeave.{Refused, refused_settles}
+use Rattle.one_thread.proofs.Leaving.{leave, nowhere_turn}
+use Rattle.one_thread.proofs.Moved.{MovesAs}
 
 -- The oldest retires, whatever else is possible
 

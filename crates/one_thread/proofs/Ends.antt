@@ -11,13 +11,13 @@ use Rattle.inorder.specs.Unit.{Sizes, UpdateUnit}
 use Rattle.inorder.proofs.Follows.{in_order}
 use Rattle.inorder.specs.Moves.{IsReached}
 use Rattle.inorder.proofs.OneCaller.Sequences.{sound_of}
-use Rattle.unit.specs.declared.bench.Turn.{Turn}
-use Rattle.unit.specs.declared.bench.Turn.TheVariants.{Halved, Let, Loaded, Over, Ran, Recovered, Retired}
-use Rattle.unit.specs.declared.pipeline.Pipeline.{Pipeline}
-use Rattle.unit.specs.Changes.{RetiresOne, run_from}
-use Rattle.unit.specs.StandsFor.{StandsForSome, sizes}
-use Rattle.unit.specs.Turns.{Before, EndsHere, Falls, Moves, Now, Nowhere, SizesStay, rank}
-use Rattle.unit.proofs.Ranks.{rank_bound}
+use Rattle.one_thread.specs.declared.bench.Turn.{Turn}
+use Rattle.one_thread.specs.declared.bench.Turn.TheVariants.{Halved, Let, Loaded, Over, Ran, Recovered, Retired}
+use Rattle.one_thread.specs.declared.pipeline.Pipeline.{Pipeline}
+use Rattle.one_thread.specs.Changes.{RetiresOne, run_from}
+use Rattle.one_thread.specs.StandsFor.{StandsForSome, sizes}
+use Rattle.one_thread.specs.Turns.{Before, EndsHere, Falls, Moves, Now, Nowhere, SizesStay, rank}
+use Rattle.one_thread.proofs.Ranks.{rank_bound}
 
 state_is : (b : Pipeline) → StandsForSome b → after b.program.now b.committed.count ≡ Some b.committed
 state_is b h =

@@ -2,11 +2,11 @@
 use Rattle.std.proofs.Common.{◌≡◌, ◌<◌, ◌≤◌, ◌-◌, ℕ, zero, suc, ◌+◌, Bool, true, false, cond, List, [], ◌∷◌, ◌++◌, length, take, Option, Some, None, refl, sym, ap, ◌∙◌, arith, length-append}
 use Rattle.std.proofs.Common.{length-take, true≢false}
 use Rattle.std.specs.Prelude.{slice_get, is_some, min}
-use Rattle.unit.specs.declared.station.Station.{Station}
-use Rattle.unit.specs.Givers.{given_at, gives}
-use Rattle.unit.specs.Loads.{entries, entry_at, entry_behind, load_in, loaded_over, waits, waits_at, with_entry}
-use Rattle.unit.specs.Window.{reaches_memory}
-use Rattle.unit.proofs.Scan.{get_left, take_left}
+use Rattle.one_thread.specs.declared.station.Station.{Station}
+use Rattle.one_thread.specs.Givers.{given_at, gives}
+use Rattle.one_thread.specs.Loads.{entries, entry_at, entry_behind, load_in, loaded_over, waits, waits_at, with_entry}
+use Rattle.one_thread.specs.Window.{reaches_memory}
+use Rattle.one_thread.proofs.Scan.{get_left, take_left}
 
 pub entries_step : (registers : List ℕ) (W : List Station) (k : ℕ) → entries registers W (k + 1) ≡ with_entry (entries registers W k) (entry_at registers W (slice_get W k) k)
 entries_step registers W k = let one : k + 1 ≡ suc k = omega arith in rw one refl

@@ -2,8 +2,8 @@
 use Rattle.std.proofs.Common.{◌≡◌, ℕ, refl, ap}
 use Rattle.instructions.specs.declared.stop.Stop.{Stop}
 use Rattle.inorder.specs.Tenants.{Addr, Busy, Done, Fate, Miss, Open, Stopped}
-use Rattle.unit.specs.declared.station.Stage.TheVariants.{Addr as HasAddr, Done as IsDone, Stops}
-use Rattle.unit.specs.Window.{stage_of}
+use Rattle.one_thread.specs.declared.station.Stage.TheVariants.{Addr as HasAddr, Done as IsDone, Stops}
+use Rattle.one_thread.specs.Window.{stage_of}
 
 pub stop_fate : (f : Fate) (c : Stop) → stage_of f ≡ Stops c → f ≡ Stopped c
 stop_fate Open c e = absurd (cc)

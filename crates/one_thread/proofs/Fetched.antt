@@ -5,7 +5,7 @@ use Rattle.std.proofs.lemmas.Bool.{cases_lt}
 use Rattle.std.proofs.lemmas.Option.{slice_get_past}
 use Rattle.instructions.specs.Programs.{Program, address, instr_at}
 use Rattle.instructions.specs.declared.instr.Instr.{Instr}
-use Rattle.unit.specs.Decoding.{IsDecoded}
+use Rattle.one_thread.specs.Decoding.{IsDecoded}
 
 -- no instruction stands at an address that is none of the text's
 none_at : (P : Program) (pc : ℕ) → eqb (address ((pc - 0x00400000) / 4)) pc ≡ false → instr_at P pc ≡ None

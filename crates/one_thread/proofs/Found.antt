@@ -5,9 +5,9 @@ use Rattle.std.specs.Prelude.{slice_get}
 use Rattle.std.specs.List.{AllByRecursion}
 use Rattle.instructions.specs.Programs.{Program}
 use Rattle.inorder.specs.Tenants.{IsNotLive, Live, Retired, Squashed, Standing, Tenant, is_live, stands_live}
-use Rattle.unit.specs.declared.station.Station.{Station}
-use Rattle.unit.specs.Window.{station_of, window}
-use Rattle.unit.proofs.Windows.{window_append, window_if, window_live}
+use Rattle.one_thread.specs.declared.station.Station.{Station}
+use Rattle.one_thread.specs.Window.{station_of, window}
+use Rattle.one_thread.proofs.Windows.{window_append, window_if, window_live}
 use Rattle.inorder.proofs.OneCaller.Alike.{AreAlike, IsAlike}
 use Rattle.inorder.proofs.OneCaller.Recovery.{gone, gone_left}
 
@@ -114,7 +114,7 @@ station_alike P t u a =
       predicted = u.predicted;
       next = u.next;
       made = u.made;
-      stage = Rattle.unit.specs.Window.stage_of u.fate;
+      stage = Rattle.one_thread.specs.Window.stage_of u.fate;
     }) a.pc
     ∙ ap (λ x. record {
       instr = Rattle.inorder.specs.Tenants.instr P t;
@@ -124,7 +124,7 @@ station_alike P t u a =
       predicted = x;
       next = u.next;
       made = u.made;
-      stage = Rattle.unit.specs.Window.stage_of u.fate;
+      stage = Rattle.one_thread.specs.Window.stage_of u.fate;
     }) a.predicted
     ∙ ap (λ x. record {
       instr = Rattle.inorder.specs.Tenants.instr P t;
@@ -134,7 +134,7 @@ station_alike P t u a =
       predicted = t.predicted;
       next = x;
       made = u.made;
-      stage = Rattle.unit.specs.Window.stage_of u.fate;
+      stage = Rattle.one_thread.specs.Window.stage_of u.fate;
     }) a.next
     ∙ ap (λ x. record {
       instr = Rattle.inorder.specs.Tenants.instr P t;
@@ -144,7 +144,7 @@ station_alike P t u a =
       predicted = t.predicted;
       next = t.next;
       made = x;
-      stage = Rattle.unit.specs.Window.stage_of u.fate;
+      stage = Rattle.one_thread.specs.Window.stage_of u.fate;
     }) a.made
     ∙ ap (λ x. record {
       instr = Rattle.inorder.specs.Tenants.instr P t;
@@ -154,7 +154,7 @@ station_alike P t u a =
       predicted = t.predicted;
       next = t.next;
       made = t.made;
-      stage = Rattle.unit.specs.Window.stage_of x;
+      stage = Rattle.one_thread.specs.Window.stage_of x;
     }) a.fate
 
 pub window_alike : (P : Program) (ts us : List Tenant) → AreAlike ts us → window P us ≡ window P ts

@@ -7,12 +7,12 @@ use Rattle.circular_buffer.proofs.Places.{slice_get-some}
 use Rattle.std.specs.Prelude.{is_some, slice_get, slice_index, slice_set, unwrap_or}
 use Rattle.inorder.specs.Machine.{write}
 use Rattle.inorder.proofs.Basics.{read_same, read_other}
-use Rattle.unit.specs.declared.future.Future.{Future}
-use Rattle.unit.specs.declared.station.Station.{Station}
-use Rattle.unit.specs.Steady.{AwaitsRetirement, Foresees, GoesOnBehind}
-use Rattle.unit.specs.Window.{next_after, next_in, register_after, register_in, source_in}
-use Rattle.unit.proofs.Scan.{get_end, register_end}
-use Rattle.unit.proofs.Sources.{source_by}
+use Rattle.one_thread.specs.declared.future.Future.{Future}
+use Rattle.one_thread.specs.declared.station.Station.{Station}
+use Rattle.one_thread.specs.Steady.{AwaitsRetirement, Foresees, GoesOnBehind}
+use Rattle.one_thread.specs.Window.{next_after, next_in, register_after, register_in, source_in}
+use Rattle.one_thread.proofs.Scan.{get_end, register_end}
+use Rattle.one_thread.proofs.Sources.{source_by}
 
 -- Nobody is live
 

@@ -3,30 +3,30 @@ use Rattle.std.proofs.Common.{◌≡◌, ◌<◌, ℕ, Bool, true, false, List, 
 use Rattle.std.specs.Prelude.{slice_get, slice_set}
 use Rattle.instructions.specs.Instruction.{is_first_half}
 use Rattle.instructions.specs.Operations.{outcome_of}
-use Rattle.unit.specs.declared.bench.Turn.{Turn}
-use Rattle.unit.specs.declared.bench.Turn.TheVariants.{Loaded, Ran}
-use Rattle.unit.specs.declared.execute.Operands.{Operands}
-use Rattle.unit.specs.declared.pipeline.Pipeline.{Pipeline}
-use Rattle.unit.specs.declared.station.Station.{Station}
-use Rattle.unit.specs.Changes.{registers_of}
-use Rattle.unit.specs.Givers.{NoneGives, gives}
-use Rattle.unit.specs.Leaves.{OldestHasEnded, PassesTo, RetiresTo}
-use Rattle.unit.specs.Loads.{load_in}
-use Rattle.unit.specs.Notes.{AreNoted, miss_in}
-use Rattle.unit.specs.Stages.{CannotLet, LoadsTo, RunsTo}
-use Rattle.unit.specs.StandsFor.{StandsFor, StandsForSome}
-use Rattle.unit.specs.Turns.{Falls, StaysOpen, IsPlain, SizesStay, rank}
-use Rattle.unit.specs.Window.{operands_in, station_after}
-use Rattle.unit.specs.Order.{MovesFirst}
-use Rattle.unit.proofs.CanLeave.{Refused, can_leave}
-use Rattle.unit.proofs.EndTurns.{retires_falls, retires_turn}
-use Rattle.unit.proofs.Inside.{window_room}
-use Rattle.unit.proofs.Moved.{moves_first}
-use Rattle.unit.proofs.Ranks.{load_falls, run_falls}
-use Rattle.unit.proofs.LoadedTurns.{answered_as, loaded_on, loaded_turn}
-use Rattle.unit.proofs.RanTurns.{ran_on, ran_turn}
-use Rattle.unit.proofs.Start.{retires_keeps, unit_next, unit_on}
-use Rattle.unit.proofs.Turns.{moves_from}
+use Rattle.one_thread.specs.declared.bench.Turn.{Turn}
+use Rattle.one_thread.specs.declared.bench.Turn.TheVariants.{Loaded, Ran}
+use Rattle.one_thread.specs.declared.execute.Operands.{Operands}
+use Rattle.one_thread.specs.declared.pipeline.Pipeline.{Pipeline}
+use Rattle.one_thread.specs.declared.station.Station.{Station}
+use Rattle.one_thread.specs.Changes.{registers_of}
+use Rattle.one_thread.specs.Givers.{NoneGives, gives}
+use Rattle.one_thread.specs.Leaves.{OldestHasEnded, PassesTo, RetiresTo}
+use Rattle.one_thread.specs.Loads.{load_in}
+use Rattle.one_thread.specs.Notes.{AreNoted, miss_in}
+use Rattle.one_thread.specs.Stages.{CannotLet, LoadsTo, RunsTo}
+use Rattle.one_thread.specs.StandsFor.{StandsFor, StandsForSome}
+use Rattle.one_thread.specs.Turns.{Falls, StaysOpen, IsPlain, SizesStay, rank}
+use Rattle.one_thread.specs.Window.{operands_in, station_after}
+use Rattle.one_thread.specs.Order.{MovesFirst}
+use Rattle.one_thread.proofs.CanLeave.{Refused, can_leave}
+use Rattle.one_thread.proofs.EndTurns.{retires_falls, retires_turn}
+use Rattle.one_thread.proofs.Inside.{window_room}
+use Rattle.one_thread.proofs.Moved.{moves_first}
+use Rattle.one_thread.proofs.Ranks.{load_falls, run_falls}
+use Rattle.one_thread.proofs.LoadedTurns.{answered_as, loaded_on, loaded_turn}
+use Rattle.one_thread.proofs.RanTurns.{ran_on, ran_turn}
+use Rattle.one_thread.proofs.Start.{retires_keeps, unit_next, unit_on}
+use Rattle.one_thread.proofs.Turns.{moves_from}
 
 pub same_rest : (b later : Pipeline) (W : List Station) (m : Bool) (n : ℕ) → later ≡ record b { window = W; missed = m; settled = n } → SizesStay b later
 same_rest b later W m n e = record { program = ap (λ x. x.program) e; code = ap (λ x. x.code) e; ring = ap (λ x. x.ring) e; queue = ap (λ x. x.queue) e; first_tag = ap (λ x. x.first_tag) e }
@@ -162,15 +162,15 @@ pub refused : (b b' : Pipeline) → Idle b b' → NoneGives (load_in (registers_
 refused b b' i l = record { none = i.none; miss = i.miss; lets = i.lets; ready = i.ready; loads = l }
 
 falls_from : (answer : Turn) (b b' later : Pipeline) → Idle b b' → Falls answer b' later → Falls answer b later
-falls_from Rattle.unit.specs.declared.bench.Turn.TheVariants.Recovered b b' later i f =
+falls_from Rattle.one_thread.specs.declared.bench.Turn.TheVariants.Recovered b b' later i f =
     (f.0 ∙ ap (λ x. x.committed) i.is, f.1 ∙ ap (λ x. x.low) i.is, subst (λ W. rank 32 later.window < rank 32 W) (ap (λ x. x.window) i.is) f.2)
-falls_from Rattle.unit.specs.declared.bench.Turn.TheVariants.Let b b' later i f =
+falls_from Rattle.one_thread.specs.declared.bench.Turn.TheVariants.Let b b' later i f =
     (f.0 ∙ ap (λ x. x.committed) i.is, f.1 ∙ ap (λ x. x.low) i.is, subst (λ W. rank 32 later.window < rank 32 W) (ap (λ x. x.window) i.is) f.2)
 falls_from Ran b b' later i f = (f.0 ∙ ap (λ x. x.committed) i.is, f.1 ∙ ap (λ x. x.low) i.is, subst (λ W. rank 32 later.window < rank 32 W) (ap (λ x. x.window) i.is) f.2)
 falls_from Loaded b b' later i f = (f.0 ∙ ap (λ x. x.committed) i.is, f.1 ∙ ap (λ x. x.low) i.is, subst (λ W. rank 32 later.window < rank 32 W) (ap (λ x. x.window) i.is) f.2)
-falls_from Rattle.unit.specs.declared.bench.Turn.TheVariants.Halved b b' later i f = (f.0 ∙ ap (λ x. x.committed) i.is, sym (ap (λ x. x.low) i.is) ∙ f.1, f.2)
-falls_from Rattle.unit.specs.declared.bench.Turn.TheVariants.Retired b b' later i f = f ∙ ap (λ x. Rattle.std.proofs.Common.suc x.committed.count) i.is
-falls_from (Rattle.unit.specs.declared.bench.Turn.TheVariants.Over c) b b' later i f = f ∙ ap (λ x. x.committed) i.is
+falls_from Rattle.one_thread.specs.declared.bench.Turn.TheVariants.Halved b b' later i f = (f.0 ∙ ap (λ x. x.committed) i.is, sym (ap (λ x. x.low) i.is) ∙ f.1, f.2)
+falls_from Rattle.one_thread.specs.declared.bench.Turn.TheVariants.Retired b b' later i f = f ∙ ap (λ x. Rattle.std.proofs.Common.suc x.committed.count) i.is
+falls_from (Rattle.one_thread.specs.declared.bench.Turn.TheVariants.Over c) b b' later i f = f ∙ ap (λ x. x.committed) i.is
 
 pub retired_shows : (b b' later : Pipeline) (answer : Turn) → Idle b b' →
     NoneGives (load_in (registers_of b') b'.committed.memory) b'.window →
@@ -198,12 +198,12 @@ retired_plain b later answer can to = go (slice_get b.window 0) to
     passes true w l = subst IsPlain (sym l.0) tt
     passes false w l = subst IsPlain (sym l.0) tt
 
-    by : (w : Station) (g : Rattle.unit.specs.declared.station.Stage.Stage) → Rattle.unit.specs.Leaves.LeavesTo b w g answer later → IsPlain answer
-    by w (Rattle.unit.specs.declared.station.Stage.TheVariants.Stops c) l = subst IsPlain (sym l.0) tt
-    by w Rattle.unit.specs.declared.station.Stage.TheVariants.Done l = passes (is_first_half w.instr.op w.half) w l
-    by w (Rattle.unit.specs.declared.station.Stage.TheVariants.Addr a) l = passes (is_first_half w.instr.op w.half) w l
-    by w Rattle.unit.specs.declared.station.Stage.TheVariants.Open l = passes (is_first_half w.instr.op w.half) w l
-    by w (Rattle.unit.specs.declared.station.Stage.TheVariants.Miss x) l = passes (is_first_half w.instr.op w.half) w l
+    by : (w : Station) (g : Rattle.one_thread.specs.declared.station.Stage.Stage) → Rattle.one_thread.specs.Leaves.LeavesTo b w g answer later → IsPlain answer
+    by w (Rattle.one_thread.specs.declared.station.Stage.TheVariants.Stops c) l = subst IsPlain (sym l.0) tt
+    by w Rattle.one_thread.specs.declared.station.Stage.TheVariants.Done l = passes (is_first_half w.instr.op w.half) w l
+    by w (Rattle.one_thread.specs.declared.station.Stage.TheVariants.Addr a) l = passes (is_first_half w.instr.op w.half) w l
+    by w Rattle.one_thread.specs.declared.station.Stage.TheVariants.Open l = passes (is_first_half w.instr.op w.half) w l
+    by w (Rattle.one_thread.specs.declared.station.Stage.TheVariants.Miss x) l = passes (is_first_half w.instr.op w.half) w l
 
     go : (o : Option Station) → RetiresTo b o answer later → IsPlain answer
     go None l = subst IsPlain (sym l.0) tt
@@ -217,24 +217,24 @@ retired_open b later answer none to = go (slice_get b.window 0) to
     passes true w l = subst (λ a. StaysOpen a later) (sym l.0) (ap (λ x. x.over) l.1 ∙ none)
     passes false w l = subst (λ a. StaysOpen a later) (sym l.0) (ap (λ x. x.over) l.1 ∙ none)
 
-    by : (w : Station) (g : Rattle.unit.specs.declared.station.Stage.Stage) → Rattle.unit.specs.Leaves.LeavesTo b w g answer later → StaysOpen answer later
-    by w (Rattle.unit.specs.declared.station.Stage.TheVariants.Stops c) l = subst (λ a. StaysOpen a later) (sym l.0) tt
-    by w Rattle.unit.specs.declared.station.Stage.TheVariants.Done l = passes (is_first_half w.instr.op w.half) w l
-    by w (Rattle.unit.specs.declared.station.Stage.TheVariants.Addr a) l = passes (is_first_half w.instr.op w.half) w l
-    by w Rattle.unit.specs.declared.station.Stage.TheVariants.Open l = passes (is_first_half w.instr.op w.half) w l
-    by w (Rattle.unit.specs.declared.station.Stage.TheVariants.Miss x) l = passes (is_first_half w.instr.op w.half) w l
+    by : (w : Station) (g : Rattle.one_thread.specs.declared.station.Stage.Stage) → Rattle.one_thread.specs.Leaves.LeavesTo b w g answer later → StaysOpen answer later
+    by w (Rattle.one_thread.specs.declared.station.Stage.TheVariants.Stops c) l = subst (λ a. StaysOpen a later) (sym l.0) tt
+    by w Rattle.one_thread.specs.declared.station.Stage.TheVariants.Done l = passes (is_first_half w.instr.op w.half) w l
+    by w (Rattle.one_thread.specs.declared.station.Stage.TheVariants.Addr a) l = passes (is_first_half w.instr.op w.half) w l
+    by w Rattle.one_thread.specs.declared.station.Stage.TheVariants.Open l = passes (is_first_half w.instr.op w.half) w l
+    by w (Rattle.one_thread.specs.declared.station.Stage.TheVariants.Miss x) l = passes (is_first_half w.instr.op w.half) w l
 
     go : (o : Option Station) → RetiresTo b o answer later → StaysOpen answer later
     go None l = subst (λ a. StaysOpen a later) (sym l.0) tt
     go (Some w) l = by w w.stage l
 
 -- so does any turn that is neither
-pub stays_open : (answer : Turn) (later : Pipeline) → ((c : Rattle.instructions.specs.declared.stop.Stop.Stop) → answer ≡ Rattle.unit.specs.declared.bench.Turn.TheVariants.Over c → ⊥) →
+pub stays_open : (answer : Turn) (later : Pipeline) → ((c : Rattle.instructions.specs.declared.stop.Stop.Stop) → answer ≡ Rattle.one_thread.specs.declared.bench.Turn.TheVariants.Over c → ⊥) →
     StaysOpen answer later → later.over ≡ None
-stays_open Rattle.unit.specs.declared.bench.Turn.TheVariants.Recovered later n o = o
-stays_open Rattle.unit.specs.declared.bench.Turn.TheVariants.Let later n o = o
+stays_open Rattle.one_thread.specs.declared.bench.Turn.TheVariants.Recovered later n o = o
+stays_open Rattle.one_thread.specs.declared.bench.Turn.TheVariants.Let later n o = o
 stays_open Ran later n o = o
 stays_open Loaded later n o = o
-stays_open Rattle.unit.specs.declared.bench.Turn.TheVariants.Halved later n o = o
-stays_open Rattle.unit.specs.declared.bench.Turn.TheVariants.Retired later n o = o
-stays_open (Rattle.unit.specs.declared.bench.Turn.TheVariants.Over c) later n o = absurd (n c refl)
+stays_open Rattle.one_thread.specs.declared.bench.Turn.TheVariants.Halved later n o = o
+stays_open Rattle.one_thread.specs.declared.bench.Turn.TheVariants.Retired later n o = o
+stays_open (Rattle.one_thread.specs.declared.bench.Turn.TheVariants.Over c) later n o = absurd (n c refl)

@@ -19,12 +19,12 @@ use Rattle.inorder.proofs.SettledMemory.{length_memory}
 use Rattle.inorder.proofs.Sound.{FateIs, IsSound, IsSoundAt}
 use Rattle.inorder.proofs.OneCaller.Middle.{sound_from}
 use Rattle.inorder.proofs.OneCaller.Sequences.{sound_of, stands_of}
-use Rattle.unit.specs.declared.pipeline.Pipeline.{Pipeline}
-use Rattle.unit.specs.Loads.{AreInside, StoresWriteNone}
-use Rattle.unit.specs.StandsFor.{StandsFor, StandsForSome, sizes}
-use Rattle.unit.proofs.Found.{Found, found}
-use Rattle.unit.proofs.Windows.{window_length}
-use Rattle.unit.proofs.Fates.{addr_fate}
+use Rattle.one_thread.specs.declared.pipeline.Pipeline.{Pipeline}
+use Rattle.one_thread.specs.Loads.{AreInside, StoresWriteNone}
+use Rattle.one_thread.specs.StandsFor.{StandsFor, StandsForSome, sizes}
+use Rattle.one_thread.proofs.Found.{Found, found}
+use Rattle.one_thread.proofs.Windows.{window_length}
+use Rattle.one_thread.proofs.Fates.{addr_fate}
 
 -- An access with its address
 

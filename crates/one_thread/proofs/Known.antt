@@ -10,17 +10,17 @@ use Rattle.inorder.specs.Moves.{IsReached}
 use Rattle.inorder.specs.Still.{AreStill}
 use Rattle.inorder.proofs.OneCaller.Left.{ahead_middle}
 use Rattle.inorder.proofs.OneCaller.Sequences.{sound_of}
-use Rattle.unit.specs.declared.pipeline.Pipeline.{Pipeline}
-use Rattle.unit.specs.Changes.{ahead_of, registers_of}
-use Rattle.unit.specs.Givers.{NoneGives}
-use Rattle.unit.specs.Loads.{load_in}
-use Rattle.unit.specs.Stages.{CannotLet}
-use Rattle.unit.specs.StandsFor.{OverIs, StandsFor, sizes}
-use Rattle.unit.specs.Window.{operands_in, window}
-use Rattle.unit.proofs.Waiting.{ahead_low}
-use Rattle.unit.proofs.Tests.{all_blocked, no_claim, no_let}
-use Rattle.unit.proofs.Turns.{none_in}
-use Rattle.unit.specs.Order.{IsUnclaimable, NoLet}
+use Rattle.one_thread.specs.declared.pipeline.Pipeline.{Pipeline}
+use Rattle.one_thread.specs.Changes.{ahead_of, registers_of}
+use Rattle.one_thread.specs.Givers.{NoneGives}
+use Rattle.one_thread.specs.Loads.{load_in}
+use Rattle.one_thread.specs.Stages.{CannotLet}
+use Rattle.one_thread.specs.StandsFor.{OverIs, StandsFor, sizes}
+use Rattle.one_thread.specs.Window.{operands_in, window}
+use Rattle.one_thread.proofs.Waiting.{ahead_low}
+use Rattle.one_thread.proofs.Tests.{all_blocked, no_claim, no_let}
+use Rattle.one_thread.proofs.Turns.{none_in}
+use Rattle.one_thread.specs.Order.{IsUnclaimable, NoLet}
 
 -- the fields have what a new tenant finds
 pub ahead_stands : (b : Pipeline) (U : UpdateUnit) → IsReached b.program.now (sizes b) U → StandsFor b U → ahead_of b ≡ ahead b.program.now U.tenants
@@ -57,7 +57,7 @@ nobody_claims b U none r s h =
 
 pub nobody_loads : (b : Pipeline) (U : UpdateUnit) → b.over ≡ None → IsReached b.program.now (sizes b) U →
     StandsFor b U → NoneGives (load_in (registers_of b) b.committed.memory) b.window →
-    Rattle.unit.specs.Blocked.AreBlocked b.program.now U.tenants
+    Rattle.one_thread.specs.Blocked.AreBlocked b.program.now U.tenants
 nobody_loads b U none r s h =
     let k = knows b U none r s in
     all_blocked b.program.now (registers_of b) b.committed.memory [] U.tenants k.sound k.still k.stops k.registers

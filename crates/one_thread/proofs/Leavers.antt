@@ -17,7 +17,7 @@ use Rattle.inorder.proofs.Sound.{DoneBy}
 use Rattle.inorder.proofs.OneCaller.Alike.{AreAlike, IsAlike}
 use Rattle.inorder.proofs.OneCaller.Recovery.{gone, gone_by, mended_to}
 use Rattle.instructions.specs.declared.guessing.Leaver.{Leaver}
-use Rattle.unit.specs.Leavers.{leaver, leaver_by, told_by, told_of}
+use Rattle.one_thread.specs.Leavers.{leaver, leaver_by, told_by, told_of}
 
 pub told_live : (P : Program) (t : Tenant) → t.standing ≡ Live → told_of P t ≡ None
 told_live P t e = ap (λ s. told_by s t.fate (fixed_next (instr P t) t.half t.pc) t.pc) e

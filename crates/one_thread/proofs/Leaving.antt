@@ -26,34 +26,34 @@ use Rattle.inorder.proofs.OneCaller.Left.{ahead_middle, committed_middle}
 use Rattle.inorder.proofs.OneCaller.Middle.{all_from, at_middle, sound_from, still_from}
 use Rattle.inorder.proofs.OneCaller.Retirement.{retire_run}
 use Rattle.inorder.proofs.OneCaller.Sequences.{reach_on, sound_of}
-use Rattle.unit.specs.declared.bench.Turn.{Turn}
-use Rattle.unit.specs.declared.bench.Turn.TheVariants.{Halved, Over, Retired}
+use Rattle.one_thread.specs.declared.bench.Turn.{Turn}
+use Rattle.one_thread.specs.declared.bench.Turn.TheVariants.{Halved, Over, Retired}
 use Rattle.instructions.specs.declared.guessing.Leaver.{Leaver}
-use Rattle.unit.specs.declared.pipeline.Pipeline.{Pipeline}
-use Rattle.unit.specs.declared.station.Stage.{Stage}
-use Rattle.unit.specs.declared.station.Stage.TheVariants.{Open as Opens, Addr as HasAddr, Done as IsDone, Miss as Misses, Stops}
-use Rattle.unit.specs.declared.station.Station.{Station}
-use Rattle.unit.specs.Ahead.{low_after, low_of}
-use Rattle.unit.specs.Changes.{ahead_of, registers_of}
-use Rattle.unit.specs.Leavers.{leaver, told_at, told_by, told_of}
-use Rattle.unit.specs.Leaves.{HasEnded, LeavesTo, PassesTo, halved, left, with_station}
-use Rattle.unit.specs.Stages.{CannotLet, NoInstr, NoRoom, QueueFull}
-use Rattle.unit.specs.StandsFor.{HasStopped, OverIs, StandsForSome, sizes}
-use Rattle.unit.specs.Turns.{Nowhere, Now, Retires}
-use Rattle.unit.specs.Window.{source_in, window}
-use Rattle.unit.proofs.Found.{Found, drop_first, found, nobody, window_behind, window_middle}
-use Rattle.unit.proofs.Leavers.{leaver_put, leaver_retire, leavers_set, told_live}
-use Rattle.unit.proofs.Ring.{mod_first}
-use Rattle.unit.proofs.Known.{ahead_stands, knows}
-use Rattle.unit.proofs.Tests.{HasSources, has_sources}
-use Rattle.unit.proofs.Untold.{oldest_apart, oldest_place, oldest_retired}
-use Rattle.unit.proofs.Waiting.{ahead_low, low_if, low_over, retired_over}
-use Rattle.unit.specs.Notes.{settled_by}
-use Rattle.unit.specs.Possible.{ToRetire}
-use Rattle.unit.proofs.CanLeave.{settled_leaves}
-use Rattle.unit.proofs.Commits.{Left, commits_same, done_left, store_left}
-use Rattle.unit.proofs.Fates.{addr_fate, done_fate, stop_fate}
-use Rattle.unit.proofs.Moved.{MovedAs, MovesAs}
+use Rattle.one_thread.specs.declared.pipeline.Pipeline.{Pipeline}
+use Rattle.one_thread.specs.declared.station.Stage.{Stage}
+use Rattle.one_thread.specs.declared.station.Stage.TheVariants.{Open as Opens, Addr as HasAddr, Done as IsDone, Miss as Misses, Stops}
+use Rattle.one_thread.specs.declared.station.Station.{Station}
+use Rattle.one_thread.specs.Ahead.{low_after, low_of}
+use Rattle.one_thread.specs.Changes.{ahead_of, registers_of}
+use Rattle.one_thread.specs.Leavers.{leaver, told_at, told_by, told_of}
+use Rattle.one_thread.specs.Leaves.{HasEnded, LeavesTo, PassesTo, halved, left, with_station}
+use Rattle.one_thread.specs.Stages.{CannotLet, NoInstr, NoRoom, QueueFull}
+use Rattle.one_thread.specs.StandsFor.{HasStopped, OverIs, StandsForSome, sizes}
+use Rattle.one_thread.specs.Turns.{Nowhere, Now, Retires}
+use Rattle.one_thread.specs.Window.{source_in, window}
+use Rattle.one_thread.proofs.Found.{Found, drop_first, found, nobody, window_behind, window_middle}
+use Rattle.one_thread.proofs.Leavers.{leaver_put, leaver_retire, leavers_set, told_live}
+use Rattle.one_thread.proofs.Ring.{mod_first}
+use Rattle.one_thread.proofs.Known.{ahead_stands, knows}
+use Rattle.one_thread.proofs.Tests.{HasSources, has_sources}
+use Rattle.one_thread.proofs.Untold.{oldest_apart, oldest_place, oldest_retired}
+use Rattle.one_thread.proofs.Waiting.{ahead_low, low_if, low_over, retired_over}
+use Rattle.one_thread.specs.Notes.{settled_by}
+use Rattle.one_thread.specs.Possible.{ToRetire}
+use Rattle.one_thread.proofs.CanLeave.{settled_leaves}
+use Rattle.one_thread.proofs.Commits.{Left, commits_same, done_left, store_left}
+use Rattle.one_thread.proofs.Fates.{addr_fate, done_fate, stop_fate}
+use Rattle.one_thread.proofs.Moved.{MovedAs, MovesAs}
 
 -- Nobody is live
 

@@ -18,24 +18,24 @@ use Rattle.inorder.specs.Still.{AreStill}
 use Rattle.inorder.proofs.OneCaller.Creators.{IsAt, found_at}
 use Rattle.inorder.proofs.OneCaller.Dispatch.{LetRun, MayEnter, let_run}
 use Rattle.inorder.proofs.OneCaller.Sequences.{all_more, all_recent, all_weaker, committed_on, link_quiet, reach_on, sound_of, stands_of}
-use Rattle.unit.specs.declared.dispatch.Fetched.{Fetched}
-use Rattle.unit.specs.declared.pipeline.Pipeline.{Pipeline}
-use Rattle.unit.specs.Givers.{NoneGives}
-use Rattle.unit.specs.Leavers.{leaver, told_of}
-use Rattle.unit.specs.Notes.{miss_in}
-use Rattle.unit.specs.Stages.{CanLet}
-use Rattle.unit.specs.StandsFor.{OverIs, StandsFor, sizes}
-use Rattle.unit.specs.Turns.{Lets}
-use Rattle.unit.specs.Order.{MovedFirst}
-use Rattle.unit.specs.declared.bench.Turn.TheVariants.{Let}
-use Rattle.unit.specs.Window.{half_in, let_at, next_in, station_of, window}
-use Rattle.unit.proofs.Waiting.{same_live}
-use Rattle.unit.proofs.Found.{station_alike}
-use Rattle.unit.proofs.Leavers.{leavers_set, told_live}
-use Rattle.unit.proofs.Ring.{mod_first}
-use Rattle.unit.proofs.Tests.{no_miss}
-use Rattle.unit.proofs.Turns.{none_in}
-use Rattle.unit.proofs.Windows.{front_worth, half_worth, path_length, window_accesses, window_length, window_live}
+use Rattle.one_thread.specs.declared.dispatch.Fetched.{Fetched}
+use Rattle.one_thread.specs.declared.pipeline.Pipeline.{Pipeline}
+use Rattle.one_thread.specs.Givers.{NoneGives}
+use Rattle.one_thread.specs.Leavers.{leaver, told_of}
+use Rattle.one_thread.specs.Notes.{miss_in}
+use Rattle.one_thread.specs.Stages.{CanLet}
+use Rattle.one_thread.specs.StandsFor.{OverIs, StandsFor, sizes}
+use Rattle.one_thread.specs.Turns.{Lets}
+use Rattle.one_thread.specs.Order.{MovedFirst}
+use Rattle.one_thread.specs.declared.bench.Turn.TheVariants.{Let}
+use Rattle.one_thread.specs.Window.{half_in, let_at, next_in, station_of, window}
+use Rattle.one_thread.proofs.Waiting.{same_live}
+use Rattle.one_thread.proofs.Found.{station_alike}
+use Rattle.one_thread.proofs.Leavers.{leavers_set, told_live}
+use Rattle.one_thread.proofs.Ring.{mod_first}
+use Rattle.one_thread.proofs.Tests.{no_miss}
+use Rattle.one_thread.proofs.Turns.{none_in}
+use Rattle.one_thread.proofs.Windows.{front_worth, half_worth, path_length, window_accesses, window_length, window_live}
 
 -- A let, and what it says to the predictor
 pub record LetTurned (b : Pipeline) (U : UpdateUnit) (f : Fetched) (guess : ℕ) (later : Pipeline) : Type 0 where
@@ -109,7 +109,7 @@ let_turn b later f pr place none room most long to small predicts pe pl wl ll re
             record {
               room = omega (arith, to.room, window_length P ts, ap length s.window);
               queue = λ q. let few = to.free (sym (ap (λ i. is_access (kind i.op)) a.is) ∙ q) in
-                  let same = ap (λ l. Rattle.unit.specs.Window.accesses l (length l)) s.window in omega (arith, few, same, window_accesses P ts);
+                  let same = ap (λ l. Rattle.one_thread.specs.Window.accesses l (length l)) s.window in omega (arith, few, same, window_accesses P ts);
               is_there = a.inside;
               pc = front ∙ a.pc;
               small = small;

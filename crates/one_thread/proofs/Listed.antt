@@ -2,19 +2,19 @@
 use Rattle.std.proofs.Common.{◌≡◌, ◌⊎◌, ℕ, zero, suc, ◌+◌, ◌<◌, true, false, Bool, cond, List, [], ◌∷◌, ◌++◌, length, take, Option, Some, None, refl, sym, ap, ◌∙◌, subst, arith, ⊎_elim}
 use Rattle.std.specs.Prelude.{slice_get}
 use Rattle.std.specs.List.{AllByRecursion}
-use Rattle.unit.specs.declared.dispatch.Fetched.{Fetched}
-use Rattle.unit.specs.declared.pipeline.Pipeline.{Pipeline}
-use Rattle.unit.specs.declared.possible.Step.{Step}
-use Rattle.unit.specs.declared.possible.Step.TheVariants.{Retire}
-use Rattle.unit.specs.declared.recovery.Missed.{Missed}
-use Rattle.unit.specs.declared.station.Station.{Station}
-use Rattle.unit.specs.Changes.{NextOf, registers_of}
-use Rattle.unit.specs.Givers.{FirstGives, gives}
-use Rattle.unit.specs.Loads.{load_in}
-use Rattle.unit.specs.Notes.{settled_at}
-use Rattle.unit.specs.Stages.{FirstMiss}
-use Rattle.unit.specs.Steps.{ArePossible, Permits, given_step, given_steps, load_at, loads_of, next_let, recovery, retirement_of, run_at, runs_of}
-use Rattle.unit.specs.Window.{operands_in}
+use Rattle.one_thread.specs.declared.dispatch.Fetched.{Fetched}
+use Rattle.one_thread.specs.declared.pipeline.Pipeline.{Pipeline}
+use Rattle.one_thread.specs.declared.possible.Step.{Step}
+use Rattle.one_thread.specs.declared.possible.Step.TheVariants.{Retire}
+use Rattle.one_thread.specs.declared.recovery.Missed.{Missed}
+use Rattle.one_thread.specs.declared.station.Station.{Station}
+use Rattle.one_thread.specs.Changes.{NextOf, registers_of}
+use Rattle.one_thread.specs.Givers.{FirstGives, gives}
+use Rattle.one_thread.specs.Loads.{load_in}
+use Rattle.one_thread.specs.Notes.{settled_at}
+use Rattle.one_thread.specs.Stages.{FirstMiss}
+use Rattle.one_thread.specs.Steps.{ArePossible, Permits, given_step, given_steps, load_at, loads_of, next_let, recovery, retirement_of, run_at, runs_of}
+use Rattle.one_thread.specs.Window.{operands_in}
 
 -- Each of a list
 

@@ -26,29 +26,29 @@ use Rattle.inorder.specs.Moves.{IsReached, Leads, with_tenants}
 use Rattle.inorder.proofs.OneCaller.Execution.{ActRun, loaded_run}
 use Rattle.inorder.proofs.OneCaller.Middle.{all_from, at_middle, older_middle, sound_from, still_from}
 use Rattle.inorder.proofs.OneCaller.Sequences.{reach_on}
-use Rattle.unit.specs.declared.bench.Turn.TheVariants.{Loaded}
-use Rattle.unit.specs.declared.pipeline.Pipeline.{Pipeline}
-use Rattle.unit.specs.declared.station.Stage.TheVariants.{Done as IsDone}
-use Rattle.unit.specs.declared.station.Station.{Station}
-use Rattle.unit.specs.Blocked.{IsUnblocked}
-use Rattle.unit.specs.Changes.{registers_of}
-use Rattle.unit.specs.Givers.{NoneGives, gives}
-use Rattle.unit.specs.Loads.{entries, load_in, loaded_over, value_by, waits, waits_by}
-use Rattle.unit.specs.Notes.{miss_in}
-use Rattle.unit.specs.Stages.{CannotLet, LoadsTo}
-use Rattle.unit.specs.StandsFor.{StandsFor, sizes}
-use Rattle.unit.specs.Turns.{LoadsOne}
-use Rattle.unit.specs.Window.{operands_in, stage_of, station_of, window}
-use Rattle.unit.proofs.Entries.{answered_waits}
-use Rattle.unit.proofs.Noted.{given_station}
-use Rattle.unit.proofs.Queues.{answer_like, queue_like}
-use Rattle.unit.proofs.Tests.{all_blocked, no_claim, no_let, no_miss}
-use Rattle.unit.proofs.Turns.{FoundIn, found_in, none_in, oldest_is}
-use Rattle.unit.proofs.Known.{IsSplit, cannot_let, knows, nobody_claims, split_of}
-use Rattle.unit.proofs.Changed.{GoesOn, age_is, changed_stands, set_shown}
-use Rattle.unit.specs.Possible.{ToLoad}
-use Rattle.unit.proofs.Moved.{MovedAs, MovesAs}
-use Rattle.unit.specs.Order.{MovedFirst, MovesFirst}
+use Rattle.one_thread.specs.declared.bench.Turn.TheVariants.{Loaded}
+use Rattle.one_thread.specs.declared.pipeline.Pipeline.{Pipeline}
+use Rattle.one_thread.specs.declared.station.Stage.TheVariants.{Done as IsDone}
+use Rattle.one_thread.specs.declared.station.Station.{Station}
+use Rattle.one_thread.specs.Blocked.{IsUnblocked}
+use Rattle.one_thread.specs.Changes.{registers_of}
+use Rattle.one_thread.specs.Givers.{NoneGives, gives}
+use Rattle.one_thread.specs.Loads.{entries, load_in, loaded_over, value_by, waits, waits_by}
+use Rattle.one_thread.specs.Notes.{miss_in}
+use Rattle.one_thread.specs.Stages.{CannotLet, LoadsTo}
+use Rattle.one_thread.specs.StandsFor.{StandsFor, sizes}
+use Rattle.one_thread.specs.Turns.{LoadsOne}
+use Rattle.one_thread.specs.Window.{operands_in, stage_of, station_of, window}
+use Rattle.one_thread.proofs.Entries.{answered_waits}
+use Rattle.one_thread.proofs.Noted.{given_station}
+use Rattle.one_thread.proofs.Queues.{answer_like, queue_like}
+use Rattle.one_thread.proofs.Tests.{all_blocked, no_claim, no_let, no_miss}
+use Rattle.one_thread.proofs.Turns.{FoundIn, found_in, none_in, oldest_is}
+use Rattle.one_thread.proofs.Known.{IsSplit, cannot_let, knows, nobody_claims, split_of}
+use Rattle.one_thread.proofs.Changed.{GoesOn, age_is, changed_stands, set_shown}
+use Rattle.one_thread.specs.Possible.{ToLoad}
+use Rattle.one_thread.proofs.Moved.{MovedAs, MovesAs}
+use Rattle.one_thread.specs.Order.{MovedFirst, MovesFirst}
 
 -- Loaded
 

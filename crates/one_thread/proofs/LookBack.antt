@@ -12,15 +12,15 @@ use Rattle.lsq.specs.declared.entry.Entry.{Entry}
 use Rattle.lsq.specs.Entries.{bytes}
 use Rattle.lsq.specs.LoadRule.{answer_over, by_lacking, by_overlap, forwarded, lacks_address, meets, or_older, overlaps, taken_from, youngest}
 use Rattle.lsq.proofs.Youngest.{youngest_from-snoc}
-use Rattle.unit.specs.declared.forwarding.Older.{Older}
-use Rattle.unit.specs.declared.forwarding.Older.TheVariants.{Elsewhere, Nearest, Unknown}
-use Rattle.unit.specs.declared.station.Station.{Station}
-use Rattle.unit.specs.Forwarding.{joined_by, joined_if, joined_with, older_by, older_of, store_at, value_over}
-use Rattle.unit.specs.Givers.{given_at, gives}
-use Rattle.unit.specs.Loads.{entries, entry_at, entry_behind, load_in, loaded_over, value_by, waits, with_entry}
-use Rattle.unit.specs.Notes.{settled_at}
-use Rattle.unit.proofs.Entries.{entries_step, none_by, same_entries}
-use Rattle.unit.proofs.Settled.{settled_waits}
+use Rattle.one_thread.specs.declared.forwarding.Older.{Older}
+use Rattle.one_thread.specs.declared.forwarding.Older.TheVariants.{Elsewhere, Nearest, Unknown}
+use Rattle.one_thread.specs.declared.station.Station.{Station}
+use Rattle.one_thread.specs.Forwarding.{joined_by, joined_if, joined_with, older_by, older_of, store_at, value_over}
+use Rattle.one_thread.specs.Givers.{given_at, gives}
+use Rattle.one_thread.specs.Loads.{entries, entry_at, entry_behind, load_in, loaded_over, value_by, waits, with_entry}
+use Rattle.one_thread.specs.Notes.{settled_at}
+use Rattle.one_thread.proofs.Entries.{entries_step, none_by, same_entries}
+use Rattle.one_thread.proofs.Settled.{settled_waits}
 
 -- One entry more
 

@@ -2,32 +2,32 @@
 use Rattle.std.proofs.Common.{◌≡◌, ◌⊎◌, ℕ, ◌<◌, true, List, length, Option, Some, None, refl, sym, ap, ◌∙◌, subst, arith, ⊎_elim}
 use Rattle.std.specs.Prelude.{slice_get}
 use Rattle.std.proofs.lemmas.Option.{slice_get_within}
-use Rattle.unit.specs.declared.bench.Turn.{Turn}
-use Rattle.unit.specs.declared.bench.Turn.TheVariants.{Loaded, Ran, Recovered}
-use Rattle.unit.specs.declared.execute.Ready.{Ready}
-use Rattle.unit.specs.declared.memory_port.Answered.{Answered}
-use Rattle.unit.specs.declared.pipeline.Pipeline.{Pipeline}
-use Rattle.unit.specs.declared.recovery.Missed.{Missed}
-use Rattle.unit.specs.declared.station.Station.{Station}
-use Rattle.unit.specs.Changes.{CanClaim, LoadGives, LoadsAt, RunsAt, registers_of}
-use Rattle.unit.specs.Givers.{FirstGives, given_at, gives}
-use Rattle.unit.specs.Leaves.{RetiresTo}
-use Rattle.unit.specs.Loads.{load_in}
-use Rattle.unit.specs.Notes.{AreNoted, miss_in, settled_at}
-use Rattle.unit.specs.Possible.{ToLoad, ToRecover, ToRetire, ToRun}
-use Rattle.unit.specs.Stages.{FirstMiss, RecoversTo}
-use Rattle.unit.specs.StandsFor.{StandsForSome}
-use Rattle.unit.specs.Window.{operands_in}
-use Rattle.unit.proofs.CanLeave.{some_leaves}
-use Rattle.unit.proofs.EndTurns.{retires_as, retires_falls}
-use Rattle.unit.proofs.Idle.{Comes, full_rest, loaded_unit, ran_unit, same_rest}
-use Rattle.unit.proofs.Inside.{window_room}
-use Rattle.unit.proofs.LoadedTurns.{loaded_as}
-use Rattle.unit.proofs.Moved.{MovesAs, moves_as}
-use Rattle.unit.proofs.Ranks.{load_falls, run_falls}
-use Rattle.unit.proofs.RanTurns.{ran_as}
-use Rattle.unit.proofs.Start.{retires_keeps, unit_next}
-use Rattle.unit.proofs.Turns.{recovered_turn}
+use Rattle.one_thread.specs.declared.bench.Turn.{Turn}
+use Rattle.one_thread.specs.declared.bench.Turn.TheVariants.{Loaded, Ran, Recovered}
+use Rattle.one_thread.specs.declared.execute.Ready.{Ready}
+use Rattle.one_thread.specs.declared.memory_port.Answered.{Answered}
+use Rattle.one_thread.specs.declared.pipeline.Pipeline.{Pipeline}
+use Rattle.one_thread.specs.declared.recovery.Missed.{Missed}
+use Rattle.one_thread.specs.declared.station.Station.{Station}
+use Rattle.one_thread.specs.Changes.{CanClaim, LoadGives, LoadsAt, RunsAt, registers_of}
+use Rattle.one_thread.specs.Givers.{FirstGives, given_at, gives}
+use Rattle.one_thread.specs.Leaves.{RetiresTo}
+use Rattle.one_thread.specs.Loads.{load_in}
+use Rattle.one_thread.specs.Notes.{AreNoted, miss_in, settled_at}
+use Rattle.one_thread.specs.Possible.{ToLoad, ToRecover, ToRetire, ToRun}
+use Rattle.one_thread.specs.Stages.{FirstMiss, RecoversTo}
+use Rattle.one_thread.specs.StandsFor.{StandsForSome}
+use Rattle.one_thread.specs.Window.{operands_in}
+use Rattle.one_thread.proofs.CanLeave.{some_leaves}
+use Rattle.one_thread.proofs.EndTurns.{retires_as, retires_falls}
+use Rattle.one_thread.proofs.Idle.{Comes, full_rest, loaded_unit, ran_unit, same_rest}
+use Rattle.one_thread.proofs.Inside.{window_room}
+use Rattle.one_thread.proofs.LoadedTurns.{loaded_as}
+use Rattle.one_thread.proofs.Moved.{MovesAs, moves_as}
+use Rattle.one_thread.proofs.Ranks.{load_falls, run_falls}
+use Rattle.one_thread.proofs.RanTurns.{ran_as}
+use Rattle.one_thread.proofs.Start.{retires_keeps, unit_next}
+use Rattle.one_thread.proofs.Turns.{recovered_turn}
 
 -- A station that gives something is there
 

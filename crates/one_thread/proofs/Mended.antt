@@ -4,23 +4,23 @@ use Rattle.std.proofs.lemmas.Bool.{cases_lt}
 use Rattle.circular_buffer.proofs.Places.{slice_get-take}
 use Rattle.std.specs.Prelude.{⊤, slice_get, slice_set}
 use Rattle.instructions.specs.Operations.{outcome_of}
-use Rattle.unit.specs.declared.execute.Operands.{Operands}
-use Rattle.unit.specs.declared.future.Future.{Future}
-use Rattle.unit.specs.declared.pipeline.Pipeline.{Pipeline}
-use Rattle.unit.specs.declared.station.Station.{Station}
-use Rattle.unit.specs.Changes.{registers_of, with_window}
-use Rattle.unit.specs.Givers.{Chosen, NoneGives, gives}
-use Rattle.unit.specs.Notes.{AreNoted, AreSettled, miss_in, settled_at}
-use Rattle.unit.specs.Stages.{RecoversTo, RunsTo}
-use Rattle.unit.specs.StandsFor.{StandsForSome}
-use Rattle.unit.specs.Steady.{AwaitRetirement, ComesBack, Follows, Foresees, HasLet, IsSteady}
-use Rattle.unit.specs.Window.{operands_in, station_after, station_mended}
-use Rattle.unit.proofs.Awaiting.{passed_more, passed_settled}
-use Rattle.unit.proofs.BenchTurns.{recovered_shows}
-use Rattle.unit.proofs.Noted.{set_length, settled_set}
-use Rattle.unit.proofs.Scan.{get_end, place_at, set_middle, take_middle}
-use Rattle.unit.proofs.Settled.{settled_closed, settled_no_miss}
-use Rattle.unit.proofs.StreamsFill.{longer}
+use Rattle.one_thread.specs.declared.execute.Operands.{Operands}
+use Rattle.one_thread.specs.declared.future.Future.{Future}
+use Rattle.one_thread.specs.declared.pipeline.Pipeline.{Pipeline}
+use Rattle.one_thread.specs.declared.station.Station.{Station}
+use Rattle.one_thread.specs.Changes.{registers_of, with_window}
+use Rattle.one_thread.specs.Givers.{Chosen, NoneGives, gives}
+use Rattle.one_thread.specs.Notes.{AreNoted, AreSettled, miss_in, settled_at}
+use Rattle.one_thread.specs.Stages.{RecoversTo, RunsTo}
+use Rattle.one_thread.specs.StandsFor.{StandsForSome}
+use Rattle.one_thread.specs.Steady.{AwaitRetirement, ComesBack, Follows, Foresees, HasLet, IsSteady}
+use Rattle.one_thread.specs.Window.{operands_in, station_after, station_mended}
+use Rattle.one_thread.proofs.Awaiting.{passed_more, passed_settled}
+use Rattle.one_thread.proofs.BenchTurns.{recovered_shows}
+use Rattle.one_thread.proofs.Noted.{set_length, settled_set}
+use Rattle.one_thread.proofs.Scan.{get_end, place_at, set_middle, take_middle}
+use Rattle.one_thread.proofs.Settled.{settled_closed, settled_no_miss}
+use Rattle.one_thread.proofs.StreamsFill.{longer}
 
 -- All but the youngest are settled, so only that can be claimed or mended
 

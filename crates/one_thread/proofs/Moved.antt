@@ -2,13 +2,13 @@
 use Rattle.std.proofs.Common.{◌≡◌, Option}
 use Rattle.inorder.specs.Moves.{IsReached}
 use Rattle.inorder.specs.Unit.{UpdateUnit}
-use Rattle.unit.specs.declared.bench.Turn.{Turn}
-use Rattle.unit.specs.declared.pipeline.Pipeline.{Pipeline}
-use Rattle.unit.specs.Choices.{step_made}
-use Rattle.unit.specs.Order.{MovesFirst}
-use Rattle.unit.specs.Possible.{Possible}
-use Rattle.unit.specs.StandsFor.{StandsFor, sizes}
-use Rattle.unit.specs.Turns.{Does, Moves}
+use Rattle.one_thread.specs.declared.bench.Turn.{Turn}
+use Rattle.one_thread.specs.declared.pipeline.Pipeline.{Pipeline}
+use Rattle.one_thread.specs.Choices.{step_made}
+use Rattle.one_thread.specs.Order.{MovesFirst}
+use Rattle.one_thread.specs.Possible.{Possible}
+use Rattle.one_thread.specs.StandsFor.{StandsFor, sizes}
+use Rattle.one_thread.specs.Turns.{Does, Moves}
 
 -- From the unit U a turn makes this step, and leads to one that the later fields stand for
 pub record MovedAs (b : Pipeline) (U : UpdateUnit) (step : Option Possible) (answer : Turn) (later : Pipeline) : Type 0 where

@@ -4,19 +4,19 @@ use Rattle.std.proofs.Common.{⊎_elim, arith, length-append, length-take-le, tr
 use Rattle.std.specs.Prelude.{min, slice_get, slice_set}
 use Rattle.std.proofs.lemmas.Bool.{cases_lt}
 use Rattle.instructions.specs.Instruction.{kind}
-use Rattle.unit.specs.declared.station.Station.{Station}
-use Rattle.unit.specs.declared.station.Stage.{Stage}
-use Rattle.unit.specs.declared.station.Stage.TheVariants.{Open, Addr, Done, Miss, Stops}
+use Rattle.one_thread.specs.declared.station.Station.{Station}
+use Rattle.one_thread.specs.declared.station.Stage.{Stage}
+use Rattle.one_thread.specs.declared.station.Stage.TheVariants.{Open, Addr, Done, Miss, Stops}
 use Rattle.circular_buffer.proofs.Places.{slice_get-take}
-use Rattle.unit.specs.Givers.{FirstGives, NoneGives, given_at, gives}
-use Rattle.unit.specs.Notes.{AreNoted, AreSettled, miss_in, missed_after, settled_at, settled_by}
+use Rattle.one_thread.specs.Givers.{FirstGives, NoneGives, given_at, gives}
+use Rattle.one_thread.specs.Notes.{AreNoted, AreSettled, miss_in, missed_after, settled_at, settled_by}
 use Rattle.instructions.specs.declared.op.Kind.{Kind}
 use Rattle.instructions.specs.declared.op.Kind.TheVariants.{Computes, Jumps, Links, Loads, Stores}
-use Rattle.unit.specs.declared.execute.Operands.{Operands}
-use Rattle.unit.specs.Loads.{load_in, waits_by}
-use Rattle.unit.specs.Window.{miss_of, operands_in, where_open}
-use Rattle.unit.proofs.Entries.{answered_waits}
-use Rattle.unit.proofs.Scan.{get_end, get_left, place_at, set_middle}
+use Rattle.one_thread.specs.declared.execute.Operands.{Operands}
+use Rattle.one_thread.specs.Loads.{load_in, waits_by}
+use Rattle.one_thread.specs.Window.{miss_of, operands_in, where_open}
+use Rattle.one_thread.proofs.Entries.{answered_waits}
+use Rattle.one_thread.proofs.Scan.{get_end, get_left, place_at, set_middle}
 
 -- What a list gives at a place where another station stands
 

@@ -1,13 +1,13 @@
 -- Turns in an order.
 use Rattle.std.proofs.Common.{ℕ}
 use Rattle.instructions.specs.declared.instr.Instr.{Instr}
-use Rattle.unit.specs.declared.bench.Turn.{Turn}
-use Rattle.unit.specs.declared.order.Order.{Order}
-use Rattle.unit.specs.declared.order.Order.TheVariants.{Chosen, First}
-use Rattle.unit.specs.Choices.{IsTurnBy}
-use Rattle.unit.specs.Order.{IsTurn}
-use Rattle.unit.specs.Ordered.{IsTurnIn}
-use Rattle.unit.specs.Turns.{BenchFields, Moves}
+use Rattle.one_thread.specs.declared.bench.Turn.{Turn}
+use Rattle.one_thread.specs.declared.order.Order.{Order}
+use Rattle.one_thread.specs.declared.order.Order.TheVariants.{Chosen, First}
+use Rattle.one_thread.specs.Choices.{IsTurnBy}
+use Rattle.one_thread.specs.Order.{IsTurn}
+use Rattle.one_thread.specs.Ordered.{IsTurnIn}
+use Rattle.one_thread.specs.Turns.{BenchFields, Moves}
 
 module _ {S Q : Type 0} (Predicts : S → ℕ → Instr → ℕ → S → Type 0) (Learns : S → ℕ → ℕ → S → Type 0) (Chooses : Q → ℕ → ℕ → Q → Type 0) where
   -- The first that is possible

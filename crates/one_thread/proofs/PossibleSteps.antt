@@ -20,18 +20,18 @@ use Rattle.inorder.proofs.Sound.{IsSound}
 use Rattle.lsq.specs.declared.answer.Answer.{Answer}
 use Rattle.lsq.specs.declared.answer.Answer.TheVariants.{Blocked, Forward, Memory}
 use Rattle.lsq.specs.LoadRule.{answer_over}
-use Rattle.unit.specs.declared.execute.Operands.{Operands}
-use Rattle.unit.specs.declared.possible.Step.{Step}
-use Rattle.unit.specs.declared.station.Station.{Station}
-use Rattle.unit.specs.Givers.{gives}
-use Rattle.unit.specs.Loads.{entries, load_in, loaded_over, value_by, waits_by}
-use Rattle.unit.specs.Notes.{miss_in}
-use Rattle.unit.specs.Possible.{Possible, answered_by, can_be_claimed, can_be_loaded, can_recover, each_that, is_answered, is_miss, is_open}
-use Rattle.unit.specs.Steps.{given_step, given_steps, named}
-use Rattle.unit.specs.Window.{miss_of, operands_by, operands_in, source_in, stage_of, station_of, where_open, window}
-use Rattle.unit.proofs.Queues.{answer_like, queue_like}
-use Rattle.unit.proofs.Tests.{HasSources, gives_here, gives_left, has_sources}
-use Rattle.unit.proofs.Windows.{window_if, window_length}
+use Rattle.one_thread.specs.declared.execute.Operands.{Operands}
+use Rattle.one_thread.specs.declared.possible.Step.{Step}
+use Rattle.one_thread.specs.declared.station.Station.{Station}
+use Rattle.one_thread.specs.Givers.{gives}
+use Rattle.one_thread.specs.Loads.{entries, load_in, loaded_over, value_by, waits_by}
+use Rattle.one_thread.specs.Notes.{miss_in}
+use Rattle.one_thread.specs.Possible.{Possible, answered_by, can_be_claimed, can_be_loaded, can_recover, each_that, is_answered, is_miss, is_open}
+use Rattle.one_thread.specs.Steps.{given_step, given_steps, named}
+use Rattle.one_thread.specs.Window.{miss_of, operands_by, operands_in, source_in, stage_of, station_of, where_open, window}
+use Rattle.one_thread.proofs.Queues.{answer_like, queue_like}
+use Rattle.one_thread.proofs.Tests.{HasSources, gives_here, gives_left, has_sources}
+use Rattle.one_thread.proofs.Windows.{window_if, window_length}
 
 -- Where each station gives something exactly if its tenant passes a test, the lists of steps are the same
 

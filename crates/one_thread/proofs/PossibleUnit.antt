@@ -14,28 +14,28 @@ use Rattle.inorder.specs.Steps.{IsNoRetiredStop}
 use Rattle.inorder.specs.Tenants.{Addr, Busy, Done, Fate, Live, Miss, Open, Retired, Squashed, Standing, Stopped, Tenant, instr, is_live, is_live_access, kind_of, stands_live}
 use Rattle.inorder.specs.Unit.{UpdateUnit, at, front_pc, how_many}
 use Rattle.inorder.specs.Moves.{IsReached}
-use Rattle.unit.specs.declared.dispatch.Fetched.{Fetched}
-use Rattle.unit.specs.declared.pipeline.Pipeline.{Pipeline}
-use Rattle.unit.specs.declared.possible.Step.{Step}
-use Rattle.unit.specs.declared.possible.Step.TheVariants.{Recover, Retire}
-use Rattle.unit.specs.declared.recovery.Missed.{Missed}
-use Rattle.unit.specs.declared.station.Station.{Station}
-use Rattle.unit.specs.Changes.{NextOf, registers_of}
-use Rattle.unit.specs.Loads.{load_in}
-use Rattle.unit.specs.Notes.{miss_in, settled_by}
-use Rattle.unit.specs.Possible.{Possible, ToLet, ToLoad, ToRecover, ToRetire, ToRun, can_be_claimed, can_be_let, can_be_loaded, can_recover, each_that, first_some, fits_in, has_ended, has_stopped, oldest_live, possible, retirement, steps_of, stopped_by}
-use Rattle.unit.specs.Stages.{CannotLet, FirstMiss, NoInstr, NoRoom, QueueFull}
-use Rattle.unit.specs.StandsFor.{HasStopped, StandsFor, sizes}
-use Rattle.unit.specs.Steps.{ArePossible, given_steps, load_at, loads_of, named, next_let, recovery, retirement_of, run_at, runs_of}
-use Rattle.unit.specs.Window.{next_in, operands_in, source_in, stage_of, station_of, window}
-use Rattle.unit.proofs.CanLeave.{source_first}
-use Rattle.unit.proofs.Known.{Knows, knows, split_of}
-use Rattle.unit.proofs.Found.{Found, found}
+use Rattle.one_thread.specs.declared.dispatch.Fetched.{Fetched}
+use Rattle.one_thread.specs.declared.pipeline.Pipeline.{Pipeline}
+use Rattle.one_thread.specs.declared.possible.Step.{Step}
+use Rattle.one_thread.specs.declared.possible.Step.TheVariants.{Recover, Retire}
+use Rattle.one_thread.specs.declared.recovery.Missed.{Missed}
+use Rattle.one_thread.specs.declared.station.Station.{Station}
+use Rattle.one_thread.specs.Changes.{NextOf, registers_of}
+use Rattle.one_thread.specs.Loads.{load_in}
+use Rattle.one_thread.specs.Notes.{miss_in, settled_by}
+use Rattle.one_thread.specs.Possible.{Possible, ToLet, ToLoad, ToRecover, ToRetire, ToRun, can_be_claimed, can_be_let, can_be_loaded, can_recover, each_that, first_some, fits_in, has_ended, has_stopped, oldest_live, possible, retirement, steps_of, stopped_by}
+use Rattle.one_thread.specs.Stages.{CannotLet, FirstMiss, NoInstr, NoRoom, QueueFull}
+use Rattle.one_thread.specs.StandsFor.{HasStopped, StandsFor, sizes}
+use Rattle.one_thread.specs.Steps.{ArePossible, given_steps, load_at, loads_of, named, next_let, recovery, retirement_of, run_at, runs_of}
+use Rattle.one_thread.specs.Window.{next_in, operands_in, source_in, stage_of, station_of, window}
+use Rattle.one_thread.proofs.CanLeave.{source_first}
+use Rattle.one_thread.proofs.Known.{Knows, knows, split_of}
+use Rattle.one_thread.proofs.Found.{Found, found}
 use Rattle.inorder.proofs.OneCaller.Middle.{all_from, sound_from, still_from}
-use Rattle.unit.proofs.Listed.{first_given, none_given}
-use Rattle.unit.proofs.PossibleSteps.{claims_alike, loads_alike, misses_alike, same_steps}
-use Rattle.unit.proofs.Tests.{HasSources, has_sources}
-use Rattle.unit.proofs.Windows.{front_worth, window_accesses, window_if, window_length}
+use Rattle.one_thread.proofs.Listed.{first_given, none_given}
+use Rattle.one_thread.proofs.PossibleSteps.{claims_alike, loads_alike, misses_alike, same_steps}
+use Rattle.one_thread.proofs.Tests.{HasSources, has_sources}
+use Rattle.one_thread.proofs.Windows.{front_worth, window_accesses, window_if, window_length}
 
 -- The end of a unit
 
@@ -105,8 +105,8 @@ let_alike b U next none r s h = go next h
     long : length b.window ≡ how_many is_live ts
     long = ap length s.window ∙ window_length P ts
 
-    count : Rattle.unit.specs.Window.accesses b.window (length b.window) ≡ how_many (is_live_access P) ts
-    count = ap (λ l. Rattle.unit.specs.Window.accesses l (length l)) s.window ∙ window_accesses P ts
+    count : Rattle.one_thread.specs.Window.accesses b.window (length b.window) ≡ how_many (is_live_access P) ts
+    count = ap (λ l. Rattle.one_thread.specs.Window.accesses l (length l)) s.window ∙ window_accesses P ts
 
     front : next_in b.committed.pc b.window ≡ front_pc ts
     front = ap (next_in b.committed.pc) s.window ∙ ap (λ c. next_in c.pc (window P ts)) s.committed ∙ sym (front_worth P ts k.sound k.stops)
@@ -192,7 +192,7 @@ ended_alike k second (Done v) h = refl
 ended_alike k second (Stopped c) h = refl
 ended_alike k second Open h = other k
   where
-    other : (k : Kind) → settled_by k Rattle.unit.specs.declared.station.Stage.TheVariants.Open ≡ has_ended k second Open
+    other : (k : Kind) → settled_by k Rattle.one_thread.specs.declared.station.Stage.TheVariants.Open ≡ has_ended k second Open
     other Stores = refl
     other Computes = refl
     other Jumps = refl
@@ -200,7 +200,7 @@ ended_alike k second Open h = other k
     other Loads = refl
 ended_alike k second (Busy x) h = other k
   where
-    other : (k : Kind) → settled_by k Rattle.unit.specs.declared.station.Stage.TheVariants.Open ≡ has_ended k second (Busy x)
+    other : (k : Kind) → settled_by k Rattle.one_thread.specs.declared.station.Stage.TheVariants.Open ≡ has_ended k second (Busy x)
     other Stores = refl
     other Computes = refl
     other Jumps = refl
@@ -208,7 +208,7 @@ ended_alike k second (Busy x) h = other k
     other Loads = refl
 ended_alike k second (Miss x) h = other k
   where
-    other : (k : Kind) → settled_by k (Rattle.unit.specs.declared.station.Stage.TheVariants.Miss x) ≡ has_ended k second (Miss x)
+    other : (k : Kind) → settled_by k (Rattle.one_thread.specs.declared.station.Stage.TheVariants.Miss x) ≡ has_ended k second (Miss x)
     other Stores = refl
     other Computes = refl
     other Jumps = refl

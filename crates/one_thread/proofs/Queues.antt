@@ -21,12 +21,12 @@ use Rattle.lsq.specs.LoadRule.{answer_over, by_lacking, by_overlap, lacks_addres
 use Rattle.inorder.specs.Still.{AreStill}
 use Rattle.inorder.proofs.OneCaller.Left.{retired_all}
 use Rattle.inorder.proofs.Commits.{live_not}
-use Rattle.unit.specs.declared.station.Station.{Station}
-use Rattle.unit.specs.Loads.{address_of, entries, entry_at, entry_behind, with_entry}
-use Rattle.unit.specs.Window.{reaches_memory, source_in, stage_of, station_of, window}
-use Rattle.unit.proofs.Entries.{entries_left}
-use Rattle.unit.proofs.Scan.{get_end, take_middle}
-use Rattle.unit.proofs.Windows.{none_left, source_worth, window_if, window_live}
+use Rattle.one_thread.specs.declared.station.Station.{Station}
+use Rattle.one_thread.specs.Loads.{address_of, entries, entry_at, entry_behind, with_entry}
+use Rattle.one_thread.specs.Window.{reaches_memory, source_in, stage_of, station_of, window}
+use Rattle.one_thread.proofs.Entries.{entries_left}
+use Rattle.one_thread.proofs.Scan.{get_end, take_middle}
+use Rattle.one_thread.proofs.Windows.{none_left, source_worth, window_if, window_live}
 
 -- Two entries that are the same, or no stores
 pub record IsLike (e f : Entry) : Type 0 where

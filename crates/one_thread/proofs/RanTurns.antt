@@ -16,26 +16,26 @@ use Rattle.inorder.specs.Still.{IsNotBusy}
 use Rattle.inorder.proofs.OneCaller.Execution.{ActRun, claimed, ran_run, ran_steps}
 use Rattle.inorder.proofs.OneCaller.Middle.{all_from, sound_from, still_from}
 use Rattle.inorder.proofs.OneCaller.Sequences.{reach_on}
-use Rattle.unit.specs.declared.bench.Turn.TheVariants.{Ran}
-use Rattle.unit.specs.declared.execute.Operands.{Operands}
-use Rattle.unit.specs.declared.pipeline.Pipeline.{Pipeline}
-use Rattle.unit.specs.declared.station.Stage.TheVariants.{Done as IsDone, Miss as Misses}
-use Rattle.unit.specs.declared.station.Station.{Station}
-use Rattle.unit.specs.Changes.{registers_of}
-use Rattle.unit.specs.Givers.{NoneGives, gives}
-use Rattle.unit.specs.Notes.{miss_in}
-use Rattle.unit.specs.Stages.{CannotLet, RunsTo}
-use Rattle.unit.specs.StandsFor.{StandsFor, sizes}
-use Rattle.unit.specs.Turns.{Runs}
-use Rattle.unit.specs.Window.{operands_by, operands_in, source_in, stage_of, station_after, station_of, where_open, window}
-use Rattle.unit.proofs.Noted.{given_station}
-use Rattle.unit.proofs.Tests.{AreNeeded, HasSources, has_sources, needed_are, no_claim, no_let, no_miss}
-use Rattle.unit.proofs.Turns.{FoundIn, found_in, none_in, oldest_is}
-use Rattle.unit.proofs.Known.{IsSplit, cannot_let, knows, split_of}
-use Rattle.unit.proofs.Changed.{GoesOn, age_is, changed_stands, set_shown}
-use Rattle.unit.specs.Possible.{ToRun}
-use Rattle.unit.proofs.Moved.{MovedAs, MovesAs}
-use Rattle.unit.specs.Order.{MovedFirst, MovesFirst}
+use Rattle.one_thread.specs.declared.bench.Turn.TheVariants.{Ran}
+use Rattle.one_thread.specs.declared.execute.Operands.{Operands}
+use Rattle.one_thread.specs.declared.pipeline.Pipeline.{Pipeline}
+use Rattle.one_thread.specs.declared.station.Stage.TheVariants.{Done as IsDone, Miss as Misses}
+use Rattle.one_thread.specs.declared.station.Station.{Station}
+use Rattle.one_thread.specs.Changes.{registers_of}
+use Rattle.one_thread.specs.Givers.{NoneGives, gives}
+use Rattle.one_thread.specs.Notes.{miss_in}
+use Rattle.one_thread.specs.Stages.{CannotLet, RunsTo}
+use Rattle.one_thread.specs.StandsFor.{StandsFor, sizes}
+use Rattle.one_thread.specs.Turns.{Runs}
+use Rattle.one_thread.specs.Window.{operands_by, operands_in, source_in, stage_of, station_after, station_of, where_open, window}
+use Rattle.one_thread.proofs.Noted.{given_station}
+use Rattle.one_thread.proofs.Tests.{AreNeeded, HasSources, has_sources, needed_are, no_claim, no_let, no_miss}
+use Rattle.one_thread.proofs.Turns.{FoundIn, found_in, none_in, oldest_is}
+use Rattle.one_thread.proofs.Known.{IsSplit, cannot_let, knows, split_of}
+use Rattle.one_thread.proofs.Changed.{GoesOn, age_is, changed_stands, set_shown}
+use Rattle.one_thread.specs.Possible.{ToRun}
+use Rattle.one_thread.proofs.Moved.{MovedAs, MovesAs}
+use Rattle.one_thread.specs.Order.{MovedFirst, MovesFirst}
 
 -- A tenant that is open, and its operands
 

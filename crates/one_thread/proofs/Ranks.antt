@@ -9,19 +9,19 @@ use Rattle.instructions.specs.declared.op.Kind.{Kind}
 use Rattle.instructions.specs.declared.op.Kind.TheVariants.{Computes, Jumps, Links, Loads, Stores}
 use Rattle.instructions.specs.declared.stop.Outcome.{Outcome}
 use Rattle.instructions.specs.declared.stop.Outcome.TheVariants.{Address, Next, Pair, Stop, Value}
-use Rattle.unit.specs.declared.execute.Operands.{Operands}
-use Rattle.unit.specs.declared.station.Station.{Station}
-use Rattle.unit.specs.declared.station.Stage.{Stage}
-use Rattle.unit.specs.declared.station.Stage.TheVariants.{Open, Addr, Done, Miss, Stops}
-use Rattle.unit.specs.Loads.{load_in, waits_by}
-use Rattle.unit.specs.Notes.{miss_in}
-use Rattle.unit.specs.Givers.{gives}
-use Rattle.unit.specs.Stages.{RecoversTo}
-use Rattle.unit.specs.Turns.{digit, rank}
-use Rattle.unit.specs.Window.{miss_of, operands_in, station_after, station_mended, where_open}
-use Rattle.unit.proofs.Entries.{answered_waits}
-use Rattle.unit.proofs.Noted.{given_station}
-use Rattle.unit.proofs.Scan.{Place, place_at, set_middle, take_middle}
+use Rattle.one_thread.specs.declared.execute.Operands.{Operands}
+use Rattle.one_thread.specs.declared.station.Station.{Station}
+use Rattle.one_thread.specs.declared.station.Stage.{Stage}
+use Rattle.one_thread.specs.declared.station.Stage.TheVariants.{Open, Addr, Done, Miss, Stops}
+use Rattle.one_thread.specs.Loads.{load_in, waits_by}
+use Rattle.one_thread.specs.Notes.{miss_in}
+use Rattle.one_thread.specs.Givers.{gives}
+use Rattle.one_thread.specs.Stages.{RecoversTo}
+use Rattle.one_thread.specs.Turns.{digit, rank}
+use Rattle.one_thread.specs.Window.{miss_of, operands_in, station_after, station_mended, where_open}
+use Rattle.one_thread.proofs.Entries.{answered_waits}
+use Rattle.one_thread.proofs.Noted.{given_station}
+use Rattle.one_thread.proofs.Scan.{Place, place_at, set_middle, take_middle}
 
 digit_most : (s : Stage) → digit s ≤ 5
 digit_most Open = omega arith

@@ -3,17 +3,17 @@ use Rattle.std.proofs.Common.{◌≡◌, ◌<◌, ◌≤◌, ℕ, zero, suc, ◌
 use Rattle.std.specs.Prelude.{IfSome, slice_get, slice_set}
 use Rattle.instructions.specs.Instruction.{fixed_next, kind}
 use Rattle.inorder.specs.Tenants.{made_at_let}
-use Rattle.unit.specs.declared.dispatch.Fetched.{Fetched}
-use Rattle.unit.specs.declared.pipeline.Pipeline.{Pipeline}
-use Rattle.unit.specs.declared.station.Stage.TheVariants.{Open}
-use Rattle.unit.specs.declared.station.Station.{Station}
-use Rattle.unit.specs.Changes.{NextOf}
-use Rattle.unit.specs.Givers.{NoneGives, given_at}
-use Rattle.unit.specs.Notes.{miss_in}
-use Rattle.unit.specs.StandsFor.{StandsForSome}
-use Rattle.unit.specs.Steady.{as_let, reopened, with_reopened}
-use Rattle.unit.specs.Window.{access_at, accesses, further_on, half_behind, let_at, next_after}
-use Rattle.unit.proofs.BenchTurns.{let_shows}
+use Rattle.one_thread.specs.declared.dispatch.Fetched.{Fetched}
+use Rattle.one_thread.specs.declared.pipeline.Pipeline.{Pipeline}
+use Rattle.one_thread.specs.declared.station.Stage.TheVariants.{Open}
+use Rattle.one_thread.specs.declared.station.Station.{Station}
+use Rattle.one_thread.specs.Changes.{NextOf}
+use Rattle.one_thread.specs.Givers.{NoneGives, given_at}
+use Rattle.one_thread.specs.Notes.{miss_in}
+use Rattle.one_thread.specs.StandsFor.{StandsForSome}
+use Rattle.one_thread.specs.Steady.{as_let, reopened, with_reopened}
+use Rattle.one_thread.specs.Window.{access_at, accesses, further_on, half_behind, let_at, next_after}
+use Rattle.one_thread.proofs.BenchTurns.{let_shows}
 
 -- The list
 

@@ -1,8 +1,8 @@
 -- Going over the stations.
 use Rattle.std.proofs.Common.{◌≡◌, ◌<◌, ◌≤◌, ℕ, zero, suc, ◌+◌, List, [], ◌∷◌, ◌++◌, length, take, Option, Some, refl, ap, arith}
 use Rattle.std.specs.Prelude.{slice_get, slice_set}
-use Rattle.unit.specs.declared.station.Station.{Station}
-use Rattle.unit.specs.Window.{register_in, register_after}
+use Rattle.one_thread.specs.declared.station.Station.{Station}
+use Rattle.one_thread.specs.Window.{register_in, register_after}
 
 register_next : (r : ℕ) (v : Option ℕ) (ws : List Station) (j : ℕ) → register_in r v (take (suc j) ws) ≡ register_after r (register_in r v (take j ws)) (slice_get ws j)
 register_next r v [] zero = refl

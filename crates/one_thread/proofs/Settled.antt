@@ -4,14 +4,14 @@ use Rattle.std.specs.Prelude.{slice_get, is_some}
 use Rattle.instructions.specs.Instruction.{kind}
 use Rattle.instructions.specs.declared.op.Kind.{Kind}
 use Rattle.instructions.specs.declared.op.Kind.TheVariants.{Computes, Jumps, Links, Loads, Stores}
-use Rattle.unit.specs.declared.execute.Operands.{Operands}
-use Rattle.unit.specs.declared.station.Stage.{Stage}
-use Rattle.unit.specs.declared.station.Stage.TheVariants.{Open, Addr, Done, Miss, Stops}
-use Rattle.unit.specs.declared.station.Station.{Station}
-use Rattle.unit.specs.Givers.{given_at, gives}
-use Rattle.unit.specs.Loads.{waits_at, waits_by}
-use Rattle.unit.specs.Notes.{miss_in, settled_at, settled_by}
-use Rattle.unit.specs.Window.{miss_of, operands_in, where_open}
+use Rattle.one_thread.specs.declared.execute.Operands.{Operands}
+use Rattle.one_thread.specs.declared.station.Stage.{Stage}
+use Rattle.one_thread.specs.declared.station.Stage.TheVariants.{Open, Addr, Done, Miss, Stops}
+use Rattle.one_thread.specs.declared.station.Station.{Station}
+use Rattle.one_thread.specs.Givers.{given_at, gives}
+use Rattle.one_thread.specs.Loads.{waits_at, waits_by}
+use Rattle.one_thread.specs.Notes.{miss_in, settled_at, settled_by}
+use Rattle.one_thread.specs.Window.{miss_of, operands_in, where_open}
 
 not_open : (k : Kind) (s : Stage) (o : Option Operands) → settled_by k s ≡ true → where_open s o ≡ None
 not_open k Done o e = refl

@@ -4,10 +4,10 @@ use Rattle.std.specs.Prelude.{slice_get, slice_index}
 use Rattle.std.proofs.lemmas.Bool.{le-leb}
 use Rattle.circular_buffer.proofs.Places.{slice_get-some}
 use Rattle.inorder.specs.Unit.{can_be_written}
-use Rattle.unit.specs.declared.station.Station.{Station}
-use Rattle.unit.specs.Creators.{IsCreator, written_by}
-use Rattle.unit.specs.Window.{register_after, register_in, source_in}
-use Rattle.unit.proofs.Scan.{register_step}
+use Rattle.one_thread.specs.declared.station.Station.{Station}
+use Rattle.one_thread.specs.Creators.{IsCreator, written_by}
+use Rattle.one_thread.specs.Window.{register_after, register_in, source_in}
+use Rattle.one_thread.proofs.Scan.{register_step}
 
 written : (r : ℕ) → r ≢ 0 → r < 34 → can_be_written r ≡ true
 written zero n l = absurd (n refl)

@@ -5,19 +5,19 @@ use Rattle.std.proofs.lemmas.Bool.{cases_eq}
 use Rattle.instructions.specs.Instruction.{is_first_half}
 use Rattle.instructions.specs.Operations.{outcome_of}
 use Rattle.instructions.specs.Programs.{Program, instr_at}
-use Rattle.unit.specs.declared.bench.Turn.{Turn}
-use Rattle.unit.specs.declared.pipeline.Pipeline.{Pipeline}
-use Rattle.unit.specs.declared.station.Stage.{Stage}
-use Rattle.unit.specs.declared.station.Stage.TheVariants.{Addr, Done, Miss, Open, Stops}
-use Rattle.unit.specs.declared.station.Station.{Station}
-use Rattle.unit.specs.Changes.{LoadsOldest, NextOf, RunsOldest}
-use Rattle.unit.specs.Creators.{IsOfSame}
-use Rattle.unit.specs.Leaves.{LeavesTo, PassesTo, RetiresTo}
-use Rattle.unit.specs.Stages.{CannotLet, NoInstr, NoRoom, QueueFull}
-use Rattle.unit.specs.Turns.{stalled_after}
-use Rattle.unit.specs.Window.{accesses, next_after, next_in, station_after}
-use Rattle.unit.proofs.Accesses.{accesses_set}
-use Rattle.unit.proofs.Noted.{set_length, set_other, set_same}
+use Rattle.one_thread.specs.declared.bench.Turn.{Turn}
+use Rattle.one_thread.specs.declared.pipeline.Pipeline.{Pipeline}
+use Rattle.one_thread.specs.declared.station.Stage.{Stage}
+use Rattle.one_thread.specs.declared.station.Stage.TheVariants.{Addr, Done, Miss, Open, Stops}
+use Rattle.one_thread.specs.declared.station.Station.{Station}
+use Rattle.one_thread.specs.Changes.{LoadsOldest, NextOf, RunsOldest}
+use Rattle.one_thread.specs.Creators.{IsOfSame}
+use Rattle.one_thread.specs.Leaves.{LeavesTo, PassesTo, RetiresTo}
+use Rattle.one_thread.specs.Stages.{CannotLet, NoInstr, NoRoom, QueueFull}
+use Rattle.one_thread.specs.Turns.{stalled_after}
+use Rattle.one_thread.specs.Window.{accesses, next_after, next_in, station_after}
+use Rattle.one_thread.proofs.Accesses.{accesses_set}
+use Rattle.one_thread.proofs.Noted.{set_length, set_other, set_same}
 
 -- Another stage of a tenant that goes on at the same place
 

@@ -7,18 +7,18 @@ use Rattle.inorder.specs.Callers.{is_retired}
 use Rattle.inorder.specs.Machine.{start}
 use Rattle.inorder.specs.Unit.{UpdateUnit, how_many}
 use Rattle.inorder.specs.Moves.{IsReached}
-use Rattle.unit.specs.declared.bench.Turn.{Turn}
+use Rattle.one_thread.specs.declared.bench.Turn.{Turn}
 use Rattle.instructions.specs.declared.guessing.Leaver.{Leaver}
-use Rattle.unit.specs.declared.pipeline.Pipeline.{Pipeline}
-use Rattle.unit.specs.declared.station.Stage.{Stage}
-use Rattle.unit.specs.declared.station.Stage.TheVariants.{Open, Addr, Done, Miss, Stops}
-use Rattle.unit.specs.declared.station.Station.{Station}
-use Rattle.unit.specs.Decoding.{IsDecoded}
-use Rattle.unit.specs.Leaves.{LeavesTo, PassesTo, RetiresTo, halved, left}
-use Rattle.unit.specs.Notes.{AreNoted}
-use Rattle.unit.specs.StandsFor.{OverIs, StandsFor, StandsForSome, sizes}
-use Rattle.unit.specs.Turns.{Moves, SizesStay}
-use Rattle.unit.proofs.Noted.{noted_drop}
+use Rattle.one_thread.specs.declared.pipeline.Pipeline.{Pipeline}
+use Rattle.one_thread.specs.declared.station.Stage.{Stage}
+use Rattle.one_thread.specs.declared.station.Stage.TheVariants.{Open, Addr, Done, Miss, Stops}
+use Rattle.one_thread.specs.declared.station.Station.{Station}
+use Rattle.one_thread.specs.Decoding.{IsDecoded}
+use Rattle.one_thread.specs.Leaves.{LeavesTo, PassesTo, RetiresTo, halved, left}
+use Rattle.one_thread.specs.Notes.{AreNoted}
+use Rattle.one_thread.specs.StandsFor.{OverIs, StandsFor, StandsForSome, sizes}
+use Rattle.one_thread.specs.Turns.{Moves, SizesStay}
+use Rattle.one_thread.proofs.Noted.{noted_drop}
 
 -- each of n options is none
 abbrev nobody : Option Leaver

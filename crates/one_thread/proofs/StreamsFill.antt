@@ -1,13 +1,13 @@
 -- The steady state: what comes next is let, or waits for the queue.
 use Rattle.std.proofs.Common.{◌≡◌, ◌≤◌, ℕ, suc, List, [], ◌∷◌, ◌++◌, length, refl, sym, ap, ◌∙◌, subst, arith, length-append}
-use Rattle.unit.specs.declared.dispatch.Fetched.{Fetched}
-use Rattle.unit.specs.declared.future.Future.{Future}
-use Rattle.unit.specs.declared.pipeline.Pipeline.{Pipeline}
-use Rattle.unit.specs.declared.station.Station.{Station}
-use Rattle.unit.specs.StandsFor.{StandsForSome}
-use Rattle.unit.specs.Steady.{AwaitRetirement, EndsWith, FollowsYoungest, Foresees, IsSteady, StayOpen, with_reopened}
-use Rattle.unit.proofs.Awaiting.{passed_more}
-use Rattle.unit.proofs.Idle.{noted_unit}
+use Rattle.one_thread.specs.declared.dispatch.Fetched.{Fetched}
+use Rattle.one_thread.specs.declared.future.Future.{Future}
+use Rattle.one_thread.specs.declared.pipeline.Pipeline.{Pipeline}
+use Rattle.one_thread.specs.declared.station.Station.{Station}
+use Rattle.one_thread.specs.StandsFor.{StandsForSome}
+use Rattle.one_thread.specs.Steady.{AwaitRetirement, EndsWith, FollowsYoungest, Foresees, IsSteady, StayOpen, with_reopened}
+use Rattle.one_thread.proofs.Awaiting.{passed_more}
+use Rattle.one_thread.proofs.Idle.{noted_unit}
 
 -- Fewer are known to be settled
 

@@ -6,25 +6,25 @@ use Rattle.instructions.specs.declared.op.Kind.{Kind}
 use Rattle.instructions.specs.Operations.{outcome_of}
 use Rattle.instructions.specs.declared.stop.Outcome.{Outcome}
 use Rattle.instructions.specs.declared.stop.Outcome.TheVariants.{Address, Next, Pair, Stop, Value}
-use Rattle.unit.specs.declared.dispatch.Fetched.{Fetched}
-use Rattle.unit.specs.declared.execute.Operands.{Operands}
-use Rattle.unit.specs.declared.future.Future.{Future}
-use Rattle.unit.specs.declared.pipeline.Pipeline.{Pipeline}
-use Rattle.unit.specs.declared.station.Stage.{Stage}
-use Rattle.unit.specs.declared.station.Stage.TheVariants.{Open, Addr, Done, Miss, Stops}
-use Rattle.unit.specs.declared.station.Station.{Station}
-use Rattle.unit.specs.Changes.{CanClaim, registers_of}
-use Rattle.unit.specs.Givers.{gives}
-use Rattle.unit.specs.Notes.{AreNoted, missed_after}
-use Rattle.unit.specs.StandsFor.{StandsForSome}
-use Rattle.unit.specs.Steady.{EndsWith, Follows, FollowsYoungest, IsSteady, arrives, as_let}
-use Rattle.unit.specs.Window.{let_at, miss_of, operands_by, operands_in, source_in, stage_after, station_after}
-use Rattle.unit.proofs.CanLeave.{both_there}
-use Rattle.unit.proofs.Idle.{ran_unit}
-use Rattle.unit.proofs.Noted.{noted_ran}
-use Rattle.unit.proofs.Scan.{get_end, set_middle}
-use Rattle.unit.proofs.Tests.{gives_here}
-use Rattle.unit.proofs.Awaiting.{last_same, whole_registers}
+use Rattle.one_thread.specs.declared.dispatch.Fetched.{Fetched}
+use Rattle.one_thread.specs.declared.execute.Operands.{Operands}
+use Rattle.one_thread.specs.declared.future.Future.{Future}
+use Rattle.one_thread.specs.declared.pipeline.Pipeline.{Pipeline}
+use Rattle.one_thread.specs.declared.station.Stage.{Stage}
+use Rattle.one_thread.specs.declared.station.Stage.TheVariants.{Open, Addr, Done, Miss, Stops}
+use Rattle.one_thread.specs.declared.station.Station.{Station}
+use Rattle.one_thread.specs.Changes.{CanClaim, registers_of}
+use Rattle.one_thread.specs.Givers.{gives}
+use Rattle.one_thread.specs.Notes.{AreNoted, missed_after}
+use Rattle.one_thread.specs.StandsFor.{StandsForSome}
+use Rattle.one_thread.specs.Steady.{EndsWith, Follows, FollowsYoungest, IsSteady, arrives, as_let}
+use Rattle.one_thread.specs.Window.{let_at, miss_of, operands_by, operands_in, source_in, stage_after, station_after}
+use Rattle.one_thread.proofs.CanLeave.{both_there}
+use Rattle.one_thread.proofs.Idle.{ran_unit}
+use Rattle.one_thread.proofs.Noted.{noted_ran}
+use Rattle.one_thread.proofs.Scan.{get_end, set_middle}
+use Rattle.one_thread.proofs.Tests.{gives_here}
+use Rattle.one_thread.proofs.Awaiting.{last_same, whole_registers}
 
 -- An instruction is let: it can be claimed at once
 

@@ -5,19 +5,19 @@ use Rattle.std.proofs.lemmas.List.{take_all}
 use Rattle.std.specs.Prelude.{slice_get, slice_set}
 use Rattle.instructions.specs.Instruction.{is_first_half}
 use Rattle.instructions.specs.declared.instr.Instr.{Instr}
-use Rattle.unit.specs.declared.dispatch.Fetched.{Fetched}
-use Rattle.unit.specs.declared.future.Future.{Future}
-use Rattle.unit.specs.declared.pipeline.Pipeline.{Pipeline}
-use Rattle.unit.specs.declared.station.Stage.TheVariants.{Done}
-use Rattle.unit.specs.declared.station.Station.{Station}
-use Rattle.unit.specs.Changes.{LoadGives, LoadsAt}
-use Rattle.unit.specs.Notes.{AreNoted}
-use Rattle.unit.specs.StandsFor.{StandsForSome}
-use Rattle.unit.specs.Steady.{EndsWith, Follows, FollowsYoungest}
-use Rattle.unit.specs.Window.{further_on}
-use Rattle.unit.proofs.Idle.{loaded_unit}
-use Rattle.unit.proofs.Scan.{get_end, set_middle}
-use Rattle.unit.proofs.Awaiting.{ends_as, last_same, take_next}
+use Rattle.one_thread.specs.declared.dispatch.Fetched.{Fetched}
+use Rattle.one_thread.specs.declared.future.Future.{Future}
+use Rattle.one_thread.specs.declared.pipeline.Pipeline.{Pipeline}
+use Rattle.one_thread.specs.declared.station.Stage.TheVariants.{Done}
+use Rattle.one_thread.specs.declared.station.Station.{Station}
+use Rattle.one_thread.specs.Changes.{LoadGives, LoadsAt}
+use Rattle.one_thread.specs.Notes.{AreNoted}
+use Rattle.one_thread.specs.StandsFor.{StandsForSome}
+use Rattle.one_thread.specs.Steady.{EndsWith, Follows, FollowsYoungest}
+use Rattle.one_thread.specs.Window.{further_on}
+use Rattle.one_thread.proofs.Idle.{loaded_unit}
+use Rattle.one_thread.proofs.Scan.{get_end, set_middle}
+use Rattle.one_thread.proofs.Awaiting.{ends_as, last_same, take_next}
 
 -- The youngest is a load, and is answered
 

@@ -4,26 +4,26 @@ use Rattle.std.specs.Prelude.{slice_get, unwrap_or}
 use Rattle.instructions.specs.Instruction.{is_first_half}
 use Rattle.instructions.specs.declared.stop.Stop.{Stop}
 use Rattle.inorder.specs.Machine.{write}
-use Rattle.unit.specs.Leaves.{HasEnded, LeavesTo, OldestHasEnded, PassesTo, RetiresTo, left}
-use Rattle.unit.specs.declared.bench.Turn.TheVariants.{Retired}
-use Rattle.unit.specs.declared.future.Future.{Future}
-use Rattle.unit.specs.declared.pipeline.Pipeline.{Pipeline}
-use Rattle.unit.specs.declared.station.Stage.{Stage}
-use Rattle.unit.specs.declared.station.Stage.TheVariants.{Open, Addr, Done, Miss, Stops}
-use Rattle.unit.specs.declared.station.Station.{Station}
-use Rattle.unit.specs.Changes.{registers_of}
-use Rattle.unit.specs.Givers.{NoneGives}
-use Rattle.unit.specs.Loads.{load_in}
-use Rattle.unit.specs.Notes.{AreNoted}
-use Rattle.unit.specs.Stages.{CannotLet}
-use Rattle.unit.specs.StandsFor.{StandsForSome}
-use Rattle.unit.specs.Steady.{AwaitRetirement, AwaitsRetirement, Foresees, IsSteady}
-use Rattle.unit.proofs.LookBack.{settled_unanswered}
-use Rattle.unit.proofs.Futures.{foresees_left}
-use Rattle.unit.proofs.Idle.{Idle, Shows, idle, leaves_after, retired_shows}
-use Rattle.unit.proofs.Noted.{get_drop}
-use Rattle.unit.proofs.Settled.{settled_closed}
-use Rattle.unit.proofs.Awaiting.{passed_no_miss, passed_settled, registers_long, whole_registers}
+use Rattle.one_thread.specs.Leaves.{HasEnded, LeavesTo, OldestHasEnded, PassesTo, RetiresTo, left}
+use Rattle.one_thread.specs.declared.bench.Turn.TheVariants.{Retired}
+use Rattle.one_thread.specs.declared.future.Future.{Future}
+use Rattle.one_thread.specs.declared.pipeline.Pipeline.{Pipeline}
+use Rattle.one_thread.specs.declared.station.Stage.{Stage}
+use Rattle.one_thread.specs.declared.station.Stage.TheVariants.{Open, Addr, Done, Miss, Stops}
+use Rattle.one_thread.specs.declared.station.Station.{Station}
+use Rattle.one_thread.specs.Changes.{registers_of}
+use Rattle.one_thread.specs.Givers.{NoneGives}
+use Rattle.one_thread.specs.Loads.{load_in}
+use Rattle.one_thread.specs.Notes.{AreNoted}
+use Rattle.one_thread.specs.Stages.{CannotLet}
+use Rattle.one_thread.specs.StandsFor.{StandsForSome}
+use Rattle.one_thread.specs.Steady.{AwaitRetirement, AwaitsRetirement, Foresees, IsSteady}
+use Rattle.one_thread.proofs.LookBack.{settled_unanswered}
+use Rattle.one_thread.proofs.Futures.{foresees_left}
+use Rattle.one_thread.proofs.Idle.{Idle, Shows, idle, leaves_after, retired_shows}
+use Rattle.one_thread.proofs.Noted.{get_drop}
+use Rattle.one_thread.proofs.Settled.{settled_closed}
+use Rattle.one_thread.proofs.Awaiting.{passed_no_miss, passed_settled, registers_long, whole_registers}
 
 -- The oldest retires
 

@@ -21,19 +21,19 @@ use Rattle.lsq.specs.LoadRule.{answer_over}
 use Rattle.inorder.specs.Still.{AreStill}
 use Rattle.inorder.proofs.OneCaller.Left.{ahead_middle}
 use Rattle.inorder.proofs.OneCaller.Middle.{sound_from}
-use Rattle.unit.specs.declared.execute.Operands.{Operands}
-use Rattle.unit.specs.declared.station.Station.{Station}
-use Rattle.unit.specs.Blocked.{AreBlocked, IsBlocked}
-use Rattle.unit.specs.Givers.{NoneGives, given_at, gives}
-use Rattle.unit.specs.Loads.{entries, load_in, loaded_over, value_by, waits_by}
-use Rattle.unit.specs.Notes.{miss_in}
-use Rattle.unit.specs.Stages.{CannotLet, NoInstr, NoRoom, QueueFull}
-use Rattle.unit.specs.Turns.{IsNoMiss}
-use Rattle.unit.specs.Order.{IsUnclaimable, NoLet}
-use Rattle.unit.specs.Window.{miss_of, next_in, operands_by, operands_in, source_in, stage_of, station_of, where_open, window}
-use Rattle.unit.proofs.Queues.{answer_like, queue_like}
-use Rattle.unit.proofs.Scan.{get_end, get_left, take_left, take_middle}
-use Rattle.unit.proofs.Windows.{front_worth, source_worth, window_accesses, window_if, window_length, window_live}
+use Rattle.one_thread.specs.declared.execute.Operands.{Operands}
+use Rattle.one_thread.specs.declared.station.Station.{Station}
+use Rattle.one_thread.specs.Blocked.{AreBlocked, IsBlocked}
+use Rattle.one_thread.specs.Givers.{NoneGives, given_at, gives}
+use Rattle.one_thread.specs.Loads.{entries, load_in, loaded_over, value_by, waits_by}
+use Rattle.one_thread.specs.Notes.{miss_in}
+use Rattle.one_thread.specs.Stages.{CannotLet, NoInstr, NoRoom, QueueFull}
+use Rattle.one_thread.specs.Turns.{IsNoMiss}
+use Rattle.one_thread.specs.Order.{IsUnclaimable, NoLet}
+use Rattle.one_thread.specs.Window.{miss_of, next_in, operands_by, operands_in, source_in, stage_of, station_of, where_open, window}
+use Rattle.one_thread.proofs.Queues.{answer_like, queue_like}
+use Rattle.one_thread.proofs.Scan.{get_end, get_left, take_left, take_middle}
+use Rattle.one_thread.proofs.Windows.{front_worth, source_worth, window_accesses, window_if, window_length, window_live}
 
 pub gives_left : {X : Type 0} → (give : List Station → Station → Option X) (xs zs : List Station) (k : ℕ) → k < length xs → gives give (xs ++ zs) k ≡ gives give xs k
 gives_left give xs zs k h =

@@ -14,26 +14,26 @@ use Rattle.inorder.specs.Moves.{IsSquash, Leads, with_tenants}
 use Rattle.inorder.specs.Still.{AreStill}
 use Rattle.inorder.proofs.OneCaller.Recovery.{RecoverRun, gone, mended_to, recover_run}
 use Rattle.inorder.proofs.OneCaller.Sequences.{all_weaker, committed_on, reach_on, sound_of, squash_quiet}
-use Rattle.unit.specs.declared.bench.Turn.{Turn}
-use Rattle.unit.specs.declared.bench.Turn.TheVariants.{Recovered}
-use Rattle.unit.specs.declared.pipeline.Pipeline.{Pipeline}
-use Rattle.unit.specs.declared.station.Station.{Station}
-use Rattle.unit.specs.Givers.{NoneGives, gives}
-use Rattle.unit.specs.Leavers.{leaver}
-use Rattle.unit.specs.Notes.{miss_in}
-use Rattle.unit.specs.Stages.{RecoversTo}
-use Rattle.unit.specs.StandsFor.{OverIs, StandsFor, sizes}
-use Rattle.unit.specs.Order.{MovesFirst}
-use Rattle.unit.specs.Possible.{ToRecover}
-use Rattle.unit.proofs.Moved.{MovedAs, MovesAs}
-use Rattle.unit.proofs.Windows.{window_length}
-use Rattle.unit.specs.Window.{miss_of, stage_of, station_mended, station_of, window}
-use Rattle.unit.proofs.Waiting.{LeavesSame, same_recover}
-use Rattle.unit.proofs.Found.{Found, found, window_gone, window_middle}
-use Rattle.unit.proofs.Leavers.{leaver_recover}
-use Rattle.unit.proofs.Noted.{given_station}
-use Rattle.unit.proofs.Scan.{take_middle}
-use Rattle.unit.proofs.Tests.{NoneIs, gives_left, no_miss, none_is}
+use Rattle.one_thread.specs.declared.bench.Turn.{Turn}
+use Rattle.one_thread.specs.declared.bench.Turn.TheVariants.{Recovered}
+use Rattle.one_thread.specs.declared.pipeline.Pipeline.{Pipeline}
+use Rattle.one_thread.specs.declared.station.Station.{Station}
+use Rattle.one_thread.specs.Givers.{NoneGives, gives}
+use Rattle.one_thread.specs.Leavers.{leaver}
+use Rattle.one_thread.specs.Notes.{miss_in}
+use Rattle.one_thread.specs.Stages.{RecoversTo}
+use Rattle.one_thread.specs.StandsFor.{OverIs, StandsFor, sizes}
+use Rattle.one_thread.specs.Order.{MovesFirst}
+use Rattle.one_thread.specs.Possible.{ToRecover}
+use Rattle.one_thread.proofs.Moved.{MovedAs, MovesAs}
+use Rattle.one_thread.proofs.Windows.{window_length}
+use Rattle.one_thread.specs.Window.{miss_of, stage_of, station_mended, station_of, window}
+use Rattle.one_thread.proofs.Waiting.{LeavesSame, same_recover}
+use Rattle.one_thread.proofs.Found.{Found, found, window_gone, window_middle}
+use Rattle.one_thread.proofs.Leavers.{leaver_recover}
+use Rattle.one_thread.proofs.Noted.{given_station}
+use Rattle.one_thread.proofs.Scan.{take_middle}
+use Rattle.one_thread.proofs.Tests.{NoneIs, gives_left, no_miss, none_is}
 
 -- What was found in the window of a unit
 pub record FoundIn (P : Program) (W : List Station) (U : List Tenant) (i : ℕ) (w : Station) : Type 0 where

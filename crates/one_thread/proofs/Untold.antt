@@ -11,14 +11,14 @@ use Rattle.inorder.proofs.Sound.{IsSound}
 use Rattle.inorder.proofs.Stations.{ArePlaced, Stands, last_at}
 use Rattle.inorder.proofs.OneCaller.Middle.{at_middle, younger_middle}
 use Rattle.inorder.proofs.OneCaller.Sequences.{sound_of, stands_of}
-use Rattle.unit.specs.declared.pipeline.Pipeline.{Pipeline}
-use Rattle.unit.specs.declared.station.Station.{Station}
-use Rattle.unit.specs.Leavers.{leaver, told_of}
-use Rattle.unit.specs.StandsFor.{StandsFor, StandsForSome, sizes}
-use Rattle.unit.proofs.Found.{Found, found}
-use Rattle.unit.proofs.Leavers.{told_live}
-use Rattle.unit.proofs.Waiting.{retired_over}
-use Rattle.unit.proofs.Windows.{path_length}
+use Rattle.one_thread.specs.declared.pipeline.Pipeline.{Pipeline}
+use Rattle.one_thread.specs.declared.station.Station.{Station}
+use Rattle.one_thread.specs.Leavers.{leaver, told_of}
+use Rattle.one_thread.specs.StandsFor.{StandsFor, StandsForSome, sizes}
+use Rattle.one_thread.proofs.Found.{Found, found}
+use Rattle.one_thread.proofs.Leavers.{told_live}
+use Rattle.one_thread.proofs.Waiting.{retired_over}
+use Rattle.one_thread.proofs.Windows.{path_length}
 
 -- the younger ones stand elsewhere
 pub oldest_apart : (P : Program) (C : Sizes) (U : UpdateUnit) (w : Station) (d : Found P U.tenants 0 w) → IsReached P C U → AllByRecursion (λ y. y.station ≢ d.t.station) d.ys

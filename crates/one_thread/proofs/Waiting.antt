@@ -17,7 +17,7 @@ use Rattle.inorder.proofs.Halves.{completes_if, first_low, none_waits}
 use Rattle.inorder.proofs.Pairs.{and_left, first_half_computes}
 use Rattle.inorder.proofs.SettledRegisters.{ahead_if, committed_if, retired_on}
 use Rattle.inorder.proofs.Sound.{IsSettled, IsSound, IsSoundAt, SettledBy}
-use Rattle.unit.specs.Ahead.{low_after, low_of, waiting_half}
+use Rattle.one_thread.specs.Ahead.{low_after, low_of, waiting_half}
 use Rattle.inorder.proofs.OneCaller.Alike.{AreAlike, IsAlike}
 use Rattle.inorder.proofs.OneCaller.Recovery.{gone, gone_by, mended_to}
 

@@ -9,13 +9,13 @@ use Rattle.instructions.specs.declared.op.Kind.TheVariants.{Computes, Jumps, Lin
 use Rattle.inorder.specs.Loads.{is_store}
 use Rattle.lsq.specs.declared.entry.Entry.{Entry}
 use Rattle.lsq.specs.LoadRule.{lacks_address, overlaps}
-use Rattle.unit.specs.declared.forwarding.Older.{Older}
-use Rattle.unit.specs.declared.forwarding.Older.TheVariants.{Elsewhere, Nearest, Unknown}
-use Rattle.unit.specs.declared.station.Station.{Station}
-use Rattle.unit.specs.Creators.{IsCreator, LastWriter, written_by}
-use Rattle.unit.specs.Forwarding.{is_some_store, joined_by, joined_if, older_of, preceded, preceded_by, store_at}
-use Rattle.unit.specs.Loads.{StoresWriteNone, entries, entry_behind}
-use Rattle.unit.proofs.LookBack.{older_step}
+use Rattle.one_thread.specs.declared.forwarding.Older.{Older}
+use Rattle.one_thread.specs.declared.forwarding.Older.TheVariants.{Elsewhere, Nearest, Unknown}
+use Rattle.one_thread.specs.declared.station.Station.{Station}
+use Rattle.one_thread.specs.Creators.{IsCreator, LastWriter, written_by}
+use Rattle.one_thread.specs.Forwarding.{is_some_store, joined_by, joined_if, older_of, preceded, preceded_by, store_at}
+use Rattle.one_thread.specs.Loads.{StoresWriteNone, entries, entry_behind}
+use Rattle.one_thread.proofs.LookBack.{older_step}
 
 -- Writers
 

@@ -2,14 +2,14 @@
 use Rattle.std.proofs.Common.{◌≡◌, ◌<◌, ◌≤◌, ◌-◌, ℕ, zero, suc, ◌+◌, List, [], ◌∷◌, ◌++◌, length, take, drop, set, get_or, Option, Some, refl, sym, ap, ◌∙◌, subst, arith, length-set}
 use Rattle.std.specs.Prelude.{slice_get, slice_index}
 use Rattle.instructions.specs.Instruction.{first_of, second_of}
-use Rattle.unit.specs.declared.creators.Creators.{Creators}
-use Rattle.unit.specs.declared.station.Stage.{Stage}
-use Rattle.unit.specs.declared.station.Station.{Station}
-use Rattle.unit.specs.Creators.{HasCreators, IsCreator, IsOfSame, IsWindow, KnowsCreators, places_of}
-use Rattle.unit.specs.Slots.{place_from, ring_of, slot_of}
-use Rattle.unit.specs.Window.{further_on}
-use Rattle.unit.proofs.CreatorsKept.{known_let, known_pop, known_put, known_shift, known_start}
-use Rattle.unit.proofs.Slots.{ring_cut, ring_get, ring_length, ring_push, ring_set, ring_shift, slot_small}
+use Rattle.one_thread.specs.declared.creators.Creators.{Creators}
+use Rattle.one_thread.specs.declared.station.Stage.{Stage}
+use Rattle.one_thread.specs.declared.station.Station.{Station}
+use Rattle.one_thread.specs.Creators.{HasCreators, IsCreator, IsOfSame, IsWindow, KnowsCreators, places_of}
+use Rattle.one_thread.specs.Slots.{place_from, ring_of, slot_of}
+use Rattle.one_thread.specs.Window.{further_on}
+use Rattle.one_thread.proofs.CreatorsKept.{known_let, known_pop, known_put, known_shift, known_start}
+use Rattle.one_thread.proofs.Slots.{ring_cut, ring_get, ring_length, ring_push, ring_set, ring_shift, slot_small}
 
 -- another stage
 pub window_put : (S : List Station) (C : List Creators) (newest : List ℕ) (start len i : ℕ) (x : Station) → IsWindow S C newest start len → i < len → IsOfSame x (slice_get (ring_of S start len) i) →

@@ -15,12 +15,12 @@ use Rattle.inorder.proofs.Commits.{live_not, not_complete}
 use Rattle.inorder.proofs.SettledRegisters.{ahead_if, committed_if, committed_pc, register_given, squashed_not, value_of_last, writer_if}
 use Rattle.inorder.proofs.Sound.{IsSettled, IsSound, SettledBy}
 use Rattle.inorder.proofs.OneCaller.Left.{retired_all, retired_commits}
-use Rattle.unit.specs.Ahead.{low_after, low_of, waiting_half}
-use Rattle.unit.specs.declared.station.Station.{Station}
-use Rattle.unit.specs.Window.{accesses, half_behind, half_in, next_after, next_in, register_after, register_in, source_in, station_of, window}
-use Rattle.unit.proofs.Accesses.{accesses_end}
-use Rattle.unit.proofs.Waiting.{low_if}
-use Rattle.unit.proofs.Scan.{get_end, register_end}
+use Rattle.one_thread.specs.Ahead.{low_after, low_of, waiting_half}
+use Rattle.one_thread.specs.declared.station.Station.{Station}
+use Rattle.one_thread.specs.Window.{accesses, half_behind, half_in, next_after, next_in, register_after, register_in, source_in, station_of, window}
+use Rattle.one_thread.proofs.Accesses.{accesses_end}
+use Rattle.one_thread.proofs.Waiting.{low_if}
+use Rattle.one_thread.proofs.Scan.{get_end, register_end}
 
 -- The list
 

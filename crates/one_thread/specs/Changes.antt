@@ -7,17 +7,17 @@ use Rattle.instructions.specs.declared.stop.Stop.{Stop}
 use Rattle.inorder.specs.Committed.{ahead_by, with_low}
 use Rattle.inorder.specs.Machine.{State}
 use Rattle.inorder.specs.Runs.{end_from}
-use Rattle.unit.specs.declared.dispatch.Fetched.{Fetched}
-use Rattle.unit.specs.declared.execute.Ready.{Ready}
-use Rattle.unit.specs.declared.memory_port.Answered.{Answered}
-use Rattle.unit.specs.declared.pipeline.Pipeline.{Pipeline}
-use Rattle.unit.specs.declared.station.Stage.TheVariants.{Done}
-use Rattle.unit.specs.declared.station.Station.{Station}
-use Rattle.unit.specs.Givers.{NoneGives, gives}
-use Rattle.unit.specs.Loads.{load_in}
-use Rattle.unit.specs.Notes.{miss_in}
-use Rattle.unit.specs.Stages.{LoadsTo, NextIs, RecoversTo, RunsTo}
-use Rattle.unit.specs.Window.{further_on, operands_in, station_after}
+use Rattle.one_thread.specs.declared.dispatch.Fetched.{Fetched}
+use Rattle.one_thread.specs.declared.execute.Ready.{Ready}
+use Rattle.one_thread.specs.declared.memory_port.Answered.{Answered}
+use Rattle.one_thread.specs.declared.pipeline.Pipeline.{Pipeline}
+use Rattle.one_thread.specs.declared.station.Stage.TheVariants.{Done}
+use Rattle.one_thread.specs.declared.station.Station.{Station}
+use Rattle.one_thread.specs.Givers.{NoneGives, gives}
+use Rattle.one_thread.specs.Loads.{load_in}
+use Rattle.one_thread.specs.Notes.{miss_in}
+use Rattle.one_thread.specs.Stages.{LoadsTo, NextIs, RecoversTo, RunsTo}
+use Rattle.one_thread.specs.Window.{further_on, operands_in, station_after}
 
 -- The window changes, and what is remembered of it
 abbrev pub with_window : Pipeline → List Station → Bool → ℕ → Pipeline

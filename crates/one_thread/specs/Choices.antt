@@ -6,11 +6,11 @@ use Rattle.instructions.specs.declared.stop.Stop.{Stop}
 use Rattle.inorder.specs.Moves.{IsReached}
 use Rattle.inorder.specs.Tenants.{is_live}
 use Rattle.inorder.specs.Unit.{Sizes, UpdateUnit, how_many}
-use Rattle.unit.specs.declared.bench.Turn.{Turn}
-use Rattle.unit.specs.declared.bench.Turn.TheVariants.{Halved, Let, Loaded, Over, Ran, Recovered, Retired}
-use Rattle.unit.specs.Possible.{Possible, ToLet, ToLoad, ToRecover, ToRetire, ToRun, possible}
-use Rattle.unit.specs.StandsFor.{StandsFor, sizes}
-use Rattle.unit.specs.Turns.{Before, BenchFields, Does, EndsHere, Made, Now, Nowhere}
+use Rattle.one_thread.specs.declared.bench.Turn.{Turn}
+use Rattle.one_thread.specs.declared.bench.Turn.TheVariants.{Halved, Let, Loaded, Over, Ran, Recovered, Retired}
+use Rattle.one_thread.specs.Possible.{Possible, ToLet, ToLoad, ToRecover, ToRetire, ToRun, possible}
+use Rattle.one_thread.specs.StandsFor.{StandsFor, sizes}
+use Rattle.one_thread.specs.Turns.{Before, BenchFields, Does, EndsHere, Made, Now, Nowhere}
 
 -- The step that comes with the end of a unit: the retirement of a stop, if there is one
 abbrev pub step_at_end : (P : Program) (C : Sizes) (U V : UpdateUnit) (c : Stop) → EndsHere P C U V c →

@@ -1,9 +1,9 @@
 -- Who makes what a tenant reads, as the window remembers it from each let.
 use Rattle.std.specs.Prelude.{◌≡◌, ◌≢◌, ◌<◌, ◌≤◌, ℕ, List, length, Option, Some, None, slice_get, slice_index}
 use Rattle.instructions.specs.Instruction.{first_of, second_of}
-use Rattle.unit.specs.declared.creators.Creators.{Creators}
-use Rattle.unit.specs.declared.station.Station.{Station}
-use Rattle.unit.specs.Slots.{place_from, ring_of}
+use Rattle.one_thread.specs.declared.creators.Creators.{Creators}
+use Rattle.one_thread.specs.declared.station.Station.{Station}
+use Rattle.one_thread.specs.Slots.{place_from, ring_of}
 
 -- The register that a station writes, if there is a station
 abbrev pub written_by : Option Station → Option ℕ

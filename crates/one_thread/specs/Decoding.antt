@@ -6,9 +6,9 @@ use Rattle.instructions.specs.declared.instr.Instr.{Instr}
 use Rattle.instructions.specs.declared.op.Half.TheVariants.{Low, High}
 use Rattle.instructions.specs.declared.op.Op.{Op}
 use Rattle.instructions.specs.declared.op.Op.TheVariants.{J, Jal, Jr, Jalr}
-use Rattle.unit.specs.declared.decoded.Decoded.TheInside.{Inside}
-use Rattle.unit.specs.declared.decoded.Goes.{Goes}
-use Rattle.unit.specs.declared.decoded.Goes.TheVariants.{Behind, To, Varies}
+use Rattle.one_thread.specs.declared.decoded.Decoded.TheInside.{Inside}
+use Rattle.one_thread.specs.declared.decoded.Goes.{Goes}
+use Rattle.one_thread.specs.declared.decoded.Goes.TheVariants.{Behind, To, Varies}
 
 -- Where an operation goes on, as far as it tells
 abbrev pub goes_of : Op → Goes

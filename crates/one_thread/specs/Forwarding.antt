@@ -8,10 +8,10 @@ use Rattle.lsq.specs.Bytes.{little_endian}
 use Rattle.lsq.specs.declared.entry.Entry.{Entry}
 use Rattle.lsq.specs.Entries.{bytes}
 use Rattle.lsq.specs.LoadRule.{lacks_address, overlaps, taken_from, youngest}
-use Rattle.unit.specs.declared.forwarding.Older.{Older}
-use Rattle.unit.specs.declared.forwarding.Older.TheVariants.{Elsewhere, Nearest, Unknown}
-use Rattle.unit.specs.declared.station.Station.{Station}
-use Rattle.unit.specs.Loads.{entry_behind}
+use Rattle.one_thread.specs.declared.forwarding.Older.{Older}
+use Rattle.one_thread.specs.declared.forwarding.Older.TheVariants.{Elsewhere, Nearest, Unknown}
+use Rattle.one_thread.specs.declared.station.Station.{Station}
+use Rattle.one_thread.specs.Loads.{entry_behind}
 
 -- What they are, by the youngest without its address and the youngest with a byte of the load
 abbrev pub older_by : Option (ℕ × Entry) → Option (ℕ × Entry) → Older

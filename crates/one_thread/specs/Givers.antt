@@ -1,6 +1,6 @@
 -- The first station of a window that gives something. What it gives may depend on the stations before it.
 use Rattle.std.specs.Prelude.{◌≡◌, ◌<◌, ℕ, Bool, true, false, List, length, take, Option, Some, None, slice_get}
-use Rattle.unit.specs.declared.station.Station.{Station}
+use Rattle.one_thread.specs.declared.station.Station.{Station}
 
 -- What a station gives behind the first i of a list
 abbrev pub given_at : {X : Type 0} → (List Station → Station → Option X) → List Station → Option Station → ℕ →

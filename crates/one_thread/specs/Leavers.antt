@@ -4,7 +4,7 @@ use Rattle.instructions.specs.declared.guessing.Leaver.{Leaver}
 use Rattle.instructions.specs.Instruction.{fixed_next}
 use Rattle.instructions.specs.Programs.{Program}
 use Rattle.inorder.specs.Tenants.{Done, Fate, Retired, Standing, Tenant, instr}
-use Rattle.unit.specs.declared.station.Station.{Station}
+use Rattle.one_thread.specs.declared.station.Station.{Station}
 
 -- A leaver, unless where it went on was fixed
 abbrev pub leaver_by : Option ℕ → ℕ → ℕ → Option Leaver

@@ -5,16 +5,16 @@ use Rattle.instructions.specs.declared.instr.Instr.{Instr}
 use Rattle.instructions.specs.declared.stop.Stop.{Stop}
 use Rattle.instructions.specs.declared.stop.Stop.TheVariants.{BadPc}
 use Rattle.inorder.specs.Machine.{State, store_bytes, write}
-use Rattle.unit.specs.declared.bench.Turn.{Turn}
-use Rattle.unit.specs.declared.bench.Turn.TheVariants.{Halved, Over, Retired}
-use Rattle.unit.specs.declared.pipeline.Pipeline.{Pipeline}
-use Rattle.unit.specs.declared.station.Stage.{Stage}
-use Rattle.unit.specs.declared.station.Stage.TheVariants.{Addr, Done, Stops}
-use Rattle.unit.specs.declared.station.Station.{Station}
+use Rattle.one_thread.specs.declared.bench.Turn.{Turn}
+use Rattle.one_thread.specs.declared.bench.Turn.TheVariants.{Halved, Over, Retired}
+use Rattle.one_thread.specs.declared.pipeline.Pipeline.{Pipeline}
+use Rattle.one_thread.specs.declared.station.Stage.{Stage}
+use Rattle.one_thread.specs.declared.station.Stage.TheVariants.{Addr, Done, Stops}
+use Rattle.one_thread.specs.declared.station.Station.{Station}
 use Rattle.instructions.specs.declared.guessing.Leaver.{Leaver}
-use Rattle.unit.specs.Changes.{ahead_of}
-use Rattle.unit.specs.Leavers.{told_at}
-use Rattle.unit.specs.Window.{source_in}
+use Rattle.one_thread.specs.Changes.{ahead_of}
+use Rattle.one_thread.specs.Leavers.{told_at}
+use Rattle.one_thread.specs.Window.{source_in}
 
 -- It is done, a stop, or an access inside a memory of this size
 abbrev pub HasEnded : ℕ → Instr → Stage → Type 0

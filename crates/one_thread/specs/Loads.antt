@@ -11,10 +11,10 @@ use Rattle.lsq.specs.declared.answer.Answer.{Answer}
 use Rattle.lsq.specs.declared.answer.Answer.TheVariants.{Blocked, Forward, Memory}
 use Rattle.lsq.specs.declared.entry.Entry.{Entry}
 use Rattle.lsq.specs.LoadRule.{answer_over}
-use Rattle.unit.specs.declared.station.Stage.{Stage}
-use Rattle.unit.specs.declared.station.Stage.TheVariants.{Addr}
-use Rattle.unit.specs.declared.station.Station.{Station}
-use Rattle.unit.specs.Window.{reaches_memory, source_in}
+use Rattle.one_thread.specs.declared.station.Stage.{Stage}
+use Rattle.one_thread.specs.declared.station.Stage.TheVariants.{Addr}
+use Rattle.one_thread.specs.declared.station.Station.{Station}
+use Rattle.one_thread.specs.Window.{reaches_memory, source_in}
 
 -- An address that was computed
 abbrev pub address_of : Stage → Option ℕ

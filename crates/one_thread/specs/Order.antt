@@ -9,12 +9,12 @@ use Rattle.inorder.specs.Moves.{IsReached}
 use Rattle.inorder.specs.Steps.{MayClaim, MayLet}
 use Rattle.inorder.specs.Tenants.{Tenant}
 use Rattle.inorder.specs.Unit.{Sizes, UpdateUnit}
-use Rattle.unit.specs.declared.bench.Turn.{Turn}
-use Rattle.unit.specs.declared.bench.Turn.TheVariants.{Halved, Let, Loaded, Over, Ran, Recovered, Retired}
-use Rattle.unit.specs.declared.pipeline.Pipeline.{Pipeline}
-use Rattle.unit.specs.Blocked.{AreBlocked}
-use Rattle.unit.specs.StandsFor.{StandsFor, sizes}
-use Rattle.unit.specs.Turns.{Before, BenchFields, Does, EndsHere, IsNoMiss, Now, Nowhere, Trains}
+use Rattle.one_thread.specs.declared.bench.Turn.{Turn}
+use Rattle.one_thread.specs.declared.bench.Turn.TheVariants.{Halved, Let, Loaded, Over, Ran, Recovered, Retired}
+use Rattle.one_thread.specs.declared.pipeline.Pipeline.{Pipeline}
+use Rattle.one_thread.specs.Blocked.{AreBlocked}
+use Rattle.one_thread.specs.StandsFor.{StandsFor, sizes}
+use Rattle.one_thread.specs.Turns.{Before, BenchFields, Does, EndsHere, IsNoMiss, Now, Nowhere, Trains}
 
 -- A tenant that nobody may claim
 abbrev pub IsUnclaimable : Program → Tenant → Type 0

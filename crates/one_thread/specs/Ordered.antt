@@ -4,14 +4,14 @@ use Rattle.instructions.specs.Programs.{Program}
 use Rattle.instructions.specs.declared.instr.Instr.{Instr}
 use Rattle.inorder.specs.Moves.{IsReached}
 use Rattle.inorder.specs.Unit.{Sizes, UpdateUnit}
-use Rattle.unit.specs.declared.bench.Turn.{Turn}
-use Rattle.unit.specs.declared.order.Order.{Order}
-use Rattle.unit.specs.declared.order.Order.TheVariants.{Chosen, First}
-use Rattle.unit.specs.Choices.{Picks, step_made}
-use Rattle.unit.specs.Order.{IsFirst}
-use Rattle.unit.specs.Possible.{possible}
-use Rattle.unit.specs.StandsFor.{StandsFor, sizes}
-use Rattle.unit.specs.Turns.{BenchFields, Does, Made}
+use Rattle.one_thread.specs.declared.bench.Turn.{Turn}
+use Rattle.one_thread.specs.declared.order.Order.{Order}
+use Rattle.one_thread.specs.declared.order.Order.TheVariants.{Chosen, First}
+use Rattle.one_thread.specs.Choices.{Picks, step_made}
+use Rattle.one_thread.specs.Order.{IsFirst}
+use Rattle.one_thread.specs.Possible.{possible}
+use Rattle.one_thread.specs.StandsFor.{StandsFor, sizes}
+use Rattle.one_thread.specs.Turns.{BenchFields, Does, Made}
 
 -- An order, which was this one and is that one now, asks for what a turn from the unit U to the unit V does: nothing
 -- before it was possible, or a chooser, by what it says of being asked, has picked its step

@@ -2,8 +2,8 @@
 use Rattle.std.specs.Prelude.{◌≡◌, ℕ, Option, Some, None}
 use Rattle.rand_pcg.specs.Lcg.{Lcg, increment_of, started}
 use Rattle.rand_pcg.specs.Pcg.{multiplier_64, pcg32}
-use Rattle.unit.specs.declared.order.Order.{Order}
-use Rattle.unit.specs.declared.order.Order.TheVariants.{Chosen, First}
+use Rattle.one_thread.specs.declared.order.Order.{Order}
+use Rattle.one_thread.specs.declared.order.Order.TheVariants.{Chosen, First}
 
 -- The generator PCG32, begun with the seed as its state, in its stream 0
 abbrev pub seeded : ℕ → Lcg

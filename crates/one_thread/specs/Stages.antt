@@ -3,17 +3,17 @@ use Rattle.std.specs.Prelude.{◌≡◌, ◌<◌, ◌≤◌, ℕ, true, List, []
 use Rattle.instructions.specs.Operations.{outcome_of}
 use Rattle.instructions.specs.Programs.{Program, instr_at}
 use Rattle.instructions.specs.declared.instr.Instr.{Instr}
-use Rattle.unit.specs.declared.dispatch.Fetched.{Fetched}
-use Rattle.unit.specs.declared.execute.Operands.{Operands}
-use Rattle.unit.specs.declared.execute.Ready.{Ready}
-use Rattle.unit.specs.declared.memory_port.Answered.{Answered}
-use Rattle.unit.specs.declared.recovery.Missed.{Missed}
-use Rattle.unit.specs.declared.station.Station.{Station}
-use Rattle.unit.specs.declared.station.Stage.TheVariants.{Done}
-use Rattle.unit.specs.Givers.{FirstGives, NoneGives}
-use Rattle.unit.specs.Loads.{load_in}
-use Rattle.unit.specs.Notes.{miss_in}
-use Rattle.unit.specs.Window.{accesses, half_in, next_in, operands_in, reaches_memory, station_after, station_mended}
+use Rattle.one_thread.specs.declared.dispatch.Fetched.{Fetched}
+use Rattle.one_thread.specs.declared.execute.Operands.{Operands}
+use Rattle.one_thread.specs.declared.execute.Ready.{Ready}
+use Rattle.one_thread.specs.declared.memory_port.Answered.{Answered}
+use Rattle.one_thread.specs.declared.recovery.Missed.{Missed}
+use Rattle.one_thread.specs.declared.station.Station.{Station}
+use Rattle.one_thread.specs.declared.station.Stage.TheVariants.{Done}
+use Rattle.one_thread.specs.Givers.{FirstGives, NoneGives}
+use Rattle.one_thread.specs.Loads.{load_in}
+use Rattle.one_thread.specs.Notes.{miss_in}
+use Rattle.one_thread.specs.Window.{accesses, half_in, next_in, operands_in, reaches_memory, station_after, station_mended}
 
 -- The oldest miss is mended, and all after it are gone
 pub record RecoversTo (W W' : List Station) : Type 0 where

@@ -7,12 +7,12 @@ use Rattle.inorder.specs.Committed.{committed}
 use Rattle.inorder.specs.Steps.{IsNoRetiredStop}
 use Rattle.inorder.specs.Tenants.{Retired, Stopped, Tenant}
 use Rattle.inorder.specs.Unit.{Sizes, UpdateUnit, at, how_many}
-use Rattle.unit.specs.declared.pipeline.Pipeline.{Pipeline}
-use Rattle.unit.specs.Ahead.{low_of}
-use Rattle.unit.specs.Decoding.{IsDecoded}
-use Rattle.unit.specs.Leavers.{leaver}
-use Rattle.unit.specs.Notes.{AreNoted}
-use Rattle.unit.specs.Window.{window}
+use Rattle.one_thread.specs.declared.pipeline.Pipeline.{Pipeline}
+use Rattle.one_thread.specs.Ahead.{low_of}
+use Rattle.one_thread.specs.Decoding.{IsDecoded}
+use Rattle.one_thread.specs.Leavers.{leaver}
+use Rattle.one_thread.specs.Notes.{AreNoted}
+use Rattle.one_thread.specs.Window.{window}
 use Rattle.inorder.specs.Moves.{IsReached}
 use Rattle.inorder.specs.Still.{AreStill}
 

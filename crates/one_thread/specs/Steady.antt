@@ -5,20 +5,20 @@ use Rattle.instructions.specs.declared.stop.Outcome.{Outcome}
 use Rattle.instructions.specs.declared.stop.Outcome.TheVariants.{Next, Stop as StopsAt}
 use Rattle.instructions.specs.declared.stop.Stop.{Stop}
 use Rattle.inorder.specs.Tenants.{made_at_let}
-use Rattle.unit.specs.declared.dispatch.Fetched.{Fetched}
-use Rattle.unit.specs.declared.future.Future.{Future}
-use Rattle.unit.specs.declared.pipeline.Pipeline.{Pipeline}
-use Rattle.unit.specs.declared.station.Stage.TheVariants.{Open, Stops}
-use Rattle.unit.specs.declared.station.Station.{Station}
-use Rattle.unit.specs.declared.steady.Streamed.{Streamed}
-use Rattle.unit.specs.declared.steady.Streamed.TheVariants.{Ends as StreamEnds, Full, Let}
-use Rattle.unit.specs.declared.steady.Upcoming.{Upcoming}
-use Rattle.unit.specs.declared.steady.Upcoming.TheVariants.{Ends, Fits, Waits}
-use Rattle.unit.specs.Changes.{NextOf, registers_of}
-use Rattle.unit.specs.Notes.{settled_by}
-use Rattle.unit.specs.Stages.{RecoversTo, RunsTo}
-use Rattle.unit.specs.StandsFor.{StandsForSome}
-use Rattle.unit.specs.Window.{next_in, source_in, station_after}
+use Rattle.one_thread.specs.declared.dispatch.Fetched.{Fetched}
+use Rattle.one_thread.specs.declared.future.Future.{Future}
+use Rattle.one_thread.specs.declared.pipeline.Pipeline.{Pipeline}
+use Rattle.one_thread.specs.declared.station.Stage.TheVariants.{Open, Stops}
+use Rattle.one_thread.specs.declared.station.Station.{Station}
+use Rattle.one_thread.specs.declared.steady.Streamed.{Streamed}
+use Rattle.one_thread.specs.declared.steady.Streamed.TheVariants.{Ends as StreamEnds, Full, Let}
+use Rattle.one_thread.specs.declared.steady.Upcoming.{Upcoming}
+use Rattle.one_thread.specs.declared.steady.Upcoming.TheVariants.{Ends, Fits, Waits}
+use Rattle.one_thread.specs.Changes.{NextOf, registers_of}
+use Rattle.one_thread.specs.Notes.{settled_by}
+use Rattle.one_thread.specs.Stages.{RecoversTo, RunsTo}
+use Rattle.one_thread.specs.StandsFor.{StandsForSome}
+use Rattle.one_thread.specs.Window.{next_in, source_in, station_after}
 
 -- A station has all but retired: it has ended, and by no stop, and has made what it writes; and it is no
 -- first half

@@ -3,24 +3,24 @@ use Rattle.std.specs.Prelude.{◌≡◌, ℕ, zero, suc, true, List, [], ◌∷�
 use Rattle.instructions.specs.declared.instr.Instr.{Instr}
 use Rattle.inorder.specs.Moves.{IsReached}
 use Rattle.inorder.specs.Unit.{UpdateUnit}
-use Rattle.unit.specs.declared.bench.Turn.{Turn}
-use Rattle.unit.specs.declared.dispatch.Fetched.{Fetched}
-use Rattle.unit.specs.declared.execute.Operands.{Operands}
-use Rattle.unit.specs.declared.pipeline.Pipeline.{Pipeline}
-use Rattle.unit.specs.declared.possible.Step.{Step}
-use Rattle.unit.specs.declared.possible.Step.TheVariants.{Let, Load, Recover, Retire, Run}
-use Rattle.unit.specs.declared.recovery.Missed.{Missed}
-use Rattle.unit.specs.declared.station.Station.{Station}
-use Rattle.unit.specs.Changes.{CanClaim, LoadGives, NextOf, registers_of}
-use Rattle.unit.specs.Choices.{step_made}
-use Rattle.unit.specs.Givers.{gives}
-use Rattle.unit.specs.Loads.{load_in}
-use Rattle.unit.specs.Notes.{settled_at}
-use Rattle.unit.specs.Possible.{Possible, ToLet, ToLoad, ToRecover, ToRetire, ToRun}
-use Rattle.unit.specs.Stages.{FirstMiss}
-use Rattle.unit.specs.StandsFor.{StandsFor, sizes}
-use Rattle.unit.specs.Turns.{BenchFields, Made}
-use Rattle.unit.specs.Window.{operands_in}
+use Rattle.one_thread.specs.declared.bench.Turn.{Turn}
+use Rattle.one_thread.specs.declared.dispatch.Fetched.{Fetched}
+use Rattle.one_thread.specs.declared.execute.Operands.{Operands}
+use Rattle.one_thread.specs.declared.pipeline.Pipeline.{Pipeline}
+use Rattle.one_thread.specs.declared.possible.Step.{Step}
+use Rattle.one_thread.specs.declared.possible.Step.TheVariants.{Let, Load, Recover, Retire, Run}
+use Rattle.one_thread.specs.declared.recovery.Missed.{Missed}
+use Rattle.one_thread.specs.declared.station.Station.{Station}
+use Rattle.one_thread.specs.Changes.{CanClaim, LoadGives, NextOf, registers_of}
+use Rattle.one_thread.specs.Choices.{step_made}
+use Rattle.one_thread.specs.Givers.{gives}
+use Rattle.one_thread.specs.Loads.{load_in}
+use Rattle.one_thread.specs.Notes.{settled_at}
+use Rattle.one_thread.specs.Possible.{Possible, ToLet, ToLoad, ToRecover, ToRetire, ToRun}
+use Rattle.one_thread.specs.Stages.{FirstMiss}
+use Rattle.one_thread.specs.StandsFor.{StandsFor, sizes}
+use Rattle.one_thread.specs.Turns.{BenchFields, Made}
+use Rattle.one_thread.specs.Window.{operands_in}
 
 -- A step by its name in a unit
 abbrev pub named : Step → Possible

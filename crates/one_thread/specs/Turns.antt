@@ -14,16 +14,16 @@ use Rattle.inorder.specs.declared.history.Supply.{Supply}
 use Rattle.inorder.specs.Committed.{ahead, ahead_by, committed}
 use Rattle.inorder.specs.Tenants.{IsNotLive, Live, Miss, Tenant, instr, is_first}
 use Rattle.inorder.specs.Unit.{Sizes, UpdateUnit}
-use Rattle.unit.specs.declared.bench.Turn.{Turn}
-use Rattle.unit.specs.declared.bench.Turn.TheVariants.{Halved, Let, Loaded, Over, Ran, Recovered, Retired}
-use Rattle.unit.specs.declared.pipeline.Pipeline.{Pipeline}
-use Rattle.unit.specs.declared.station.Stage.{Stage}
-use Rattle.unit.specs.declared.station.Stage.TheVariants.{Open, Addr, Miss as Misses}
-use Rattle.unit.specs.declared.station.Station.{Station}
-use Rattle.unit.specs.Changes.{NextOf}
-use Rattle.unit.specs.Leavers.{leaver}
-use Rattle.unit.specs.Blocked.{IsUnblocked}
-use Rattle.unit.specs.StandsFor.{HasStopped, NoStopRetired, StandsFor, sizes}
+use Rattle.one_thread.specs.declared.bench.Turn.{Turn}
+use Rattle.one_thread.specs.declared.bench.Turn.TheVariants.{Halved, Let, Loaded, Over, Ran, Recovered, Retired}
+use Rattle.one_thread.specs.declared.pipeline.Pipeline.{Pipeline}
+use Rattle.one_thread.specs.declared.station.Stage.{Stage}
+use Rattle.one_thread.specs.declared.station.Stage.TheVariants.{Open, Addr, Miss as Misses}
+use Rattle.one_thread.specs.declared.station.Station.{Station}
+use Rattle.one_thread.specs.Changes.{NextOf}
+use Rattle.one_thread.specs.Leavers.{leaver}
+use Rattle.one_thread.specs.Blocked.{IsUnblocked}
+use Rattle.one_thread.specs.StandsFor.{HasStopped, NoStopRetired, StandsFor, sizes}
 use Rattle.inorder.specs.Moves.{IsDeliver, IsLink, IsReached, IsSquash, Leads}
 use Rattle.inorder.specs.Still.{AreStill}
 

@@ -12,11 +12,11 @@ use Rattle.instructions.specs.declared.stop.Outcome.TheVariants.{Address, Next, 
 use Rattle.inorder.specs.Tenants.{Fate, Tenant, destination_of, instr, is_live, made_at_let}
 use Rattle.inorder.specs.Tenants.{Open as OpenFate, Busy, Addr as AddrFate, Done as DoneFate, Miss as MissFate, Stopped}
 use Rattle.inorder.specs.Unit.{can_be_written, half_after}
-use Rattle.unit.specs.declared.execute.Operands.{Operands}
-use Rattle.unit.specs.declared.station.Stage.{Stage}
-use Rattle.unit.specs.declared.station.Stage.TheVariants.{Open, Addr, Done, Miss, Stops}
-use Rattle.unit.specs.declared.station.Station.{Station}
-use Rattle.unit.specs.Ahead.{waiting_half}
+use Rattle.one_thread.specs.declared.execute.Operands.{Operands}
+use Rattle.one_thread.specs.declared.station.Stage.{Stage}
+use Rattle.one_thread.specs.declared.station.Stage.TheVariants.{Open, Addr, Done, Miss, Stops}
+use Rattle.one_thread.specs.declared.station.Station.{Station}
+use Rattle.one_thread.specs.Ahead.{waiting_half}
 
 -- How far a tenant has come, as its station says it
 abbrev pub stage_of : Fate → Stage

@@ -3,14 +3,14 @@
 ghost use Rattle.std.specs.Prelude.{⊤, ◌≡◌, ◌<◌, ◌≤◌, ℕ, suc, [], ◌∷◌, ◌++◌, false, length, take, slice_get, slice_set, Some, None};
 ghost use Rattle.instructions.specs.Instruction.{is_first_half};
 ghost use Rattle.instructions.specs.Programs.{instr_at};
-ghost use Rattle.unit.specs.Changes.{NextOf};
-ghost use Rattle.unit.specs.Decoding.{IsDecoded};
-ghost use Rattle.unit.specs.declared.dispatch.Fetched.{Fetched as Next};
-ghost use Rattle.unit.specs.Givers.{Chosen};
-ghost use Rattle.unit.specs.declared.station.Station.{Station as Last};
-ghost use Rattle.unit.specs.Window.{let_at};
-ghost use Rattle.unit.specs.StandsFor.{StandsForSome};
-ghost use Rattle.unit.specs.Steady.{EndsWith, Follows, FollowsYoungest, IsSteady, StayOpen, arrives, reopened};
+ghost use Rattle.one_thread.specs.Changes.{NextOf};
+ghost use Rattle.one_thread.specs.Decoding.{IsDecoded};
+ghost use Rattle.one_thread.specs.declared.dispatch.Fetched.{Fetched as Next};
+ghost use Rattle.one_thread.specs.Givers.{Chosen};
+ghost use Rattle.one_thread.specs.declared.station.Station.{Station as Last};
+ghost use Rattle.one_thread.specs.Window.{let_at};
+ghost use Rattle.one_thread.specs.StandsFor.{StandsForSome};
+ghost use Rattle.one_thread.specs.Steady.{EndsWith, Follows, FollowsYoungest, IsSteady, StayOpen, arrives, reopened};
 
 use crate::dispatch::Fetched;
 use crate::execute::Operands;

@@ -2,11 +2,11 @@
 ghost use Rattle.std.specs.Prelude.{◌≡◌, ◌<◌, ◌≤◌, ◌-◌, ◌^◌, nat_lt, length, slice_get, IfOk};
 ghost use Rattle.inorder.specs.Machine.{start};
 ghost use Rattle.inorder.specs.Runs.{end_state};
-ghost use Rattle.unit.specs.Changes.{RetiresOne, run_from};
-ghost use Rattle.unit.specs.StandsFor.{StandsFor, StandsForSome};
+ghost use Rattle.one_thread.specs.Changes.{RetiresOne, run_from};
+ghost use Rattle.one_thread.specs.StandsFor.{StandsFor, StandsForSome};
 ghost use Rattle.inorder.specs.Unit.{empty_unit};
-ghost use Rattle.unit.specs.Order.{IsTurn};
-ghost use Rattle.unit.specs.Turns.{Falls, SizesStay, stalled_after};
+ghost use Rattle.one_thread.specs.Order.{IsTurn};
+ghost use Rattle.one_thread.specs.Turns.{Falls, SizesStay, stalled_after};
 
 use crate::pipeline::Pipeline;
 use crate::station::Station;
@@ -54,8 +54,8 @@ pub struct Bench<'a, P: Predictor + Drop> {
 
 impl<'a, P: Predictor + Drop> Model for Bench<'a, P> {
     ghost use Rattle.std.specs.Prelude.{◌≡◌, true};
-    ghost use Rattle.unit.specs.StandsFor.{StandsForSome};
-    ghost use Rattle.unit.specs.Turns.{BenchFields, IsStalled};
+    ghost use Rattle.one_thread.specs.StandsFor.{StandsForSome};
+    ghost use Rattle.one_thread.specs.Turns.{BenchFields, IsStalled};
 
     ghost Value = { BenchFields P };
 

@@ -1,9 +1,9 @@
 //! Turns in any order: a chooser names the step that each of them makes.
 ghost use Rattle.std.specs.Prelude.{◌≡◌, ◌<◌, ◌≤◌, ◌-◌, ◌^◌, ◌%◌, length, slice_get, Some};
 ghost use Rattle.inorder.specs.Runs.{end_state};
-ghost use Rattle.unit.specs.Changes.{run_from};
-ghost use Rattle.unit.specs.Choices.{IsTurnBy};
-ghost use Rattle.unit.specs.Turns.{Falls, SizesStay};
+ghost use Rattle.one_thread.specs.Changes.{run_from};
+ghost use Rattle.one_thread.specs.Choices.{IsTurnBy};
+ghost use Rattle.one_thread.specs.Turns.{Falls, SizesStay};
 
 use crate::bench::{Bench, Turn};
 use crate::chooser::Chooser;

@@ -1,6 +1,6 @@
 //! Choosers, which name one of the steps that are possible.
 ghost use Rattle.std.specs.Prelude.{◌≡◌, ◌<◌, ℕ};
-ghost use Rattle.unit.specs.Seeds.{ChoosesNext, seeded};
+ghost use Rattle.one_thread.specs.Seeds.{ChoosesNext, seeded};
 
 use rand_core::utils::NextWord;
 use rand_pcg::Pcg32;

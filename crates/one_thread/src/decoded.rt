@@ -1,7 +1,7 @@
 //! Decoded instructions.
 ghost use Rattle.std.specs.Prelude.{◌≡◌};
 ghost use Rattle.instructions.specs.Instruction.{destination as destination_of, first_of, fixed_next as fixed_next_of, fixed_next_by, is_access as is_access_of, is_first_half as first_half, kind as kind_of, second_of};
-ghost use Rattle.unit.specs.Decoding.{goes_of as goes_in};
+ghost use Rattle.one_thread.specs.Decoding.{goes_of as goes_in};
 
 use instructions::{Half, Instr, Kind, Op, Reg, pc_plus_4};
 use std::marker::Model;
@@ -36,7 +36,7 @@ impl Model for Decoded {
 
     ghost Value = { Instr };
 
-    ghost use Rattle.unit.specs.Decoding.{decode};
+    ghost use Rattle.one_thread.specs.Decoding.{decode};
 
     ghost view = { λ d. d.instr };
 

@@ -3,17 +3,17 @@ ghost use Rattle.std.specs.Prelude.{⊤, ◌≡◌, ◌<◌, ◌≤◌, ◌-◌,
 ghost use Rattle.instructions.specs.Instruction.{is_first_half};
 ghost use Rattle.instructions.specs.Programs.{instr_at};
 ghost use Rattle.inorder.specs.Unit.{half_after};
-ghost use Rattle.unit.specs.Ahead.{waiting_half as waiting_half_of};
-ghost use Rattle.unit.specs.declared.bench.Turn.TheVariants.{Let};
-ghost use Rattle.unit.specs.Changes.{NextOf, NoneRecovers, next_place};
-ghost use Rattle.unit.specs.Decoding.{IsDecoded};
-ghost use Rattle.unit.specs.Givers.{Chosen};
-ghost use Rattle.unit.specs.StandsFor.{StandsForSome};
-ghost use Rattle.unit.specs.Order.{IsTurn};
-ghost use Rattle.unit.specs.Steps.{Makes};
-ghost use Rattle.unit.specs.Turns.{Falls, IsStalled, SizesStay, fields};
-ghost use Rattle.unit.specs.declared.possible.Step.TheVariants.{Let as LetStep};
-ghost use Rattle.unit.specs.Window.{further_on, half_in, let_at, next_in};
+ghost use Rattle.one_thread.specs.Ahead.{waiting_half as waiting_half_of};
+ghost use Rattle.one_thread.specs.declared.bench.Turn.TheVariants.{Let};
+ghost use Rattle.one_thread.specs.Changes.{NextOf, NoneRecovers, next_place};
+ghost use Rattle.one_thread.specs.Decoding.{IsDecoded};
+ghost use Rattle.one_thread.specs.Givers.{Chosen};
+ghost use Rattle.one_thread.specs.StandsFor.{StandsForSome};
+ghost use Rattle.one_thread.specs.Order.{IsTurn};
+ghost use Rattle.one_thread.specs.Steps.{Makes};
+ghost use Rattle.one_thread.specs.Turns.{Falls, IsStalled, SizesStay, fields};
+ghost use Rattle.one_thread.specs.declared.possible.Step.TheVariants.{Let as LetStep};
+ghost use Rattle.one_thread.specs.Window.{further_on, half_in, let_at, next_in};
 
 use crate::decoded::Decoded;
 use crate::fetch::{fetch, fetch_known};

@@ -1,10 +1,10 @@
 //! Execution.
 ghost use Rattle.std.specs.Prelude.{⊤, ◌≡◌, ◌<◌, ◌≤◌, [], ◌∷◌, ◌++◌, length, take, slice_get, Some, None};
-ghost use Rattle.unit.specs.Changes.{CanClaim, NoneRuns, RunsAt, RunsOldest, with_window};
-ghost use Rattle.unit.specs.Givers.{Chosen, gives};
-ghost use Rattle.unit.specs.Notes.{AreNoted, AreSettled, missed_after, settled_at, settled_by};
-ghost use Rattle.unit.specs.Stages.{FirstReady};
-ghost use Rattle.unit.specs.Window.{IsFinished, operands_by, operands_in, stage_after};
+ghost use Rattle.one_thread.specs.Changes.{CanClaim, NoneRuns, RunsAt, RunsOldest, with_window};
+ghost use Rattle.one_thread.specs.Givers.{Chosen, gives};
+ghost use Rattle.one_thread.specs.Notes.{AreNoted, AreSettled, missed_after, settled_at, settled_by};
+ghost use Rattle.one_thread.specs.Stages.{FirstReady};
+ghost use Rattle.one_thread.specs.Window.{IsFinished, operands_by, operands_in, stage_after};
 
 use crate::ahead::Ahead;
 use crate::pipeline::Pipeline;

@@ -1,7 +1,7 @@
 //! Fetch, from the decoded instructions of a program.
 ghost use Rattle.std.specs.Prelude.{◌≡◌, IfOk, Some, option_copied};
 ghost use Rattle.instructions.specs.Programs.{Program as Text, instr_at};
-ghost use Rattle.unit.specs.Decoding.{HasInstr, IsDecoded};
+ghost use Rattle.one_thread.specs.Decoding.{HasInstr, IsDecoded};
 
 use crate::decoded::Decoded;
 use instructions::{Memory, Program};

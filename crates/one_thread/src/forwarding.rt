@@ -2,9 +2,9 @@
 ghost use Rattle.std.specs.Prelude.{◌≡◌, ◌<◌, ◌≤◌, length, take, slice_get, Some};
 ghost use Rattle.instructions.specs.Instruction.{second_of};
 ghost use Rattle.lsq.specs.Entries.{bytes};
-ghost use Rattle.unit.specs.Forwarding.{is_some_store, older_of, preceded as preceded_of, store_at as store_in};
-ghost use Rattle.unit.specs.Loads.{StoresWriteNone, address_of as address_by, entries, entry_behind};
-ghost use Rattle.unit.specs.Window.{source_in};
+ghost use Rattle.one_thread.specs.Forwarding.{is_some_store, older_of, preceded as preceded_of, store_at as store_in};
+ghost use Rattle.one_thread.specs.Loads.{StoresWriteNone, address_of as address_by, entries, entry_behind};
+ghost use Rattle.one_thread.specs.Window.{source_in};
 
 use crate::ahead::Ahead;
 use crate::source::source;

@@ -2,10 +2,10 @@
 ghost use Rattle.std.specs.Prelude.{⊤, ◌≡◌, ◌≢◌, ◌<◌, [], true, false, length, slice_index};
 ghost use Rattle.instructions.specs.Instruction.{first_of, is_first_half, kind as kind_of, second_of};
 ghost use Rattle.instructions.specs.declared.stop.Stop.{Stop as Code};
-ghost use Rattle.unit.specs.declared.station.Stage.TheVariants.{Stops};
-ghost use Rattle.unit.specs.Givers.{Chosen};
-ghost use Rattle.unit.specs.Notes.{settled_by};
-ghost use Rattle.unit.specs.Steady.{Follows, Foresees, GoesOnBehind};
+ghost use Rattle.one_thread.specs.declared.station.Stage.TheVariants.{Stops};
+ghost use Rattle.one_thread.specs.Givers.{Chosen};
+ghost use Rattle.one_thread.specs.Notes.{settled_by};
+ghost use Rattle.one_thread.specs.Steady.{Follows, Foresees, GoesOnBehind};
 
 use crate::decoded::Decoded;
 use crate::execute::Operands;

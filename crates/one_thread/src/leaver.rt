@@ -1,7 +1,7 @@
 //! Who has left a station, for the predictor.
 ghost use Rattle.std.specs.Prelude.{◌≡◌};
 ghost use Rattle.instructions.specs.Guesses.{Guesses};
-ghost use Rattle.unit.specs.Leavers.{told_at};
+ghost use Rattle.one_thread.specs.Leavers.{told_at};
 
 use crate::dispatch::Fetched;
 use crate::station::Station;

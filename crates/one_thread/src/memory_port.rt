@@ -2,13 +2,13 @@
 ghost use Rattle.std.specs.Prelude.{⊤, ◌≡◌, ◌<◌, ◌≤◌, ◌+◌, length};
 ghost use Rattle.instructions.specs.Instruction.{width as width_in};
 ghost use Rattle.lsq.specs.Entries.{bytes};
-ghost use Rattle.unit.specs.Changes.{LoadGives, LoadsAt, LoadsOldest, NoneLoads};
-ghost use Rattle.unit.specs.Forwarding.{value_over};
-ghost use Rattle.unit.specs.Givers.{Chosen, gives};
+ghost use Rattle.one_thread.specs.Changes.{LoadGives, LoadsAt, LoadsOldest, NoneLoads};
+ghost use Rattle.one_thread.specs.Forwarding.{value_over};
+ghost use Rattle.one_thread.specs.Givers.{Chosen, gives};
 ghost use Rattle.inorder.specs.Loads.{access_width as width_of};
-ghost use Rattle.unit.specs.Loads.{AreInside, StoresWriteNone, load_in, waits as waits_of};
-ghost use Rattle.unit.specs.Notes.{AreNoted, AreSettled};
-ghost use Rattle.unit.specs.Stages.{FirstAnswered};
+ghost use Rattle.one_thread.specs.Loads.{AreInside, StoresWriteNone, load_in, waits as waits_of};
+ghost use Rattle.one_thread.specs.Notes.{AreNoted, AreSettled};
+ghost use Rattle.one_thread.specs.Stages.{FirstAnswered};
 
 use crate::ahead::Ahead;
 use crate::forwarding::{Older, look_back};

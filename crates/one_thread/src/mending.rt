@@ -1,11 +1,11 @@
 //! A tenant that was mispredicted in the steady state, and was let alone, is run and mended in place.
 ghost use Rattle.std.specs.Prelude.{⊤, ◌≡◌, ◌<◌, ◌≤◌, ◌-◌, suc, length, take, slice_get, Some, None};
-ghost use Rattle.unit.specs.Changes.{NextOf, with_window};
-ghost use Rattle.unit.specs.Decoding.{IsDecoded};
-ghost use Rattle.unit.specs.Givers.{Chosen};
-ghost use Rattle.unit.specs.StandsFor.{StandsForSome};
-ghost use Rattle.unit.specs.declared.station.Station.{Station as Last};
-ghost use Rattle.unit.specs.Steady.{AwaitRetirement, ComesBack, Follows, Foresees, IsSteady};
+ghost use Rattle.one_thread.specs.Changes.{NextOf, with_window};
+ghost use Rattle.one_thread.specs.Decoding.{IsDecoded};
+ghost use Rattle.one_thread.specs.Givers.{Chosen};
+ghost use Rattle.one_thread.specs.StandsFor.{StandsForSome};
+ghost use Rattle.one_thread.specs.declared.station.Station.{Station as Last};
+ghost use Rattle.one_thread.specs.Steady.{AwaitRetirement, ComesBack, Follows, Foresees, IsSteady};
 
 use crate::future::Future;
 use crate::pipeline::Pipeline;

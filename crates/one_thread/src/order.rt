@@ -1,10 +1,10 @@
 //! Orders of turns, and turns in them.
 ghost use Rattle.std.specs.Prelude.{◌≡◌, ◌<◌, ◌≤◌, ◌-◌, ◌^◌};
 ghost use Rattle.inorder.specs.Runs.{end_state};
-ghost use Rattle.unit.specs.Changes.{run_from};
-ghost use Rattle.unit.specs.Ordered.{IsTurnIn};
-ghost use Rattle.unit.specs.Seeds.{order_by};
-ghost use Rattle.unit.specs.Turns.{Falls, SizesStay};
+ghost use Rattle.one_thread.specs.Changes.{run_from};
+ghost use Rattle.one_thread.specs.Ordered.{IsTurnIn};
+ghost use Rattle.one_thread.specs.Seeds.{order_by};
+ghost use Rattle.one_thread.specs.Turns.{Falls, SizesStay};
 
 use crate::bench::{Bench, Turn};
 use crate::chooser::{Chooser, Seeded};

@@ -1,11 +1,11 @@
 //! The stations, the committed state, and the turns that ask no predictor.
 ghost use Rattle.std.specs.Prelude.{◌≡◌, ◌<◌, ◌≤◌, ◌-◌, ◌^◌, None, IfOk};
 ghost use Rattle.inorder.specs.Machine.{start};
-ghost use Rattle.unit.specs.Changes.{NextOf, NoneRecovers, ahead_of};
-ghost use Rattle.unit.specs.StandsFor.{StandsFor, StandsForSome};
+ghost use Rattle.one_thread.specs.Changes.{NextOf, NoneRecovers, ahead_of};
+ghost use Rattle.one_thread.specs.StandsFor.{StandsFor, StandsForSome};
 ghost use Rattle.inorder.specs.Unit.{empty_unit};
-ghost use Rattle.unit.specs.Order.{MovesFirst};
-ghost use Rattle.unit.specs.Turns.{Falls, StaysOpen, IsPlain, IsStalled, SizesStay, stalled_after};
+ghost use Rattle.one_thread.specs.Order.{MovesFirst};
+ghost use Rattle.one_thread.specs.Turns.{Falls, StaysOpen, IsPlain, IsStalled, SizesStay, stalled_after};
 
 use crate::ahead::Ahead;
 use crate::bench::Turn;

@@ -1,6 +1,6 @@
 //! A ring of 32 slots.
 ghost use Rattle.std.specs.Prelude.{◌≡◌, ◌<◌, ◌≤◌};
-ghost use Rattle.unit.specs.Slots.{place_from as place_in, slot_of as slot_in};
+ghost use Rattle.one_thread.specs.Slots.{place_from as place_in, slot_of as slot_in};
 
 /// The slot of the tenant at `i`.
 pub fn slot_of(start: usize, i: usize) -> usize

@@ -1,12 +1,12 @@
 //! The steps that are possible, and one of them made.
 ghost use Rattle.std.specs.Prelude.{◌≡◌, ◌<◌, ◌≤◌, ◌+◌, ◌-◌, ◌^◌, ◌++◌, length, None, slice_get};
 ghost use Rattle.arrayvec.specs.ArrayVec.{array_vec_len};
-ghost use Rattle.unit.specs.Changes.{NextOf, registers_of};
-ghost use Rattle.unit.specs.Loads.{AreInside, StoresWriteNone};
-ghost use Rattle.unit.specs.Stages.{FirstMiss};
-ghost use Rattle.unit.specs.StandsFor.{StandsForSome};
-ghost use Rattle.unit.specs.Steps.{ArePossible, Makes, Permits, loads_of, next_let as let_steps, recovery as recoveries, retirement_of, runs_of};
-ghost use Rattle.unit.specs.Turns.{Falls, SizesStay, fields};
+ghost use Rattle.one_thread.specs.Changes.{NextOf, registers_of};
+ghost use Rattle.one_thread.specs.Loads.{AreInside, StoresWriteNone};
+ghost use Rattle.one_thread.specs.Stages.{FirstMiss};
+ghost use Rattle.one_thread.specs.StandsFor.{StandsForSome};
+ghost use Rattle.one_thread.specs.Steps.{ArePossible, Makes, Permits, loads_of, next_let as let_steps, recovery as recoveries, retirement_of, runs_of};
+ghost use Rattle.one_thread.specs.Turns.{Falls, SizesStay, fields};
 
 use crate::bench::Turn;
 use crate::dispatch::Fetched;

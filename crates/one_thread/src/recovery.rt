@@ -1,9 +1,9 @@
 //! Recovery from a miss.
 ghost use Rattle.std.specs.Prelude.{⊤, ◌≡◌, ◌<◌, ◌≤◌, [], ◌∷◌, ◌++◌, length, take, slice_get, Some, None};
-ghost use Rattle.unit.specs.Changes.{NoneRecovers, RecoversOldest, with_window};
-ghost use Rattle.unit.specs.Givers.{Chosen, gives};
-ghost use Rattle.unit.specs.Notes.{AreNoted, AreSettled, miss_in};
-ghost use Rattle.unit.specs.Stages.{FirstMiss};
+ghost use Rattle.one_thread.specs.Changes.{NoneRecovers, RecoversOldest, with_window};
+ghost use Rattle.one_thread.specs.Givers.{Chosen, gives};
+ghost use Rattle.one_thread.specs.Notes.{AreNoted, AreSettled, miss_in};
+ghost use Rattle.one_thread.specs.Stages.{FirstMiss};
 
 use crate::pipeline::Pipeline;
 use crate::station::{Stage, Station};

@@ -1,8 +1,8 @@
 //! Retirement.
 ghost use Rattle.std.specs.Prelude.{◌≡◌, suc, ◌<◌, ◌≤◌, ◌-◌, ◌^◌, None, Some, length, slice_get, slice_set};
-ghost use Rattle.unit.specs.declared.bench.Turn.TheVariants.{Halved, Over, Retired};
-ghost use Rattle.unit.specs.Changes.{ahead_of};
-ghost use Rattle.unit.specs.Leaves.{HasEnded, OldestHasEnded, RetiresTo, ended, halved, left, shifted, with_station};
+ghost use Rattle.one_thread.specs.declared.bench.Turn.TheVariants.{Halved, Over, Retired};
+ghost use Rattle.one_thread.specs.Changes.{ahead_of};
+ghost use Rattle.one_thread.specs.Leaves.{HasEnded, OldestHasEnded, RetiresTo, ended, halved, left, shifted, with_station};
 
 use crate::bench::Turn;
 use crate::leaver::told_of;

@@ -1,7 +1,7 @@
 //! What an instruction reads.
 ghost use Rattle.std.specs.Prelude.{◌≡◌, ◌<◌, ◌≤◌, length, take};
-ghost use Rattle.unit.specs.Creators.{IsCreator};
-ghost use Rattle.unit.specs.Window.{source_in};
+ghost use Rattle.one_thread.specs.Creators.{IsCreator};
+ghost use Rattle.one_thread.specs.Window.{source_in};
 
 use crate::ahead::Ahead;
 use crate::window::Window;

@@ -6,12 +6,12 @@
 //! a unit that legal steps reach, and the end of the run.
 ghost use Rattle.std.specs.Prelude.{⊤, ◌≡◌, ◌<◌, ◌≤◌, ◌-◌, ◌^◌, false, length, IfSome, Some, None};
 ghost use Rattle.instructions.specs.Instruction.{is_first_half};
-ghost use Rattle.unit.specs.Changes.{NextOf, RetiresOne, run_from};
-ghost use Rattle.unit.specs.Givers.{Chosen};
-ghost use Rattle.unit.specs.StandsFor.{StandsForSome};
-ghost use Rattle.unit.specs.declared.future.Future.{Future as Foreseen};
-ghost use Rattle.unit.specs.Steady.{AwaitRetirement, IsSteady, IsStreamed, IsUpcoming, StayOpen, with_reopened};
-ghost use Rattle.unit.specs.Turns.{SizesStay};
+ghost use Rattle.one_thread.specs.Changes.{NextOf, RetiresOne, run_from};
+ghost use Rattle.one_thread.specs.Givers.{Chosen};
+ghost use Rattle.one_thread.specs.StandsFor.{StandsForSome};
+ghost use Rattle.one_thread.specs.declared.future.Future.{Future as Foreseen};
+ghost use Rattle.one_thread.specs.Steady.{AwaitRetirement, IsSteady, IsStreamed, IsUpcoming, StayOpen, with_reopened};
+ghost use Rattle.one_thread.specs.Turns.{SizesStay};
 
 use crate::dispatch::Fetched;
 use crate::fetch::fetch;

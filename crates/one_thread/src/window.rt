@@ -1,7 +1,7 @@
 //! The stations of the live tenants, the oldest first, and who makes what they read.
 ghost use Rattle.std.specs.Prelude.{◌≡◌, ◌<◌, ◌≤◌, ◌-◌, [], ◌∷◌, ◌++◌, length, take, drop, slice_get, slice_set, option_copied, Some};
-ghost use Rattle.unit.specs.Creators.{CreatorsAt, IsCreator, IsOfSame};
-ghost use Rattle.unit.specs.Window.{HasReached, IsAdvanced, access_of, accesses as accesses_of, further_on, let_at};
+ghost use Rattle.one_thread.specs.Creators.{CreatorsAt, IsCreator, IsOfSame};
+ghost use Rattle.one_thread.specs.Window.{HasReached, IsAdvanced, access_of, accesses as accesses_of, further_on, let_at};
 
 use crate::creators::Creators;
 use crate::decoded::Decoded;
@@ -26,14 +26,14 @@ pub struct Window {
 
 impl Model for Window {
     ghost use Rattle.std.specs.Prelude.{List};
-    ghost use Rattle.unit.specs.declared.station.Station.{Station};
+    ghost use Rattle.one_thread.specs.declared.station.Station.{Station};
 
     ghost Value = { List Station };
 
     ghost use Rattle.std.specs.Prelude.{◌≡◌};
-    ghost use Rattle.unit.specs.Creators.{IsWindow};
-    ghost use Rattle.unit.specs.Slots.{ring_of};
-    ghost use Rattle.unit.specs.Window.{accesses as accesses_of};
+    ghost use Rattle.one_thread.specs.Creators.{IsWindow};
+    ghost use Rattle.one_thread.specs.Slots.{ring_of};
+    ghost use Rattle.one_thread.specs.Window.{accesses as accesses_of};
 
     ghost view = { λ w. ring_of w.stations w.start w.len };
 

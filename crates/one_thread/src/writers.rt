@@ -1,6 +1,6 @@
 //! The tenants that write a register, from the youngest back.
 ghost use Rattle.std.specs.Prelude.{◌≡◌, ◌<◌, ◌≤◌, length, slice_get, Some};
-ghost use Rattle.unit.specs.Creators.{IsCreator, LastWriter, written_by};
+ghost use Rattle.one_thread.specs.Creators.{IsCreator, LastWriter, written_by};
 
 use crate::window::Window;
 use instructions::Reg;

@@ -6,9 +6,9 @@ mod teller;
 mod watcher;
 
 use command::{Asked, NoRun, asked, end, go, is_standard_input};
-use devices::{ClosedStreams, Counted};
+use command_line::{refuse, words};
+use counted_io::{ClosedStreams, Counted};
 use pool::Open;
-use requests::{refuse, words};
 use shaker::Shaker;
 use std::alloc::AllocError;
 use std::fs::File;

@@ -9,7 +9,7 @@ use Rattle.back.specs.declared.answers.Commit.{Commit}
 use Rattle.snapshots.specs.declared.mark.Mark.{Mark}
 use Rattle.snapshots.specs.Snapshots.{snapshot}
 use Rattle.station.specs.Seats.{TheCore}
-use Rattle.drive.specs.Replies.{IsShown}
+use Rattle.session.specs.Replies.{IsShown}
 
 -- All but what it has seen is the same
 but_seen : (v w : TheBack) → IsSameBack v w → w.woken ≡ v.woken → w ≡ record v { seen = w.seen }

@@ -14,7 +14,7 @@ use Rattle.front.specs.declared.answers.Rest.TheVariants.{Idle, Live}
 use Rattle.front.specs.Rests.{RestAnswers, told_after}
 use Rattle.front.specs.Training.{given_or}
 use Rattle.front.specs.Turns.{IsRefusal as WasRefused, TurnAnswers}
-use Rattle.drive.specs.Replies.{IsGuess, IsTurnRefusal, RestSays, TurnSays}
+use Rattle.session.specs.Replies.{IsGuess, IsTurnRefusal, RestSays, TurnSays}
 
 module _ {S : Type 0} (Predicts : S → ℕ → Instr → ℕ → S → Type 0) (Learns : S → ℕ → ℕ → S → Type 0) (P : Program) (C : Sizes) (told : ℕ) (old new : List Entry) (before after : S) where
   refused : (turn : Turn) → WasRefused P C old new before after turn → IsTurnRefusal P C old new turn

@@ -4,7 +4,7 @@ use Rattle.inorder.specs.declared.history.Entry.{Entry}
 use Rattle.inorder.specs.History.{StartsWith}
 use Rattle.inorder.specs.OneHistory.{Adds}
 use Rattle.station.specs.Seats.{TheCore}
-use Rattle.drive.specs.Moments.{GrowsLegally, IsBetween}
+use Rattle.session.specs.Moments.{GrowsLegally, IsBetween}
 
 pub starts_same : (h : List Entry) → StartsWith h h
 starts_same h = record { more = []; is = refl }

@@ -8,7 +8,7 @@ use Rattle.station.specs.declared.job.Job.{Job}
 use Rattle.station.specs.Claiming.{ClaimAnswers, Holds}
 use Rattle.station.specs.Laws.{JobsStaySeen}
 use Rattle.station.specs.Seats.{Caller, TheCore}
-use Rattle.drive.specs.Replies.{HoldsWhatIs}
+use Rattle.session.specs.Replies.{HoldsWhatIs}
 
 module _ (core : TheCore) (stay : JobsStaySeen) (v w : Caller) where
   pub job_later : (j : Job) → Holds core.program core.sizes v.by v.seen j → w.by ≡ v.by → Adds core.program core.sizes v.by v.seen w.seen [] → Holds core.program core.sizes w.by w.seen j

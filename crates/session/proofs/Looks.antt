@@ -1,11 +1,11 @@
 -- Sessions whose words were looked at.
 use Rattle.std.proofs.Common.{◌≡◌, inl, inr, sym, ap, ◌∙◌, subst}
 use Rattle.station.specs.Seats.{TheCore}
-use Rattle.drive.specs.Moments.{GrowsLegally}
-use Rattle.drive.specs.Plays.{HasLooked, MayHaveLooked}
-use Rattle.drive.specs.Sessions.{TheSession}
-use Rattle.drive.proofs.Histories.{grows_on}
-use Rattle.drive.proofs.Meetings.{back_on}
+use Rattle.session.specs.Moments.{GrowsLegally}
+use Rattle.session.specs.Plays.{HasLooked, MayHaveLooked}
+use Rattle.session.specs.Sessions.{TheSession}
+use Rattle.session.proofs.Histories.{grows_on}
+use Rattle.session.proofs.Meetings.{back_on}
 
 same_core : (a b : TheSession) → HasLooked a b → b.core ≡ a.core
 same_core a b l = ap (λ (s : TheSession). s.core) l.kept

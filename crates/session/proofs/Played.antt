@@ -1,8 +1,8 @@
 -- Commands that are chosen one after another.
 use Rattle.std.proofs.Common.{ℕ, suc, ◌+◌, List, ◌∷◌, sym, ap, ◌∙◌, subst, add-one}
 use Rattle.rand_pcg.specs.Lcg.{Lcg}
-use Rattle.drive.specs.Plays.{MayHaveLooked, IsNamed, IsPlayOf, IsWrittenBehind}
-use Rattle.drive.specs.Sessions.{TheSession}
+use Rattle.session.specs.Plays.{MayHaveLooked, IsNamed, IsPlayOf, IsWrittenBehind}
+use Rattle.session.specs.Sessions.{TheSession}
 
 pub one_more_played : (begin from to : Lcg) (a b looked c : TheSession) (n : ℕ) (line before after : List ℕ) →
     IsPlayOf begin a n before from b → MayHaveLooked b looked → IsNamed from to line → IsWrittenBehind looked c (n + 1) line before after →

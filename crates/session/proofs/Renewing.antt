@@ -6,12 +6,12 @@ use Rattle.inorder.specs.declared.history.Step.TheVariants.{Renew}
 use Rattle.inorder.specs.History.{IsLegal, StartsWith, entry, front, unit_of}
 use Rattle.inorder.specs.Unit.{Sizes}
 use Rattle.instructions.specs.Programs.{Program}
-use Rattle.drive.specs.Moments.{GrowsLegally}
+use Rattle.session.specs.Moments.{GrowsLegally}
 use Rattle.back.specs.Backs.{TheBack, back_of, committed_in, back_state}
 use Rattle.back.specs.Stills.{TheStillBack, still_of}
 use Rattle.station.specs.Renewals.{IsNotRenewed, IsRenewed, Seats}
 use Rattle.station.specs.Seats.{Caller, TheCore}
-use Rattle.drive.specs.Renewals.{HasBegunAgain, HasStayed}
+use Rattle.session.specs.Renewals.{HasBegunAgain, HasStayed}
 
 -- How many tenants there are, by what a seat has seen
 abbrev pub tenants_in : Caller → ℕ

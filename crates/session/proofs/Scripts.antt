@@ -3,13 +3,13 @@ use Rattle.std.proofs.Common.{◌≡◌, ◌<◌, ◌&&◌, inl, inr, Bool, true
 use Rattle.std.specs.Io.BufRead.{DropsThrough, take_through}
 use Rattle.std.specs.Io.KnownBytes.{Appends}
 use Rattle.std.proofs.KnownBytes.{Appends-trans}
-use Rattle.drive.specs.declared.script.Fault.{Fault}
-use Rattle.drive.specs.declared.script.Fault.TheVariants.{Write}
-use Rattle.drive.specs.Commands.{ends_script, is_command}
-use Rattle.drive.specs.declared.commands.Line.{Line}
-use Rattle.drive.specs.Scripts.{AreTold, HasBroken, HasDriven, LineIsCut, NothingWasLeft, LineIsTold, ReadsScript, line_of}
-use Rattle.drive.specs.Sessions.{TheSession}
-use Rattle.drive.specs.Transcripts.{IsWrittenOfLine}
+use Rattle.session.specs.declared.script.Fault.{Fault}
+use Rattle.session.specs.declared.script.Fault.TheVariants.{Write}
+use Rattle.session.specs.Commands.{ends_script, is_command}
+use Rattle.session.specs.declared.commands.Line.{Line}
+use Rattle.session.specs.Scripts.{AreTold, HasBroken, HasDriven, LineIsCut, NothingWasLeft, LineIsTold, ReadsScript, line_of}
+use Rattle.session.specs.Sessions.{TheSession}
+use Rattle.session.specs.Transcripts.{IsWrittenOfLine}
 
 length_lines : (chunks : List (List ℕ)) → length (map line_of chunks) ≡ length chunks
 length_lines [] = refl

@@ -1,15 +1,15 @@
 -- Tables, row by row.
 use Rattle.std.proofs.Common.{◌≡◌, ℕ, ◌+◌, List, [], ◌∷◌, ◌++◌, codes, Bool, false, if◌then◌else◌, sym, ap, subst, add-one}
 use Rattle.isa.specs.Report.{newline}
-use Rattle.drive.specs.declared.commands.Command.{Command}
-use Rattle.drive.specs.declared.commands.Command.TheVariants as ask
+use Rattle.session.specs.declared.commands.Command.{Command}
+use Rattle.session.specs.declared.commands.Command.TheVariants as ask
 use Rattle.instructions.specs.Programs.{Program}
-use Rattle.drive.specs.declared.replies.Reply.{Reply}
+use Rattle.session.specs.declared.replies.Reply.{Reply}
 use Rattle.std.proofs.lemmas.List.{append-nil}
-use Rattle.drive.specs.Moments.{GrowsLegally}
-use Rattle.drive.specs.Sessions.{Answers, TheSession, after_command}
-use Rattle.drive.specs.Tables.{AreRows, HasRow, asked_text, has_row, of_registers, of_stations, row_text}
-use Rattle.drive.specs.Texts.{reply_text}
+use Rattle.session.specs.Moments.{GrowsLegally}
+use Rattle.session.specs.Sessions.{Answers, TheSession, after_command}
+use Rattle.session.specs.Tables.{AreRows, HasRow, asked_text, has_row, of_registers, of_stations, row_text}
+use Rattle.session.specs.Texts.{reply_text}
 
 no_row : (P : Program) (command : Command) (reply : Reply) → has_row reply ≡ false → row_text P command reply ≡ []
 no_row P command reply e = ap (λ (b : Bool). if b then asked_text command ++ (codes ": " ++ (reply_text P reply ++ newline)) else []) e

@@ -1,6 +1,6 @@
 -- The text of woken stations, one by one.
 use Rattle.std.proofs.Common.{◌≡◌, ◌==◌, ◌<◌, ℕ, suc, ◌+◌, ◌-◌, ◌/◌, ◌%◌, List, ◌++◌, sym, ap, ◌∙◌, append_assoc, arith}
-use Rattle.drive.specs.Texts.{station_if, stations_text}
+use Rattle.session.specs.Texts.{station_if, stations_text}
 
 pub one_more_woken : (k w : ℕ) (out new whole : List ℕ) → k < 32 → new ≡ out ++ station_if k (w % 2 == 1) →
     out ++ stations_text (32 - k) k w ≡ whole → new ++ stations_text (32 - (k + 1)) (k + 1) (w / 2) ≡ whole

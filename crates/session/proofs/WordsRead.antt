@@ -10,15 +10,15 @@ use Rattle.station.specs.declared.answers.SourceState.{SourceState}
 use Rattle.station.specs.declared.answers.SourceState.TheVariants.{Unset, Val, Wait}
 use Rattle.station.specs.Looking.{SeesInfo, SeesLink, SeesOperand, SeesStation}
 use Rattle.station.specs.Seats.{TheCore}
-use Rattle.drive.specs.declared.producers.Producer.{Producer}
-use Rattle.drive.specs.declared.replies.Info.{Info}
-use Rattle.drive.specs.declared.replies.Operand.{Operand}
-use Rattle.drive.specs.Accounts.{IsFrom, IsNotFrom, IsOfOperand, IsOperandTold, IsProducerSeen, named}
-use Rattle.drive.specs.Replies.{IsInfoSeen, IsLinkSeen, IsLook, IsOperandSeen}
-use Rattle.drive.specs.declared.replies.Head.{Head}
-use Rattle.drive.specs.Rows.{AreLookedAt, head_with, is_free}
+use Rattle.session.specs.declared.producers.Producer.{Producer}
+use Rattle.session.specs.declared.replies.Info.{Info}
+use Rattle.session.specs.declared.replies.Operand.{Operand}
+use Rattle.session.specs.Accounts.{IsFrom, IsNotFrom, IsOfOperand, IsOperandTold, IsProducerSeen, named}
+use Rattle.session.specs.Replies.{IsInfoSeen, IsLinkSeen, IsLook, IsOperandSeen}
+use Rattle.session.specs.declared.replies.Head.{Head}
+use Rattle.session.specs.Rows.{AreLookedAt, head_with, is_free}
 use Rattle.std.proofs.lemmas.Bool.{cases_eq}
-use Rattle.drive.proofs.Histories.{starts_same, widen}
+use Rattle.session.proofs.Histories.{starts_same, widen}
 
 module _ (core : TheCore) (old first last new : List Entry) (s : StartsWith first old) (t : StartsWith new last) where
   pub later_link : (p c : ℕ) (k : Source) (seen : Option LinkWord) → IsLinkSeen core first last p c k seen → IsLinkSeen core old new p c k seen

@@ -6,14 +6,14 @@ use Rattle.std.proofs.lemmas.List.{append-nil, get_or_default}
 use Rattle.inorder.specs.declared.history.Entry.{Entry}
 use Rattle.inorder.specs.History.{StartsWith}
 use Rattle.inorder.specs.OneHistory.{Adds}
-use Rattle.drive.specs.declared.units.Claimed.{Claimed}
-use Rattle.drive.specs.declared.units.Claimed.TheVariants as claimed
-use Rattle.drive.specs.declared.units.Worker.{Worker}
-use Rattle.drive.specs.Held.{claim_of, held_job}
-use Rattle.drive.specs.Replies.{HoldsWhatIs}
-use Rattle.drive.specs.Workers.{AreAtWork, AreWorkers, HasNone, IsAtWork, UnitHasSeen, HasUnit, IsHolder, IsWorker, StaySeen, job_at, job_from, job_in, seen_at, seen_by_unit, station_held, worker_at}
-use Rattle.drive.proofs.Histories.{starts_same}
-use Rattle.drive.proofs.Jobs.{job_later}
+use Rattle.session.specs.declared.units.Claimed.{Claimed}
+use Rattle.session.specs.declared.units.Claimed.TheVariants as claimed
+use Rattle.session.specs.declared.units.Worker.{Worker}
+use Rattle.session.specs.Held.{claim_of, held_job}
+use Rattle.session.specs.Replies.{HoldsWhatIs}
+use Rattle.session.specs.Workers.{AreAtWork, AreWorkers, HasNone, IsAtWork, UnitHasSeen, HasUnit, IsHolder, IsWorker, StaySeen, job_at, job_from, job_in, seen_at, seen_by_unit, station_held, worker_at}
+use Rattle.session.proofs.Histories.{starts_same}
+use Rattle.session.proofs.Jobs.{job_later}
 use Rattle.station.specs.declared.answers.Claim.{Claim}
 use Rattle.station.specs.declared.job.Job.{Job}
 use Rattle.station.specs.Laws.{JobsStaySeen}

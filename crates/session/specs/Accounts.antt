@@ -14,14 +14,14 @@ use Rattle.station.specs.Looking.{SeesStation}
 use Rattle.station.specs.Seats.{TheCore}
 use Rattle.station.specs.Waking.{HasWoken}
 use Rattle.station.specs.Writeback.{FinishAnswers}
-use Rattle.drive.specs.declared.producers.Producer.{Producer}
-use Rattle.drive.specs.declared.replies.Finished.{Finished}
-use Rattle.drive.specs.declared.replies.Info.{Info}
-use Rattle.drive.specs.declared.replies.Operand.{Operand}
-use Rattle.drive.specs.declared.units.Claimed.{Claimed}
-use Rattle.drive.specs.declared.units.Claimed.TheVariants as claimed
-use Rattle.drive.specs.Moments.{IsBetween}
-use Rattle.drive.specs.Replies.{IsInfoSeen, IsLinkSeen, IsOperandSeen, IsTurn}
+use Rattle.session.specs.declared.producers.Producer.{Producer}
+use Rattle.session.specs.declared.replies.Finished.{Finished}
+use Rattle.session.specs.declared.replies.Info.{Info}
+use Rattle.session.specs.declared.replies.Operand.{Operand}
+use Rattle.session.specs.declared.units.Claimed.{Claimed}
+use Rattle.session.specs.declared.units.Claimed.TheVariants as claimed
+use Rattle.session.specs.Moments.{IsBetween}
+use Rattle.session.specs.Replies.{IsInfoSeen, IsLinkSeen, IsOperandSeen, IsTurn}
 
 -- The producer at a station that its link word names for the tenant with this tag
 abbrev pub named : Option LinkWord → (station tag : ℕ) → Option Producer

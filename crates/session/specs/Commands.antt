@@ -2,19 +2,19 @@
 use Rattle.std.specs.Prelude.{◌≡◌, ◌≢◌, ◌==◌, ◌&&◌, ℕ, Bool, true, false, not, List, [], length, codes, Option, Some, None, if◌then◌else◌}
 use Rattle.std.specs.Option.{option_map}
 use Rattle.std.specs.Str.{bytes_eq}
-use Rattle.text.specs.Number.{decimal_in, number_in}
-use Rattle.drive.specs.declared.commands.Command.{Command}
-use Rattle.drive.specs.declared.commands.Command.TheVariants as call
-use Rattle.drive.specs.declared.commands.Line.{Line}
-use Rattle.drive.specs.declared.commands.Line.TheVariants.{Asks, Help as AsksHelp, List as AsksList, Nothing, Quit as AsksQuit, Table as AsksTable, Unknown, Wants}
-use Rattle.drive.specs.declared.commands.Verb.{Verb}
-use Rattle.drive.specs.declared.commands.Verb.TheVariants.{Claim, Commit, Creator, Finish, Help, Info, Learn, Link, List as Listing, Look, Meet, Operand, Quit, Recover, Refresh, Renew, Report, Rest, Ring, Show, Station, Table, Take, Touched, Turn}
-use Rattle.drive.specs.declared.commands.Which.{Which}
-use Rattle.drive.specs.declared.commands.Which.TheVariants.{First, Second}
-use Rattle.drive.specs.declared.parties.Party.{Party}
-use Rattle.drive.specs.declared.parties.Party.TheVariants as party
-use Rattle.drive.specs.Units.{unit_named}
-use Rattle.drive.specs.Words.{Texts}
+use Rattle.lexical.specs.Number.{decimal_in, number_in}
+use Rattle.session.specs.declared.commands.Command.{Command}
+use Rattle.session.specs.declared.commands.Command.TheVariants as call
+use Rattle.session.specs.declared.commands.Line.{Line}
+use Rattle.session.specs.declared.commands.Line.TheVariants.{Asks, Help as AsksHelp, List as AsksList, Nothing, Quit as AsksQuit, Table as AsksTable, Unknown, Wants}
+use Rattle.session.specs.declared.commands.Verb.{Verb}
+use Rattle.session.specs.declared.commands.Verb.TheVariants.{Claim, Commit, Creator, Finish, Help, Info, Learn, Link, List as Listing, Look, Meet, Operand, Quit, Recover, Refresh, Renew, Report, Rest, Ring, Show, Station, Table, Take, Touched, Turn}
+use Rattle.session.specs.declared.commands.Which.{Which}
+use Rattle.session.specs.declared.commands.Which.TheVariants.{First, Second}
+use Rattle.session.specs.declared.parties.Party.{Party}
+use Rattle.session.specs.declared.parties.Party.TheVariants as party
+use Rattle.session.specs.Units.{unit_named}
+use Rattle.session.specs.Words.{Texts}
 
 -- The word of a command
 abbrev pub verb_name : Verb → List ℕ

@@ -1,7 +1,7 @@
 -- Jobs that units hold, and what claims answered.
-use Rattle.drive.specs.declared.units.Claimed.{Claimed}
-use Rattle.drive.specs.declared.units.Claimed.TheVariants as told
-use Rattle.drive.specs.declared.units.Held.{Held}
+use Rattle.session.specs.declared.units.Claimed.{Claimed}
+use Rattle.session.specs.declared.units.Claimed.TheVariants as told
+use Rattle.session.specs.declared.units.Held.{Held}
 use Rattle.station.specs.declared.answers.Claim.{Claim}
 use Rattle.station.specs.declared.answers.Claim.TheVariants as claim
 use Rattle.station.specs.declared.job.Job.{Job}

@@ -2,7 +2,7 @@
 use Rattle.std.specs.Prelude.{ℕ, zero, suc, List, [], ◌++◌, length, codes, decimal}
 use Rattle.isa.specs.Report.{hexadecimal, newline}
 use Rattle.instructions.specs.Programs.{Program, address}
-use Rattle.drive.specs.Texts.{indexed_text}
+use Rattle.session.specs.Texts.{indexed_text}
 
 -- The line of the instruction with this index: its pc, its index and its text
 abbrev pub listed : Program → ℕ → List ℕ

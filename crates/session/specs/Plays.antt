@@ -3,13 +3,13 @@ use Rattle.std.specs.Prelude.{◌≡◌, ◌⊎◌, ℕ, suc, ◌+◌, ◌%◌, 
 use Rattle.std.specs.Io.KnownBytes.{Appends}
 use Rattle.isa.specs.Report.{hexadecimal}
 use Rattle.rand_pcg.specs.Lcg.{Lcg}
-use Rattle.unit.specs.Seeds.{ChoosesNext, seeded}
-use Rattle.drive.specs.declared.commands.Command.{Command}
-use Rattle.drive.specs.declared.commands.Command.TheVariants as ask
-use Rattle.drive.specs.Moments.{GrowsLegally}
-use Rattle.drive.specs.Sessions.{KeepsCommits, TheSession}
-use Rattle.drive.specs.Texts.{unit_text}
-use Rattle.drive.specs.Transcripts.{IsWrittenOfLine}
+use Rattle.one_thread.specs.Seeds.{ChoosesNext, seeded}
+use Rattle.session.specs.declared.commands.Command.{Command}
+use Rattle.session.specs.declared.commands.Command.TheVariants as ask
+use Rattle.session.specs.Moments.{GrowsLegally}
+use Rattle.session.specs.Sessions.{KeepsCommits, TheSession}
+use Rattle.session.specs.Texts.{unit_text}
+use Rattle.session.specs.Transcripts.{IsWrittenOfLine}
 
 -- A session whose words were looked at: its seats have seen more, and all else is as it was
 pub record HasLooked (old new : TheSession) : Type 0 where

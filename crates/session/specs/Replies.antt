@@ -32,12 +32,12 @@ use Rattle.station.specs.Looking.{SeesInfo, SeesLink, SeesOperand, SeesStation}
 use Rattle.station.specs.Moments.{WasOnce}
 use Rattle.station.specs.Claiming.{ClaimAnswers, Holds}
 use Rattle.station.specs.Seats.{Caller, TheCore}
-use Rattle.drive.specs.declared.commands.Which.{Which}
-use Rattle.drive.specs.declared.commands.Which.TheVariants as which
-use Rattle.drive.specs.declared.replies.Info.{Info}
-use Rattle.drive.specs.declared.replies.Refreshed.{Refreshed}
+use Rattle.session.specs.declared.commands.Which.{Which}
+use Rattle.session.specs.declared.commands.Which.TheVariants as which
+use Rattle.session.specs.declared.replies.Info.{Info}
+use Rattle.session.specs.declared.replies.Refreshed.{Refreshed}
 use Rattle.ruu_words.specs.declared.link.LinkWord.{LinkWord}
-use Rattle.drive.specs.Moments.{IsBetween}
+use Rattle.session.specs.Moments.{IsBetween}
 use Rattle.station.specs.Renewals.{HasNobody}
 
 -- Where a guess is given, that is the predicted next pc, unless the next pc is fixed

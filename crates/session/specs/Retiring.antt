@@ -4,10 +4,10 @@ use Rattle.inorder.specs.declared.history.Entry.{Entry}
 use Rattle.back.specs.Backs.{IsSameBack, TheBack}
 use Rattle.back.specs.declared.answers.Commit.{Commit}
 use Rattle.station.specs.Seats.{TheCore}
-use Rattle.drive.specs.declared.replies.Row.{Row}
-use Rattle.drive.specs.declared.units.Worker.{Worker}
-use Rattle.drive.specs.Replies.{IsCommit}
-use Rattle.drive.specs.Rows.{IsOldestTold}
+use Rattle.session.specs.declared.replies.Row.{Row}
+use Rattle.session.specs.declared.units.Worker.{Worker}
+use Rattle.session.specs.Replies.{IsCommit}
+use Rattle.session.specs.Rows.{IsOldestTold}
 
 -- The words of the oldest tenant's station were read, and right behind that the back has committed
 pub record HasCommittedTold (core : TheCore) (from to : TheBack) (old new : List Entry)

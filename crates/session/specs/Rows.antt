@@ -9,14 +9,14 @@ use Rattle.ruu_words.specs.declared.station.StationState.TheVariants as state
 use Rattle.station.specs.declared.answers.Seen.{Seen}
 use Rattle.station.specs.declared.job.Job.{Job}
 use Rattle.station.specs.Seats.{TheCore}
-use Rattle.drive.specs.declared.replies.Ahead.{Ahead}
-use Rattle.drive.specs.declared.replies.Head.{Head}
-use Rattle.drive.specs.declared.replies.Row.{Row}
-use Rattle.drive.specs.declared.units.Worker.{Worker}
-use Rattle.drive.specs.Accounts.{IsOperandTold}
-use Rattle.drive.specs.Moments.{IsBetween}
-use Rattle.drive.specs.Replies.{IsLook}
-use Rattle.drive.specs.Workers.{job_at}
+use Rattle.session.specs.declared.replies.Ahead.{Ahead}
+use Rattle.session.specs.declared.replies.Head.{Head}
+use Rattle.session.specs.declared.replies.Row.{Row}
+use Rattle.session.specs.declared.units.Worker.{Worker}
+use Rattle.session.specs.Accounts.{IsOperandTold}
+use Rattle.session.specs.Moments.{IsBetween}
+use Rattle.session.specs.Replies.{IsLook}
+use Rattle.session.specs.Workers.{job_at}
 
 -- The job is of the tenant with this tag at a station
 pub record IsJobOf (station tag : ℕ) (job : Job) : Type 0 where

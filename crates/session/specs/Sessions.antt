@@ -15,22 +15,22 @@ use Rattle.snapshots.specs.declared.mark.Mark.{Mark}
 use Rattle.snapshots.specs.declared.snap.Snap.{Snap}
 use Rattle.snapshots.specs.Snapshots.{IsSnapshotOf}
 use Rattle.station.specs.Seats.{Caller, TheCore}
-use Rattle.drive.specs.declared.commands.Command.{Command}
-use Rattle.drive.specs.declared.commands.Command.TheVariants as ask
-use Rattle.drive.specs.declared.parties.Party.{Party}
-use Rattle.drive.specs.declared.parties.Party.TheVariants as party
-use Rattle.drive.specs.declared.replies.Refusal.{Refusal}
-use Rattle.drive.specs.declared.replies.Refusal.TheVariants as no
-use Rattle.drive.specs.declared.replies.Reply.{Reply}
-use Rattle.drive.specs.declared.replies.Reply.TheVariants as say
-use Rattle.drive.specs.declared.units.Worker.{Worker}
-use Rattle.drive.specs.Units.{unit_count}
-use Rattle.drive.specs.Accounts.{HasTurned, IsLinkTold, IsOperandTold}
-use Rattle.drive.specs.Retiring.{HasCommittedTold}
-use Rattle.drive.specs.Rows.{IsRingTold, IsRowSeen}
-use Rattle.drive.specs.Replies.{IsCreatorNow, IsInfoSeen, IsLook, IsRecovery, IsRefresh, IsRest, IsShown, source_at}
-use Rattle.drive.specs.Renewals.{HasBegunAgain, HasStayed}
-use Rattle.drive.specs.Workers.{AreWorkers, HasClaimedTold, UnitHasFinished, HasNone, StaySeen, job_at, seen_at, station_held}
+use Rattle.session.specs.declared.commands.Command.{Command}
+use Rattle.session.specs.declared.commands.Command.TheVariants as ask
+use Rattle.session.specs.declared.parties.Party.{Party}
+use Rattle.session.specs.declared.parties.Party.TheVariants as party
+use Rattle.session.specs.declared.replies.Refusal.{Refusal}
+use Rattle.session.specs.declared.replies.Refusal.TheVariants as no
+use Rattle.session.specs.declared.replies.Reply.{Reply}
+use Rattle.session.specs.declared.replies.Reply.TheVariants as say
+use Rattle.session.specs.declared.units.Worker.{Worker}
+use Rattle.session.specs.Units.{unit_count}
+use Rattle.session.specs.Accounts.{HasTurned, IsLinkTold, IsOperandTold}
+use Rattle.session.specs.Retiring.{HasCommittedTold}
+use Rattle.session.specs.Rows.{IsRingTold, IsRowSeen}
+use Rattle.session.specs.Replies.{IsCreatorNow, IsInfoSeen, IsLook, IsRecovery, IsRefresh, IsRest, IsShown, source_at}
+use Rattle.session.specs.Renewals.{HasBegunAgain, HasStayed}
+use Rattle.session.specs.Workers.{AreWorkers, HasClaimedTold, UnitHasFinished, HasNone, StaySeen, job_at, seen_at, station_held}
 
 -- A session: its core, the one history that its seats have seen together, its units, its back, the
 -- greatest count of its snapper, the mark that was shown last, what the front has seen, what its create

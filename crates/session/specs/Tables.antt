@@ -4,14 +4,14 @@ use Rattle.instructions.specs.Programs.{Program}
 use Rattle.instructions.specs.Registers.{register_count}
 use Rattle.isa.specs.Report.{newline}
 use Rattle.front.specs.declared.answers.Made.TheVariants.{Base}
-use Rattle.drive.specs.declared.commands.Command.{Command}
-use Rattle.drive.specs.declared.commands.Command.TheVariants as ask
-use Rattle.drive.specs.declared.replies.Reply.{Reply}
-use Rattle.drive.specs.declared.replies.Reply.TheVariants as say
-use Rattle.drive.specs.Moments.{GrowsLegally}
-use Rattle.drive.specs.Rows.{is_free}
-use Rattle.drive.specs.Sessions.{Answers, TheSession, after_command}
-use Rattle.drive.specs.Texts.{reply_text}
+use Rattle.session.specs.declared.commands.Command.{Command}
+use Rattle.session.specs.declared.commands.Command.TheVariants as ask
+use Rattle.session.specs.declared.replies.Reply.{Reply}
+use Rattle.session.specs.declared.replies.Reply.TheVariants as say
+use Rattle.session.specs.Moments.{GrowsLegally}
+use Rattle.session.specs.Rows.{is_free}
+use Rattle.session.specs.Sessions.{Answers, TheSession, after_command}
+use Rattle.session.specs.Texts.{reply_text}
 
 -- The command that a row is the answer to
 abbrev pub asked_text : Command → List ℕ

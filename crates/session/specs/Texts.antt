@@ -34,22 +34,22 @@ use Rattle.station.specs.declared.answers.Finish.TheVariants as finish
 use Rattle.station.specs.declared.answers.Seen.{Seen}
 use Rattle.station.specs.declared.answers.SourceState.{SourceState}
 use Rattle.station.specs.declared.answers.SourceState.TheVariants as source
-use Rattle.drive.specs.declared.producers.Producer.{Producer}
-use Rattle.drive.specs.declared.commands.Which.{Which}
-use Rattle.drive.specs.declared.commands.Which.TheVariants as which_of
-use Rattle.drive.specs.declared.replies.Ahead.{Ahead}
-use Rattle.drive.specs.declared.replies.Finished.{Finished}
-use Rattle.drive.specs.declared.replies.Head.{Head}
-use Rattle.drive.specs.declared.replies.Info.{Info}
-use Rattle.drive.specs.declared.replies.Operand.{Operand}
-use Rattle.drive.specs.declared.replies.Refusal.{Refusal}
-use Rattle.drive.specs.declared.replies.Refusal.TheVariants as no
-use Rattle.drive.specs.declared.replies.Row.{Row}
-use Rattle.drive.specs.declared.replies.Reply.{Reply}
-use Rattle.drive.specs.declared.replies.Reply.TheVariants as say
-use Rattle.drive.specs.declared.units.Claimed.{Claimed}
-use Rattle.drive.specs.declared.units.Claimed.TheVariants as claimed
-use Rattle.drive.specs.declared.units.Held.{Held}
+use Rattle.session.specs.declared.producers.Producer.{Producer}
+use Rattle.session.specs.declared.commands.Which.{Which}
+use Rattle.session.specs.declared.commands.Which.TheVariants as which_of
+use Rattle.session.specs.declared.replies.Ahead.{Ahead}
+use Rattle.session.specs.declared.replies.Finished.{Finished}
+use Rattle.session.specs.declared.replies.Head.{Head}
+use Rattle.session.specs.declared.replies.Info.{Info}
+use Rattle.session.specs.declared.replies.Operand.{Operand}
+use Rattle.session.specs.declared.replies.Refusal.{Refusal}
+use Rattle.session.specs.declared.replies.Refusal.TheVariants as no
+use Rattle.session.specs.declared.replies.Row.{Row}
+use Rattle.session.specs.declared.replies.Reply.{Reply}
+use Rattle.session.specs.declared.replies.Reply.TheVariants as say
+use Rattle.session.specs.declared.units.Claimed.{Claimed}
+use Rattle.session.specs.declared.units.Claimed.TheVariants as claimed
+use Rattle.session.specs.declared.units.Held.{Held}
 
 -- The name of a half
 abbrev pub half_text : Half → List ℕ

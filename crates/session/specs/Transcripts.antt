@@ -1,20 +1,20 @@
 -- Transcripts: what is told of the lines of a script.
 use Rattle.std.specs.Prelude.{◌≡◌, ℕ, suc, Bool, true, false, List, [], ◌∷◌, ◌++◌, length, codes, decimal}
 use Rattle.isa.specs.Report.{newline}
-use Rattle.drive.specs.declared.commands.Command.{Command}
-use Rattle.drive.specs.declared.commands.Line.{Line}
-use Rattle.drive.specs.declared.commands.Line.TheVariants.{Asks, Help, List as AsksList, Nothing, Quit, Table, Unknown, Wants}
-use Rattle.drive.specs.declared.commands.Verb.{Verb}
-use Rattle.drive.specs.declared.commands.Verb.TheVariants as verb
-use Rattle.drive.specs.declared.replies.Reply.{Reply}
-use Rattle.drive.specs.Help.{help_text}
-use Rattle.drive.specs.Listed.{list_text}
-use Rattle.drive.specs.Tables.{IsTable}
-use Rattle.drive.specs.Commands.{IsLine, verb_name}
-use Rattle.drive.specs.Moments.{GrowsLegally}
-use Rattle.drive.specs.Sessions.{Answers, TheSession, after_command}
-use Rattle.drive.specs.Texts.{reply_line}
-use Rattle.drive.specs.Words.{words_of}
+use Rattle.session.specs.declared.commands.Command.{Command}
+use Rattle.session.specs.declared.commands.Line.{Line}
+use Rattle.session.specs.declared.commands.Line.TheVariants.{Asks, Help, List as AsksList, Nothing, Quit, Table, Unknown, Wants}
+use Rattle.session.specs.declared.commands.Verb.{Verb}
+use Rattle.session.specs.declared.commands.Verb.TheVariants as verb
+use Rattle.session.specs.declared.replies.Reply.{Reply}
+use Rattle.session.specs.Help.{help_text}
+use Rattle.session.specs.Listed.{list_text}
+use Rattle.session.specs.Tables.{IsTable}
+use Rattle.session.specs.Commands.{IsLine, verb_name}
+use Rattle.session.specs.Moments.{GrowsLegally}
+use Rattle.session.specs.Sessions.{Answers, TheSession, after_command}
+use Rattle.session.specs.Texts.{reply_line}
+use Rattle.session.specs.Words.{words_of}
 
 -- The text that names the operands of a command
 abbrev pub operands_text : Verb → List ℕ

@@ -1,9 +1,9 @@
 -- The words of a line of a script.
 use Rattle.std.specs.Prelude.{ℕ, List}
 use Rattle.std.specs.List.{after_first, before_first}
-use Rattle.text.specs.Blank.{is_blank, trim}
-use Rattle.text.specs.Line.{before_comment}
-use Rattle.drive.specs.declared.words.Words.{Words}
+use Rattle.lexical.specs.Blank.{is_blank, trim}
+use Rattle.lexical.specs.Line.{before_comment}
+use Rattle.session.specs.declared.words.Words.{Words}
 
 -- The words of a line, each empty where it is not there, and what stands behind the third
 pub record Texts : Type 0 where

@@ -2,14 +2,14 @@
 use Rattle.std.specs.Prelude.{◌≡◌, ◌≢◌, ℕ, List, [], Option, Some, None, option_map, slice_index_or}
 use Rattle.inorder.specs.History.{StartsWith}
 use Rattle.inorder.specs.declared.history.Entry.{Entry}
-use Rattle.drive.specs.declared.units.Claimed.{Claimed}
-use Rattle.drive.specs.declared.units.Claimed.TheVariants as claimed
-use Rattle.drive.specs.declared.units.Worker.{Worker}
-use Rattle.drive.specs.Held.{claim_of, held_job}
-use Rattle.drive.specs.declared.producers.Producer.{Producer}
-use Rattle.drive.specs.declared.replies.Finished.{Finished}
-use Rattle.drive.specs.Accounts.{IsAwaited, IsFinish}
-use Rattle.drive.specs.Replies.{IsClaim}
+use Rattle.session.specs.declared.units.Claimed.{Claimed}
+use Rattle.session.specs.declared.units.Claimed.TheVariants as claimed
+use Rattle.session.specs.declared.units.Worker.{Worker}
+use Rattle.session.specs.Held.{claim_of, held_job}
+use Rattle.session.specs.declared.producers.Producer.{Producer}
+use Rattle.session.specs.declared.replies.Finished.{Finished}
+use Rattle.session.specs.Accounts.{IsAwaited, IsFinish}
+use Rattle.session.specs.Replies.{IsClaim}
 use Rattle.station.specs.declared.job.Job.{Job}
 use Rattle.station.specs.Claiming.{Holds}
 use Rattle.station.specs.Seats.{Caller, TheCore}

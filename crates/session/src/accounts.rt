@@ -1,9 +1,9 @@
 //! Calls, with what words tell right behind them.
 ghost use Rattle.std.specs.Prelude.{◌≡◌, ◌<◌, None, vec_len};
 ghost use Rattle.back.specs.Backs.{IsSameBack};
-ghost use Rattle.drive.specs.Accounts.{HasTurned, IsAwaited, IsLinkTold, IsOfLet, IsOfOperand, IsOperandTold};
-ghost use Rattle.drive.specs.Moments.{GrowsLegally};
-ghost use Rattle.drive.specs.Workers.{AreWorkers, HasClaimedTold, job_at};
+ghost use Rattle.session.specs.Accounts.{HasTurned, IsAwaited, IsLinkTold, IsOfLet, IsOfOperand, IsOperandTold};
+ghost use Rattle.session.specs.Moments.{GrowsLegally};
+ghost use Rattle.session.specs.Workers.{AreWorkers, HasClaimedTold, job_at};
 ghost use Rattle.station.specs.Seats.{IsSameSeat};
 
 use crate::producers::{Producer, producer_of};

@@ -1,13 +1,13 @@
 //! The calls of a session, each between two meetings with the seat that has seen all.
 ghost use Rattle.std.specs.Prelude.{◌≡◌, ◌<◌, ◌-◌, ◌^◌, IfOk};
 ghost use Rattle.back.specs.Backs.{IsSameBack, back_state};
-ghost use Rattle.drive.specs.Accounts.{IsFinish};
-ghost use Rattle.drive.specs.Moments.{GrowsLegally};
+ghost use Rattle.session.specs.Accounts.{IsFinish};
+ghost use Rattle.session.specs.Moments.{GrowsLegally};
 ghost use Rattle.front.specs.Fronts.{TurnsTo};
 ghost use Rattle.front.specs.Rests.{rested_after};
 ghost use Rattle.front.specs.Training.{given_or};
-ghost use Rattle.drive.specs.Replies.{HoldsWhatIs, IsClaim, IsCommit, IsCreatorNow, IsLook, IsRecovery, IsRefresh, IsRest, IsShown, IsTurn};
-ghost use Rattle.drive.specs.Rows.{IsAhead};
+ghost use Rattle.session.specs.Replies.{HoldsWhatIs, IsClaim, IsCommit, IsCreatorNow, IsLook, IsRecovery, IsRefresh, IsRest, IsShown, IsTurn};
+ghost use Rattle.session.specs.Rows.{IsAhead};
 ghost use Rattle.station.specs.Claiming.{Holds};
 ghost use Rattle.station.specs.Seats.{IsSameSeat};
 

@@ -1,13 +1,13 @@
 //! The commands of a script.
 ghost use Rattle.std.specs.Prelude.{◌≡◌, ◌≢◌, IfNone, IfSome};
-ghost use Rattle.drive.specs.Commands.{IsLine, without_operands, command_of, ends_script, has_one, has_two, is_command, number_of, only_number, only_pc, source_of, station_and_source, turn_of, two_parties, unit_and_number, verb_name};
-ghost use Rattle.drive.specs.Words.{texts_of, words_of};
-ghost use Rattle.drive.specs.declared.commands.Verb.{Verb};
+ghost use Rattle.session.specs.Commands.{IsLine, without_operands, command_of, ends_script, has_one, has_two, is_command, number_of, only_number, only_pc, source_of, station_and_source, turn_of, two_parties, unit_and_number, verb_name};
+ghost use Rattle.session.specs.Words.{texts_of, words_of};
+ghost use Rattle.session.specs.declared.commands.Verb.{Verb};
 
 use crate::names::unit_in;
 use crate::parties::{Party, party_in};
 use crate::words::{Words, words_in};
-use text::decimal_in;
+use lexical::decimal_in;
 
 /// The word that a command begins with.
 #[derive(Clone, Copy, Debug, PartialEq, Eq)]
@@ -170,7 +170,7 @@ fn only_pc(words: &Words<'_>) -> Option<u32>
     ensures { result ≡ only_pc (texts_of words.now) }
 {
     if has_one(words) {
-        text::number_in(words.first, 0, 0xffff_ffff)
+        lexical::number_in(words.first, 0, 0xffff_ffff)
     } else {
         None
     }

@@ -1,6 +1,6 @@
 //! The texts of commits.
 ghost use Rattle.std.specs.Prelude.{◌≡◌, ◌++◌, IfOk, OnOk, Some, string_bytes};
-ghost use Rattle.drive.specs.Texts.{change_by, commit_text, memory_text, oldest_text, register_label, stored, written_text};
+ghost use Rattle.session.specs.Texts.{change_by, commit_text, memory_text, oldest_text, register_label, stored, written_text};
 ghost use Rattle.instructions.specs.Instruction.{kind};
 
 use crate::replies::Row;

@@ -1,6 +1,6 @@
 //! The texts of finishes and refreshes.
 ghost use Rattle.std.specs.Prelude.{◌≡◌, ◌++◌, IfOk, OnOk, string_bytes};
-ghost use Rattle.drive.specs.Texts.{finish_text, finished_word, refresh_text};
+ghost use Rattle.session.specs.Texts.{finish_text, finished_word, refresh_text};
 
 use crate::instruction_texts::push_woken;
 use crate::replies::{Finished, Refreshed};

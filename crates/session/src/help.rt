@@ -1,6 +1,6 @@
 //! The commands, as they are told to who asks for them.
 ghost use Rattle.std.specs.Prelude.{◌≡◌, IfOk, string_bytes};
-ghost use Rattle.drive.specs.Help.{help_text};
+ghost use Rattle.session.specs.Help.{help_text};
 
 use std::alloc::{AllocError, Global};
 

@@ -1,7 +1,7 @@
 //! Instructions, producers and woken stations as they are written.
 ghost use Rattle.std.specs.Prelude.{◌≡◌, ◌++◌, OnOk, slice_get, string_bytes};
 ghost use Rattle.instructions.specs.Programs.{instr_at};
-ghost use Rattle.drive.specs.Texts.{behind_blank, from_text, half_of_pair, indexed, station_if, stations_text, woken_text};
+ghost use Rattle.session.specs.Texts.{behind_blank, from_text, half_of_pair, indexed, station_if, stations_text, woken_text};
 
 use crate::producers::Producer;
 use crate::replies::Info;

@@ -1,7 +1,7 @@
 //! What is told of a line of a script.
 ghost use Rattle.std.specs.Prelude.{◌≡◌, IfOk, string_bytes};
-ghost use Rattle.drive.specs.Commands.{verb_name};
-ghost use Rattle.drive.specs.Transcripts.{LineSays, operands_text, unknown_text, wants_text};
+ghost use Rattle.session.specs.Commands.{verb_name};
+ghost use Rattle.session.specs.Transcripts.{LineSays, operands_text, unknown_text, wants_text};
 
 use crate::commands::{Line, Verb};
 use crate::help::help;

@@ -1,6 +1,6 @@
 //! The instructions of a program, as they are listed.
 ghost use Rattle.std.specs.Prelude.{◌≡◌, ◌++◌, ◌<◌, IfOk, OnOk, length, string_bytes};
-ghost use Rattle.drive.specs.Listed.{list_text, listed};
+ghost use Rattle.session.specs.Listed.{list_text, listed};
 
 use crate::instruction_texts::{indexed, push_instr};
 use instructions::Program;

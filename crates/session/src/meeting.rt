@@ -1,8 +1,8 @@
 //! A unit that meets the seat that has seen all.
 ghost use Rattle.std.specs.Prelude.{◌≡◌, ◌<◌, vec_len};
 ghost use Rattle.station.specs.Seats.{IsSameSeat};
-ghost use Rattle.drive.specs.Moments.{GrowsLegally};
-ghost use Rattle.drive.specs.Workers.{AreWorkers, UnitHasSeen};
+ghost use Rattle.session.specs.Moments.{GrowsLegally};
+ghost use Rattle.session.specs.Workers.{AreWorkers, UnitHasSeen};
 
 use crate::units::{Worker, put_worker, take_worker};
 use station::{Core, UnitSeat, jobs_stay};

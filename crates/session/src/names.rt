@@ -1,7 +1,7 @@
 //! The names of units, and the numbers of registers.
 ghost use Rattle.std.specs.Prelude.{◌≡◌, ◌<◌, ◌≤◌, IfNone, IfSome};
 ghost use Rattle.instructions.specs.Registers.{register_count};
-ghost use Rattle.drive.specs.Units.{both_letters, letter, unit_count, unit_named};
+ghost use Rattle.session.specs.Units.{both_letters, letter, unit_count, unit_named};
 
 use instructions::Reg;
 

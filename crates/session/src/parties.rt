@@ -1,6 +1,6 @@
 //! Those that can meet.
 ghost use Rattle.std.specs.Prelude.{◌≡◌};
-ghost use Rattle.drive.specs.Commands.{party_of};
+ghost use Rattle.session.specs.Commands.{party_of};
 
 use crate::names::unit_in;
 

@@ -1,21 +1,21 @@
 //! A session that is driven by a seed.
 ghost use Rattle.std.specs.Prelude.{◌≡◌, ◌≢◌, ◌<◌, ◌+◌, ◌-◌, ◌^◌, ◌%◌, IfErr, IfOk, IfSome, OnOk, [], length, slice_get, string_bytes};
-ghost use Rattle.devices.specs.Counted.{failures_of, known_by};
-ghost use Rattle.drive.specs.Plays.{ArePlayed, HasPlayed, HasPlayedPart, IsNamed, IsPlayed, IsWrittenBehind, MayHaveLooked, command_text, unit_command};
-ghost use Rattle.drive.specs.Scripts.{failed_writes};
+ghost use Rattle.counted_io.specs.Counted.{failures_of, known_by};
+ghost use Rattle.session.specs.Plays.{ArePlayed, HasPlayed, HasPlayedPart, IsNamed, IsPlayed, IsWrittenBehind, MayHaveLooked, command_text, unit_command};
+ghost use Rattle.session.specs.Scripts.{failed_writes};
 
 use crate::commands::{Command, line_in};
 use crate::row_texts::push_unit;
 use crate::script::{Fault, written};
 use crate::session::Session;
 use back::Naming;
-use devices::{Counted, write_whole};
+use counted_io::{Counted, write_whole};
 use instructions::Predictor;
 use isa::Hexadecimal;
+use one_thread::{Chooser, Seeded};
 use std::alloc::{AllocError, Global};
 use std::io::Write;
 use std::sync::Wait;
-use unit::{Chooser, Seeded};
 
 // There are no more commands to choose from: at most one a station, one a unit, a turn and a commit.
 const MOST_CHOICES: usize = 64;

@@ -1,8 +1,8 @@
 //! Whose value a source waits for.
 ghost use Rattle.std.specs.Prelude.{◌≡◌, ◌<◌};
 ghost use Rattle.back.specs.Backs.{IsSameBack};
-ghost use Rattle.drive.specs.Accounts.{IsProducerSeen, named};
-ghost use Rattle.drive.specs.Moments.{GrowsLegally};
+ghost use Rattle.session.specs.Accounts.{IsProducerSeen, named};
+ghost use Rattle.session.specs.Moments.{GrowsLegally};
 ghost use Rattle.station.specs.Seats.{IsSameSeat};
 
 use crate::reads::link;

@@ -1,8 +1,8 @@
 //! What the back reads of the words, between two meetings with the seat that has seen all.
 ghost use Rattle.std.specs.Prelude.{◌≡◌, ◌<◌};
 ghost use Rattle.back.specs.Backs.{IsSameBack};
-ghost use Rattle.drive.specs.Moments.{GrowsLegally};
-ghost use Rattle.drive.specs.Replies.{IsInfoSeen, IsLinkSeen, IsLook, IsOperandSeen};
+ghost use Rattle.session.specs.Moments.{GrowsLegally};
+ghost use Rattle.session.specs.Replies.{IsInfoSeen, IsLinkSeen, IsLook, IsOperandSeen};
 ghost use Rattle.station.specs.Seats.{IsSameSeat};
 
 use crate::replies::Info;

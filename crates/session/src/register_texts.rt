@@ -1,6 +1,6 @@
 //! Registers as they are written.
 ghost use Rattle.std.specs.Prelude.{◌≡◌, ◌++◌, OnOk, string_bytes};
-ghost use Rattle.drive.specs.Texts.{registers_text};
+ghost use Rattle.session.specs.Texts.{registers_text};
 
 use isa::{Hexadecimal, RegisterName};
 use std::alloc::AllocError;

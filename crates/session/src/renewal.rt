@@ -1,6 +1,6 @@
 //! A core that is renewed, with all that stands at it.
 ghost use Rattle.std.specs.Prelude.{◌≡◌, IfErr, IfOk, None, true};
-ghost use Rattle.drive.specs.Renewals.{AreAt, HasBegunAgain, HasStayed};
+ghost use Rattle.session.specs.Renewals.{AreAt, HasBegunAgain, HasStayed};
 
 use back::{Back, Naming, a_back_enters_behind_a_renewal};
 use front::{Front, a_front_enters_behind_a_renewal};

@@ -3,7 +3,7 @@ ghost use Rattle.std.specs.Prelude.{◌≡◌, IfOk};
 ghost use Rattle.back.specs.Backs.{IsSameBack, back_state};
 ghost use Rattle.back.specs.Ends.{ending_of};
 ghost use Rattle.inorder.specs.Runs.{state_in};
-ghost use Rattle.drive.specs.Moments.{GrowsLegally};
+ghost use Rattle.session.specs.Moments.{GrowsLegally};
 ghost use Rattle.station.specs.Seats.{IsSameSeat};
 
 use back::{Back, Naming};

@@ -1,8 +1,8 @@
 //! Commits, with the tenant that they are of.
 ghost use Rattle.std.specs.Prelude.{◌≡◌, ◌<◌, ◌-◌, ◌^◌};
 ghost use Rattle.back.specs.Backs.{back_state};
-ghost use Rattle.drive.specs.Moments.{GrowsLegally};
-ghost use Rattle.drive.specs.Retiring.{HasCommittedTold};
+ghost use Rattle.session.specs.Moments.{GrowsLegally};
+ghost use Rattle.session.specs.Retiring.{HasCommittedTold};
 ghost use Rattle.station.specs.Seats.{IsSameSeat};
 
 use crate::calls;

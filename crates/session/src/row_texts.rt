@@ -1,6 +1,6 @@
 //! The texts of stations, and of the ring.
 ghost use Rattle.std.specs.Prelude.{◌≡◌, ◌++◌, ◌<◌, IfOk, OnOk, string_bytes};
-ghost use Rattle.drive.specs.Texts.{holder_text, letter_text, ring_text, some_station, station_text, unit_text, word_text};
+ghost use Rattle.session.specs.Texts.{holder_text, letter_text, ring_text, some_station, station_text, unit_text, word_text};
 
 use crate::commands::Which;
 use crate::replies::{Ahead, Head, Row};

@@ -1,8 +1,8 @@
 //! All that the words of a station tell of its tenant.
 ghost use Rattle.std.specs.Prelude.{◌≡◌, ◌<◌, ◌≤◌};
 ghost use Rattle.back.specs.Backs.{IsSameBack};
-ghost use Rattle.drive.specs.Moments.{GrowsLegally};
-ghost use Rattle.drive.specs.Rows.{IsHead, IsHolder, IsOldestTold, IsRingTold, IsRowSeen, head_with, is_free};
+ghost use Rattle.session.specs.Moments.{GrowsLegally};
+ghost use Rattle.session.specs.Rows.{IsHead, IsHolder, IsOldestTold, IsRingTold, IsRowSeen, head_with, is_free};
 ghost use Rattle.station.specs.Seats.{IsSameSeat};
 
 use crate::accounts::operand;

@@ -1,17 +1,17 @@
 //! A whole script: each of its lines is answered before the next one is read.
 ghost use Rattle.std.specs.Prelude.{◌≡◌, ◌≢◌, ◌+◌, ◌-◌, ◌^◌, ◌<◌, ◌++◌, ◌&&◌, IfErr, IfNone, IfOk, IfSome, OnOk};
 ghost use Rattle.std.specs.Io.BufRead.{strip_last};
-ghost use Rattle.devices.specs.Counted.{failures_of, known_by};
-ghost use Rattle.drive.specs.Commands.{IsLine, is_command};
-ghost use Rattle.drive.specs.Words.{words_of};
-ghost use Rattle.drive.specs.Transcripts.{IsWrittenOfLine, echo_text};
-ghost use Rattle.drive.specs.Scripts.{HasBroken, HasDriven, HasTold, LineIsCut, LineIsTold, NothingWasLeft, failed_writes, line_of};
+ghost use Rattle.counted_io.specs.Counted.{failures_of, known_by};
+ghost use Rattle.session.specs.Commands.{IsLine, is_command};
+ghost use Rattle.session.specs.Words.{words_of};
+ghost use Rattle.session.specs.Transcripts.{IsWrittenOfLine, echo_text};
+ghost use Rattle.session.specs.Scripts.{HasBroken, HasDriven, HasTold, LineIsCut, LineIsTold, NothingWasLeft, failed_writes, line_of};
 
 use crate::commands::{Line, ends_script, is_command, line_in};
 use crate::lines::told;
 use crate::session::Session;
 use back::Naming;
-use devices::{Counted, WriteFailed, write_whole};
+use counted_io::{Counted, WriteFailed, write_whole};
 use instructions::Predictor;
 use std::alloc::{AllocError, Global};
 use std::io::{BufRead, ErrorKind, Write};
@@ -30,7 +30,7 @@ pub enum Fault {
 
 impl From<AllocError> for Fault {
     ghost use Rattle.std.specs.Prelude.{◌≡◌};
-    ghost use Rattle.drive.specs.declared.script.Fault.TheVariants.{Memory};
+    ghost use Rattle.session.specs.declared.script.Fault.TheVariants.{Memory};
 
     ghost from_gives = { λ _ fault. fault ≡ Memory };
 
@@ -41,7 +41,7 @@ impl From<AllocError> for Fault {
 
 impl From<WriteFailed> for Fault {
     ghost use Rattle.std.specs.Prelude.{◌≡◌};
-    ghost use Rattle.drive.specs.declared.script.Fault.TheVariants.{Write};
+    ghost use Rattle.session.specs.declared.script.Fault.TheVariants.{Write};
 
     ghost from_gives = { λ _ fault. fault ≡ Write };
 

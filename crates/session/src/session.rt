@@ -39,7 +39,7 @@ pub struct Session<'a, P: Predictor + Drop, J: Naming> {
 
 impl<'a, P: Predictor + Drop, J: Naming> Model for Session<'a, P, J> {
     ghost use Rattle.std.specs.Prelude.{vec_len};
-    ghost use Rattle.drive.specs.Sessions.{IsOneCore, TheSession};
+    ghost use Rattle.session.specs.Sessions.{IsOneCore, TheSession};
 
     ghost Value = { TheSession };
 
@@ -62,11 +62,11 @@ impl<'a, P: Predictor + Drop, J: Naming> Model for Session<'a, P, J> {
 
 impl<'a, P: Predictor + Drop, J: Naming> Session<'a, P, J> {
     ghost use Rattle.std.specs.Prelude.{◌≡◌, ◌≤◌, IfOk};
-    ghost use Rattle.drive.specs.Moments.{GrowsLegally};
+    ghost use Rattle.session.specs.Moments.{GrowsLegally};
     ghost use Rattle.back.specs.Backs.{back_state};
     ghost use Rattle.back.specs.Ends.{EndIsInOrder, ending_of};
     ghost use Rattle.inorder.specs.Runs.{state_in};
-    ghost use Rattle.drive.specs.Sessions.{Answers, IsStartOfSession, after_command};
+    ghost use Rattle.session.specs.Sessions.{Answers, IsStartOfSession, after_command};
 
     /// A session at the start of a program. No unit is made yet.
     pub fn new(

@@ -1,7 +1,7 @@
 //! Tables: all stations, and who creates which register.
 ghost use Rattle.std.specs.Prelude.{◌≡◌, ◌++◌, IfOk, OnOk, [], string_bytes};
 ghost use Rattle.instructions.specs.Registers.{register_count};
-ghost use Rattle.drive.specs.Tables.{AreRows, HasRow, IsTable, asked_text, has_row, of_registers, of_stations};
+ghost use Rattle.session.specs.Tables.{AreRows, HasRow, IsTable, asked_text, has_row, of_registers, of_stations};
 
 use crate::commands::Command;
 use crate::replies::Reply;

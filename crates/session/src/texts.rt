@@ -1,6 +1,6 @@
 //! The texts of answers.
 ghost use Rattle.std.specs.Prelude.{◌≡◌, ◌++◌, IfOk, OnOk, string_bytes};
-ghost use Rattle.drive.specs.Texts.{claimed_text, half_text, held_text, look_text, made_text, place_text, recovery_text, refusal_text, refused_line, reply_line, reply_text, snap_text, source_text, state_text, front_turn_text, values_text};
+ghost use Rattle.session.specs.Texts.{claimed_text, half_text, held_text, look_text, made_text, place_text, recovery_text, refusal_text, refused_line, reply_line, reply_text, snap_text, source_text, state_text, front_turn_text, values_text};
 
 use crate::commit_texts::commit_text;
 use crate::finish_texts::{finish_text, refresh_text};

@@ -1,10 +1,10 @@
 //! The units of a session, and the jobs that they hold.
 ghost use Rattle.std.specs.Prelude.{◌≡◌, ◌<◌, IfOk, None, Some, slice_set, vec_len};
 ghost use Rattle.station.specs.Seats.{IsSameSeat};
-ghost use Rattle.drive.specs.Held.{claim_of, held_job};
-ghost use Rattle.drive.specs.Moments.{GrowsLegally};
-ghost use Rattle.drive.specs.Workers.{AreAtWork, AreWorkers, HasClaimed, HasNone, IsAtWork, IsWorker, UnitHasFinished, job_at, job_from, station_held, worker_at};
-ghost use Rattle.drive.specs.declared.units.Worker.{Worker};
+ghost use Rattle.session.specs.Held.{claim_of, held_job};
+ghost use Rattle.session.specs.Moments.{GrowsLegally};
+ghost use Rattle.session.specs.Workers.{AreAtWork, AreWorkers, HasClaimed, HasNone, IsAtWork, IsWorker, UnitHasFinished, job_at, job_from, station_held, worker_at};
+ghost use Rattle.session.specs.declared.units.Worker.{Worker};
 
 use crate::calls;
 use crate::names::UNITS;

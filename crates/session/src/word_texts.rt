@@ -1,6 +1,6 @@
 //! The texts of what is read of words, and of a rest.
 ghost use Rattle.std.specs.Prelude.{◌≡◌, ◌++◌, IfOk, OnOk, string_bytes};
-ghost use Rattle.drive.specs.Texts.{info_text, info_words, link_text, operand_state_text, operand_text, reads, rest_text, seen_operand_text, tenant_text, told_operand_text, which_number};
+ghost use Rattle.session.specs.Texts.{info_text, info_words, link_text, operand_state_text, operand_text, reads, rest_text, seen_operand_text, tenant_text, told_operand_text, which_number};
 
 use crate::commands::Which;
 use crate::instruction_texts::{indexed, push_from, push_instr};

@@ -1,8 +1,8 @@
 //! The words of a line.
 ghost use Rattle.std.specs.Prelude.{◌≡◌};
-ghost use Rattle.drive.specs.Words.{behind_word, first_word, texts_of, words_of};
+ghost use Rattle.session.specs.Words.{behind_word, first_word, texts_of, words_of};
 
-use text::{before_comment, cut_word, trim};
+use lexical::{before_comment, cut_word, trim};
 
 /// The words of a line up to a `#`, between blanks. One that is not there is empty.
 #[derive(Clone, Copy)]

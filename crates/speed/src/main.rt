@@ -4,10 +4,11 @@
 //! have to be the same. Standard output stays empty; the count and the times in microseconds go to standard error.
 #![tactic(auto)]
 
-use devices::{Counted, read_up_to};
+use counted_io::{Counted, read_up_to};
 use inorder::Machine;
 use instructions::{Bimod, Config, End, Program};
 use isa::{parse, report_text};
+use one_thread::Bench;
 use pool::{Gate, Open, Run, Tally, run};
 use snapshots::Snap;
 use std::alloc::Global;
@@ -17,7 +18,6 @@ use std::process::ExitCode;
 use std::sync::Wait;
 use std::thread::Threads;
 use std::time::{Clock, Instant};
-use unit::Bench;
 
 const MOST: usize = 4_194_305;
 

@@ -1,8 +1,8 @@
 //! Words of an assembler, and the instructions that they say.
 use crate::making::reg;
 use crate::same::{same, same_in};
+use encoding::{Decoded, decode, encode};
 use instructions::Op;
-use machine_words::{Decoded, decode, encode};
 
 // the registers that it writes and reads, and its number
 fn decoded(op: Op, target: u8, first: u8, second: u8, number: u32) -> Decoded {

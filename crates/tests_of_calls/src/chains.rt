@@ -1,5 +1,5 @@
 //! The example for callers from outside, run.
-use driving::{first_outcome, is_chain, second_outcome};
+use client::{first_outcome, is_chain, second_outcome};
 use instructions::{Config, Outcome, Stop};
 use isa::parse;
 use std::test::Fail;

@@ -1,6 +1,6 @@
 //! Devices that fail in the middle.
 use crate::same::same;
-use devices::{Counted, InputFault, WriteFailed, read_up_to, write_whole};
+use counted_io::{Counted, InputFault, WriteFailed, read_up_to, write_whole};
 use std::io::{self, ErrorKind, Read, Write};
 
 /// Gives so many bytes, one a call, and then fails.

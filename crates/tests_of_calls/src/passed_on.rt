@@ -1,6 +1,6 @@
 //! Calls of a writer that is counted, each passed on once.
 use crate::same::same;
-use devices::Counted;
+use counted_io::Counted;
 use std::io::{self, ErrorKind, Write};
 
 /// Counts its calls, and fails each second one of a kind.

@@ -4,11 +4,11 @@ ghost use Rattle.std.specs.Prelude.{⊤};
 use crate::same::same_in;
 use instructions::{Bimod, Config, Instr, Predictor, Program};
 use isa::parse;
+use one_thread::{Bench, Turn};
 use std::alloc::Global;
 use std::cell::Cell;
 use std::process::Abort;
 use std::test::Fail;
-use unit::{Bench, Turn};
 
 /// Answers as another predictor, and keeps a number of all calls in their order.
 #[derive(Drop)]

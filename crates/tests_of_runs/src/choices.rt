@@ -5,10 +5,10 @@ use crate::same::same_in;
 use inorder::{Ended, Machine};
 use instructions::{Bimod, Config, Ending, NotTaken, Predictor, Program};
 use isa::parse;
+use one_thread::{Bench, Chooser, Seeded, Stage, Turn};
 use std::alloc::Global;
 use std::process::Abort;
 use std::test::Fail;
-use unit::{Bench, Chooser, Seeded, Stage, Turn};
 
 /// A loop with products, loads behind stores, a call, and branches that depend on loads.
 const LOOP: &[u8] =

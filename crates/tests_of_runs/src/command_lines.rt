@@ -1,5 +1,5 @@
 //! Command lines, and the predictors that they ask for.
-use requests::*;
+use command_line::*;
 use std::alloc::Global;
 
 mod answers;

@@ -4,7 +4,7 @@ mod few_turns;
 mod handed_on;
 
 use command::{Went, asked, go};
-use devices::Counted;
+use counted_io::Counted;
 use pool::Open;
 use std::alloc::Global;
 use std::convert::AsStr;

@@ -2,10 +2,10 @@
 use crate::same::{same, same_in};
 use instructions::{Config, Ending, NotTaken, Predictor, Program, Stop};
 use isa::parse;
+use one_thread::{Bench, Turn};
 use std::alloc::Global;
 use std::process::Abort;
 use std::test::Fail;
-use unit::{Bench, Turn};
 
 fn config(ring: u64, queue: u64) -> Result<Config, Fail> {
     Ok(Config::new(ring, queue, 1, 1, 1, 1_000_000, 1_000_000)?)

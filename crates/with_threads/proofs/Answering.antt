@@ -1,11 +1,11 @@
 -- A listing that is read, answered, and the answer written: how its devices are left.
 use Rattle.std.proofs.Common.{◌≡◌, ◌∙◌, ℕ, List, take, subst, Option, Some, None, IfSome}
-use Rattle.devices.proofs.Replied.{text_as}
-use Rattle.devices.specs.Counted.{failures_of, known_by, Takes}
-use Rattle.devices.specs.Replies.{HasRead, HasTextFor}
-use Rattle.devices.specs.declared.counted.Counted.{Counted}
+use Rattle.counted_io.proofs.Replied.{text_as}
+use Rattle.counted_io.specs.Counted.{failures_of, known_by, Takes}
+use Rattle.counted_io.specs.Replies.{HasRead, HasTextFor}
+use Rattle.counted_io.specs.declared.counted.Counted.{Counted}
 use Rattle.bench.specs.Answer.{most_taken}
-use Rattle.requests.specs.declared.request.Asked.{Asked}
+use Rattle.command_line.specs.declared.request.Asked.{Asked}
 use Rattle.without_threads.specs.declared.went.Went.{Went}
 use Rattle.without_threads.specs.Answers.{IsAnswerTo, IsSomeAnswerTo, answer_of_all}
 

@@ -7,11 +7,11 @@ use Rattle.instructions.specs.Programs.{Program}
 use Rattle.instructions.specs.Settings.{Settings}
 use Rattle.inorder.specs.Machine.{State}
 use Rattle.inorder.specs.Runs.{end_of}
-use Rattle.devices.specs.Counted.{known_by}
-use Rattle.devices.specs.Replies.{HasText, HasTextFor}
-use Rattle.devices.specs.declared.counted.Counted.{Counted}
+use Rattle.counted_io.specs.Counted.{known_by}
+use Rattle.counted_io.specs.Replies.{HasText, HasTextFor}
+use Rattle.counted_io.specs.declared.counted.Counted.{Counted}
 use Rattle.bench.specs.Answer.{ending_status, report_of_run, status_for, status_of, text_for, text_of}
-use Rattle.requests.specs.declared.request.Asked.{Asked}
+use Rattle.command_line.specs.declared.request.Asked.{Asked}
 use Rattle.without_threads.specs.declared.went.Line.{Line}
 use Rattle.without_threads.specs.declared.went.Went.{Went}
 use Rattle.without_threads.specs.Answers.{AsAlone, Early, IsAnswerFor, IsAnswerTo, IsAsAlone, EndedEarly, IsRunEnd, IsLineWith}

@@ -11,15 +11,15 @@ use Rattle.instructions.specs.Settings.{Settings}
 use Rattle.inorder.specs.Runs.{state_in}
 use Rattle.bench.specs.Answer.{ending_status, most_taken}
 use Rattle.bench.specs.declared.outcome.Status.{Status}
-use Rattle.devices.specs.Replies.{HasNoReply}
-use Rattle.devices.specs.declared.counted.Counted.{Counted}
+use Rattle.counted_io.specs.Replies.{HasNoReply}
+use Rattle.counted_io.specs.declared.counted.Counted.{Counted}
 use Rattle.run_ends.specs.declared.answer.Refusal.{Refusal as RunRefusal}
 use Rattle.run_ends.specs.declared.answer.Refusal.TheVariants as refusal
 use Rattle.run_ends.specs.declared.answer.Run.{Run}
 use Rattle.run_ends.specs.declared.answer.Run.TheVariants as run
 use Rattle.counts.specs.declared.tally.Tally.{Tally as Totals}
 use Rattle.run_ends.specs.Runs.{IsAfter, RunIsRight, IsWithinLimit, TakesTurns}
-use Rattle.requests.specs.declared.request.Asked.{Asked}
+use Rattle.command_line.specs.declared.request.Asked.{Asked}
 use Rattle.without_threads.specs.declared.went.Line.TheVariants.{Tally}
 use Rattle.without_threads.specs.declared.went.Went.{Went}
 use Rattle.without_threads.specs.Answers.{AsAlone, Early, IsAnswerFor, IsRunEnd, IsEndOfThreads, IsLineWith, IsReport}

@@ -11,7 +11,7 @@ use Rattle.run_ends.specs.declared.answer.Refusal.TheVariants as refusal
 use Rattle.run_ends.specs.declared.answer.Run.{Run}
 use Rattle.run_ends.specs.declared.answer.Run.TheVariants as run
 use Rattle.run_ends.specs.Runs.{IsWithinLimit, RunIsRight, TakesTurns}
-use Rattle.requests.specs.declared.chosen.Chosen.{Chosen}
+use Rattle.command_line.specs.declared.chosen.Chosen.{Chosen}
 use Rattle.without_threads.specs.declared.went.Refusal.{Refusal}
 use Rattle.without_threads.specs.declared.went.Refusal.TheVariants.{Memory, Thread}
 

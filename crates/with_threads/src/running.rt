@@ -1,7 +1,7 @@
 //! The run that a command line asks for, by what runs a program.
 ghost use Rattle.std.specs.Prelude.{◌≡◌, ◌-◌, ◌^◌, ◌<◌, IfSome, IfOk, IfErr, None, true};
-ghost use Rattle.devices.specs.Counted.{failures_of, Gives};
-ghost use Rattle.devices.specs.Replies.{HasReplied};
+ghost use Rattle.counted_io.specs.Counted.{failures_of, Gives};
+ghost use Rattle.counted_io.specs.Replies.{HasReplied};
 ghost use Rattle.bench.specs.Answer.{most_taken};
 ghost use Rattle.without_threads.specs.Answers.{IsAnswerTo, IsAsAlone, IsSomeAnswerTo};
 ghost use Rattle.without_threads.specs.Replies.{HasWritten, IfRefused, IsLeftBy, IsUnansweredBy};
@@ -9,9 +9,9 @@ ghost use Rattle.without_threads.specs.Went.{HoldsOfInput, IsOfOneThread, IsWhol
 ghost use Rattle.with_threads.specs.Threads.{RunsAs};
 
 use crate::threads;
-use devices::Counted;
+use command_line::{Asked, Chosen};
+use counted_io::Counted;
 use instructions::Program;
-use requests::{Asked, Chosen};
 use run_ends::Run;
 use std::alloc::Global;
 use std::io::{Read, Write};

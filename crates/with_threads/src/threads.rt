@@ -1,19 +1,19 @@
 //! A run on several threads.
 ghost use Rattle.std.specs.Prelude.{◌≡◌, ◌-◌, ◌^◌, ◌<◌, IfOk, IfErr, Some, false, string_bytes};
-ghost use Rattle.devices.specs.Counted.{failures_of};
-ghost use Rattle.devices.specs.Replies.{HasReplied};
+ghost use Rattle.counted_io.specs.Counted.{failures_of};
+ghost use Rattle.counted_io.specs.Replies.{HasReplied};
 ghost use Rattle.bench.specs.Answer.{most_taken};
 ghost use Rattle.without_threads.specs.Answers.{IsAnswerTo, IsSomeAnswerTo};
 ghost use Rattle.without_threads.specs.Replies.{IsUnansweredBy};
 ghost use Rattle.without_threads.specs.Went.{WasWritten};
 ghost use Rattle.with_threads.specs.Threads.{IsRunOf, RunsAs, ended_of, run_refusal};
-ghost use Rattle.requests.specs.Predictors.{IsChosen};
+ghost use Rattle.command_line.specs.Predictors.{IsChosen};
 
 use bench::{MOST_TAKEN, Status};
-use devices::{Counted, InputFault, read_up_to, write_whole};
+use command_line::{Asked, Chosen, choose};
+use counted_io::{Counted, InputFault, read_up_to, write_whole};
 use instructions::{End, Memory, Program};
 use isa::{FaultKind, fault_text, parse, report_text};
-use requests::{Asked, Chosen, choose};
 use run_ends::{Run, Tally};
 use std::alloc::{AllocError, Global};
 use std::io::{Read, Write};

@@ -4,15 +4,15 @@ use Rattle.isa.specs.declared.listing.fault.FaultKind.{FaultKind}
 use Rattle.isa.specs.Listing.{listing}
 use Rattle.instructions.specs.Programs.{Program}
 use Rattle.inorder.specs.Runs.{end_of}
-use Rattle.devices.proofs.Replied.{begun_as}
-use Rattle.devices.specs.Replies.{HasReplyBegun, IsUnanswered}
-use Rattle.devices.specs.declared.counted.Counted.{Counted}
+use Rattle.counted_io.proofs.Replied.{begun_as}
+use Rattle.counted_io.specs.Replies.{HasReplyBegun, IsUnanswered}
+use Rattle.counted_io.specs.declared.counted.Counted.{Counted}
 use Rattle.bench.specs.Answer.{IsAnswerAlone, most_taken, status_for, status_of, text_for, text_of}
 use Rattle.bench.specs.Faults.{HasAnAnswer, unanswered}
 use Rattle.bench.specs.declared.outcome.Fault.{Fault}
 use Rattle.bench.specs.declared.outcome.Fault.TheVariants.{Write as Unwritten}
 use Rattle.bench.specs.declared.outcome.Status.{Status}
-use Rattle.requests.specs.declared.request.Asked.{Asked}
+use Rattle.command_line.specs.declared.request.Asked.{Asked}
 use Rattle.without_threads.specs.declared.went.Line.TheVariants.{Nothing}
 use Rattle.without_threads.specs.Answers.{IsAnswerFor, IsAnswerTo, IsRunEnd, IsLineWith, IsSomeAnswerTo}
 use Rattle.without_threads.specs.Went.{written_whole}

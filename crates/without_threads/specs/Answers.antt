@@ -13,7 +13,7 @@ use Rattle.inorder.specs.Runs.{after, end_of}
 use Rattle.bench.specs.Answer.{ending_status, most_taken, report_of_run, status_of, text_of}
 use Rattle.bench.specs.Enough.{listing_taken}
 use Rattle.bench.specs.declared.outcome.Status.TheVariants.{TextFault}
-use Rattle.requests.specs.declared.request.Asked.{Asked}
+use Rattle.command_line.specs.declared.request.Asked.{Asked}
 use Rattle.without_threads.specs.declared.went.Line.{Line}
 use Rattle.without_threads.specs.declared.went.Line.TheVariants.{Nothing, Tally, Refused}
 use Rattle.without_threads.specs.declared.went.Went.{Went}

@@ -1,8 +1,8 @@
 -- How a reader and a writer are left where a listing was answered, or an answer was refused.
 use Rattle.std.specs.Prelude.{◌≡◌, ◌+◌, ⊤, ℕ, None, Option, List}
-use Rattle.devices.specs.Counted.{failures_of, Gives, GivesPart}
-use Rattle.devices.specs.Replies.{HasNoReply, HasReplyBegun, HasText}
-use Rattle.devices.specs.declared.counted.Counted.{Counted}
+use Rattle.counted_io.specs.Counted.{failures_of, Gives, GivesPart}
+use Rattle.counted_io.specs.Replies.{HasNoReply, HasReplyBegun, HasText}
+use Rattle.counted_io.specs.declared.counted.Counted.{Counted}
 use Rattle.bench.specs.Answer.{most_taken}
 use Rattle.without_threads.specs.Went.{HoldsOfInput}
 use Rattle.without_threads.specs.declared.went.Line.{Line}

@@ -1,9 +1,9 @@
 -- How a run went.
 use Rattle.std.specs.Prelude.{◌≡◌, ◌≢◌, ℕ, ⊤, Result, Ok, Err, List, [], ◌++◌, codes, decimal, Option, IfSome}
-use Rattle.devices.specs.Counted.{known_by}
-use Rattle.devices.specs.declared.counted.Counted.{Counted}
-use Rattle.devices.specs.declared.input.InputFault.{InputFault}
-use Rattle.devices.specs.declared.input.InputFault.TheVariants as input
+use Rattle.counted_io.specs.Counted.{known_by}
+use Rattle.counted_io.specs.declared.counted.Counted.{Counted}
+use Rattle.counted_io.specs.declared.input.InputFault.{InputFault}
+use Rattle.counted_io.specs.declared.input.InputFault.TheVariants as input
 use Rattle.bench.specs.declared.outcome.Status.{Status}
 use Rattle.bench.specs.declared.outcome.Status.TheVariants as end
 use Rattle.counts.specs.declared.tally.Tally.{Tally as Totals}

@@ -2,14 +2,14 @@
 #![tactic(auto)]
 
 mod ending;
-mod one_thread;
 mod progress;
+mod single_thread;
 mod statuses;
 mod totals;
 mod went;
 
 pub use ending::end;
-pub use one_thread::run;
 pub use progress::Progress;
+pub use single_thread::run;
 pub use statuses::{refused, written};
 pub use went::{Line, Refusal, Went};

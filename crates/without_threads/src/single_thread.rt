@@ -1,11 +1,11 @@
 //! A run of the one-thread unit.
 ghost use Rattle.std.specs.Prelude.{◌≡◌, ◌-◌, ◌^◌, ◌<◌, IfOk, IfErr, true};
-ghost use Rattle.devices.specs.Counted.{failures_of};
-ghost use Rattle.devices.specs.Replies.{HasReplied, IsUnanswered};
+ghost use Rattle.counted_io.specs.Counted.{failures_of};
+ghost use Rattle.counted_io.specs.Replies.{HasReplied, IsUnanswered};
 ghost use Rattle.bench.specs.Answer.{IsAnswerAlone, most_taken};
 ghost use Rattle.bench.specs.Faults.{HasAnAnswer, unanswered};
-ghost use Rattle.requests.specs.Predictors.{IsChosen};
-ghost use Rattle.unit.specs.Seeds.{order_by};
+ghost use Rattle.command_line.specs.Predictors.{IsChosen};
+ghost use Rattle.one_thread.specs.Seeds.{order_by};
 ghost use Rattle.without_threads.specs.Answers.{IsAnswerTo, IsSomeAnswerTo};
 ghost use Rattle.without_threads.specs.Replies.{IsUnansweredBy};
 ghost use Rattle.without_threads.specs.Went.{IsOfOneThread};
@@ -13,11 +13,11 @@ ghost use Rattle.without_threads.specs.declared.went.Line.TheVariants.{Nothing, 
 
 use crate::{Line, Refusal, Went, written};
 use bench::{Fault, Status, alone_in};
-use devices::Counted;
-use requests::{Asked, Chosen, choose};
+use command_line::{Asked, Chosen, choose};
+use counted_io::Counted;
+use one_thread::{Order, Seeded};
 use std::alloc::Global;
 use std::io::{Read, Write};
-use unit::{Order, Seeded};
 
 /// Reads the listing, runs it on the one-thread unit, in the order of the seed where one is asked for, and writes its
 /// report.

@@ -4,8 +4,8 @@ ghost use Rattle.without_threads.specs.Went.{input_refusal, line_text, refusal_l
 ghost use Rattle.without_threads.specs.declared.went.Refusal.TheVariants.{Memory, Write};
 
 use crate::totals::Totals;
+use counted_io::{InputFault, WriteFailed};
 use counts::Tally;
-use devices::{InputFault, WriteFailed};
 use std::alloc::AllocError;
 use std::fmt;
 

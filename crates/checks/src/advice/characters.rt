@@ -1,8 +1,8 @@
 //! Characters that look like others.
 
 use super::{joined, nothing};
+use lexical::is_plain_text;
 use std::alloc::{AllocError, Global};
-use text::is_plain_text;
 
 /// A character that is often copied from elsewhere: its bytes, its name, and what is written in its place.
 struct Character {

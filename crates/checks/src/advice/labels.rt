@@ -6,8 +6,8 @@ use super::super::statements::Statement;
 use super::templates::short;
 use super::words::is_one_away;
 use super::{joined, nothing};
+use lexical::{before_comment, next_label, next_line};
 use std::alloc::{AllocError, Global};
-use text::{before_comment, next_label, next_line};
 
 // A label, and its line, counted from 1.
 #[derive(Clone, Copy)]

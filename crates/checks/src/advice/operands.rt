@@ -7,8 +7,8 @@ use super::templates::{filled, row_of, short, written};
 use super::words::loading;
 use super::{joined, nothing};
 use isa::{Form, Operands, forms};
+use lexical::{begins_number, first_is, is_name, number_in, parenthesized};
 use std::alloc::{AllocError, Global};
-use text::{begins_number, first_is, is_name, number_in, parenthesized};
 
 // Two words between which a blank stands, but no comma.
 fn has_two_words(operand: &[u8]) -> bool {

@@ -6,8 +6,8 @@ use super::operands::{less, with_number};
 use super::templates::{filled, row_of, written};
 use super::{joined, nothing};
 use isa::{directive_text, forms};
+use lexical::{cut, cut_word, is_name, number_in, trim};
 use std::alloc::{AllocError, Global};
-use text::{cut, cut_word, is_name, number_in, trim};
 
 // How many bytes two texts have in common at their front, in letters of either case.
 fn common(one: &[u8], other: &[u8]) -> usize {

@@ -4,7 +4,7 @@ ghost use Rattle.checks.specs.Parts.{IsPartOf, LiesIn};
 
 use super::super::parts::{Part, trimmed};
 use super::operands::{end_of_first, has_offset, last_operand, offset_in};
-use text::number_in;
+use lexical::number_in;
 
 // The first operand of `.word` that is no number in its range.
 fn bad_data(line: &[u8], operands: Part) -> Part

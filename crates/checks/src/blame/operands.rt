@@ -4,7 +4,7 @@ ghost use Rattle.checks.specs.Parts.{IsPartOf, LiesIn};
 
 use super::super::parts::{Part, find, is_blank, trimmed};
 use isa::{Form, Operands, Slot, directive_text, form_of, forms};
-use text::{begins_number, first_is, is_name};
+use lexical::{begins_number, first_is, is_name};
 
 /// Where the first operand of some ends: at its comma, or at their end.
 pub(crate) fn end_of_first(line: &[u8], operands: Part) -> usize

@@ -1,14 +1,14 @@
 //! The operands of a listing, among which one is found by its bytes.
 ghost use Rattle.std.specs.Prelude.{◌≡◌, ◌||◌, ℕ, List, IfOk, OnOk};
 ghost use Rattle.std.specs.Str.{bytes_eq};
-ghost use Rattle.text.specs.Line.{lines_of};
+ghost use Rattle.lexical.specs.Line.{lines_of};
 ghost use Rattle.isa.specs.Listing.{stands_in};
 ghost use Rattle.checks.specs.Warnings.{AreOperandsOf, has_key, operands_in};
 
 use super::super::lines::statement;
+use lexical::{before_comment, cut_word, next_line, next_operand, operand_part};
 use std::alloc::{AllocError, Global};
 use std::collections::BTreeMap;
-use text::{before_comment, cut_word, next_line, next_operand, operand_part};
 
 /// Operands, in the order of their bytes.
 pub(crate) type Operands<'a> = BTreeMap<&'a [u8], u8>;

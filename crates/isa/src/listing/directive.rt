@@ -1,7 +1,7 @@
 //! The directives, which add bytes to data memory.
 ghost use Rattle.std.specs.Prelude.{◌≡◌, ◌≢◌, ◌≤◌, ◌%◌, Err, length, replicate, OnOk, IfOk, IfErr};
 ghost use Rattle.std.specs.Option.{option_map};
-ghost use Rattle.text.specs.Operand.{operands_left};
+ghost use Rattle.lexical.specs.Operand.{operands_left};
 ghost use Rattle.isa.specs.Reading.{Reads};
 ghost use Rattle.isa.specs.Statement.{space, words, data_words, directive_text};
 ghost use Rattle.isa.specs.Held.{IsAppended};
@@ -9,7 +9,7 @@ ghost use Rattle.isa.specs.Held.{IsAppended};
 use super::fault::FaultKind;
 use super::form::same_word;
 use super::operand::number;
-use text::{count_operands, next_operand, only_operand};
+use lexical::{count_operands, next_operand, only_operand};
 
 /// How many zero bytes `.space` adds: a multiple of 4, at most 65,536.
 #[tactic(auto, unfolding(crate::specs::Statement::space))]

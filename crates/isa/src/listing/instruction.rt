@@ -1,7 +1,7 @@
 //! An instruction: an operation and its operands.
 ghost use Rattle.std.specs.Prelude.{◌≡◌, None, Ok, Err, OnOk, IfErr};
 ghost use Rattle.std.specs.Option.{option_map};
-ghost use Rattle.text.specs.Operand.{operands_left};
+ghost use Rattle.lexical.specs.Operand.{operands_left};
 ghost use Rattle.isa.specs.Statement.{draft_view, bare, fill, filled, instruction};
 
 use super::fault::FaultKind;
@@ -10,7 +10,7 @@ use super::operand::{label, number, offset_and_register, signed_half};
 use super::register::register;
 use super::slot::Slot;
 use instructions::{Instr, Op, Reg};
-use text::{count_operands, next_operand};
+use lexical::{count_operands, next_operand};
 
 /// An instruction whose label is not resolved yet.
 #[derive(Clone, Copy)]

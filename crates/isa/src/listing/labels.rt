@@ -1,11 +1,11 @@
 //! The labels of a line.
 ghost use Rattle.std.specs.Prelude.{◌≡◌, ◌++◌, map, IfOk, IfErr};
-ghost use Rattle.text.specs.Label.{labels_of, statement_of};
+ghost use Rattle.lexical.specs.Label.{labels_of, statement_of};
 ghost use Rattle.isa.specs.Late.{mark, marks};
 
 use super::fault::FaultKind;
 use super::table::Entry;
-use text::{next_label, trim};
+use lexical::{next_label, trim};
 
 /// Adds the labels at the front of a line, and gives its statement.
 pub fn add_labels<'a>(

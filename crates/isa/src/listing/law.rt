@@ -1,6 +1,6 @@
 //! Which fault of a listing is named.
 ghost use Rattle.std.specs.Prelude.{◌≡◌, ◌≢◌, ◌<◌, ◌≤◌, ℕ, List, Ok, Err, length};
-ghost use Rattle.text.specs.Line.{lines_of};
+ghost use Rattle.lexical.specs.Line.{lines_of};
 ghost use Rattle.instructions.specs.Programs.{Program};
 ghost use Rattle.isa.specs.declared.listing.fault.FaultKind.{FaultKind};
 ghost use Rattle.isa.specs.declared.listing.fault.FaultKind.TheVariants.{TooLong, UnknownLabel};

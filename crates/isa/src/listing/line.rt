@@ -1,7 +1,7 @@
 //! One line behind the lines before it.
 ghost use Rattle.std.specs.Prelude.{◌≡◌, ◌≢◌, ◌+◌, ◌≤◌, ◌%◌, ◌∷◌, ◌++◌, [], ◌<◌, None, Some, ℕ, List, length, map, OnOk, IfOk, IfErr, IfSome};
 ghost use Rattle.std.specs.Option.{option_map};
-ghost use Rattle.text.specs.Line.{plain_code};
+ghost use Rattle.lexical.specs.Line.{plain_code};
 ghost use Rattle.isa.specs.Listing.{Lines};
 ghost use Rattle.isa.specs.Late.{IsLateLine, mark, pairs};
 ghost use Rattle.isa.specs.Held.{IsRead, IsReadLine, IsFaultLine};
@@ -12,7 +12,7 @@ use super::labels::add_labels;
 use super::statement::statement;
 use super::table::Entry;
 use instructions::{Instr, Program};
-use text::{label_line, next_code};
+use lexical::{label_line, next_code};
 
 /// The target of an instruction, which is to be resolved: its label, if it has one, and the number of its line.
 #[derive(Clone, Copy)]

@@ -6,7 +6,7 @@ ghost use Rattle.isa.specs.Operands.{number, signed_half, label, offset, offset_
 use super::fault::FaultKind;
 use super::register::register;
 use instructions::Reg;
-use text::{begins_number, is_name, number_in, parenthesized};
+use lexical::{begins_number, is_name, number_in, parenthesized};
 
 /// A number modulo 2^32: at most `below` behind a minus, and at most `above` without one.
 #[tactic(auto, unfolding(crate::specs::Operands::number))]

@@ -7,7 +7,7 @@ ghost use Rattle.isa.specs.RegisterNames.{register_number, register};
 
 use super::fault::FaultKind;
 use instructions::Reg;
-use text::{decimal_in, first_is};
+use lexical::{decimal_in, first_is};
 
 static NAMES: [(&str, u8); 33] = [
     ("zero", 0),

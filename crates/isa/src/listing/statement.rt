@@ -1,7 +1,7 @@
 //! A statement: a word and its operands.
 ghost use Rattle.std.specs.Prelude.{◌≡◌, ◌≢◌, ◌≤◌, ◌%◌, ◌++◌, Err, length, replicate, OnOk, IfOk, IfErr};
 ghost use Rattle.std.specs.Option.{option_map};
-ghost use Rattle.text.specs.Operand.{operands_left};
+ghost use Rattle.lexical.specs.Operand.{operands_left};
 ghost use Rattle.isa.specs.Statement.{draft_view, code_if, with_operands, statement};
 ghost use Rattle.isa.specs.Held.{IsAdded};
 
@@ -9,7 +9,7 @@ use super::directive::{add_words, space};
 use super::fault::FaultKind;
 use super::form::same_word;
 use super::instruction::{Draft, instruction};
-use text::{cut_word, operand_part};
+use lexical::{cut_word, operand_part};
 
 /// Adds the bytes of `.space`.
 fn add_space(memory: &mut Vec<u8>, n: u32) -> Result<(), FaultKind>

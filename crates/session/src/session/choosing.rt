@@ -10,7 +10,7 @@ use std::alloc::{AllocError, Global};
 
 impl<'a, P: Predictor + Drop, J: Naming> Session<'a, P, J> {
     ghost use Rattle.std.specs.Prelude.{◌<◌, IfSome, OnOk};
-    ghost use Rattle.drive.specs.Plays.{HasLooked, MayHaveLooked};
+    ghost use Rattle.session.specs.Plays.{HasLooked, MayHaveLooked};
 
     // The first of the units that holds no job, if one does not.
     fn idle(&self) -> Option<usize>

@@ -1,6 +1,6 @@
 //! What a session reads, of words and of the create vector.
 ghost use Rattle.std.specs.Prelude.{◌≡◌};
-ghost use Rattle.drive.specs.Replies.{source_at};
+ghost use Rattle.session.specs.Replies.{source_at};
 
 use super::Session;
 use crate::commands::Which;
@@ -22,9 +22,9 @@ fn source(which: Which) -> Source
 
 impl<'a, P: Predictor + Drop, J: Naming> Session<'a, P, J> {
     ghost use Rattle.std.specs.Prelude.{◌≡◌};
-    ghost use Rattle.drive.specs.Moments.{GrowsLegally};
-    ghost use Rattle.drive.specs.Sessions.{Answers, after_command};
-    ghost use Rattle.drive.specs.declared.commands.Command.TheVariants.{Creator, Info, Link, Look, Operand, Ring, Station, Touched};
+    ghost use Rattle.session.specs.Moments.{GrowsLegally};
+    ghost use Rattle.session.specs.Sessions.{Answers, after_command};
+    ghost use Rattle.session.specs.declared.commands.Command.TheVariants.{Creator, Info, Link, Look, Operand, Ring, Station, Touched};
 
     pub(super) fn look(&mut self, station: u32) -> Reply
         ensures core { self.new.core ≡ self.old.core }

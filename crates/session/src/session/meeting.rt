@@ -1,6 +1,6 @@
 //! Two that meet in a session.
 ghost use Rattle.std.specs.Prelude.{◌≡◌, true, false};
-ghost use Rattle.drive.specs.Sessions.{IsNobody, IsSomebody};
+ghost use Rattle.session.specs.Sessions.{IsNobody, IsSomebody};
 
 use super::Session;
 use crate::meeting::tell_all;
@@ -22,9 +22,9 @@ fn is_nobody(party: Party) -> bool
 
 impl<'a, P: Predictor + Drop, J: Naming> Session<'a, P, J> {
     ghost use Rattle.std.specs.Prelude.{◌≡◌};
-    ghost use Rattle.drive.specs.Moments.{GrowsLegally};
-    ghost use Rattle.drive.specs.Sessions.{Answers, HasToldAll, IsSomebody, after_command};
-    ghost use Rattle.drive.specs.declared.commands.Command.TheVariants.{Meet};
+    ghost use Rattle.session.specs.Moments.{GrowsLegally};
+    ghost use Rattle.session.specs.Sessions.{Answers, HasToldAll, IsSomebody, after_command};
+    ghost use Rattle.session.specs.declared.commands.Command.TheVariants.{Meet};
 
     // One of them learns all that was seen, and tells what it has seen.
     fn tell(&mut self, party: Party)

@@ -11,12 +11,12 @@ use std::alloc::Global;
 
 impl<'a, P: Predictor + Drop, J: Naming> Session<'a, P, J> {
     ghost use Rattle.std.specs.Prelude.{◌≡◌, None, false, true, vec_len};
-    ghost use Rattle.drive.specs.Moments.{GrowsLegally};
-    ghost use Rattle.drive.specs.Renewals.{AreAt};
-    ghost use Rattle.drive.specs.Sessions.{Answers, after_command};
-    ghost use Rattle.drive.specs.Units.{unit_count};
-    ghost use Rattle.drive.specs.Workers.{AreWorkers};
-    ghost use Rattle.drive.specs.declared.commands.Command.TheVariants.{Renew};
+    ghost use Rattle.session.specs.Moments.{GrowsLegally};
+    ghost use Rattle.session.specs.Renewals.{AreAt};
+    ghost use Rattle.session.specs.Sessions.{Answers, after_command};
+    ghost use Rattle.session.specs.Units.{unit_count};
+    ghost use Rattle.session.specs.Workers.{AreWorkers};
+    ghost use Rattle.session.specs.declared.commands.Command.TheVariants.{Renew};
     ghost use Rattle.inorder.specs.History.{IsLegal};
 
     // The session with these parts, whose front has not rested.

@@ -8,9 +8,9 @@ use std::alloc::Global;
 
 impl<'a, P: Predictor + Drop, J: Naming> Session<'a, P, J> {
     ghost use Rattle.std.specs.Prelude.{◌≡◌};
-    ghost use Rattle.drive.specs.Moments.{GrowsLegally};
-    ghost use Rattle.drive.specs.Sessions.{Answers, after_command};
-    ghost use Rattle.drive.specs.declared.commands.Command.TheVariants.{Report};
+    ghost use Rattle.session.specs.Moments.{GrowsLegally};
+    ghost use Rattle.session.specs.Sessions.{Answers, after_command};
+    ghost use Rattle.session.specs.declared.commands.Command.TheVariants.{Report};
 
     pub(super) fn report(&mut self, alloc: Global) -> Reply
         ensures core { self.new.core ≡ self.old.core }

@@ -7,9 +7,9 @@ use instructions::Predictor;
 
 impl<'a, P: Predictor + Drop, J: Naming> Session<'a, P, J> {
     ghost use Rattle.std.specs.Prelude.{◌≡◌};
-    ghost use Rattle.drive.specs.Moments.{GrowsLegally};
-    ghost use Rattle.drive.specs.Sessions.{Answers, after_command};
-    ghost use Rattle.drive.specs.declared.commands.Command.TheVariants.{Rest};
+    ghost use Rattle.session.specs.Moments.{GrowsLegally};
+    ghost use Rattle.session.specs.Sessions.{Answers, after_command};
+    ghost use Rattle.session.specs.declared.commands.Command.TheVariants.{Rest};
 
     pub(super) fn rest(&mut self) -> Reply
         ensures core { self.new.core ≡ self.old.core }

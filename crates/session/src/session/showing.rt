@@ -8,9 +8,9 @@ use std::sync::Wait;
 
 impl<'a, P: Predictor + Drop, J: Naming> Session<'a, P, J> {
     ghost use Rattle.std.specs.Prelude.{◌≡◌};
-    ghost use Rattle.drive.specs.Moments.{GrowsLegally};
-    ghost use Rattle.drive.specs.Sessions.{Answers, after_command};
-    ghost use Rattle.drive.specs.declared.commands.Command.TheVariants.{Learn, Show, Take};
+    ghost use Rattle.session.specs.Moments.{GrowsLegally};
+    ghost use Rattle.session.specs.Sessions.{Answers, after_command};
+    ghost use Rattle.session.specs.declared.commands.Command.TheVariants.{Learn, Show, Take};
 
     pub(super) fn show<R: Wait>(&mut self, wait: &R) -> Reply
         ensures core { self.new.core ≡ self.old.core }

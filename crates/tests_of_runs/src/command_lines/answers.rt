@@ -1,6 +1,6 @@
 //! Command lines that are answered by a text, and those of checks.
 use super::refusal;
-use requests::*;
+use command_line::*;
 use std::alloc::Global;
 use std::process::Abort;
 

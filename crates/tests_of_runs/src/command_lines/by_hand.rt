@@ -1,6 +1,6 @@
 //! Command lines of units that are driven by hand.
 use crate::same::same;
-use requests::*;
+use command_line::*;
 use std::alloc::Global;
 use std::test::Fail;
 

@@ -1,6 +1,6 @@
 //! Mistakes of command lines: each ends with the help of its command, and with status 3.
 use super::refusal;
-use requests::*;
+use command_line::*;
 
 fn is_told(no_run: &NoRun, begin: &str, end: &str) -> bool {
     match no_run {

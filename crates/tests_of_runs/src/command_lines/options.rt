@@ -1,6 +1,6 @@
 //! Command lines of runs: each option, its default, and its limits.
 use crate::same::{same, same_in};
-use requests::*;
+use command_line::*;
 use std::alloc::{AllocError, Global};
 use std::test::Fail;
 

@@ -1,7 +1,7 @@
 //! The predictor of each name.
 use crate::same::same;
+use command_line::{BranchPredictor, choose};
 use instructions::{Instr, Op, Predictor, Reg};
-use requests::{BranchPredictor, choose};
 
 /// A branch at this pc, and where it goes if it is taken.
 const PC: u32 = 0x0040_0010;

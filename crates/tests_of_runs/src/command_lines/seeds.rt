@@ -1,6 +1,6 @@
 //! Seeds, charts and logs, and the words that ask for them.
 use crate::same::{same, same_in};
-use requests::*;
+use command_line::*;
 
 const MOST: u64 = 18_446_744_073_709_551_615;
 

@@ -2,7 +2,7 @@
 use crate::failing::{FailingReader, FailingWriter, LISTING, REPORT};
 use crate::same::{same, same_in};
 use command::{Line, Refusal, Went, asked, go};
-use devices::Counted;
+use counted_io::Counted;
 use pool::Open;
 use std::test::Fail;
 

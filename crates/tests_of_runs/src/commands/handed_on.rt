@@ -1,7 +1,7 @@
 //! Runs have the ring, queue, units, turns, predictor and gate that the command line and the caller name.
 use crate::same::{same, same_in};
 use command::{Line, Went, asked, go};
-use devices::Counted;
+use counted_io::Counted;
 use pool::{Gate, Tally};
 use snapshots::Snap;
 use std::alloc::Global;

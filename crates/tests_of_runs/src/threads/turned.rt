@@ -1,6 +1,6 @@
 //! Runs by a command line have all of the turns that it names.
 use command::{asked, go};
-use devices::Counted;
+use counted_io::Counted;
 use pool::{Gate, Tally};
 use snapshots::Snap;
 use std::process::Abort;

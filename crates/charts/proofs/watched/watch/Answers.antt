@@ -1,5 +1,5 @@
 use Rattle.std.proofs.Common.{◌∙◌, arith, refl, subst}
-use Rattle.devices.specs.Counted.{known_by}
+use Rattle.counted_io.specs.Counted.{known_by}
 use Rattle.inorder.specs.Runs.{end_state}
 use Rattle.charts.specs.Rows.{kept}
 use Rattle.charts.specs.Watched.{IsTold, guides, sizes_by}

@@ -1,6 +1,6 @@
 use Rattle.std.proofs.Common.{◌<◌, ◌≤◌, ◌∙◌, ap, arith}
-use Rattle.unit.proofs.OrderedTurns.{moves_in}
-use Rattle.unit.proofs.Ends.{left_falls}
+use Rattle.one_thread.proofs.OrderedTurns.{moves_in}
+use Rattle.one_thread.proofs.Ends.{left_falls}
 use Rattle.charts.specs.Rows.{kept}
 use Rattle.charts.proofs.Turns.{goes_next, goes_on, is_over, stood_part, through_limit, through_next}
 use Rattle.charts.proofs.WholeRuns.{on_err}

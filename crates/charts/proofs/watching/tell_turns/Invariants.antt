@@ -1,9 +1,9 @@
 use Rattle.std.proofs.Common.{◌≡◌, ℕ, List, Option}
-use Rattle.devices.specs.Counted.{failures_of, known_by}
+use Rattle.counted_io.specs.Counted.{failures_of, known_by}
 use Rattle.instructions.specs.Programs.{Program}
 use Rattle.inorder.specs.Unit.{Sizes}
-use Rattle.unit.specs.Changes.{run_from}
-use Rattle.unit.proofs.Ends.{left}
+use Rattle.one_thread.specs.Changes.{run_from}
+use Rattle.one_thread.proofs.Ends.{left}
 use Rattle.charts.specs.Rows.{kept}
 use Rattle.charts.specs.Watched.{GoesOn, Guides}
 use Rattle.charts.proofs.watching.tell_turns.Given as goal

@@ -1,7 +1,7 @@
 use Rattle.std.proofs.Common.{◌≡◌, ◌-◌, slice_get}
 use Rattle.std.specs.Option.{option_map}
-use Rattle.text.specs.Line.{lines_of, lines_left}
-use Rattle.text.proofs.Splits.{size_left}
+use Rattle.lexical.specs.Line.{lines_of, lines_left}
+use Rattle.lexical.proofs.Splits.{size_left}
 use Rattle.checks.proofs.lines.line_at.Given as goal
 
 abbrev pub invariant-loop-rest : goal.invariant-loop-rest

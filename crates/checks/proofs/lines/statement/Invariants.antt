@@ -1,5 +1,5 @@
 use Rattle.std.proofs.Common.{◌≡◌, length}
-use Rattle.text.specs.Label.{statement_of}
+use Rattle.lexical.specs.Label.{statement_of}
 use Rattle.checks.proofs.lines.statement.Given as goal
 
 abbrev pub invariant-loop-after : goal.invariant-loop-after

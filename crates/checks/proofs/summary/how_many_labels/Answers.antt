@@ -1,6 +1,6 @@
 use Rattle.std.proofs.Common.{◌≤◌, ◌+◌, arith, length}
 use Rattle.std.specs.Option.{option_map}
-use Rattle.text.specs.Line.{before_comment, lines_of, lines_left}
+use Rattle.lexical.specs.Line.{before_comment, lines_of, lines_left}
 use Rattle.checks.proofs.Lengths.{counted_in, lines_fit, total}
 use Rattle.checks.proofs.summary.how_many_labels.Goals as goal
 

@@ -1,7 +1,7 @@
 use Rattle.std.proofs.Common.{◌≡◌, ◌+◌, ◌≤◌}
 use Rattle.std.specs.Option.{option_map}
-use Rattle.text.specs.Line.{lines_of, lines_left}
-use Rattle.text.proofs.Splits.{size_left}
+use Rattle.lexical.specs.Line.{lines_of, lines_left}
+use Rattle.lexical.proofs.Splits.{size_left}
 use Rattle.checks.specs.Checks.{how_many_labels}
 use Rattle.checks.proofs.Lengths.{total}
 use Rattle.checks.proofs.summary.how_many_labels.Given as goal

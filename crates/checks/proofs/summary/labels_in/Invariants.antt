@@ -1,5 +1,5 @@
 use Rattle.std.proofs.Common.{◌≡◌, ◌+◌, ◌≤◌, length}
-use Rattle.text.specs.Label.{labels_of}
+use Rattle.lexical.specs.Label.{labels_of}
 use Rattle.checks.proofs.summary.labels_in.Given as goal
 
 abbrev pub invariant-loop-after : goal.invariant-loop-after

@@ -1,6 +1,6 @@
 use Rattle.std.proofs.Common.{◌∙◌, ◌≡◌, ◌∷◌, sym, arith, drop}
 use Rattle.std.specs.Option.{option_map}
-use Rattle.text.specs.Line.{lines_of, lines_left}
+use Rattle.lexical.specs.Line.{lines_of, lines_left}
 use Rattle.checks.proofs.LinesCounted.{few_lines, next_is, next_rest}
 use Rattle.checks.proofs.Warned.{all_warned}
 use Rattle.checks.proofs.warnings.push_lines.Goals as goal

@@ -1,7 +1,7 @@
 use Rattle.std.proofs.Common.{◌≡◌, drop}
 use Rattle.std.specs.Option.{option_map}
-use Rattle.text.specs.Line.{lines_of, lines_left}
-use Rattle.text.proofs.Splits.{size_left}
+use Rattle.lexical.specs.Line.{lines_of, lines_left}
+use Rattle.lexical.proofs.Splits.{size_left}
 use Rattle.checks.specs.Warnings.{AreWarned}
 use Rattle.checks.proofs.warnings.push_lines.Given as goal
 

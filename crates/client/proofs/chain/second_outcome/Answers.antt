@@ -3,10 +3,10 @@ use Rattle.std.specs.Prelude.{unwrap_or}
 use Rattle.instructions.specs.Instruction.{fixed_next}
 use Rattle.instructions.specs.Programs.{Program, address}
 use Rattle.instructions.specs.declared.op.Half.TheVariants.{Low}
-use Rattle.driving.specs.Chains.{IsSecondOutcome}
-use Rattle.driving.proofs.Chained.{comes_to, may_ask_now, may_let_now, ready_behind, ready_now}
-use Rattle.driving.proofs.SetUp.{nothing_done, set_up}
-use Rattle.driving.proofs.chain.second_outcome.Goals as goal
+use Rattle.client.specs.Chains.{IsSecondOutcome}
+use Rattle.client.proofs.Chained.{comes_to, may_ask_now, may_let_now, ready_behind, ready_now}
+use Rattle.client.proofs.SetUp.{nothing_done, set_up}
+use Rattle.client.proofs.chain.second_outcome.Goals as goal
 
 pub let_next-second_tag-requires-clause-may : goal.let_next-second_tag-requires-clause-may
 let_next-second_tag-requires-clause-may c =

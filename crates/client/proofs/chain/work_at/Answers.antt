@@ -2,9 +2,9 @@ use Rattle.std.proofs.Common.{◌≡◌, ◌<◌, length, sym, ap, ◌∙◌, su
 use Rattle.instructions.specs.Programs.{Program}
 use Rattle.station.specs.declared.answers.Claim.TheVariants.{Job as Claimed, NotOpen}
 use Rattle.station.specs.Writeback.{job_outcome}
-use Rattle.driving.specs.Done.{HoldsNext}
-use Rattle.driving.proofs.WorkedOut.{is_job, works_out}
-use Rattle.driving.proofs.chain.work_at.Goals as goal
+use Rattle.client.specs.Done.{HoldsNext}
+use Rattle.client.proofs.WorkedOut.{is_job, works_out}
+use Rattle.client.proofs.chain.work_at.Goals as goal
 
 pub outcome-outcome-requires : goal.outcome-outcome-requires
 outcome-outcome-requires c =

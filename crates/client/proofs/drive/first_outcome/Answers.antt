@@ -5,9 +5,9 @@ use Rattle.instructions.specs.Programs.{Program, instr_of, text_start}
 use Rattle.instructions.specs.declared.op.Half.TheVariants.{Low}
 use Rattle.inorder.specs.Replies.{last_tag}
 use Rattle.inorder.specs.Unit.{Sizes}
-use Rattle.driving.specs.Works.{IsFirstOutcome}
-use Rattle.driving.proofs.First.{first_is_right, may_let_first, predicts}
-use Rattle.driving.proofs.drive.first_outcome.Goals as goal
+use Rattle.client.specs.Works.{IsFirstOutcome}
+use Rattle.client.proofs.First.{first_is_right, may_let_first, predicts}
+use Rattle.client.proofs.drive.first_outcome.Goals as goal
 
 pub work-worked-requires-clause-may : goal.work-worked-requires-clause-may
 work-worked-requires-clause-may c =

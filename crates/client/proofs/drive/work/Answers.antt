@@ -4,11 +4,11 @@ use Rattle.inorder.specs.History.{unit_of}
 use Rattle.inorder.specs.Unit.{front_pc}
 use Rattle.station.specs.declared.answers.Claim.TheVariants.{Job as Claimed, NotOpen}
 use Rattle.station.specs.Writeback.{job_outcome}
-use Rattle.driving.specs.Works.{IsWorkedRight}
-use Rattle.driving.proofs.Begins.{claim_begins, finish_begins}
-use Rattle.driving.proofs.Same.{on, same_all, stays}
-use Rattle.driving.proofs.Way.{comes_to, finishes, has_its_fields, is_right, its_job}
-use Rattle.driving.proofs.drive.work.Goals as goal
+use Rattle.client.specs.Works.{IsWorkedRight}
+use Rattle.client.proofs.Begins.{claim_begins, finish_begins}
+use Rattle.client.proofs.Same.{on, same_all, stays}
+use Rattle.client.proofs.Way.{comes_to, finishes, has_its_fields, is_right, its_job}
+use Rattle.client.proofs.drive.work.Goals as goal
 
 pub outcome-outcome-requires : goal.outcome-outcome-requires
 outcome-outcome-requires c =

@@ -1,10 +1,10 @@
 use Rattle.std.proofs.Common.{[], subst, refl}
 use Rattle.inorder.specs.OneHistory.{Adds}
 use Rattle.station.specs.Asking.{AskAnswers}
-use Rattle.driving.specs.Done.{IsAskedNext}
-use Rattle.driving.proofs.Known.{front_goes_on}
-use Rattle.driving.proofs.Same.{on, same_all, stays}
-use Rattle.driving.proofs.hand.ask_next.Goals as goal
+use Rattle.client.specs.Done.{IsAskedNext}
+use Rattle.client.proofs.Known.{front_goes_on}
+use Rattle.client.proofs.Same.{on, same_all, stays}
+use Rattle.client.proofs.hand.ask_next.Goals as goal
 
 pub ask-answer-requires-clause-may : goal.ask-answer-requires-clause-may
 ask-answer-requires-clause-may c =

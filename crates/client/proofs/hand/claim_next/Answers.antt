@@ -1,9 +1,9 @@
 use Rattle.std.proofs.Common.{refl}
-use Rattle.driving.specs.Done.{IsClaimedNext}
-use Rattle.driving.proofs.Known.{unit_goes_on}
-use Rattle.driving.proofs.Begins.{claim_begins}
-use Rattle.driving.proofs.Same.{on, same_all, stays}
-use Rattle.driving.proofs.hand.claim_next.Goals as goal
+use Rattle.client.specs.Done.{IsClaimedNext}
+use Rattle.client.proofs.Known.{unit_goes_on}
+use Rattle.client.proofs.Begins.{claim_begins}
+use Rattle.client.proofs.Same.{on, same_all, stays}
+use Rattle.client.proofs.hand.claim_next.Goals as goal
 
 pub returns-clause-done : goal.returns-clause-done
 returns-clause-done c =

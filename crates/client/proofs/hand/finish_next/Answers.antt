@@ -1,9 +1,9 @@
 use Rattle.std.proofs.Common.{refl}
-use Rattle.driving.specs.Done.{IsFinishedNext}
-use Rattle.driving.proofs.Known.{unit_goes_on}
-use Rattle.driving.proofs.Begins.{finish_begins}
-use Rattle.driving.proofs.Same.{on, same_all, stays}
-use Rattle.driving.proofs.hand.finish_next.Goals as goal
+use Rattle.client.specs.Done.{IsFinishedNext}
+use Rattle.client.proofs.Known.{unit_goes_on}
+use Rattle.client.proofs.Begins.{finish_begins}
+use Rattle.client.proofs.Same.{on, same_all, stays}
+use Rattle.client.proofs.hand.finish_next.Goals as goal
 
 pub returns-clause-done : goal.returns-clause-done
 returns-clause-done c =

@@ -1,10 +1,10 @@
 use Rattle.std.proofs.Common.{[], ◌∷◌, subst, refl}
 use Rattle.inorder.specs.OneHistory.{Adds}
 use Rattle.station.specs.Letting.{let_of}
-use Rattle.driving.specs.Done.{IsLetNext}
-use Rattle.driving.proofs.Known.{front_goes_on}
-use Rattle.driving.proofs.Same.{on, same_all, stays}
-use Rattle.driving.proofs.hand.let_next.Goals as goal
+use Rattle.client.specs.Done.{IsLetNext}
+use Rattle.client.proofs.Known.{front_goes_on}
+use Rattle.client.proofs.Same.{on, same_all, stays}
+use Rattle.client.proofs.hand.let_next.Goals as goal
 
 pub let_out-tag-requires-clause-may : goal.let_out-tag-requires-clause-may
 let_out-tag-requires-clause-may c =

@@ -1,10 +1,10 @@
 use Rattle.std.proofs.Common.{ap, ◌∙◌}
 use Rattle.inorder.specs.History.{own}
 use Rattle.station.specs.Seats.{TheCore}
-use Rattle.driving.proofs.Gathered.{later, later_on}
-use Rattle.driving.proofs.Histories.{starts_on}
-use Rattle.driving.proofs.Same.{on, same_all, then}
-use Rattle.driving.proofs.seats.gather.Goals as goal
+use Rattle.client.proofs.Gathered.{later, later_on}
+use Rattle.client.proofs.Histories.{starts_on}
+use Rattle.client.proofs.Same.{on, same_all, then}
+use Rattle.client.proofs.seats.gather.Goals as goal
 
 pub returns-clause-met : goal.returns-clause-met
 returns-clause-met c =

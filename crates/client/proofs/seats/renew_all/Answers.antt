@@ -5,9 +5,9 @@ use Rattle.ruu_words.specs.Views.{half, other_half}
 use Rattle.station.specs.Making.{first_unit, other_units}
 use Rattle.station.specs.Renewals.{seats_of}
 use Rattle.station.specs.Seats.{Caller}
-use Rattle.driving.specs.declared.seats.Seats.{Seats}
-use Rattle.driving.proofs.Made.{no_third}
-use Rattle.driving.proofs.seats.renew_all.Goals as goal
+use Rattle.client.specs.declared.seats.Seats.{Seats}
+use Rattle.client.proofs.Made.{no_third}
+use Rattle.client.proofs.seats.renew_all.Goals as goal
 
 from : {h o : List Entry} → h ≡ o → StartsWith h o
 from e = record { more = []; is = e }

@@ -1,5 +1,5 @@
 use Rattle.std.proofs.lemmas.Result.{IfOk-weaker}
-use Rattle.requests.proofs.commands.check.Goals as goal
+use Rattle.command_line.proofs.commands.check.Goals as goal
 
 pub returns : goal.returns
 returns c =

@@ -1,6 +1,6 @@
 use Rattle.std.proofs.lemmas.Result.{IfOk-weaker}
-use Rattle.requests.proofs.Building.{then}
-use Rattle.requests.proofs.commands.with_orders.Goals as goal
+use Rattle.command_line.proofs.Building.{then}
+use Rattle.command_line.proofs.commands.with_orders.Goals as goal
 
 pub returns : goal.returns
 returns c =

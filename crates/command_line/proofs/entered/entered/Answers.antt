@@ -2,10 +2,10 @@ use Rattle.std.proofs.Common.{◌≡◌, ◌∙◌, sym, ap, map, List, [], Some
 use Rattle.std.proofs.lemmas.Option.{none-some}
 use Rattle.clap.specs.Words.{App, Text, app_of, fault_of, found_of, rows_of}
 use Rattle.clap.specs.Kinds.{HasKind}
-use Rattle.requests.specs.Tool.{tool}
-use Rattle.requests.proofs.Refusing.{names_no_word, refused_by_clap}
-use Rattle.requests.proofs.WordRows.{at_tool, enters_name, has_entered, is_named, is_not_named, same_text}
-use Rattle.requests.proofs.entered.entered.Goals as goal
+use Rattle.command_line.specs.Tool.{tool}
+use Rattle.command_line.proofs.Refusing.{names_no_word, refused_by_clap}
+use Rattle.command_line.proofs.WordRows.{at_tool, enters_name, has_entered, is_named, is_not_named, same_text}
+use Rattle.command_line.proofs.entered.entered.Goals as goal
 
 pub returns-in-Err-clause-err : goal.returns-in-Err-clause-err
 returns-in-Err-clause-err g c =

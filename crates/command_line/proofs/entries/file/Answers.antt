@@ -1,7 +1,7 @@
 use Rattle.std.proofs.Common.{◌∙◌, sym, codes}
 use Rattle.clap.specs.Words.{found_of}
 use Rattle.clap.proofs.WalkLemmas.{first_value-rows}
-use Rattle.requests.proofs.entries.file.Goals as goal
+use Rattle.command_line.proofs.entries.file.Goals as goal
 
 pub returns-in-Some-clause-ok : goal.returns-in-Some-clause-ok
 returns-in-Some-clause-ok c =

@@ -1,8 +1,8 @@
 use Rattle.std.proofs.Common.{◌∙◌, subst, codes, Option}
 use Rattle.clap.specs.Words.{Text, found_of}
 use Rattle.clap.proofs.WalkLemmas.{first_value-rows}
-use Rattle.requests.specs.Values.{IsPredictor, IsNoPredictor}
-use Rattle.requests.proofs.entries.predictor.Goals as goal
+use Rattle.command_line.specs.Values.{IsPredictor, IsNoPredictor}
+use Rattle.command_line.proofs.entries.predictor.Goals as goal
 
 pub returns-in-Some-clause-ok : goal.returns-in-Some-clause-ok
 returns-in-Some-clause-ok c =

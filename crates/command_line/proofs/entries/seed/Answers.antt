@@ -2,9 +2,9 @@ use Rattle.std.proofs.Common.{◌∙◌}
 use Rattle.std.proofs.lemmas.Result.{err_from_is_err_and}
 use Rattle.clap.specs.Words.{found_of}
 use Rattle.clap.proofs.WalkLemmas.{first_value-rows}
-use Rattle.requests.specs.Values.{value_in}
-use Rattle.requests.proofs.SeedTexts.{of_no_number, of_text, without_text}
-use Rattle.requests.proofs.entries.seed.Goals as goal
+use Rattle.command_line.specs.Values.{value_in}
+use Rattle.command_line.proofs.SeedTexts.{of_no_number, of_text, without_text}
+use Rattle.command_line.proofs.entries.seed.Goals as goal
 
 pub returns-then-is_none-clause-ok : goal.returns-then-is_none-clause-ok
 returns-then-is_none-clause-ok c =

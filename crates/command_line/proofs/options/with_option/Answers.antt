@@ -1,6 +1,6 @@
 use Rattle.std.proofs.lemmas.Result.{IfOk-weaker}
-use Rattle.requests.proofs.Building.{one_more}
-use Rattle.requests.proofs.options.with_option.Goals as goal
+use Rattle.command_line.proofs.Building.{one_more}
+use Rattle.command_line.proofs.options.with_option.Goals as goal
 
 pub returns : goal.returns
 returns c =

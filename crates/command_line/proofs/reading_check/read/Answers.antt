@@ -1,8 +1,8 @@
 use Rattle.std.proofs.Common.{◌∙◌, ap, codes}
 use Rattle.clap.specs.Words.{found_of}
 use Rattle.clap.proofs.WalkLemmas.{first_value-rows}
-use Rattle.requests.specs.Values.{is_true}
-use Rattle.requests.proofs.reading_check.read.Goals as goal
+use Rattle.command_line.specs.Values.{is_true}
+use Rattle.command_line.proofs.reading_check.read.Goals as goal
 
 pub returns-clause-ok : goal.returns-clause-ok
 returns-clause-ok c = record {

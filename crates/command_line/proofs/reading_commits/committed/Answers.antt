@@ -1,10 +1,10 @@
 use Rattle.std.proofs.Common.{List, map}
 use Rattle.std.proofs.lemmas.Result.{IfErr-weaker, IfOk-weaker, err_from_is_err_and}
 use Rattle.clap.specs.Words.{Row, Text, app_of, found_of, rows_of}
-use Rattle.requests.specs.Commits.{HasOddRing, HasValues, IsCommittedBy}
-use Rattle.requests.specs.Tool.{commits}
-use Rattle.requests.proofs.Refusing.{holds_in, refused_read, refused_unread}
-use Rattle.requests.proofs.reading_commits.committed.Goals as goal
+use Rattle.command_line.specs.Commits.{HasOddRing, HasValues, IsCommittedBy}
+use Rattle.command_line.specs.Tool.{commits}
+use Rattle.command_line.proofs.Refusing.{holds_in, refused_read, refused_unread}
+use Rattle.command_line.proofs.reading_commits.committed.Goals as goal
 
 pub returns-in_err-matches-clause-err : goal.returns-in_err-matches-clause-err
 returns-in_err-matches-clause-err g c =

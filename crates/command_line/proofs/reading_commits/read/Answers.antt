@@ -1,9 +1,9 @@
 use Rattle.std.proofs.Common.{codes}
 use Rattle.std.proofs.lemmas.Result.{err_from_is_err_and}
 use Rattle.clap.specs.Words.{found_of, first_of, rows_of}
-use Rattle.requests.specs.Commits.{HasOddRing, HasValues}
-use Rattle.requests.proofs.OddRings.{bad_ring}
-use Rattle.requests.proofs.reading_commits.read.Goals as goal
+use Rattle.command_line.specs.Commits.{HasOddRing, HasValues}
+use Rattle.command_line.proofs.OddRings.{bad_ring}
+use Rattle.command_line.proofs.reading_commits.read.Goals as goal
 
 pub returns-in_err-config-clause-err : goal.returns-in_err-config-clause-err
 returns-in_err-config-clause-err c =

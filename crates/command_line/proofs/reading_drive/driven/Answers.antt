@@ -1,11 +1,11 @@
 use Rattle.std.proofs.Common.{List, map}
 use Rattle.std.proofs.lemmas.Result.{IfErr-weaker, IfOk-weaker, err_from_is_err_and}
 use Rattle.clap.specs.Words.{Row, Text, app_of, found_of, rows_of}
-use Rattle.requests.specs.Drive.{CanBeDriven, IsDrivenBy}
-use Rattle.requests.specs.Reading.{NoneOdd}
-use Rattle.requests.specs.Tool.{drive}
-use Rattle.requests.proofs.Refusing.{holds_in, refused_read, refused_unread}
-use Rattle.requests.proofs.reading_drive.driven.Goals as goal
+use Rattle.command_line.specs.Drive.{CanBeDriven, IsDrivenBy}
+use Rattle.command_line.specs.Reading.{NoneOdd}
+use Rattle.command_line.specs.Tool.{drive}
+use Rattle.command_line.proofs.Refusing.{holds_in, refused_read, refused_unread}
+use Rattle.command_line.proofs.reading_drive.driven.Goals as goal
 
 pub returns-in_err-matches-clause-err : goal.returns-in_err-matches-clause-err
 returns-in_err-matches-clause-err g c =

@@ -2,10 +2,10 @@ use Rattle.std.proofs.Common.{◌∙◌, sym, ap, subst, codes, refl}
 use Rattle.clap.specs.Words.{found_of, rows_of}
 use Rattle.clap.proofs.WalkLemmas.{first_value-rows}
 use Rattle.instructions.specs.Settings.{Settings}
-use Rattle.requests.specs.declared.request.ByHand.{ByHand}
-use Rattle.requests.specs.Drive.{IsDrivenBy}
-use Rattle.requests.specs.Values.{is_true}
-use Rattle.requests.proofs.reading_drive.read.Goals as goal
+use Rattle.command_line.specs.declared.request.ByHand.{ByHand}
+use Rattle.command_line.specs.Drive.{IsDrivenBy}
+use Rattle.command_line.specs.Values.{is_true}
+use Rattle.command_line.proofs.reading_drive.read.Goals as goal
 
 pub returns-clause-ok : goal.returns-clause-ok
 returns-clause-ok c =

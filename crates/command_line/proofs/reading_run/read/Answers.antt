@@ -2,11 +2,11 @@ use Rattle.std.proofs.Common.{◌∙◌, sym, ap, subst, codes}
 use Rattle.std.proofs.lemmas.Result.{err_from_is_err_and}
 use Rattle.clap.specs.Words.{found_of, first_of, rows_of}
 use Rattle.clap.proofs.WalkLemmas.{first_value-rows}
-use Rattle.requests.specs.Run.{HasOddRing, HasValues}
-use Rattle.requests.specs.Rings.{greatest}
-use Rattle.requests.specs.Values.{IsNumberFrom, is_true}
-use Rattle.requests.proofs.OddRings.{bad_ring, cut_sizes}
-use Rattle.requests.proofs.reading_run.read.Goals as goal
+use Rattle.command_line.specs.Run.{HasOddRing, HasValues}
+use Rattle.command_line.specs.Rings.{greatest}
+use Rattle.command_line.specs.Values.{IsNumberFrom, is_true}
+use Rattle.command_line.proofs.OddRings.{bad_ring, cut_sizes}
+use Rattle.command_line.proofs.reading_run.read.Goals as goal
 
 pub seeds_of-requires : goal.seeds_of-requires
 seeds_of-requires c =

@@ -1,9 +1,9 @@
 use Rattle.std.proofs.Common.{◌∙◌, sym, ap, not, codes}
 use Rattle.clap.specs.Words.{found_of, first_of, rows_of}
 use Rattle.clap.proofs.WalkLemmas.{first_value-rows}
-use Rattle.requests.proofs.SeedTexts.{not_counted, with_seed, without_steps}
-use Rattle.requests.proofs.steps.steps_of.Goals.{else-is_none-via-then-is_none+else-is_some, else-is_none-via-else-is_none}
-use Rattle.requests.proofs.steps.steps_of.Goals as goal
+use Rattle.command_line.proofs.SeedTexts.{not_counted, with_seed, without_steps}
+use Rattle.command_line.proofs.steps.steps_of.Goals.{else-is_none-via-then-is_none+else-is_some, else-is_none-via-else-is_none}
+use Rattle.command_line.proofs.steps.steps_of.Goals as goal
 
 pub returns-then-is_some-clause-err : goal.returns-then-is_some-clause-err
 returns-then-is_some-clause-err c =

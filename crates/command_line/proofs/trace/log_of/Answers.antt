@@ -1,9 +1,9 @@
 use Rattle.std.proofs.Common.{◌∙◌, sym, ap, codes}
 use Rattle.clap.specs.Words.{found_of, rows_of}
 use Rattle.clap.proofs.WalkLemmas.{first_value-rows}
-use Rattle.requests.specs.Logs.{is_file}
-use Rattle.requests.proofs.Traces.{is_another, no_file, not_another}
-use Rattle.requests.proofs.trace.log_of.Goals as goal
+use Rattle.command_line.specs.Logs.{is_file}
+use Rattle.command_line.proofs.Traces.{is_another, no_file, not_another}
+use Rattle.command_line.proofs.trace.log_of.Goals as goal
 
 pub returns-then-not-is_other-clause-err : goal.returns-then-not-is_other-clause-err
 returns-then-not-is_other-clause-err c =

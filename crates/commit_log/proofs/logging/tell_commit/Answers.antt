@@ -1,6 +1,6 @@
 use Rattle.std.proofs.Common.{◌≡◌, subst}
 use Rattle.std.specs.Prelude.{IfOk, string_bytes}
-use Rattle.devices.specs.Counted.{Gives}
+use Rattle.counted_io.specs.Counted.{Gives}
 use Rattle.commit_log.specs.Lines.{commit_line}
 use Rattle.commit_log.proofs.LogKept.{says_line}
 use Rattle.commit_log.proofs.logging.tell_commit.Goals as goal

@@ -1,6 +1,6 @@
 use Rattle.std.proofs.Common.{◌≡◌, ◌-◌}
-use Rattle.devices.specs.Counted.{failures_of, known_by}
-use Rattle.unit.specs.Changes.{registers_of, run_from}
+use Rattle.counted_io.specs.Counted.{failures_of, known_by}
+use Rattle.one_thread.specs.Changes.{registers_of, run_from}
 use Rattle.commit_log.specs.Retirements.{HasTold, log_left}
 use Rattle.commit_log.proofs.logging.tell_commits.Given as goal
 

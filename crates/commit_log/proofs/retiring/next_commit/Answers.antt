@@ -1,8 +1,8 @@
 use Rattle.std.proofs.Common.{◌<◌, ◌∙◌, ap, sym, subst, arith, true≢false}
 use Rattle.std.specs.Prelude.{IfSome, IsNone}
-use Rattle.unit.specs.declared.bench.Turn.TheVariants.{Halved}
-use Rattle.unit.proofs.OrderedTurns.{moves_in}
-use Rattle.unit.proofs.Ends.{left_falls}
+use Rattle.one_thread.specs.declared.bench.Turn.TheVariants.{Halved}
+use Rattle.one_thread.proofs.OrderedTurns.{moves_in}
+use Rattle.one_thread.proofs.Ends.{left_falls}
 use Rattle.commit_log.specs.Retirements.{HasCommitted, registers_behind}
 use Rattle.commit_log.proofs.LogKept.{at_stop}
 use Rattle.commit_log.proofs.Retirement.{commits_one, halved, if_some}

@@ -1,6 +1,6 @@
 use Rattle.std.proofs.Common.{◌≡◌}
-use Rattle.unit.specs.Changes.{registers_of}
-use Rattle.unit.proofs.Ends.{left}
+use Rattle.one_thread.specs.Changes.{registers_of}
+use Rattle.one_thread.proofs.Ends.{left}
 use Rattle.commit_log.proofs.retiring.next_commit.Given as goal
 
 -- nothing was committed yet, and the registers are kept

@@ -1,6 +1,6 @@
 use Rattle.std.proofs.Common.{length, ◌-◌, ◌≡◌, ◌≤◌}
-use Rattle.devices.specs.Counted.{failures_of, Takes}
-use Rattle.devices.proofs.input.read_up_to.Given as goal
+use Rattle.counted_io.specs.Counted.{failures_of, Takes}
+use Rattle.counted_io.proofs.input.read_up_to.Given as goal
 
 -- what was read so far was taken, and no call failed
 abbrev pub invariant-reads : goal.invariant-reads

@@ -3,7 +3,7 @@ use Rattle.std.proofs.Math.Seq.{take-add}
 use Rattle.std.proofs.lemmas.Grind.{common_steps}
 use Rattle.std.proofs.lemmas.List.{take_rest}
 use Rattle.std.proofs.KnownBytes.{Appends-trans}
-use Rattle.devices.proofs.output.write_whole.Goals as goal
+use Rattle.counted_io.proofs.output.write_whole.Goals as goal
 
 pub writes-preserved : goal.writes-preserved
 writes-preserved g c = record {

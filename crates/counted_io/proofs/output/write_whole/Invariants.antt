@@ -1,6 +1,6 @@
 use Rattle.std.proofs.Common.{length, ◌-◌, ◌≡◌, ◌≤◌, take}
-use Rattle.devices.specs.Counted.{failures_of, Gives}
-use Rattle.devices.proofs.output.write_whole.Given as goal
+use Rattle.counted_io.specs.Counted.{failures_of, Gives}
+use Rattle.counted_io.proofs.output.write_whole.Given as goal
 
 -- what was written so far went out, and no call failed
 abbrev pub invariant-writes : goal.invariant-writes

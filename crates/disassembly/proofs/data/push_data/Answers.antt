@@ -1,9 +1,9 @@
 use Rattle.std.proofs.Common.{◌≡◌, ℕ, List, ◌+◌, ◌-◌, ◌*◌, ◌++◌, take, drop, ap, sym, ◌∙◌, arith, string_bytes}
-use Rattle.conversion.specs.Writing.{unlines, space_lines, AddsData}
-use Rattle.conversion.proofs.Names.{on_ok}
-use Rattle.conversion.proofs.DataSteps.{rows_zero, rows_some, rows_all, fits_take, fits_drop}
-use Rattle.conversion.proofs.data.push_data.Goals.{then-is_zero, else-is_zero+in_ok-push_space+in_ok-push_row}
-use Rattle.conversion.proofs.data.push_data.Goals as goal
+use Rattle.disassembly.specs.Writing.{unlines, space_lines, AddsData}
+use Rattle.disassembly.proofs.Names.{on_ok}
+use Rattle.disassembly.proofs.DataSteps.{rows_zero, rows_some, rows_all, fits_take, fits_drop}
+use Rattle.disassembly.proofs.data.push_data.Goals.{then-is_zero, else-is_zero+in_ok-push_space+in_ok-push_row}
+use Rattle.disassembly.proofs.data.push_data.Goals as goal
 
 pub rows-preserved : goal.rows-preserved
 rows-preserved c =

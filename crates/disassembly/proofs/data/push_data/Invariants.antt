@@ -1,6 +1,6 @@
 use Rattle.std.proofs.Common.{◌≤◌, ◌*◌, string_bytes}
-use Rattle.conversion.proofs.DataSteps.{RowsSoFar}
-use Rattle.conversion.proofs.data.push_data.Given as goal
+use Rattle.disassembly.proofs.DataSteps.{RowsSoFar}
+use Rattle.disassembly.proofs.data.push_data.Given as goal
 
 abbrev pub invariant-rows : goal.invariant-rows
 invariant-rows l =

@@ -1,10 +1,10 @@
 use Rattle.std.proofs.Common.{◌≡◌, ◌++◌, string_bytes}
 use Rattle.std.specs.Prelude.{codes}
 use Rattle.isa.specs.Report.{hexadecimal}
-use Rattle.conversion.specs.Writing.{as_line, row_line}
-use Rattle.conversion.proofs.Names.{on_ok}
-use Rattle.conversion.proofs.DataSteps.{row_added}
-use Rattle.conversion.proofs.data.push_row.Goals as goal
+use Rattle.disassembly.specs.Writing.{as_line, row_line}
+use Rattle.disassembly.proofs.Names.{on_ok}
+use Rattle.disassembly.proofs.DataSteps.{row_added}
+use Rattle.disassembly.proofs.data.push_row.Goals as goal
 
 pub returns : goal.returns
 returns c =

@@ -1,10 +1,10 @@
 use Rattle.std.proofs.Common.{◌≡◌, ◌++◌, string_bytes}
 use Rattle.std.specs.Prelude.{codes}
 use Rattle.std.specs.Fmt.{decimal}
-use Rattle.conversion.specs.Writing.{unlines, space_lines}
-use Rattle.conversion.proofs.Names.{on_ok}
-use Rattle.conversion.proofs.DataSteps.{space_added}
-use Rattle.conversion.proofs.data.push_space.Goals as goal
+use Rattle.disassembly.specs.Writing.{unlines, space_lines}
+use Rattle.disassembly.proofs.Names.{on_ok}
+use Rattle.disassembly.proofs.DataSteps.{space_added}
+use Rattle.disassembly.proofs.data.push_space.Goals as goal
 
 pub returns : goal.returns
 returns c =

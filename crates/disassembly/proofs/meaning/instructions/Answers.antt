@@ -1,8 +1,8 @@
 use Rattle.std.proofs.Common.{sym, ap, ◌∙◌, arith}
 use Rattle.std.proofs.lemmas.Grind.{common_steps}
-use Rattle.conversion.specs.Meaning.{appended}
-use Rattle.conversion.proofs.Steps.{meant_next, refused_by_one}
-use Rattle.conversion.proofs.meaning.instructions.Goals as goal
+use Rattle.disassembly.specs.Meaning.{appended}
+use Rattle.disassembly.proofs.Steps.{meant_next, refused_by_one}
+use Rattle.disassembly.proofs.meaning.instructions.Goals as goal
 
 pub returns-in-Err-clause-fault : goal.returns-in-Err-clause-fault
 returns-in-Err-clause-fault c =

@@ -1,6 +1,6 @@
 use Rattle.std.proofs.Common.{◌∙◌, length}
-use Rattle.conversion.proofs.Marks.{marks_more}
-use Rattle.conversion.proofs.writing.labels.Goals as goal
+use Rattle.disassembly.proofs.Marks.{marks_more}
+use Rattle.disassembly.proofs.writing.labels.Goals as goal
 
 pub instructions-preserved : goal.instructions-preserved
 instructions-preserved c =

@@ -1,6 +1,6 @@
 use Rattle.std.proofs.Common.{◌≡◌, length, take}
-use Rattle.conversion.specs.Writing.{AllMarked}
-use Rattle.conversion.proofs.writing.labels.Given as goal
+use Rattle.disassembly.specs.Writing.{AllMarked}
+use Rattle.disassembly.proofs.writing.labels.Given as goal
 
 abbrev pub invariant-instructions : goal.invariant-instructions
 invariant-instructions l =

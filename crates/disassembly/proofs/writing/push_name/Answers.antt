@@ -1,7 +1,7 @@
 use Rattle.std.proofs.Common.{◌≡◌, ◌++◌, ap, length, arith, string_bytes}
-use Rattle.conversion.specs.Writing.{as_line, comment_line, IsQuieter}
-use Rattle.conversion.proofs.Names.{on_ok, quieter_name}
-use Rattle.conversion.proofs.writing.push_name.Goals as goal
+use Rattle.disassembly.specs.Writing.{as_line, comment_line, IsQuieter}
+use Rattle.disassembly.proofs.Names.{on_ok, quieter_name}
+use Rattle.disassembly.proofs.writing.push_name.Goals as goal
 
 pub returns : goal.returns
 returns c =

@@ -1,6 +1,6 @@
 use Rattle.std.proofs.Common.{arith, string_bytes}
-use Rattle.conversion.proofs.Said.{text_begun, text_ended}
-use Rattle.conversion.proofs.writing.text_of.Goals as goal
+use Rattle.disassembly.proofs.Said.{text_begun, text_ended}
+use Rattle.disassembly.proofs.writing.text_of.Goals as goal
 
 pub instructions-init : goal.instructions-init
 instructions-init c = rw c.new-out.ensures.bytes (text_begun c.in_ok-marks.marks.items c.args.code.now)

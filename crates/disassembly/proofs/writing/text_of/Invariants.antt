@@ -1,6 +1,6 @@
 use Rattle.std.proofs.Common.{◌*◌, [], take, string_bytes}
-use Rattle.conversion.specs.Writing.{IsText, marked}
-use Rattle.conversion.proofs.writing.text_of.Given as goal
+use Rattle.disassembly.specs.Writing.{IsText, marked}
+use Rattle.disassembly.proofs.writing.text_of.Given as goal
 
 abbrev pub invariant-instructions : goal.invariant-instructions
 invariant-instructions l =

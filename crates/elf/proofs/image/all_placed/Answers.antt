@@ -1,8 +1,8 @@
 use Rattle.std.proofs.Common.{sym, ap, ◌∙◌, arith}
 use Rattle.std.proofs.lemmas.Result.{err_from_is_err_and}
-use Rattle.executables.specs.Placing.{placed as placed_with}
-use Rattle.executables.proofs.Steps.{refused_by_one}
-use Rattle.executables.proofs.image.all_placed.Goals as goal
+use Rattle.elf.specs.Placing.{placed as placed_with}
+use Rattle.elf.proofs.Steps.{refused_by_one}
+use Rattle.elf.proofs.image.all_placed.Goals as goal
 
 pub returns-in_err-image-2-clause-fault : goal.returns-in_err-image-2-clause-fault
 returns-in_err-image-2-clause-fault c =

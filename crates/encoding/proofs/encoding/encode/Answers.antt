@@ -1,10 +1,10 @@
 use Rattle.std.proofs.Common.{◌≡◌, ℕ, Option, Some, None, ap, ◌∙◌}
 use Rattle.std.specs.Option.{option_map}
 use Rattle.instructions.specs.declared.instr.Instr.{Instr}
-use Rattle.machine_words.specs.declared.decoding.Decoded.{Decoded}
-use Rattle.machine_words.specs.Words.{instruction_of, decode as decode_of, packed as packed_of}
-use Rattle.machine_words.proofs.Rebuilt.{packed_back}
-use Rattle.machine_words.proofs.encoding.encode.Goals as goal
+use Rattle.encoding.specs.declared.decoding.Decoded.{Decoded}
+use Rattle.encoding.specs.Words.{instruction_of, decode as decode_of, packed as packed_of}
+use Rattle.encoding.proofs.Rebuilt.{packed_back}
+use Rattle.encoding.proofs.encoding.encode.Goals as goal
 
 abbrev whole : Instr → Decoded
 whole i = record { op = i.op; target = i.target; first = i.first; second = i.second; number = i.number }

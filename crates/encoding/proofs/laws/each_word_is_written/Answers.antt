@@ -1,5 +1,5 @@
-use Rattle.machine_words.proofs.Written.{each_is_written}
-use Rattle.machine_words.proofs.laws.each_word_is_written.Goals as goal
+use Rattle.encoding.proofs.Written.{each_is_written}
+use Rattle.encoding.proofs.laws.each_word_is_written.Goals as goal
 
 pub returns : goal.returns
 returns c = each_is_written

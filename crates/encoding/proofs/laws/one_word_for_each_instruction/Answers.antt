@@ -1,5 +1,5 @@
-use Rattle.machine_words.proofs.Rebuilt.{one_word}
-use Rattle.machine_words.proofs.laws.one_word_for_each_instruction.Goals as goal
+use Rattle.encoding.proofs.Rebuilt.{one_word}
+use Rattle.encoding.proofs.laws.one_word_for_each_instruction.Goals as goal
 
 pub returns : goal.returns
 returns c = one_word

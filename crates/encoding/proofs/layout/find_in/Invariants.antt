@@ -1,7 +1,7 @@
 use Rattle.std.proofs.Common.{◌≡◌, drop}
 use Rattle.std.specs.List.{find}
-use Rattle.machine_words.specs.Layouts.{has_layout}
-use Rattle.machine_words.proofs.layout.find_in.Given as goal
+use Rattle.encoding.specs.Layouts.{has_layout}
+use Rattle.encoding.proofs.layout.find_in.Given as goal
 
 abbrev pub invariant-loop-op : goal.invariant-loop-op
 invariant-loop-op l =

@@ -1,7 +1,7 @@
 use Rattle.std.proofs.Common.{◌≢◌, ◌+◌, ◌≤◌, ℕ, List, Option, Bor, ◌∙◌, ap, refl, length, map, arith}
 use Rattle.std.specs.Option.{option_map}
-use Rattle.text.specs.Line.{lines_left}
-use Rattle.text.proofs.Splits.{size_step}
+use Rattle.lexical.specs.Line.{lines_left}
+use Rattle.lexical.proofs.Splits.{size_step}
 use Rattle.isa.specs.declared.listing.fault.FaultKind.TheVariants.{Memory}
 use Rattle.isa.specs.Listing.{Lines}
 use Rattle.isa.specs.Late.{mark}

@@ -1,7 +1,7 @@
 use Rattle.std.proofs.Common.{◌≡◌, ◌+◌, ◌≤◌, ◌%◌, length, map}
 use Rattle.std.specs.Option.{option_map}
-use Rattle.text.specs.Line.{lines_of, lines_left}
-use Rattle.text.proofs.Splits.{size_left}
+use Rattle.lexical.specs.Line.{lines_of, lines_left}
+use Rattle.lexical.proofs.Splits.{size_left}
 use Rattle.isa.specs.Late.{mark}
 use Rattle.isa.proofs.Whole.{LinesSoFar}
 use Rattle.isa.proofs.listing.read_lines.Given as goal

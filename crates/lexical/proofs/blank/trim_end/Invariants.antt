@@ -1,7 +1,7 @@
 use Rattle.std.proofs.Common.{◌≡◌, ◌+◌, ◌≤◌, length, take}
 use Rattle.std.specs.List.{suffix_len}
-use Rattle.text.specs.Blank.{is_blank}
-use Rattle.text.proofs.blank.trim_end.Given as goal
+use Rattle.lexical.specs.Blank.{is_blank}
+use Rattle.lexical.proofs.blank.trim_end.Given as goal
 
 abbrev pub invariant-loop-n : goal.invariant-loop-n
 invariant-loop-n l = record {

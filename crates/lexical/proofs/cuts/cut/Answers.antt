@@ -1,6 +1,6 @@
 use Rattle.std.proofs.Common.{sym}
-use Rattle.text.proofs.Splits.{split_none, split_some, after_none, after_some}
-use Rattle.text.proofs.cuts.cut.Goals as goal
+use Rattle.lexical.proofs.Splits.{split_none, split_some, after_none, after_some}
+use Rattle.lexical.proofs.cuts.cut.Goals as goal
 
 pub returns-in-None-clause-parts : goal.returns-in-None-clause-parts
 returns-in-None-clause-parts c = split_none _ c.args.text.now (sym c.in-None.ensures)

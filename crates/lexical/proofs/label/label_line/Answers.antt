@@ -1,7 +1,7 @@
 use Rattle.std.proofs.Common.{◌∙◌, sym, arith}
 use Rattle.std.proofs.lemmas.Bool.{eq-eqb}
-use Rattle.text.proofs.LabelLines.{label_line}
-use Rattle.text.proofs.label.label_line.Goals as goal
+use Rattle.lexical.proofs.LabelLines.{label_line}
+use Rattle.lexical.proofs.label.label_line.Goals as goal
 
 pub returns-clause-line : goal.returns-clause-line
 returns-clause-line c =

@@ -1,11 +1,11 @@
 use Rattle.std.proofs.Common.{◌≡◌, ◌∷◌, ℕ, List, Option, Bor, sym, ◌∙◌, ap, true, false}
 use Rattle.std.specs.Option.{option_map}
-use Rattle.text.specs.Blank.{trim}
-use Rattle.text.specs.Cut.{parts_left}
-use Rattle.text.specs.Name.{is_name}
-use Rattle.text.specs.Label.{labels_of}
-use Rattle.text.proofs.Labels.{labels_next, labels_none, labels_whole}
-use Rattle.text.proofs.label.label_with_blanks.Goals as goal
+use Rattle.lexical.specs.Blank.{trim}
+use Rattle.lexical.specs.Cut.{parts_left}
+use Rattle.lexical.specs.Name.{is_name}
+use Rattle.lexical.specs.Label.{labels_of}
+use Rattle.lexical.proofs.Labels.{labels_next, labels_none, labels_whole}
+use Rattle.lexical.proofs.label.label_with_blanks.Goals as goal
 
 abbrev parts : List ℕ → Option (Bor (List ℕ)) → List (List ℕ)
 parts front rest = front ∷ parts_left 58 (option_map (λ t. t.now) rest)

@@ -1,7 +1,7 @@
 use Rattle.std.proofs.Common.{◌∙◌, sym, arith}
 use Rattle.std.proofs.lemmas.Bool.{eq-eqb}
-use Rattle.text.proofs.Labels.{label_first}
-use Rattle.text.proofs.label.label_without_blanks.Goals as goal
+use Rattle.lexical.proofs.Labels.{label_first}
+use Rattle.lexical.proofs.label.label_without_blanks.Goals as goal
 
 pub returns-clause-label : goal.returns-clause-label
 returns-clause-label c =

@@ -1,7 +1,7 @@
 use Rattle.std.proofs.Common.{◌∙◌, sym}
 use Rattle.std.proofs.lemmas.Bool.{eq-eqb}
-use Rattle.text.proofs.Lines.{last_code, code_first}
-use Rattle.text.proofs.line.bare_code.Goals as goal
+use Rattle.lexical.proofs.Lines.{last_code, code_first}
+use Rattle.lexical.proofs.line.bare_code.Goals as goal
 
 pub returns-in_default-clause-code : goal.returns-in_default-clause-code
 returns-in_default-clause-code c = last_code c.args.text.now (sym c.end_of_code.ensures ∙ c.in_default.is)

@@ -1,8 +1,8 @@
 use Rattle.std.proofs.Common.{refl, arith}
-use Rattle.text.specs.declared.name.TheConstants.{NAME_BYTES}
-use Rattle.text.specs.Name.{goes_on_name}
-use Rattle.text.proofs.Tables.{agree_below, by_table}
-use Rattle.text.proofs.name.goes_on_name.Goals as goal
+use Rattle.lexical.specs.declared.name.TheConstants.{NAME_BYTES}
+use Rattle.lexical.specs.Name.{goes_on_name}
+use Rattle.lexical.proofs.Tables.{agree_below, by_table}
+use Rattle.lexical.proofs.name.goes_on_name.Goals as goal
 
 pub returns : goal.returns
 unfolding agree_below

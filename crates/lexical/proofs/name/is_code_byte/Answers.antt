@@ -1,8 +1,8 @@
 use Rattle.std.proofs.Common.{refl, arith}
-use Rattle.text.specs.declared.name.TheConstants.{CODE_BYTES}
-use Rattle.text.specs.Name.{is_code_byte}
-use Rattle.text.proofs.Tables.{agree_below, by_table}
-use Rattle.text.proofs.name.is_code_byte.Goals as goal
+use Rattle.lexical.specs.declared.name.TheConstants.{CODE_BYTES}
+use Rattle.lexical.specs.Name.{is_code_byte}
+use Rattle.lexical.proofs.Tables.{agree_below, by_table}
+use Rattle.lexical.proofs.name.is_code_byte.Goals as goal
 
 pub returns : goal.returns
 unfolding agree_below

@@ -2,8 +2,8 @@ use Rattle.std.proofs.Common.{◌≡◌, ◌<◌, ◌&&◌, get_or, length, ◌�
 use Rattle.std.specs.Char.{digit_value, is_digit}
 use Rattle.std.proofs.lemmas.Bool.{lt-ltb}
 use Rattle.std.proofs.lemmas.List.Folds.{list_all_more}
-use Rattle.text.proofs.Numbers.{capped_more}
-use Rattle.text.proofs.number.numeral.Goals as goal
+use Rattle.lexical.proofs.Numbers.{capped_more}
+use Rattle.lexical.proofs.number.numeral.Goals as goal
 
 pub loop-b-preserved : goal.loop-b-preserved
 loop-b-preserved c =

@@ -2,8 +2,8 @@ use Rattle.std.proofs.Common.{◌≡◌, ◌≤◌, true, take, drop}
 use Rattle.std.specs.List.{list_all}
 use Rattle.std.specs.Char.{is_digit}
 use Rattle.std.specs.Str.Parse.{digits_value, digits_value_after}
-use Rattle.text.specs.Number.{capped}
-use Rattle.text.proofs.number.numeral.Given as goal
+use Rattle.lexical.specs.Number.{capped}
+use Rattle.lexical.proofs.number.numeral.Given as goal
 
 abbrev pub invariant-loop-b : goal.invariant-loop-b
 invariant-loop-b l = record {

@@ -1,8 +1,8 @@
 use Rattle.std.proofs.Common.{◌≡◌, ◌+◌, ◌≤◌, length}
 use Rattle.std.specs.Option.{option_map}
-use Rattle.text.specs.Operand.{operands_left}
-use Rattle.text.proofs.Splits.{size_left}
-use Rattle.text.proofs.operand.count_operands.Given as goal
+use Rattle.lexical.specs.Operand.{operands_left}
+use Rattle.lexical.proofs.Splits.{size_left}
+use Rattle.lexical.proofs.operand.count_operands.Given as goal
 
 abbrev pub invariant-loop-rest : goal.invariant-loop-rest
 invariant-loop-rest l = record {

@@ -1,8 +1,8 @@
 use Rattle.std.proofs.Common.{◌∷◌, ℕ, List, Option, Bor, ◌∙◌, ap}
 use Rattle.std.specs.Option.{option_map}
-use Rattle.text.specs.Operand.{operands_left}
-use Rattle.text.proofs.Operands.{only_more}
-use Rattle.text.proofs.operand.only_operand.Goals as goal
+use Rattle.lexical.specs.Operand.{operands_left}
+use Rattle.lexical.proofs.Operands.{only_more}
+use Rattle.lexical.proofs.operand.only_operand.Goals as goal
 
 abbrev left_of : Option (Bor (List ℕ)) → List (List ℕ)
 left_of rest = operands_left (option_map (λ t. t.now) rest)

@@ -1,7 +1,7 @@
 use Rattle.std.proofs.Common.{◌≡◌, ◌<◌, ℕ, None}
-use Rattle.unit.specs.Givers.{gives}
-use Rattle.unit.specs.Window.{operands_in}
-use Rattle.unit.proofs.execute.oldest_ready.Given as goal
+use Rattle.one_thread.specs.Givers.{gives}
+use Rattle.one_thread.specs.Window.{operands_in}
+use Rattle.one_thread.proofs.execute.oldest_ready.Given as goal
 
 abbrev pub invariant-loop-at : goal.invariant-loop-at
 invariant-loop-at l = (k : ℕ) → k < l.at → gives (operands_in l.ahead.registers) l.window k ≡ None

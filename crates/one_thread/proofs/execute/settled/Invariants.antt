@@ -1,7 +1,7 @@
 use Rattle.std.proofs.Common.{◌≡◌, ◌<◌, ◌≤◌, ℕ, true}
 use Rattle.std.specs.Prelude.{slice_get}
-use Rattle.unit.specs.Notes.{settled_at}
-use Rattle.unit.proofs.execute.settled.Given as goal
+use Rattle.one_thread.specs.Notes.{settled_at}
+use Rattle.one_thread.proofs.execute.settled.Given as goal
 
 abbrev pub invariant-loop-i : goal.invariant-loop-i
 invariant-loop-i l =

@@ -1,8 +1,8 @@
 use Rattle.std.proofs.Common.{◌∙◌, sym}
 use Rattle.std.proofs.lemmas.Option.{slice_get_past}
-use Rattle.unit.proofs.Fetched.{even_is, uneven_none}
-use Rattle.unit.proofs.WindowKept.{read_slot}
-use Rattle.unit.proofs.fetch.fetch.Goals as goal
+use Rattle.one_thread.proofs.Fetched.{even_is, uneven_none}
+use Rattle.one_thread.proofs.WindowKept.{read_slot}
+use Rattle.one_thread.proofs.fetch.fetch.Goals as goal
 
 pub returns-then-offset-ne0 : goal.returns-then-offset-ne0
 returns-then-offset-ne0 c P d = sym (uneven_none P c.args.pc c.ranges.pc.fits c.if-offset-ne0.true)

@@ -1,8 +1,8 @@
 use Rattle.std.proofs.Common.{sym, ◌∙◌}
 use Rattle.std.proofs.lemmas.Option.{slice_get_within}
-use Rattle.unit.proofs.Fetched.{even_is, known_even}
-use Rattle.unit.proofs.WindowKept.{read_slot}
-use Rattle.unit.proofs.fetch.fetch_known.Goals as goal
+use Rattle.one_thread.proofs.Fetched.{even_is, known_even}
+use Rattle.one_thread.proofs.WindowKept.{read_slot}
+use Rattle.one_thread.proofs.fetch.fetch_known.Goals as goal
 
 pub bounds-code-at : goal.bounds-code-at
 bounds-code-at c =

@@ -1,11 +1,11 @@
 use Rattle.std.proofs.Common.{◌≤◌, ◌<◌, Some, sym, ap, ◌∙◌, subst, arith}
 use Rattle.lsq.specs.Entries.{bytes}
-use Rattle.unit.specs.Forwarding.{preceded}
-use Rattle.unit.specs.declared.forwarding.Older.TheVariants.{Elsewhere}
-use Rattle.unit.proofs.Walk.{Looked, looked_at, looked_first, looked_none, looked_past, writer_inside, writes_there}
+use Rattle.one_thread.specs.Forwarding.{preceded}
+use Rattle.one_thread.specs.declared.forwarding.Older.TheVariants.{Elsewhere}
+use Rattle.one_thread.proofs.Walk.{Looked, looked_at, looked_first, looked_none, looked_past, writer_inside, writes_there}
 use Rattle.std.specs.Prelude.{length}
-use Rattle.unit.proofs.forwarding.look_back.Goals as goal
-use Rattle.unit.proofs.forwarding.look_back.Goals.{else-at-i-2, else-at-i-via-else-at-i, else-at-i-via-then-at-i+else-is_store_at, then-at-i-2}
+use Rattle.one_thread.proofs.forwarding.look_back.Goals as goal
+use Rattle.one_thread.proofs.forwarding.look_back.Goals.{else-at-i-2, else-at-i-via-else-at-i, else-at-i-via-then-at-i+else-is_store_at, then-at-i-2}
 
 pub loop-writer-init : goal.loop-writer-init
 loop-writer-init c =

@@ -1,10 +1,10 @@
 use Rattle.std.proofs.Common.{◌≡◌, ℕ, Some}
 use Rattle.std.specs.Prelude.{slice_get}
 use Rattle.lsq.specs.Entries.{bytes}
-use Rattle.unit.specs.Creators.{written_by}
-use Rattle.unit.specs.declared.forwarding.Older.TheVariants.{Elsewhere}
-use Rattle.unit.proofs.Walk.{Looked, behind}
-use Rattle.unit.proofs.forwarding.look_back.Given as goal
+use Rattle.one_thread.specs.Creators.{written_by}
+use Rattle.one_thread.specs.declared.forwarding.Older.TheVariants.{Elsewhere}
+use Rattle.one_thread.proofs.Walk.{Looked, behind}
+use Rattle.one_thread.proofs.forwarding.look_back.Given as goal
 
 -- those behind the writer are no stores
 abbrev pub invariant-loop-writer : goal.invariant-loop-writer

@@ -1,7 +1,7 @@
 use Rattle.std.proofs.Common.{◌≡◌, ◌<◌, ℕ, None}
-use Rattle.unit.specs.Givers.{gives}
-use Rattle.unit.specs.Loads.{load_in}
-use Rattle.unit.proofs.memory_port.oldest_answered.Given as goal
+use Rattle.one_thread.specs.Givers.{gives}
+use Rattle.one_thread.specs.Loads.{load_in}
+use Rattle.one_thread.proofs.memory_port.oldest_answered.Given as goal
 
 abbrev pub invariant-loop-at : goal.invariant-loop-at
 invariant-loop-at l =

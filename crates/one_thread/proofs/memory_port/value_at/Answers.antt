@@ -1,8 +1,8 @@
 use Rattle.std.proofs.Common.{sym, ap, ◌∙◌, arith}
 use Rattle.std.proofs.lemmas.Grind.{common_steps}
 use Rattle.std.specs.Prelude.{option_copied}
-use Rattle.unit.proofs.LookBack.{value_right}
-use Rattle.unit.proofs.memory_port.value_at.Goals as goal
+use Rattle.one_thread.proofs.LookBack.{value_right}
+use Rattle.one_thread.proofs.memory_port.value_at.Goals as goal
 
 pub returns : goal.returns
 returns c =

@@ -1,7 +1,7 @@
 use Rattle.std.proofs.Common.{None, sym, ap, ◌∙◌}
 use Rattle.std.specs.Prelude.{slice_set}
-use Rattle.unit.proofs.Leavers.{set_same}
-use Rattle.unit.proofs.retire.leave_untold.Goals as goal
+use Rattle.one_thread.proofs.Leavers.{set_same}
+use Rattle.one_thread.proofs.retire.leave_untold.Goals as goal
 
 pub returns-in-None : goal.returns-in-None
 returns-in-None c =

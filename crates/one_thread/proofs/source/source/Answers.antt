@@ -1,7 +1,7 @@
 use Rattle.std.proofs.Common.{◌≢◌, ◌<◌, Some, sym, ap, ◌∙◌, arith}
 use Rattle.std.specs.Prelude.{option_copied}
-use Rattle.unit.proofs.Sources.{place_there, source_far, source_live, source_other}
-use Rattle.unit.proofs.source.source.Goals as goal
+use Rattle.one_thread.proofs.Sources.{place_there, source_far, source_live, source_other}
+use Rattle.one_thread.proofs.source.source.Goals as goal
 
 pub returns-then-i-at : goal.returns-then-i-at
 returns-then-i-at c =

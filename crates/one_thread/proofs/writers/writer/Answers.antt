@@ -1,8 +1,8 @@
 use Rattle.std.proofs.Common.{◌≢◌, sym, ap, ◌∙◌, arith}
 use Rattle.std.specs.Prelude.{option_copied}
-use Rattle.unit.proofs.Sources.{place_there}
-use Rattle.unit.proofs.Walk.{writer_far, writer_other, writer_there}
-use Rattle.unit.proofs.writers.writer.Goals as goal
+use Rattle.one_thread.proofs.Sources.{place_there}
+use Rattle.one_thread.proofs.Walk.{writer_far, writer_other, writer_there}
+use Rattle.one_thread.proofs.writers.writer.Goals as goal
 
 pub returns-then-i-at : goal.returns-then-i-at
 returns-then-i-at c = writer_far c.args.window.now c.args.i c.args.r c.args.at c.requires.creator c.if-i-at.true

@@ -1,8 +1,8 @@
 use Rattle.std.proofs.Common.{subst}
-use Rattle.unit.specs.Creators.{HasCreators, IsCreator}
+use Rattle.one_thread.specs.Creators.{HasCreators, IsCreator}
 use Rattle.std.specs.Prelude.{slice_get}
-use Rattle.unit.proofs.Walk.{writer_stands}
-use Rattle.unit.proofs.writers.writer_before.Goals as goal
+use Rattle.one_thread.proofs.Walk.{writer_stands}
+use Rattle.one_thread.proofs.writers.writer_before.Goals as goal
 
 pub writer-requires-clause-creator : goal.writer-requires-clause-creator
 writer-requires-clause-creator c =

@@ -1,5 +1,5 @@
-use Rattle.drive.proofs.Histories.{grows_on}
-use Rattle.drive.proofs.accounts.link.Goals as goal
+use Rattle.session.proofs.Histories.{grows_on}
+use Rattle.session.proofs.accounts.link.Goals as goal
 
 pub returns-clause-grows : goal.returns-clause-grows
 returns-clause-grows g c =

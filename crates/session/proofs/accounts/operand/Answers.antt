@@ -1,6 +1,6 @@
-use Rattle.drive.proofs.Histories.{grows_on, starts_same}
-use Rattle.drive.proofs.WordsRead.{later_awaited, later_info, later_operand}
-use Rattle.drive.proofs.accounts.operand.Goals as goal
+use Rattle.session.proofs.Histories.{grows_on, starts_same}
+use Rattle.session.proofs.WordsRead.{later_awaited, later_info, later_operand}
+use Rattle.session.proofs.accounts.operand.Goals as goal
 
 pub returns-clause-grows : goal.returns-clause-grows
 returns-clause-grows g c =

@@ -2,9 +2,9 @@ use Rattle.std.proofs.Common.{◌≡◌, subst}
 use Rattle.inorder.specs.Unit.{front_pc, next_station, recent}
 use Rattle.back.specs.Backs.{unit_in}
 use Rattle.station.specs.Seats.{TheCore}
-use Rattle.drive.specs.declared.replies.Ahead.{Ahead}
-use Rattle.drive.specs.Rows.{IsFront}
-use Rattle.drive.proofs.calls.ahead.Goals as goal
+use Rattle.session.specs.declared.replies.Ahead.{Ahead}
+use Rattle.session.specs.Rows.{IsFront}
+use Rattle.session.proofs.calls.ahead.Goals as goal
 
 pub returns-clause-grows : goal.returns-clause-grows
 returns-clause-grows g c = record { begins = c.meet.ensures.other_history.begins; legal = c.meet.ensures.other_history.legal }

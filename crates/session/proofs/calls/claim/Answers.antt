@@ -1,8 +1,8 @@
 use Rattle.std.proofs.Common.{subst, sym}
 use Rattle.station.specs.Claiming.{ClaimAnswers}
-use Rattle.drive.proofs.Histories.{between, grows_twice}
-use Rattle.drive.proofs.Jobs.{holds_later}
-use Rattle.drive.proofs.calls.claim.Goals as goal
+use Rattle.session.proofs.Histories.{between, grows_twice}
+use Rattle.session.proofs.Jobs.{holds_later}
+use Rattle.session.proofs.calls.claim.Goals as goal
 
 pub returns-clause-grows : goal.returns-clause-grows
 returns-clause-grows c =

@@ -1,7 +1,7 @@
 use Rattle.back.specs.Commits.{CommitAnswers}
-use Rattle.drive.proofs.Backs.{commit_says}
-use Rattle.drive.proofs.Histories.{between, grows_twice}
-use Rattle.drive.proofs.calls.commit.Goals as goal
+use Rattle.session.proofs.Backs.{commit_says}
+use Rattle.session.proofs.Histories.{between, grows_twice}
+use Rattle.session.proofs.calls.commit.Goals as goal
 
 pub returns-clause-grows : goal.returns-clause-grows
 returns-clause-grows g c =

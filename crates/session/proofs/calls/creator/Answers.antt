@@ -2,7 +2,7 @@ use Rattle.std.proofs.Common.{ℕ, subst}
 use Rattle.front.specs.Creating.{IsCreatorAnswer}
 use Rattle.back.specs.Backs.{unit_in}
 use Rattle.station.specs.Seats.{TheCore}
-use Rattle.drive.proofs.calls.creator.Goals as goal
+use Rattle.session.proofs.calls.creator.Goals as goal
 
 pub returns-clause-grows : goal.returns-clause-grows
 returns-clause-grows g c = record { begins = c.meet.ensures.other_history.begins; legal = c.meet.ensures.other_history.legal }

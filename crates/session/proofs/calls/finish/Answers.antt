@@ -1,11 +1,11 @@
 use Rattle.std.proofs.Common.{◌<◌, length, sym, subst}
 use Rattle.instructions.specs.Programs.{Program}
 use Rattle.station.specs.Waking.{HasWoken}
-use Rattle.drive.specs.declared.replies.Finished.{Finished}
-use Rattle.drive.specs.Accounts.{FinishSays}
-use Rattle.drive.proofs.Histories.{between, grows_twice}
-use Rattle.drive.proofs.Jobs.{job_later}
-use Rattle.drive.proofs.calls.finish.Goals as goal
+use Rattle.session.specs.declared.replies.Finished.{Finished}
+use Rattle.session.specs.Accounts.{FinishSays}
+use Rattle.session.proofs.Histories.{between, grows_twice}
+use Rattle.session.proofs.Jobs.{job_later}
+use Rattle.session.proofs.calls.finish.Goals as goal
 
 pub outcome-found-requires : goal.outcome-found-requires
 outcome-found-requires c =

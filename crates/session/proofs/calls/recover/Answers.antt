@@ -1,6 +1,6 @@
 use Rattle.front.specs.Recoveries.{RecoverAnswers}
-use Rattle.drive.proofs.Histories.{between, grows_twice}
-use Rattle.drive.proofs.calls.recover.Goals as goal
+use Rattle.session.proofs.Histories.{between, grows_twice}
+use Rattle.session.proofs.calls.recover.Goals as goal
 
 pub returns-clause-grows : goal.returns-clause-grows
 returns-clause-grows g c =

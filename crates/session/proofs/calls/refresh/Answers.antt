@@ -1,7 +1,7 @@
 use Rattle.std.proofs.Common.{sym, subst}
-use Rattle.drive.specs.Replies.{RefreshSays}
-use Rattle.drive.proofs.Histories.{between, grows_twice}
-use Rattle.drive.proofs.calls.refresh.Goals as goal
+use Rattle.session.specs.Replies.{RefreshSays}
+use Rattle.session.proofs.Histories.{between, grows_twice}
+use Rattle.session.proofs.calls.refresh.Goals as goal
 
 pub returns-clause-grows : goal.returns-clause-grows
 returns-clause-grows g c =

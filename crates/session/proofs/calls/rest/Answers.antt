@@ -1,8 +1,8 @@
 use Rattle.std.proofs.Common.{sym, subst}
-use Rattle.drive.specs.Replies.{RestSays}
-use Rattle.drive.proofs.Between.{rest_says}
-use Rattle.drive.proofs.Histories.{between, grows_twice}
-use Rattle.drive.proofs.calls.rest.Goals as goal
+use Rattle.session.specs.Replies.{RestSays}
+use Rattle.session.proofs.Between.{rest_says}
+use Rattle.session.proofs.Histories.{between, grows_twice}
+use Rattle.session.proofs.calls.rest.Goals as goal
 
 pub returns-clause-grows : goal.returns-clause-grows
 returns-clause-grows g c =

@@ -1,6 +1,6 @@
 use Rattle.std.proofs.Common.{◌∙◌}
-use Rattle.drive.proofs.Backs.{show_keeps, show_says}
-use Rattle.drive.proofs.calls.show.Goals as goal
+use Rattle.session.proofs.Backs.{show_keeps, show_says}
+use Rattle.session.proofs.calls.show.Goals as goal
 
 pub returns-clause-grows : goal.returns-clause-grows
 returns-clause-grows g c = record { begins = c.meet.ensures.other_history.begins; legal = c.meet.ensures.other_history.legal }

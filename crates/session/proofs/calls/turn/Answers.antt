@@ -1,7 +1,7 @@
-use Rattle.drive.specs.Replies.{TurnSays}
-use Rattle.drive.proofs.Between.{turn_says}
-use Rattle.drive.proofs.Histories.{between, grows_twice}
-use Rattle.drive.proofs.calls.turn.Goals as goal
+use Rattle.session.specs.Replies.{TurnSays}
+use Rattle.session.proofs.Between.{turn_says}
+use Rattle.session.proofs.Histories.{between, grows_twice}
+use Rattle.session.proofs.calls.turn.Goals as goal
 
 pub returns-clause-grows : goal.returns-clause-grows
 returns-clause-grows g c =

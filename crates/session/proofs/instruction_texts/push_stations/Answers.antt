@@ -1,9 +1,9 @@
 use Rattle.std.proofs.Common.{◌≡◌, ◌++◌, ◌-◌, ◌<◌, ◌∙◌, sym, subst, string_bytes, arith}
 use Rattle.std.proofs.lemmas.Grind.{common_steps}
 use Rattle.std.proofs.lemmas.List.{append-nil}
-use Rattle.drive.specs.Texts.{stations_text}
-use Rattle.drive.proofs.Woken.{one_more_woken}
-use Rattle.drive.proofs.instruction_texts.push_stations.Goals as goal
+use Rattle.session.specs.Texts.{stations_text}
+use Rattle.session.proofs.Woken.{one_more_woken}
+use Rattle.session.proofs.instruction_texts.push_stations.Goals as goal
 
 pub loop-station-preserved : goal.loop-station-preserved
 loop-station-preserved c =

@@ -1,6 +1,6 @@
 use Rattle.std.proofs.Common.{◌≡◌, ◌++◌, ◌-◌, string_bytes}
-use Rattle.drive.specs.Texts.{stations_text}
-use Rattle.drive.proofs.instruction_texts.push_stations.Given as goal
+use Rattle.session.specs.Texts.{stations_text}
+use Rattle.session.proofs.instruction_texts.push_stations.Given as goal
 
 -- the text so far and what is to come are the whole text
 abbrev pub invariant-loop-station : goal.invariant-loop-station

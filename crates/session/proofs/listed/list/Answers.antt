@@ -1,6 +1,6 @@
 use Rattle.std.proofs.Common.{◌++◌, ◌∙◌, ap, sym, add-one}
-use Rattle.drive.specs.Listed.{all_listed, listed}
-use Rattle.drive.proofs.listed.list.Goals as goal
+use Rattle.session.specs.Listed.{all_listed, listed}
+use Rattle.session.proofs.listed.list.Goals as goal
 
 pub loop-index-preserved : goal.loop-index-preserved
 loop-index-preserved g =

@@ -1,6 +1,6 @@
 use Rattle.std.proofs.Common.{◌≡◌, string_bytes}
-use Rattle.drive.specs.Listed.{all_listed}
-use Rattle.drive.proofs.listed.list.Given as goal
+use Rattle.session.specs.Listed.{all_listed}
+use Rattle.session.proofs.listed.list.Given as goal
 
 -- so many instructions were listed
 abbrev pub invariant-loop-index : goal.invariant-loop-index

@@ -1,11 +1,11 @@
 use Rattle.std.proofs.Common.{◌<◌, List, Option, length, subst, sym, arith}
 use Rattle.inorder.specs.declared.history.Entry.{Entry}
 use Rattle.inorder.specs.History.{StartsWith}
-use Rattle.drive.specs.declared.units.Worker.{Worker}
-use Rattle.drive.specs.Workers.{AreWorkers, UnitHasSeen, seen_at}
-use Rattle.drive.proofs.Histories.{starts_on}
-use Rattle.drive.proofs.Workers.{free_now, has_told, put_back, stay_seen, still_works, taken_seen}
-use Rattle.drive.proofs.meeting.tell_all.Goals as goal
+use Rattle.session.specs.declared.units.Worker.{Worker}
+use Rattle.session.specs.Workers.{AreWorkers, UnitHasSeen, seen_at}
+use Rattle.session.proofs.Histories.{starts_on}
+use Rattle.session.proofs.Workers.{free_now, has_told, put_back, stay_seen, still_works, taken_seen}
+use Rattle.session.proofs.meeting.tell_all.Goals as goal
 
 pub put_worker-requires-clause-free : goal.put_worker-requires-clause-free
 put_worker-requires-clause-free c =

@@ -1,7 +1,7 @@
 use Rattle.std.proofs.Common.{ℕ, ◌+◌, ◌∙◌, List, IfSome, subst, string_bytes}
-use Rattle.drive.specs.Plays.{IsNamed, IsWrittenBehind}
-use Rattle.drive.proofs.Played.{one_more_played}
-use Rattle.drive.proofs.play.push_lines.Goals as goal
+use Rattle.session.specs.Plays.{IsNamed, IsWrittenBehind}
+use Rattle.session.proofs.Played.{one_more_played}
+use Rattle.session.proofs.play.push_lines.Goals as goal
 
 pub loop-number-preserved : goal.loop-number-preserved
 loop-number-preserved g c =

@@ -1,5 +1,5 @@
-use Rattle.drive.specs.Plays.{IsPlayOf}
-use Rattle.drive.proofs.play.push_lines.Given as goal
+use Rattle.session.specs.Plays.{IsPlayOf}
+use Rattle.session.proofs.play.push_lines.Given as goal
 
 -- so many commands were chosen and answered
 abbrev pub invariant-loop-number : goal.invariant-loop-number

@@ -1,7 +1,7 @@
 use Rattle.std.proofs.Common.{ℕ, ◌<◌, List, length, take, subst}
 use Rattle.std.specs.Io.KnownBytes.{Appends}
-use Rattle.drive.proofs.Scripts.{on_err}
-use Rattle.drive.proofs.play.write_play.Goals as goal
+use Rattle.session.proofs.Scripts.{on_err}
+use Rattle.session.proofs.play.write_play.Goals as goal
 
 pub returns-in_err-write_whole-clause-broken : goal.returns-in_err-write_whole-clause-broken
 returns-in_err-write_whole-clause-broken g c =

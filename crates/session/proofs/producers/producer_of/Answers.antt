@@ -1,7 +1,7 @@
 use Rattle.std.proofs.Common.{rules}
-use Rattle.drive.proofs.Histories.{grows_on, starts_same}
-use Rattle.drive.proofs.WordsRead.{later_link, one_more_none}
-use Rattle.drive.proofs.producers.producer_of.Goals as goal
+use Rattle.session.proofs.Histories.{grows_on, starts_same}
+use Rattle.session.proofs.WordsRead.{later_link, one_more_none}
+use Rattle.session.proofs.producers.producer_of.Goals as goal
 
 pub returns-in-Some-clause-grows : goal.returns-in-Some-clause-grows
 returns-in-Some-clause-grows g c =

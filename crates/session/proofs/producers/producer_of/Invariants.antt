@@ -1,9 +1,9 @@
 use Rattle.std.proofs.Common.{ℕ, ◌<◌}
 use Rattle.back.specs.Backs.{IsSameBack}
 use Rattle.station.specs.Seats.{IsSameSeat}
-use Rattle.drive.specs.Accounts.{IsNotFrom}
-use Rattle.drive.specs.Moments.{GrowsLegally}
-use Rattle.drive.proofs.producers.producer_of.Given as goal
+use Rattle.session.specs.Accounts.{IsNotFrom}
+use Rattle.session.specs.Moments.{GrowsLegally}
+use Rattle.session.proofs.producers.producer_of.Given as goal
 
 -- no link word from so many stations names the tenant
 abbrev pub invariant-loop-at : goal.invariant-loop-at

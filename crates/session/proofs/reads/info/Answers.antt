@@ -1,6 +1,6 @@
 use Rattle.station.specs.Looking.{SeesInfo}
-use Rattle.drive.proofs.Histories.{between, grows_twice}
-use Rattle.drive.proofs.reads.info.Goals as goal
+use Rattle.session.proofs.Histories.{between, grows_twice}
+use Rattle.session.proofs.reads.info.Goals as goal
 
 pub returns-clause-grows : goal.returns-clause-grows
 returns-clause-grows g c =

@@ -1,6 +1,6 @@
 use Rattle.std.proofs.Common.{◌≡◌, ◌++◌, drop, string_bytes}
-use Rattle.drive.specs.Texts.{registers_text}
-use Rattle.drive.proofs.register_texts.push_registers.Given as goal
+use Rattle.session.specs.Texts.{registers_text}
+use Rattle.session.proofs.register_texts.push_registers.Given as goal
 
 -- the text so far and what is to come are the whole text
 abbrev pub invariant-loop-r : goal.invariant-loop-r

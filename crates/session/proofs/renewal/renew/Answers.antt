@@ -6,7 +6,7 @@ use Rattle.back.specs.Stills.{GoesOnForBack, TheStillBack, head_at}
 use Rattle.front.specs.Stills.{next_at}
 use Rattle.station.specs.Renewals.{seats_of}
 use Rattle.station.specs.Seats.{TheCore}
-use Rattle.drive.proofs.renewal.renew.Goals as goal
+use Rattle.session.proofs.renewal.renew.Goals as goal
 
 pub renew-requires-clause-goes_on : goal.renew-requires-clause-goes_on
 renew-requires-clause-goes_on g c =

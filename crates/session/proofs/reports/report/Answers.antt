@@ -1,8 +1,8 @@
 use Rattle.std.proofs.Common.{◌∙◌}
 use Rattle.inorder.specs.Runs.{ending}
 use Rattle.back.specs.Backs.{back_state}
-use Rattle.drive.proofs.InOrder.{committed_after, machine_state, same_state}
-use Rattle.drive.proofs.reports.report.Goals as goal
+use Rattle.session.proofs.InOrder.{committed_after, machine_state, same_state}
+use Rattle.session.proofs.reports.report.Goals as goal
 
 pub returns-clause-state : goal.returns-clause-state
 returns-clause-state g c =

@@ -1,8 +1,8 @@
 use Rattle.std.proofs.Common.{◌+◌, ◌%◌, ◌≤◌, rules, sym, subst}
-use Rattle.drive.specs.declared.replies.Head.{Head}
-use Rattle.drive.proofs.Histories.{grows_on}
-use Rattle.drive.proofs.WordsRead.{few_more, one_more_look}
-use Rattle.drive.proofs.rows.head.Goals as goal
+use Rattle.session.specs.declared.replies.Head.{Head}
+use Rattle.session.proofs.Histories.{grows_on}
+use Rattle.session.proofs.WordsRead.{few_more, one_more_look}
+use Rattle.session.proofs.rows.head.Goals as goal
 
 pub loop-at-preserved : goal.loop-at-preserved
 loop-at-preserved g c =

@@ -1,9 +1,9 @@
 use Rattle.std.proofs.Common.{◌≤◌}
 use Rattle.back.specs.Backs.{IsSameBack}
 use Rattle.station.specs.Seats.{IsSameSeat}
-use Rattle.drive.specs.Moments.{GrowsLegally}
-use Rattle.drive.specs.Rows.{AreLookedAt}
-use Rattle.drive.proofs.rows.head.Given as goal
+use Rattle.session.specs.Moments.{GrowsLegally}
+use Rattle.session.specs.Rows.{AreLookedAt}
+use Rattle.session.proofs.rows.head.Given as goal
 
 -- so many stations were looked at
 abbrev pub invariant-loop-at : goal.invariant-loop-at

@@ -1,8 +1,8 @@
 use Rattle.std.proofs.Common.{◌≡◌, ℕ, ◌<◌, Some}
 use Rattle.station.specs.declared.job.Job.{Job}
-use Rattle.drive.specs.Rows.{IsJobOf}
-use Rattle.drive.specs.Workers.{job_at}
-use Rattle.drive.proofs.rows.holder.Given as goal
+use Rattle.session.specs.Rows.{IsJobOf}
+use Rattle.session.specs.Workers.{job_at}
+use Rattle.session.proofs.rows.holder.Given as goal
 
 -- none of so many units holds the job
 abbrev pub invariant-loop-at : goal.invariant-loop-at

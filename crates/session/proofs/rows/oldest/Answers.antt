@@ -1,5 +1,5 @@
-use Rattle.drive.proofs.Histories.{grows_on}
-use Rattle.drive.proofs.rows.oldest.Goals as goal
+use Rattle.session.proofs.Histories.{grows_on}
+use Rattle.session.proofs.rows.oldest.Goals as goal
 
 pub returns-in-Some-clause-grows : goal.returns-in-Some-clause-grows
 returns-in-Some-clause-grows g c =

@@ -1,5 +1,5 @@
-use Rattle.drive.proofs.Histories.{grows_on}
-use Rattle.drive.proofs.rows.ring.Goals as goal
+use Rattle.session.proofs.Histories.{grows_on}
+use Rattle.session.proofs.rows.ring.Goals as goal
 
 pub returns-clause-grows : goal.returns-clause-grows
 returns-clause-grows g c =

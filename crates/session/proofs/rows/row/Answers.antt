@@ -1,7 +1,7 @@
 use Rattle.inorder.specs.declared.history.Source.TheVariants.{First, Second}
-use Rattle.drive.proofs.Histories.{grows_on, starts_same}
-use Rattle.drive.proofs.WordsRead.{later_look, later_told}
-use Rattle.drive.proofs.rows.row.Goals as goal
+use Rattle.session.proofs.Histories.{grows_on, starts_same}
+use Rattle.session.proofs.WordsRead.{later_look, later_told}
+use Rattle.session.proofs.rows.row.Goals as goal
 
 pub returns-clause-grows : goal.returns-clause-grows
 returns-clause-grows g c =

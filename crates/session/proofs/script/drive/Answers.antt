@@ -1,9 +1,9 @@
 use Rattle.std.proofs.Common.{◌≡◌, ◌+◌, ◌∙◌, false, sym, subst, IfSome, arith}
 use Rattle.std.proofs.lemmas.Grind.{common_steps}
-use Rattle.devices.specs.Counted.{known_by}
-use Rattle.drive.specs.Scripts.{LineIsTold}
-use Rattle.drive.proofs.Scripts.{one_more_told}
-use Rattle.drive.proofs.script.drive.Goals as goal
+use Rattle.counted_io.specs.Counted.{known_by}
+use Rattle.session.specs.Scripts.{LineIsTold}
+use Rattle.session.proofs.Scripts.{one_more_told}
+use Rattle.session.proofs.script.drive.Goals as goal
 
 pub loop-number-preserved : goal.loop-number-preserved
 loop-number-preserved g c =

@@ -1,7 +1,7 @@
-use Rattle.devices.specs.Counted.{failures_of, known_by}
+use Rattle.counted_io.specs.Counted.{failures_of, known_by}
 use Rattle.std.proofs.Common.{◌≡◌}
-use Rattle.drive.specs.Scripts.{AreTold}
-use Rattle.drive.proofs.script.drive.Given as goal
+use Rattle.session.specs.Scripts.{AreTold}
+use Rattle.session.proofs.script.drive.Given as goal
 
 -- so many lines were told, and no call failed
 abbrev pub invariant-loop-number : goal.invariant-loop-number

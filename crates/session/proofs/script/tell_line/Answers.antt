@@ -1,11 +1,11 @@
 use Rattle.std.proofs.Common.{◌∙◌, ℕ, List, ap, subst}
 use Rattle.std.specs.Io.KnownBytes.{Appends}
-use Rattle.drive.specs.Commands.{IsLine}
-use Rattle.drive.specs.Scripts.{line_of}
-use Rattle.drive.specs.Transcripts.{IsWrittenOfLine}
-use Rattle.drive.specs.Words.{words_of}
-use Rattle.drive.proofs.Scripts.{cut_short, on_err, reads}
-use Rattle.drive.proofs.script.tell_line.Goals as goal
+use Rattle.session.specs.Commands.{IsLine}
+use Rattle.session.specs.Scripts.{line_of}
+use Rattle.session.specs.Transcripts.{IsWrittenOfLine}
+use Rattle.session.specs.Words.{words_of}
+use Rattle.session.proofs.Scripts.{cut_short, on_err, reads}
+use Rattle.session.proofs.script.tell_line.Goals as goal
 
 pub returns-clause-line : goal.returns-clause-line
 returns-clause-line g c =

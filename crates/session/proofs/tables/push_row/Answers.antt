@@ -1,7 +1,7 @@
 use Rattle.std.proofs.Common.{◌≡◌, ◌∙◌, false, sym, string_bytes, arith}
 use Rattle.std.proofs.lemmas.Grind.{common_steps}
-use Rattle.drive.proofs.TableRows.{left_out}
-use Rattle.drive.proofs.tables.push_row.Goals as goal
+use Rattle.session.proofs.TableRows.{left_out}
+use Rattle.session.proofs.tables.push_row.Goals as goal
 
 pub returns-then-not-has_row : goal.returns-then-not-has_row
 returns-then-not-has_row g c =

@@ -1,6 +1,6 @@
 use Rattle.std.proofs.Common.{string_bytes}
-use Rattle.drive.proofs.TableRows.{one_more_station}
-use Rattle.drive.proofs.tables.push_stations.Goals as goal
+use Rattle.session.proofs.TableRows.{one_more_station}
+use Rattle.session.proofs.tables.push_stations.Goals as goal
 
 pub loop-station-preserved : goal.loop-station-preserved
 loop-station-preserved g c =

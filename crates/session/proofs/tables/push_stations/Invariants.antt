@@ -1,6 +1,6 @@
 use Rattle.std.proofs.Common.{string_bytes}
-use Rattle.drive.specs.Tables.{AreRows, of_stations}
-use Rattle.drive.proofs.tables.push_stations.Given as goal
+use Rattle.session.specs.Tables.{AreRows, of_stations}
+use Rattle.session.proofs.tables.push_stations.Given as goal
 
 -- the rows of so many stations were written
 abbrev pub invariant-loop-station : goal.invariant-loop-station

@@ -1,8 +1,8 @@
 use Rattle.std.proofs.Common.{◌≡◌, subst, string_bytes, arith}
 use Rattle.std.proofs.lemmas.Grind.{common_steps}
-use Rattle.drive.specs.Tables.{AreRows, of_registers, of_stations}
-use Rattle.drive.proofs.TableRows.{one_more_register}
-use Rattle.drive.proofs.tables.rows_of_all.Goals as goal
+use Rattle.session.specs.Tables.{AreRows, of_registers, of_stations}
+use Rattle.session.proofs.TableRows.{one_more_register}
+use Rattle.session.proofs.tables.rows_of_all.Goals as goal
 
 pub loop-register-preserved : goal.loop-register-preserved
 loop-register-preserved g c =

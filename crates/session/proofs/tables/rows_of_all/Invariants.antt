@@ -1,6 +1,6 @@
 use Rattle.std.proofs.Common.{string_bytes}
-use Rattle.drive.specs.Tables.{AreRows, of_registers, of_stations}
-use Rattle.drive.proofs.tables.rows_of_all.Given as goal
+use Rattle.session.specs.Tables.{AreRows, of_registers, of_stations}
+use Rattle.session.proofs.tables.rows_of_all.Given as goal
 
 -- the rows of all stations and of so many registers were written
 abbrev pub invariant-loop-register : goal.invariant-loop-register

@@ -1,9 +1,9 @@
 use Rattle.std.proofs.Common.{string_bytes}
 use Rattle.instructions.specs.Registers.{register_count}
-use Rattle.drive.specs.declared.commands.Command.TheVariants as ask
-use Rattle.drive.specs.Tables.{of_registers, of_stations}
-use Rattle.drive.proofs.TableRows.{one_more_row}
-use Rattle.drive.proofs.tables.table.Goals as goal
+use Rattle.session.specs.declared.commands.Command.TheVariants as ask
+use Rattle.session.specs.Tables.{of_registers, of_stations}
+use Rattle.session.proofs.TableRows.{one_more_row}
+use Rattle.session.proofs.tables.table.Goals as goal
 
 pub returns : goal.returns
 returns g c =

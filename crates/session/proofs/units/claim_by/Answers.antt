@@ -1,12 +1,12 @@
 use Rattle.std.proofs.Common.{◌≡◌, ◌<◌, ℕ, List, Option, length, sym, ap, ◌∙◌, subst, arith}
 use Rattle.inorder.specs.declared.history.Entry.{Entry}
-use Rattle.drive.specs.declared.units.Worker.{Worker}
-use Rattle.drive.specs.Replies.{IsClaim}
-use Rattle.drive.specs.Workers.{AreWorkers, HasUnit, IsWorker, job_from}
-use Rattle.drive.proofs.Workers.{claimed_holds, free_now, has_unit, put_back}
+use Rattle.session.specs.declared.units.Worker.{Worker}
+use Rattle.session.specs.Replies.{IsClaim}
+use Rattle.session.specs.Workers.{AreWorkers, HasUnit, IsWorker, job_from}
+use Rattle.session.proofs.Workers.{claimed_holds, free_now, has_unit, put_back}
 use Rattle.station.specs.declared.answers.Claim.{Claim}
 use Rattle.station.specs.Seats.{Caller}
-use Rattle.drive.proofs.units.claim_by.Goals as goal
+use Rattle.session.proofs.units.claim_by.Goals as goal
 
 pub free_seat-seat-requires : goal.free_seat-seat-requires
 free_seat-seat-requires c = c.take_worker.ensures.job ∙ c.requires.free

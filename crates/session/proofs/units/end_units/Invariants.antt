@@ -1,6 +1,6 @@
 use Rattle.std.proofs.Common.{vec_len}
-use Rattle.drive.specs.Workers.{AreAtWork}
-use Rattle.drive.proofs.units.end_units.Given as goal
+use Rattle.session.specs.Workers.{AreAtWork}
+use Rattle.session.proofs.units.end_units.Given as goal
 
 -- those that are left hold their jobs
 abbrev pub invariant-loop-unit : goal.invariant-loop-unit

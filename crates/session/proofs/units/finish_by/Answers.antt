@@ -1,10 +1,10 @@
 use Rattle.std.proofs.Common.{◌≡◌, ◌<◌, List, None, Option, Some, length, refl, sym, ap, ◌∙◌, subst, arith}
 use Rattle.inorder.specs.declared.history.Entry.{Entry}
-use Rattle.drive.specs.declared.units.Worker.{Worker}
-use Rattle.drive.specs.Accounts.{IsFinish}
-use Rattle.drive.specs.Workers.{HasUnit, job_at}
-use Rattle.drive.proofs.Workers.{free_now, has_unit, held_is, holds_one}
-use Rattle.drive.proofs.units.finish_by.Goals as goal
+use Rattle.session.specs.declared.units.Worker.{Worker}
+use Rattle.session.specs.Accounts.{IsFinish}
+use Rattle.session.specs.Workers.{HasUnit, job_at}
+use Rattle.session.proofs.Workers.{free_now, has_unit, held_is, holds_one}
+use Rattle.session.proofs.units.finish_by.Goals as goal
 
 pub unreachable-requires : goal.unreachable-requires
 unreachable-requires c = holds_one c.args.units.now.items c.args.unit c.args.station (sym c.take_worker-seat.ensures.job ∙ c.in_default.is) c.requires.holds

@@ -1,6 +1,6 @@
 use Rattle.std.proofs.Common.{◌≡◌, ◌<◌, ℕ, None, vec_len}
-use Rattle.drive.specs.Workers.{AreAtWork, worker_at}
-use Rattle.drive.proofs.units.forget_units.Given as goal
+use Rattle.session.specs.Workers.{AreAtWork, worker_at}
+use Rattle.session.proofs.units.forget_units.Given as goal
 
 -- all units so far are forgotten, and the others hold their jobs
 abbrev pub invariant-loop-at : goal.invariant-loop-at

@@ -1,6 +1,6 @@
 use Rattle.std.proofs.Common.{◌≡◌, ◌<◌, Some, length, sym, ◌∙◌, arith}
-use Rattle.drive.proofs.Workers.{at_place, job_of_taken}
-use Rattle.drive.proofs.units.take_worker.Goals as goal
+use Rattle.session.proofs.Workers.{at_place, job_of_taken}
+use Rattle.session.proofs.units.take_worker.Goals as goal
 
 pub returns-in-Some-clause-worker : goal.returns-in-Some-clause-worker
 returns-in-Some-clause-worker c =

@@ -1,4 +1,4 @@
-use Rattle.devices.specs.Counted.{Gives}
+use Rattle.counted_io.specs.Counted.{Gives}
 use Rattle.with_threads.proofs.AsAlone.{reader_as_alone}
 use Rattle.with_threads.proofs.running.go_by.Goals as goal
 

@@ -1,5 +1,5 @@
 use Rattle.std.proofs.Common.{◌∙◌}
-use Rattle.devices.specs.Counted.{known_by, Gives, GivesPart}
+use Rattle.counted_io.specs.Counted.{known_by, Gives, GivesPart}
 use Rattle.with_threads.proofs.Answering.{answers_all, answers_all_somehow, has_read}
 use Rattle.with_threads.proofs.threads.run.Goals as goal
 

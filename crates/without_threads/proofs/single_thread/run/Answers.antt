@@ -1,10 +1,10 @@
 use Rattle.bench.specs.Answer.{IsAnswerAlone, most_taken}
-use Rattle.devices.proofs.Replied.{replied_as}
+use Rattle.counted_io.proofs.Replied.{replied_as}
 use Rattle.without_threads.specs.Answers.{IsAnswerTo}
 use Rattle.without_threads.specs.Went.{written_whole}
 use Rattle.without_threads.specs.declared.went.Line.TheVariants.{Nothing}
 use Rattle.without_threads.proofs.Answered.{alone_answers, alone_begins}
-use Rattle.without_threads.proofs.one_thread.run.Goals as goal
+use Rattle.without_threads.proofs.single_thread.run.Goals as goal
 
 pub returns-in-Ok-clause-ok : goal.returns-in-Ok-clause-ok
 returns-in-Ok-clause-ok g c =

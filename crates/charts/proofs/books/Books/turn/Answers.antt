@@ -2,7 +2,7 @@ use Rattle.std.proofs.Common.{◌≡◌, ◌∙◌, ◌++◌, ap, length}
 use Rattle.std.specs.Prelude.{slice_get}
 use Rattle.charts.specs.Rows.{SoFar, all_seen, kept, let_row, newcomer, retires}
 use Rattle.charts.specs.Events.{entry_events, moved_events}
-use Rattle.devices.specs.Counted.{counted}
+use Rattle.counted_io.specs.Counted.{counted}
 use Rattle.charts.proofs.BooksKept.{turn_events, turn_kept}
 use Rattle.charts.proofs.books.Books.turn.Goals as goal
 

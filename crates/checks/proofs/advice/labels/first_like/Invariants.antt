@@ -1,6 +1,6 @@
 use Rattle.std.proofs.Common.{length}
 use Rattle.std.specs.Option.{option_map}
-use Rattle.text.proofs.Splits.{size_left}
+use Rattle.lexical.proofs.Splits.{size_left}
 use Rattle.checks.proofs.advice.labels.first_like.Given as goal
 
 abbrev pub decreases-loop-rest : goal.decreases-loop-rest

@@ -1,5 +1,5 @@
 use Rattle.std.specs.Option.{option_map}
-use Rattle.text.proofs.Splits.{size_left}
+use Rattle.lexical.proofs.Splits.{size_left}
 use Rattle.checks.proofs.mending.Labels.of.Given as goal
 
 abbrev pub decreases-loop-rest : goal.decreases-loop-rest

@@ -1,8 +1,8 @@
 use Rattle.std.proofs.Common.{◌≡◌, ℕ, List, length}
 use Rattle.std.specs.Prelude.{◌||◌}
 use Rattle.std.specs.Option.{option_map}
-use Rattle.text.specs.Operand.{operands_left}
-use Rattle.text.proofs.Splits.{size_left}
+use Rattle.lexical.specs.Operand.{operands_left}
+use Rattle.lexical.proofs.Splits.{size_left}
 use Rattle.isa.specs.Listing.{stands_in}
 use Rattle.checks.specs.Warnings.{has_key, operands_in}
 use Rattle.checks.proofs.warnings.operands.note_line.Given as goal

@@ -1,8 +1,8 @@
 use Rattle.std.proofs.Common.{◌≡◌, ℕ, List}
 use Rattle.std.specs.Prelude.{◌||◌}
 use Rattle.std.specs.Option.{option_map}
-use Rattle.text.specs.Line.{lines_of, lines_left}
-use Rattle.text.proofs.Splits.{size_left}
+use Rattle.lexical.specs.Line.{lines_of, lines_left}
+use Rattle.lexical.proofs.Splits.{size_left}
 use Rattle.isa.specs.Listing.{stands_in}
 use Rattle.checks.specs.Warnings.{all_operands, has_key}
 use Rattle.checks.proofs.warnings.operands.operands_of.Given as goal

@@ -3,7 +3,7 @@ use Rattle.std.specs.Int.{w32, to_le_bytes}
 use Rattle.std.specs.Option.{option_map}
 use Rattle.std.proofs.lemmas.Result.{err_from_is_err_and}
 use Rattle.std.proofs.lemmas.List.{length-append}
-use Rattle.text.specs.Operand.{operands_left}
+use Rattle.lexical.specs.Operand.{operands_left}
 use Rattle.isa.proofs.Bytes.{bytes_more, bytes_fault, bytes_done}
 use Rattle.isa.proofs.listing.directive.add_numbers.Goals as goal
 

@@ -1,7 +1,7 @@
 use Rattle.std.proofs.Common.{◌≡◌, ◌%◌, length}
 use Rattle.std.specs.Option.{option_map}
-use Rattle.text.specs.Operand.{operands_left}
-use Rattle.text.proofs.Splits.{size_left}
+use Rattle.lexical.specs.Operand.{operands_left}
+use Rattle.lexical.proofs.Splits.{size_left}
 use Rattle.isa.proofs.Bytes.{BytesSoFar}
 use Rattle.isa.proofs.listing.directive.add_numbers.Given as goal
 

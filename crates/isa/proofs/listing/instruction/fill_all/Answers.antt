@@ -1,7 +1,7 @@
 use Rattle.std.proofs.Common.{ℕ, List, Option, Bor, Result, Err, ◌∙◌, sym, ap, arith}
 use Rattle.std.specs.Option.{option_map}
 use Rattle.std.proofs.lemmas.Result.{err_from_is_err_and}
-use Rattle.text.specs.Operand.{operands_left}
+use Rattle.lexical.specs.Operand.{operands_left}
 use Rattle.isa.specs.declared.listing.fault.FaultKind.{FaultKind}
 use Rattle.isa.specs.declared.listing.slot.Slot.TheVariants.{Into}
 use Rattle.isa.specs.Statement.{Parsed, draft_view}

@@ -1,6 +1,6 @@
 use Rattle.std.proofs.Common.{◌≡◌, drop}
 use Rattle.std.specs.Option.{option_map}
-use Rattle.text.specs.Operand.{operands_left}
+use Rattle.lexical.specs.Operand.{operands_left}
 use Rattle.isa.specs.Statement.{draft_view, filled}
 use Rattle.isa.proofs.listing.instruction.fill_all.Given as goal
 

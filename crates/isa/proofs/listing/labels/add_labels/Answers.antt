@@ -1,5 +1,5 @@
 use Rattle.std.proofs.Common.{◌∙◌, sym, refl}
-use Rattle.text.specs.Label.{labels_of}
+use Rattle.lexical.specs.Label.{labels_of}
 use Rattle.isa.proofs.LabelTable.{marks_more}
 use Rattle.isa.proofs.listing.labels.add_labels.Goals as goal
 

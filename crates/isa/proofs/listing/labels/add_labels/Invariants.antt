@@ -1,5 +1,5 @@
 use Rattle.std.proofs.Common.{◌≡◌, ◌++◌, length, map}
-use Rattle.text.specs.Label.{labels_of, statement_of}
+use Rattle.lexical.specs.Label.{labels_of, statement_of}
 use Rattle.isa.specs.Late.{mark, marks}
 use Rattle.isa.proofs.listing.labels.add_labels.Given as goal
 

@@ -1,8 +1,8 @@
 use Rattle.std.proofs.Common.{ℕ, ◌+◌, ◌*◌, refl, arith}
 use Rattle.std.specs.Option.{option_map}
 use Rattle.std.proofs.lemmas.Result.{err_from_is_err_and}
-use Rattle.text.specs.Line.{lines_left}
-use Rattle.text.proofs.Lines.{code_given}
+use Rattle.lexical.specs.Line.{lines_left}
+use Rattle.lexical.proofs.Lines.{code_given}
 use Rattle.isa.proofs.LabelTable.{one_mark}
 use Rattle.isa.proofs.Behind.{reads_none, adds_nothing}
 use Rattle.isa.proofs.listing.line.read_first_line.Goals as goal

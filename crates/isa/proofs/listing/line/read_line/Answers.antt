@@ -3,7 +3,7 @@ use Rattle.std.specs.Prelude.{OnOk, IfErr}
 use Rattle.std.specs.Option.{option_map}
 use Rattle.std.proofs.lemmas.Result.{err_from_is_err_and}
 use Rattle.isa.specs.Statement.{statement}
-use Rattle.text.proofs.Lines.{code_given, code_none}
+use Rattle.lexical.proofs.Lines.{code_given, code_none}
 use Rattle.isa.proofs.Slots.{kind_is}
 use Rattle.isa.proofs.Behind.{fault_not_plain, fault_statement, fault_long_memory, fault_long_code, reads_none, reads_some}
 use Rattle.isa.proofs.listing.line.read_line.Goals as goal

@@ -2,7 +2,7 @@ use Rattle.std.proofs.Common.{◌≡◌, ℕ, List, [], Option, Bor, ◌∙◌, 
 use Rattle.std.specs.Option.{option_map}
 use Rattle.std.proofs.lemmas.List.{append-nil}
 use Rattle.std.proofs.lemmas.Result.{IfOk-weaker, IfErr-weaker}
-use Rattle.text.specs.Operand.{operands, operands_left}
+use Rattle.lexical.specs.Operand.{operands, operands_left}
 use Rattle.isa.specs.Statement.{statement, with_operands}
 use Rattle.isa.proofs.Statements.{statement_empty, statement_is}
 use Rattle.isa.proofs.listing.statement.statement.Goals as goal

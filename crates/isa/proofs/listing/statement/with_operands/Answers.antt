@@ -3,7 +3,7 @@ use Rattle.std.specs.Prelude.{codes}
 use Rattle.std.specs.Option.{option_map}
 use Rattle.std.proofs.lemmas.Result.{err_from_is_err_and}
 use Rattle.std.proofs.lemmas.List.{append-nil}
-use Rattle.text.specs.Operand.{operands_left}
+use Rattle.lexical.specs.Operand.{operands_left}
 use Rattle.isa.specs.Statement.{draft_view, is_word}
 use Rattle.isa.proofs.Statements.{space_ok, space_fault, words_ok, words_fault, instruction_ok, instruction_fault}
 use Rattle.isa.proofs.listing.statement.with_operands.Goals as goal

@@ -1,13 +1,13 @@
 -- Turns up to a retirement.
 use Rattle.std.proofs.Common.{◌≡◌, ◌<◌, suc, Some, refl, sym, ap, ◌∙◌, subst, true≢false, arith}
-use Rattle.unit.specs.Changes.{RetiresOne}
-use Rattle.unit.specs.Turns.{SizesStay}
-use Rattle.unit.specs.declared.bench.Turn.TheVariants.{Over, Recovered, Retired}
-use Rattle.unit.proofs.Moved.{moves_first}
-use Rattle.unit.proofs.BenchTurns.{before_moves, recovered_shows}
-use Rattle.unit.proofs.Inside.{window_room}
-use Rattle.unit.proofs.Ends.{left, left_falls, one_over, one_retired}
-use Rattle.unit.proofs.bench.Bench.retires_one.Goals as goal
+use Rattle.one_thread.specs.Changes.{RetiresOne}
+use Rattle.one_thread.specs.Turns.{SizesStay}
+use Rattle.one_thread.specs.declared.bench.Turn.TheVariants.{Over, Recovered, Retired}
+use Rattle.one_thread.proofs.Moved.{moves_first}
+use Rattle.one_thread.proofs.BenchTurns.{before_moves, recovered_shows}
+use Rattle.one_thread.proofs.Inside.{window_room}
+use Rattle.one_thread.proofs.Ends.{left, left_falls, one_over, one_retired}
+use Rattle.one_thread.proofs.bench.Bench.retires_one.Goals as goal
 
 pub returns-in-Some-clause-ends : goal.returns-in-Some-clause-ends
 returns-in-Some-clause-ends g c =

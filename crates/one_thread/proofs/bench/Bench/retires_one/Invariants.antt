@@ -1,7 +1,7 @@
 use Rattle.std.proofs.Common.{◌≡◌, suc, false, None}
-use Rattle.unit.specs.StandsFor.{StandsForSome}
-use Rattle.unit.proofs.Ends.{left}
-use Rattle.unit.proofs.bench.Bench.retires_one.Given as goal
+use Rattle.one_thread.specs.StandsFor.{StandsForSome}
+use Rattle.one_thread.proofs.Ends.{left}
+use Rattle.one_thread.proofs.bench.Bench.retires_one.Given as goal
 
 abbrev pub invariant-loop-self : goal.invariant-loop-self
 invariant-loop-self g l =

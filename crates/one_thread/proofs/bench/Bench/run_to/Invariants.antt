@@ -1,6 +1,6 @@
 use Rattle.std.proofs.Common.{◌≡◌, ◌-◌}
-use Rattle.unit.specs.Changes.{run_from}
-use Rattle.unit.proofs.bench.Bench.run_to.Given as goal
+use Rattle.one_thread.specs.Changes.{run_from}
+use Rattle.one_thread.proofs.bench.Bench.run_to.Given as goal
 
 abbrev pub invariant-loop-again : goal.invariant-loop-again
 invariant-loop-again g l =

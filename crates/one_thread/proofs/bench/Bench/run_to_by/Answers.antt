@@ -1,11 +1,11 @@
 -- A run by choice goes on as the in-order machine does.
 use Rattle.std.proofs.Common.{◌≡◌, ◌<◌, ◌-◌, ap, ◌∙◌, subst, arith}
 use Rattle.inorder.specs.Runs.{end_from}
-use Rattle.unit.specs.StandsFor.{StandsForSome}
-use Rattle.unit.specs.declared.bench.Turn.TheVariants.{Over}
-use Rattle.unit.proofs.ChosenTurns.{moves_by}
-use Rattle.unit.proofs.Ends.{ends_over, ends_same, left_falls}
-use Rattle.unit.proofs.bench.Bench.run_to_by.Goals as goal
+use Rattle.one_thread.specs.StandsFor.{StandsForSome}
+use Rattle.one_thread.specs.declared.bench.Turn.TheVariants.{Over}
+use Rattle.one_thread.proofs.ChosenTurns.{moves_by}
+use Rattle.one_thread.proofs.Ends.{ends_over, ends_same, left_falls}
+use Rattle.one_thread.proofs.bench.Bench.run_to_by.Goals as goal
 
 pub returns-in-Over : goal.returns-in-Over
 returns-in-Over g c =

@@ -1,7 +1,7 @@
 use Rattle.std.proofs.Common.{◌≡◌}
-use Rattle.unit.specs.Changes.{run_from}
-use Rattle.unit.proofs.Ends.{left}
-use Rattle.unit.proofs.bench.Bench.run_to_by.Given as goal
+use Rattle.one_thread.specs.Changes.{run_from}
+use Rattle.one_thread.proofs.Ends.{left}
+use Rattle.one_thread.proofs.bench.Bench.run_to_by.Given as goal
 
 abbrev pub invariant-loop-self : goal.invariant-loop-self
 invariant-loop-self g l =

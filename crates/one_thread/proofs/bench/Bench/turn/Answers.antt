@@ -1,13 +1,13 @@
 -- Each return of a turn.
 use Rattle.std.proofs.Common.{refl, sym, ◌∙◌, subst}
-use Rattle.unit.specs.Changes.{NoneRecovers}
-use Rattle.unit.specs.StandsFor.{StandsForSome}
-use Rattle.unit.specs.Turns.{Falls, fields}
-use Rattle.unit.specs.Order.{IsTurn}
-use Rattle.unit.specs.declared.bench.Turn.TheVariants.{Let, Over, Recovered}
-use Rattle.unit.proofs.BenchTurns.{before_moves, plain_turn, recovered_shows}
-use Rattle.unit.proofs.Inside.{window_room}
-use Rattle.unit.proofs.bench.Bench.turn.Goals as goal
+use Rattle.one_thread.specs.Changes.{NoneRecovers}
+use Rattle.one_thread.specs.StandsFor.{StandsForSome}
+use Rattle.one_thread.specs.Turns.{Falls, fields}
+use Rattle.one_thread.specs.Order.{IsTurn}
+use Rattle.one_thread.specs.declared.bench.Turn.TheVariants.{Let, Over, Recovered}
+use Rattle.one_thread.proofs.BenchTurns.{before_moves, plain_turn, recovered_shows}
+use Rattle.one_thread.proofs.Inside.{window_room}
+use Rattle.one_thread.proofs.bench.Bench.turn.Goals as goal
 
 pub recovers-requires-clause-room : goal.recovers-requires-clause-room
 recovers-requires-clause-room g c = window_room c.self.inside.pipeline c.self.invariant.0

@@ -1,12 +1,12 @@
 -- A turn by choice.
 use Rattle.std.proofs.Common.{◌≡◌, ◌<◌, ◌%◌, [], length, Some, sym, subst}
 use Rattle.std.specs.Prelude.{slice_get}
-use Rattle.unit.specs.Steps.{ArePossible, Permits}
-use Rattle.unit.specs.Turns.{fields}
-use Rattle.unit.specs.declared.bench.Turn.TheVariants.{Over}
-use Rattle.unit.proofs.ChosenTurns.{before_by, chosen_by, none_listed, nothing_by, seen_by, some_listed}
-use Rattle.unit.proofs.Listed.{all_get, all_permitted}
-use Rattle.unit.proofs.bench.Bench.turn_by.Goals as goal
+use Rattle.one_thread.specs.Steps.{ArePossible, Permits}
+use Rattle.one_thread.specs.Turns.{fields}
+use Rattle.one_thread.specs.declared.bench.Turn.TheVariants.{Over}
+use Rattle.one_thread.proofs.ChosenTurns.{before_by, chosen_by, none_listed, nothing_by, seen_by, some_listed}
+use Rattle.one_thread.proofs.Listed.{all_get, all_permitted}
+use Rattle.one_thread.proofs.bench.Bench.turn_by.Goals as goal
 
 pub returns-in-Some-clause-turn : goal.returns-in-Some-clause-turn
 returns-in-Some-clause-turn g c =

@@ -1,8 +1,8 @@
 use Rattle.std.proofs.Common.{subst, sym}
-use Rattle.unit.specs.declared.order.Order.TheVariants.{Chosen}
-use Rattle.unit.specs.Ordered.{IsTurnIn}
-use Rattle.unit.proofs.OrderedTurns.{chosen_in, first_in}
-use Rattle.unit.proofs.bench.Bench.turn_in.Goals as goal
+use Rattle.one_thread.specs.declared.order.Order.TheVariants.{Chosen}
+use Rattle.one_thread.specs.Ordered.{IsTurnIn}
+use Rattle.one_thread.proofs.OrderedTurns.{chosen_in, first_in}
+use Rattle.one_thread.proofs.bench.Bench.turn_in.Goals as goal
 
 pub returns-in-First-clause-turn : goal.returns-in-First-clause-turn
 returns-in-First-clause-turn g c =

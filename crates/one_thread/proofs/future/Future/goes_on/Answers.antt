@@ -1,10 +1,10 @@
 use Rattle.std.proofs.Common.{◌≡◌, ◌≢◌, ◌<◌, ℕ, sym, ap, ◌∙◌, subst, arith}
 use Rattle.std.specs.Prelude.{slice_set}
-use Rattle.unit.specs.declared.future.Future.{Future}
-use Rattle.unit.specs.Steady.{GoesOnBehind}
-use Rattle.unit.proofs.Futures.{behind_none, behind_writes}
-use Rattle.unit.proofs.future.Future.goes_on.Goals.{then-r-ne0+in-Some, else-r-ne0}
-use Rattle.unit.proofs.future.Future.goes_on.Goals as goal
+use Rattle.one_thread.specs.declared.future.Future.{Future}
+use Rattle.one_thread.specs.Steady.{GoesOnBehind}
+use Rattle.one_thread.proofs.Futures.{behind_none, behind_writes}
+use Rattle.one_thread.proofs.future.Future.goes_on.Goals.{then-r-ne0+in-Some, else-r-ne0}
+use Rattle.one_thread.proofs.future.Future.goes_on.Goals as goal
 
 pub returns-clause-on : goal.returns-clause-on
 returns-clause-on c =

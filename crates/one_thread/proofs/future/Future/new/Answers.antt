@@ -1,7 +1,7 @@
 use Rattle.std.proofs.Common.{sym, ap, ◌∙◌, arith, length, length-set, Some}
 use Rattle.std.specs.Prelude.{slice_index, slice_set}
-use Rattle.unit.proofs.Futures.{values_none}
-use Rattle.unit.proofs.future.Future.new.Goals as goal
+use Rattle.one_thread.proofs.Futures.{values_none}
+use Rattle.one_thread.proofs.future.Future.new.Goals as goal
 
 pub returns : goal.returns
 returns c =

@@ -1,11 +1,11 @@
 use Rattle.std.proofs.Common.{Some, refl, sym, subst}
 use Rattle.circular_buffer.proofs.Places.{slice_get-some}
-use Rattle.unit.specs.Changes.{registers_of}
-use Rattle.unit.specs.Notes.{AreNoted}
-use Rattle.unit.specs.Window.{further_on}
-use Rattle.unit.specs.declared.station.Stage.TheVariants.{Done}
-use Rattle.unit.proofs.Noted.{noted_loaded}
-use Rattle.unit.proofs.pipeline.Pipeline.answers.Goals as goal
+use Rattle.one_thread.specs.Changes.{registers_of}
+use Rattle.one_thread.specs.Notes.{AreNoted}
+use Rattle.one_thread.specs.Window.{further_on}
+use Rattle.one_thread.specs.declared.station.Stage.TheVariants.{Done}
+use Rattle.one_thread.proofs.Noted.{noted_loaded}
+use Rattle.one_thread.proofs.pipeline.Pipeline.answers.Goals as goal
 
 pub returns-clause-noted : goal.returns-clause-noted
 returns-clause-noted c =

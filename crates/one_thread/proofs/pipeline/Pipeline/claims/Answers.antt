@@ -1,10 +1,10 @@
 use Rattle.std.proofs.Common.{◌≡◌, Some, refl, sym, ap, ◌∙◌, subst}
 use Rattle.std.specs.Prelude.{option_copied, slice_get, slice_set}
-use Rattle.unit.specs.Changes.{registers_of}
-use Rattle.unit.specs.Notes.{AreNoted}
-use Rattle.unit.specs.Window.{station_after}
-use Rattle.unit.proofs.Noted.{noted_ran}
-use Rattle.unit.proofs.pipeline.Pipeline.claims.Goals as goal
+use Rattle.one_thread.specs.Changes.{registers_of}
+use Rattle.one_thread.specs.Notes.{AreNoted}
+use Rattle.one_thread.specs.Window.{station_after}
+use Rattle.one_thread.proofs.Noted.{noted_ran}
+use Rattle.one_thread.proofs.pipeline.Pipeline.claims.Goals as goal
 
 pub returns-clause-noted : goal.returns-clause-noted
 returns-clause-noted c =

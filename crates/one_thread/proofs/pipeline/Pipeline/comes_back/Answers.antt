@@ -1,11 +1,11 @@
 use Rattle.std.proofs.Common.{ap, ◌∙◌}
-use Rattle.unit.specs.Changes.{NoneRecovers, RecoversOldest}
-use Rattle.unit.specs.Steady.{ComesBack}
-use Rattle.unit.proofs.Awaiting.{chosen_first}
-use Rattle.unit.proofs.Inside.{window_room}
-use Rattle.unit.proofs.Idle.{idle, ran_shows}
-use Rattle.unit.proofs.Mended.{recovered_unit}
-use Rattle.unit.proofs.pipeline.Pipeline.comes_back.Goals as goal
+use Rattle.one_thread.specs.Changes.{NoneRecovers, RecoversOldest}
+use Rattle.one_thread.specs.Steady.{ComesBack}
+use Rattle.one_thread.proofs.Awaiting.{chosen_first}
+use Rattle.one_thread.proofs.Inside.{window_room}
+use Rattle.one_thread.proofs.Idle.{idle, ran_shows}
+use Rattle.one_thread.proofs.Mended.{recovered_unit}
+use Rattle.one_thread.proofs.pipeline.Pipeline.comes_back.Goals as goal
 
 pub returns-then-not-runs-clause-unit : goal.returns-then-not-runs-clause-unit
 returns-then-not-runs-clause-unit c =

@@ -1,9 +1,9 @@
 -- A let.
 use Rattle.std.proofs.Common.{◌+◌, length, None, sym, ap, ◌∙◌, arith, mod-lt}
 use Rattle.std.specs.Prelude.{slice_get, slice_set}
-use Rattle.unit.proofs.BenchTurns.{guess_fixed, let_bench, let_shows}
-use Rattle.unit.specs.Turns.{fields}
-use Rattle.unit.proofs.pipeline.Pipeline.enters.Goals as goal
+use Rattle.one_thread.proofs.BenchTurns.{guess_fixed, let_bench, let_shows}
+use Rattle.one_thread.specs.Turns.{fields}
+use Rattle.one_thread.proofs.pipeline.Pipeline.enters.Goals as goal
 
 pub returns-clause-turn : goal.returns-clause-turn
 returns-clause-turn g c =

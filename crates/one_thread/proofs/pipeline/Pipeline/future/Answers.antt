@@ -1,9 +1,9 @@
 use Rattle.std.proofs.Common.{◌≡◌, take, sym, ap, ◌∙◌, subst, arith}
 use Rattle.std.proofs.lemmas.List.{take_all}
 use Rattle.std.specs.Prelude.{option_copied}
-use Rattle.unit.specs.Steady.{Foresees, AwaitRetirement}
-use Rattle.unit.proofs.Awaiting.{foresees_next, none_is, registers_long}
-use Rattle.unit.proofs.pipeline.Pipeline.future.Goals as goal
+use Rattle.one_thread.specs.Steady.{Foresees, AwaitRetirement}
+use Rattle.one_thread.proofs.Awaiting.{foresees_next, none_is, registers_long}
+use Rattle.one_thread.proofs.pipeline.Pipeline.future.Goals as goal
 
 pub new-future-requires : goal.new-future-requires
 new-future-requires c = registers_long c.args.self.now c.requires (none_is c.args.self.now.low (sym c.is_some-else-is_some.ensures ∙ c.if-is_some-2.false))

@@ -1,6 +1,6 @@
 use Rattle.std.proofs.Common.{take}
-use Rattle.unit.specs.Steady.{Foresees, AwaitRetirement}
-use Rattle.unit.proofs.pipeline.Pipeline.future.Given as goal
+use Rattle.one_thread.specs.Steady.{Foresees, AwaitRetirement}
+use Rattle.one_thread.proofs.pipeline.Pipeline.future.Given as goal
 
 abbrev pub invariant-loop-i : goal.invariant-loop-i
 invariant-loop-i l =

@@ -1,7 +1,7 @@
 use Rattle.std.proofs.Common.{◌≡◌, ◌++◌, ◌∷◌, [], Some, sym, ap, ◌∙◌, subst}
-use Rattle.unit.specs.Decoding.{IsDecoded}
-use Rattle.unit.specs.Window.{further_on, let_at}
-use Rattle.unit.proofs.pipeline.Pipeline.let_as.Goals as goal
+use Rattle.one_thread.specs.Decoding.{IsDecoded}
+use Rattle.one_thread.specs.Window.{further_on, let_at}
+use Rattle.one_thread.proofs.pipeline.Pipeline.let_as.Goals as goal
 
 pub fetch_known-instr-requires : goal.fetch_known-instr-requires
 fetch_known-instr-requires c =

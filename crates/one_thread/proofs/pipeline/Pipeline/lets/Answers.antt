@@ -1,7 +1,7 @@
 -- A let in order.
-use Rattle.unit.proofs.BenchTurns.{let_is_first}
-use Rattle.unit.specs.Turns.{fields}
-use Rattle.unit.proofs.pipeline.Pipeline.lets.Goals as goal
+use Rattle.one_thread.proofs.BenchTurns.{let_is_first}
+use Rattle.one_thread.specs.Turns.{fields}
+use Rattle.one_thread.proofs.pipeline.Pipeline.lets.Goals as goal
 
 pub returns-clause-turn : goal.returns-clause-turn
 returns-clause-turn g c =

@@ -1,9 +1,9 @@
 use Rattle.std.proofs.Common.{sym, ap, ◌∙◌, take}
 use Rattle.std.specs.Prelude.{option_copied}
-use Rattle.unit.specs.Steady.{Follows, FollowsYoungest}
-use Rattle.unit.proofs.Awaiting.{chosen_both}
-use Rattle.unit.proofs.StreamsLoads.{loaded_follows, loaded_whole}
-use Rattle.unit.proofs.pipeline.Pipeline.loads_next.Goals as goal
+use Rattle.one_thread.specs.Steady.{Follows, FollowsYoungest}
+use Rattle.one_thread.proofs.Awaiting.{chosen_both}
+use Rattle.one_thread.proofs.StreamsLoads.{loaded_follows, loaded_whole}
+use Rattle.one_thread.proofs.pipeline.Pipeline.loads_next.Goals as goal
 
 pub passes-requires-clause-whole : goal.passes-requires-clause-whole
 passes-requires-clause-whole c =

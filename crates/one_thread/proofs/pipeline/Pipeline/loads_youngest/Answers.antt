@@ -1,15 +1,15 @@
 use Rattle.std.proofs.Common.{Some, length, refl, sym, ap, ◌∙◌, subst, arith}
 use Rattle.circular_buffer.proofs.Places.{slice_get-some}
-use Rattle.unit.specs.Changes.{LoadGives}
-use Rattle.unit.specs.Givers.{gives}
-use Rattle.unit.specs.Loads.{AreInside, load_in}
-use Rattle.unit.specs.Steady.{reopened}
-use Rattle.unit.specs.Window.{further_on}
-use Rattle.unit.specs.declared.station.Stage.TheVariants.{Done}
-use Rattle.unit.proofs.Reopened.{reopened_set}
-use Rattle.unit.proofs.Inside.{are_inside, stores_write_none}
-use Rattle.unit.proofs.StreamsLoads.{loaded_ends, loaded_youngest}
-use Rattle.unit.proofs.pipeline.Pipeline.loads_youngest.Goals as goal
+use Rattle.one_thread.specs.Changes.{LoadGives}
+use Rattle.one_thread.specs.Givers.{gives}
+use Rattle.one_thread.specs.Loads.{AreInside, load_in}
+use Rattle.one_thread.specs.Steady.{reopened}
+use Rattle.one_thread.specs.Window.{further_on}
+use Rattle.one_thread.specs.declared.station.Stage.TheVariants.{Done}
+use Rattle.one_thread.proofs.Reopened.{reopened_set}
+use Rattle.one_thread.proofs.Inside.{are_inside, stores_write_none}
+use Rattle.one_thread.proofs.StreamsLoads.{loaded_ends, loaded_youngest}
+use Rattle.one_thread.proofs.pipeline.Pipeline.loads_youngest.Goals as goal
 
 pub value_at-requires-clause-there : goal.value_at-requires-clause-there
 value_at-requires-clause-there c = omega (arith, c.requires.youngest)

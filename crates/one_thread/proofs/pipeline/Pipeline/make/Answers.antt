@@ -1,22 +1,22 @@
 -- Each step that can be made.
 use Rattle.std.proofs.Common.{◌≡◌, true, Option, Some, refl, sym, subst}
 use Rattle.std.specs.Prelude.{slice_get}
-use Rattle.unit.specs.Changes.{CanClaim, LoadGives}
-use Rattle.unit.specs.Notes.{settled_at}
-use Rattle.unit.specs.Stages.{FirstMiss}
-use Rattle.unit.specs.Steps.{Makes, Permits}
-use Rattle.unit.specs.Turns.{IsPlain, fields}
-use Rattle.unit.specs.declared.bench.Turn.TheVariants.{Loaded, Ran, Recovered}
-use Rattle.unit.specs.declared.possible.Step.TheVariants.{Load, Recover, Retire, Run}
-use Rattle.unit.proofs.BenchTurns.{plain_makes, recovered_shows}
-use Rattle.unit.proofs.CanLeave.{some_leaves}
-use Rattle.unit.proofs.EndTurns.{retires_as}
-use Rattle.unit.proofs.Idle.{retired_plain}
-use Rattle.unit.proofs.Inside.{window_room}
-use Rattle.unit.proofs.MadeSteps.{giver, load_as, load_comes, recover_as, retire_comes, run_as, run_comes}
-use Rattle.unit.specs.Loads.{load_in}
-use Rattle.unit.specs.Changes.{registers_of}
-use Rattle.unit.proofs.pipeline.Pipeline.make.Goals as goal
+use Rattle.one_thread.specs.Changes.{CanClaim, LoadGives}
+use Rattle.one_thread.specs.Notes.{settled_at}
+use Rattle.one_thread.specs.Stages.{FirstMiss}
+use Rattle.one_thread.specs.Steps.{Makes, Permits}
+use Rattle.one_thread.specs.Turns.{IsPlain, fields}
+use Rattle.one_thread.specs.declared.bench.Turn.TheVariants.{Loaded, Ran, Recovered}
+use Rattle.one_thread.specs.declared.possible.Step.TheVariants.{Load, Recover, Retire, Run}
+use Rattle.one_thread.proofs.BenchTurns.{plain_makes, recovered_shows}
+use Rattle.one_thread.proofs.CanLeave.{some_leaves}
+use Rattle.one_thread.proofs.EndTurns.{retires_as}
+use Rattle.one_thread.proofs.Idle.{retired_plain}
+use Rattle.one_thread.proofs.Inside.{window_room}
+use Rattle.one_thread.proofs.MadeSteps.{giver, load_as, load_comes, recover_as, retire_comes, run_as, run_comes}
+use Rattle.one_thread.specs.Loads.{load_in}
+use Rattle.one_thread.specs.Changes.{registers_of}
+use Rattle.one_thread.proofs.pipeline.Pipeline.make.Goals as goal
 
 pub recovers_from-requires-clause-room : goal.recovers_from-requires-clause-room
 recovers_from-requires-clause-room g c = window_room c.args.self.now c.requires.unit

@@ -1,10 +1,10 @@
 use Rattle.std.proofs.Common.{◌≡◌, ◌<◌, ◌≤◌, suc, length, arith}
 use Rattle.circular_buffer.proofs.Places.{slice_get-some}
 use Rattle.std.specs.Prelude.{⊤}
-use Rattle.unit.specs.Steady.{IsSteady}
-use Rattle.unit.proofs.Awaiting.{chosen_as}
-use Rattle.unit.proofs.Mended.{back_behind, mended_long, mended_steady}
-use Rattle.unit.proofs.pipeline.Pipeline.mends.Goals as goal
+use Rattle.one_thread.specs.Steady.{IsSteady}
+use Rattle.one_thread.proofs.Awaiting.{chosen_as}
+use Rattle.one_thread.proofs.Mended.{back_behind, mended_long, mended_steady}
+use Rattle.one_thread.proofs.pipeline.Pipeline.mends.Goals as goal
 
 pub returns-clause-steady : goal.returns-clause-steady
 returns-clause-steady c =

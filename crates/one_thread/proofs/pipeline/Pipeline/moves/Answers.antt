@@ -1,12 +1,12 @@
 -- Each answer of a turn that asks no predictor.
 use Rattle.std.proofs.Common.{sym, ap, ◌∙◌, subst, true≢false}
-use Rattle.unit.specs.Changes.{registers_of}
-use Rattle.unit.specs.Givers.{NoneGives}
-use Rattle.unit.specs.Loads.{load_in}
-use Rattle.unit.proofs.Inside.{are_inside, stores_write_none}
-use Rattle.unit.proofs.Idle.{Idle, idle, leaves_after, loaded_shows, ran_shows, retired_open, retired_plain, retired_shows}
-use Rattle.unit.proofs.Stalls.{loaded_stalls, ran_stalls, retired_unstalled}
-use Rattle.unit.proofs.pipeline.Pipeline.moves.Goals as goal
+use Rattle.one_thread.specs.Changes.{registers_of}
+use Rattle.one_thread.specs.Givers.{NoneGives}
+use Rattle.one_thread.specs.Loads.{load_in}
+use Rattle.one_thread.proofs.Inside.{are_inside, stores_write_none}
+use Rattle.one_thread.proofs.Idle.{Idle, idle, leaves_after, loaded_shows, ran_shows, retired_open, retired_plain, retired_shows}
+use Rattle.one_thread.proofs.Stalls.{loaded_stalls, ran_stalls, retired_unstalled}
+use Rattle.one_thread.proofs.pipeline.Pipeline.moves.Goals as goal
 
 pub returns-then-runs-clause-turn : goal.returns-then-runs-clause-turn
 returns-then-runs-clause-turn c =

@@ -1,6 +1,6 @@
 use Rattle.std.proofs.Common.{refl, arith}
-use Rattle.unit.proofs.Start.{start_stands, start_unit}
-use Rattle.unit.proofs.pipeline.Pipeline.new.Goals as goal
+use Rattle.one_thread.proofs.Start.{start_stands, start_unit}
+use Rattle.one_thread.proofs.pipeline.Pipeline.new.Goals as goal
 
 pub returns-clause-unit : goal.returns-clause-unit
 returns-clause-unit c = start_unit _ c.new-window.ensures c.in_ok-committed.ensures refl refl refl refl refl (omega (arith, c.ring.ensures.least))

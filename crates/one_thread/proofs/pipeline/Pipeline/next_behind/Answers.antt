@@ -1,10 +1,10 @@
 use Rattle.std.proofs.Common.{◌≡◌, ◌<◌, true, sym, ap, ◌∙◌, subst, arith, true≢false}
 use Rattle.std.specs.Prelude.{length, option_copied}
-use Rattle.unit.specs.Decoding.{IsDecoded}
-use Rattle.unit.specs.Window.{accesses, half_in, reaches_memory}
-use Rattle.unit.proofs.Awaiting.{half_passed}
-use Rattle.unit.proofs.pipeline.Pipeline.next_behind.Goals.{else-self-accesses-via-else-self-accesses, else-self-accesses-via-then-self-accesses+else-is_access}
-use Rattle.unit.proofs.pipeline.Pipeline.next_behind.Goals as goal
+use Rattle.one_thread.specs.Decoding.{IsDecoded}
+use Rattle.one_thread.specs.Window.{accesses, half_in, reaches_memory}
+use Rattle.one_thread.proofs.Awaiting.{half_passed}
+use Rattle.one_thread.proofs.pipeline.Pipeline.next_behind.Goals.{else-self-accesses-via-else-self-accesses, else-self-accesses-via-then-self-accesses+else-is_access}
+use Rattle.one_thread.proofs.pipeline.Pipeline.next_behind.Goals as goal
 
 pub returns : goal.returns
 returns c =

@@ -1,8 +1,8 @@
 -- There is room for all of them.
 use Rattle.std.proofs.Common.{◌≡◌, ◌≤◌, [], length, ap, arith}
 use Rattle.arrayvec.specs.ArrayVec.{array_vec_len}
-use Rattle.unit.proofs.Inside.{are_inside, stores_write_none, window_room}
-use Rattle.unit.proofs.pipeline.Pipeline.possible_steps.Goals as goal
+use Rattle.one_thread.proofs.Inside.{are_inside, stores_write_none, window_room}
+use Rattle.one_thread.proofs.pipeline.Pipeline.possible_steps.Goals as goal
 
 pub push_runs-requires : goal.push_runs-requires
 push_runs-requires c =

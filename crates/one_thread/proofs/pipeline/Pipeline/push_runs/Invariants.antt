@@ -1,7 +1,7 @@
 use Rattle.std.proofs.Common.{◌≡◌, ◌≤◌, ◌+◌, ◌++◌}
 use Rattle.arrayvec.specs.ArrayVec.{array_vec_len}
-use Rattle.unit.specs.Steps.{runs_of}
-use Rattle.unit.proofs.pipeline.Pipeline.push_runs.Given as goal
+use Rattle.one_thread.specs.Steps.{runs_of}
+use Rattle.one_thread.proofs.pipeline.Pipeline.push_runs.Given as goal
 
 abbrev pub invariant-loop-at : goal.invariant-loop-at
 invariant-loop-at l =

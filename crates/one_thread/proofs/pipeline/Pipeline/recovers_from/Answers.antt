@@ -1,9 +1,9 @@
 use Rattle.std.proofs.Common.{◌≡◌, ◌≤◌, ◌+◌, ◌++◌, ◌∷◌, [], length, take, false, refl, sym, ap, ◌∙◌, subst, arith}
 use Rattle.std.proofs.lemmas.List.{take_more_set}
-use Rattle.unit.specs.Notes.{AreNoted}
-use Rattle.unit.specs.Window.{station_mended}
-use Rattle.unit.proofs.Noted.{noted_mended}
-use Rattle.unit.proofs.pipeline.Pipeline.recovers_from.Goals as goal
+use Rattle.one_thread.specs.Notes.{AreNoted}
+use Rattle.one_thread.specs.Window.{station_mended}
+use Rattle.one_thread.proofs.Noted.{noted_mended}
+use Rattle.one_thread.proofs.pipeline.Pipeline.recovers_from.Goals as goal
 
 pub returns-clause-noted : goal.returns-clause-noted
 returns-clause-noted c =

@@ -2,10 +2,10 @@ use Rattle.std.proofs.Common.{◌≡◌, ◌<◌, ◌-◌, length, sym, ap, ◌�
 use Rattle.circular_buffer.proofs.Places.{slice_get-some}
 use Rattle.instructions.specs.Instruction.{kind}
 use Rattle.inorder.specs.Tenants.{made_at_let}
-use Rattle.unit.specs.declared.pipeline.Pipeline.{Pipeline}
-use Rattle.unit.specs.Steady.{reopened}
-use Rattle.unit.proofs.Reopened.{reopened_all, reopened_long, reopened_step}
-use Rattle.unit.proofs.pipeline.Pipeline.reopens.Goals as goal
+use Rattle.one_thread.specs.declared.pipeline.Pipeline.{Pipeline}
+use Rattle.one_thread.specs.Steady.{reopened}
+use Rattle.one_thread.proofs.Reopened.{reopened_all, reopened_long, reopened_step}
+use Rattle.one_thread.proofs.pipeline.Pipeline.reopens.Goals as goal
 
 pub loop-at-init : goal.loop-at-init
 loop-at-init c =

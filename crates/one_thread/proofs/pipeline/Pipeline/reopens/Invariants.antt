@@ -1,6 +1,6 @@
 use Rattle.std.proofs.Common.{◌≡◌, ◌≤◌, length}
-use Rattle.unit.specs.Steady.{with_reopened}
-use Rattle.unit.proofs.pipeline.Pipeline.reopens.Given as goal
+use Rattle.one_thread.specs.Steady.{with_reopened}
+use Rattle.one_thread.proofs.pipeline.Pipeline.reopens.Given as goal
 
 abbrev pub invariant-loop-at : goal.invariant-loop-at
 invariant-loop-at l =

@@ -1,15 +1,15 @@
 use Rattle.std.proofs.Common.{◌+◌, ◌%◌, ◌++◌, ◌∷◌, [], None, refl, ap, ◌∙◌, arith}
 use Rattle.std.specs.Prelude.{slice_set}
 use Rattle.instructions.specs.Operations.{outcome_of}
-use Rattle.unit.specs.declared.pipeline.Pipeline.{Pipeline}
-use Rattle.unit.specs.declared.station.Station.{Station}
-use Rattle.unit.specs.Steady.{Follows, FollowsYoungest, arrives}
-use Rattle.unit.specs.Window.{let_at}
-use Rattle.unit.proofs.Awaiting.{chosen_as, passed_no_miss}
-use Rattle.unit.proofs.BenchTurns.{guess_fixed, let_shows}
-use Rattle.unit.proofs.Reopened.{reopened_let}
-use Rattle.unit.proofs.StreamsIn.{HasArrived, arrived_ends, arrived_follows, arrived_unit, arrives_let}
-use Rattle.unit.proofs.pipeline.Pipeline.runs_next.Goals as goal
+use Rattle.one_thread.specs.declared.pipeline.Pipeline.{Pipeline}
+use Rattle.one_thread.specs.declared.station.Station.{Station}
+use Rattle.one_thread.specs.Steady.{Follows, FollowsYoungest, arrives}
+use Rattle.one_thread.specs.Window.{let_at}
+use Rattle.one_thread.proofs.Awaiting.{chosen_as, passed_no_miss}
+use Rattle.one_thread.proofs.BenchTurns.{guess_fixed, let_shows}
+use Rattle.one_thread.proofs.Reopened.{reopened_let}
+use Rattle.one_thread.proofs.StreamsIn.{HasArrived, arrived_ends, arrived_follows, arrived_unit, arrives_let}
+use Rattle.one_thread.proofs.pipeline.Pipeline.runs_next.Goals as goal
 
 pub leaver-left-requires : goal.leaver-left-requires
 leaver-left-requires g c =

@@ -1,9 +1,9 @@
 use Rattle.std.proofs.Common.{◌≡◌, ◌<◌, ◌-◌, refl, ap, ◌∙◌, arith}
 use Rattle.inorder.specs.Runs.{end_from}
-use Rattle.unit.specs.Changes.{run_from}
-use Rattle.unit.proofs.Mended.{left_open}
-use Rattle.unit.proofs.Reopened.{none_reopened}
-use Rattle.unit.proofs.pipeline.Pipeline.streams.Goals as goal
+use Rattle.one_thread.specs.Changes.{run_from}
+use Rattle.one_thread.proofs.Mended.{left_open}
+use Rattle.one_thread.proofs.Reopened.{none_reopened}
+use Rattle.one_thread.proofs.pipeline.Pipeline.streams.Goals as goal
 
 pub loop-future-init : goal.loop-future-init
 loop-future-init g c =

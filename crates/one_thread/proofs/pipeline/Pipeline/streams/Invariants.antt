@@ -1,8 +1,8 @@
 use Rattle.std.proofs.Common.{◌≡◌, ◌<◌, ◌≤◌, ◌+◌, ◌-◌, ◌*◌, length}
-use Rattle.unit.specs.Changes.{run_from}
-use Rattle.unit.specs.StandsFor.{StandsForSome}
-use Rattle.unit.specs.Steady.{IsSteady, with_reopened}
-use Rattle.unit.proofs.pipeline.Pipeline.streams.Given as goal
+use Rattle.one_thread.specs.Changes.{run_from}
+use Rattle.one_thread.specs.StandsFor.{StandsForSome}
+use Rattle.one_thread.specs.Steady.{IsSteady, with_reopened}
+use Rattle.one_thread.proofs.pipeline.Pipeline.streams.Given as goal
 
 abbrev pub invariant-loop-future : goal.invariant-loop-future
 invariant-loop-future g l =

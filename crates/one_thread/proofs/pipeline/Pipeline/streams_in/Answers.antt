@@ -1,9 +1,9 @@
 use Rattle.std.proofs.Common.{◌≡◌, ◌≤◌, ◌++◌, ◌∷◌, [], take, sym, ap, ◌∙◌, subst, arith}
-use Rattle.unit.specs.declared.pipeline.Pipeline.{Pipeline}
-use Rattle.unit.specs.StandsFor.{StandsForSome}
-use Rattle.unit.specs.Steady.{EndsWith, reopened, with_reopened}
-use Rattle.unit.proofs.Scan.{take_middle}
-use Rattle.unit.proofs.pipeline.Pipeline.streams_in.Goals as goal
+use Rattle.one_thread.specs.declared.pipeline.Pipeline.{Pipeline}
+use Rattle.one_thread.specs.StandsFor.{StandsForSome}
+use Rattle.one_thread.specs.Steady.{EndsWith, reopened, with_reopened}
+use Rattle.one_thread.proofs.Scan.{take_middle}
+use Rattle.one_thread.proofs.pipeline.Pipeline.streams_in.Goals as goal
 
 pub returns-clause-window : goal.returns-clause-window
 returns-clause-window g c =

@@ -1,9 +1,9 @@
 use Rattle.std.proofs.Common.{◌≡◌, None, length, sym, ap, subst, arith}
-use Rattle.unit.specs.declared.pipeline.Pipeline.{Pipeline}
-use Rattle.unit.specs.Changes.{NextOf}
-use Rattle.unit.specs.Stages.{NoRoom}
-use Rattle.unit.proofs.StreamsFill.{forgotten_stays, let_steady, longer, steady_less}
-use Rattle.unit.proofs.pipeline.Pipeline.streams_one.Goals as goal
+use Rattle.one_thread.specs.declared.pipeline.Pipeline.{Pipeline}
+use Rattle.one_thread.specs.Changes.{NextOf}
+use Rattle.one_thread.specs.Stages.{NoRoom}
+use Rattle.one_thread.proofs.StreamsFill.{forgotten_stays, let_steady, longer, steady_less}
+use Rattle.one_thread.proofs.pipeline.Pipeline.streams_one.Goals as goal
 
 pub returns-then-len-self-clause-streamed : goal.returns-then-len-self-clause-streamed
 returns-then-len-self-clause-streamed g c =

@@ -1,11 +1,11 @@
 use Rattle.std.proofs.Common.{suc, refl}
-use Rattle.unit.specs.declared.pipeline.Pipeline.{Pipeline}
-use Rattle.unit.proofs.Ends.{one_retired}
-use Rattle.unit.proofs.StreamsOut.{IsDue, due_ended, due_shows, due_steady}
-use Rattle.unit.proofs.Untold.{oldest_untold}
-use Rattle.unit.proofs.Moved.{moves_first}
-use Rattle.unit.specs.declared.bench.Turn.TheVariants.{Retired}
-use Rattle.unit.proofs.pipeline.Pipeline.streams_out.Goals as goal
+use Rattle.one_thread.specs.declared.pipeline.Pipeline.{Pipeline}
+use Rattle.one_thread.proofs.Ends.{one_retired}
+use Rattle.one_thread.proofs.StreamsOut.{IsDue, due_ended, due_shows, due_steady}
+use Rattle.one_thread.proofs.Untold.{oldest_untold}
+use Rattle.one_thread.proofs.Moved.{moves_first}
+use Rattle.one_thread.specs.declared.bench.Turn.TheVariants.{Retired}
+use Rattle.one_thread.proofs.pipeline.Pipeline.streams_out.Goals as goal
 
 pub leaves_settled-requires-clause-can : goal.leaves_settled-requires-clause-can
 leaves_settled-requires-clause-can c =

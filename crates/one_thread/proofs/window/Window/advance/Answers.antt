@@ -1,12 +1,12 @@
 use Rattle.std.proofs.Common.{◌≡◌, ◌<◌, length, set, get_or, Some, sym, ap, ◌∙◌, subst, arith}
 use Rattle.std.specs.Prelude.{slice_get}
-use Rattle.unit.specs.Creators.{IsWindow}
-use Rattle.unit.specs.Slots.{ring_of}
-use Rattle.unit.specs.Window.{accesses, further_on}
-use Rattle.unit.proofs.Accesses.{count_put}
-use Rattle.unit.proofs.Slots.{ring_get, ring_length, ring_set}
-use Rattle.unit.proofs.WindowKept.{further_same, further_twice, slot_gives, window_put}
-use Rattle.unit.proofs.window.Window.advance.Goals as goal
+use Rattle.one_thread.specs.Creators.{IsWindow}
+use Rattle.one_thread.specs.Slots.{ring_of}
+use Rattle.one_thread.specs.Window.{accesses, further_on}
+use Rattle.one_thread.proofs.Accesses.{count_put}
+use Rattle.one_thread.proofs.Slots.{ring_get, ring_length, ring_set}
+use Rattle.one_thread.proofs.WindowKept.{further_same, further_twice, slot_gives, window_put}
+use Rattle.one_thread.proofs.window.Window.advance.Goals as goal
 
 pub invariant_of-self : goal.invariant_of-self
 invariant_of-self c =

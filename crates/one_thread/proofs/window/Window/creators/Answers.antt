@@ -1,11 +1,11 @@
 use Rattle.std.proofs.Common.{◌≡◌, ◌<◌, length, get_or, Some, sym, ap, ◌∙◌, subst, arith}
 use Rattle.std.specs.Prelude.{slice_get}
-use Rattle.unit.specs.declared.creators.Creators.{Creators}
-use Rattle.unit.specs.Creators.{CreatorsAt, places_of}
-use Rattle.unit.specs.Slots.{ring_of}
-use Rattle.unit.proofs.Slots.{ring_get, ring_length}
-use Rattle.unit.proofs.WindowKept.{slot_gives}
-use Rattle.unit.proofs.window.Window.creators.Goals as goal
+use Rattle.one_thread.specs.declared.creators.Creators.{Creators}
+use Rattle.one_thread.specs.Creators.{CreatorsAt, places_of}
+use Rattle.one_thread.specs.Slots.{ring_of}
+use Rattle.one_thread.proofs.Slots.{ring_get, ring_length}
+use Rattle.one_thread.proofs.WindowKept.{slot_gives}
+use Rattle.one_thread.proofs.window.Window.creators.Goals as goal
 
 pub returns : goal.returns
 returns c =

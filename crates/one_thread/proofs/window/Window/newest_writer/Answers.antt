@@ -1,8 +1,8 @@
 use Rattle.std.proofs.Common.{◌<◌, length, sym, subst, arith}
 use Rattle.std.specs.Prelude.{slice_index}
-use Rattle.unit.specs.Creators.{IsCreator}
-use Rattle.unit.specs.Slots.{place_from, ring_of}
-use Rattle.unit.proofs.window.Window.newest_writer.Goals as goal
+use Rattle.one_thread.specs.Creators.{IsCreator}
+use Rattle.one_thread.specs.Slots.{place_from, ring_of}
+use Rattle.one_thread.proofs.window.Window.newest_writer.Goals as goal
 
 pub returns : goal.returns
 returns c =

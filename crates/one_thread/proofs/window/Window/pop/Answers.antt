@@ -1,12 +1,12 @@
 use Rattle.std.proofs.Common.{◌≡◌, ◌<◌, ◌-◌, suc, length, set, get_or, Some, sym, ap, ◌∙◌, subst, arith}
 use Rattle.std.specs.Prelude.{option_copied, slice_get}
 use Rattle.circular_buffer.proofs.Places.{slice_get-some}
-use Rattle.unit.specs.declared.creators.Creators.{Creators}
-use Rattle.unit.specs.Creators.{IsWindow}
-use Rattle.unit.proofs.Slots.{ring_get, ring_length}
-use Rattle.unit.proofs.Accesses.{count_youngest}
-use Rattle.unit.proofs.WindowKept.{slot_gives, window_popped}
-use Rattle.unit.proofs.window.Window.pop.Goals as goal
+use Rattle.one_thread.specs.declared.creators.Creators.{Creators}
+use Rattle.one_thread.specs.Creators.{IsWindow}
+use Rattle.one_thread.proofs.Slots.{ring_get, ring_length}
+use Rattle.one_thread.proofs.Accesses.{count_youngest}
+use Rattle.one_thread.proofs.WindowKept.{slot_gives, window_popped}
+use Rattle.one_thread.proofs.window.Window.pop.Goals as goal
 
 pub returns-in_default : goal.returns-in_default
 returns-in_default c =

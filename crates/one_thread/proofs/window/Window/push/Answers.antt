@@ -1,14 +1,14 @@
 use Rattle.std.proofs.Common.{◌≡◌, ◌<◌, ◌+◌, ◌++◌, ◌∷◌, [], length, set, sym, ap, ◌∙◌, subst, arith}
 use Rattle.std.specs.Prelude.{slice_index}
 use Rattle.instructions.specs.Instruction.{first_of, second_of}
-use Rattle.unit.specs.declared.creators.Creators.{Creators}
-use Rattle.unit.specs.Creators.{IsWindow}
-use Rattle.unit.specs.Slots.{ring_of, slot_of}
-use Rattle.unit.specs.Window.{accesses, further_on, let_at}
-use Rattle.unit.proofs.Accesses.{accesses_most, count_push}
-use Rattle.unit.proofs.Slots.{ring_length, ring_push}
-use Rattle.unit.proofs.WindowKept.{window_let}
-use Rattle.unit.proofs.window.Window.push.Goals as goal
+use Rattle.one_thread.specs.declared.creators.Creators.{Creators}
+use Rattle.one_thread.specs.Creators.{IsWindow}
+use Rattle.one_thread.specs.Slots.{ring_of, slot_of}
+use Rattle.one_thread.specs.Window.{accesses, further_on, let_at}
+use Rattle.one_thread.proofs.Accesses.{accesses_most, count_push}
+use Rattle.one_thread.proofs.Slots.{ring_length, ring_push}
+use Rattle.one_thread.proofs.WindowKept.{window_let}
+use Rattle.one_thread.proofs.window.Window.push.Goals as goal
 
 pub invariant_of-self : goal.invariant_of-self
 invariant_of-self c =

@@ -1,12 +1,12 @@
 use Rattle.std.proofs.Common.{◌≡◌, ◌<◌, length, set, sym, ap, ◌∙◌, subst, arith}
 use Rattle.std.specs.Prelude.{slice_get}
-use Rattle.unit.specs.Creators.{IsOfSame, IsWindow}
-use Rattle.unit.specs.Slots.{ring_of}
-use Rattle.unit.specs.Window.{accesses}
-use Rattle.unit.proofs.Accesses.{count_put}
-use Rattle.unit.proofs.Slots.{ring_length, ring_set}
-use Rattle.unit.proofs.WindowKept.{window_put}
-use Rattle.unit.proofs.window.Window.put.Goals as goal
+use Rattle.one_thread.specs.Creators.{IsOfSame, IsWindow}
+use Rattle.one_thread.specs.Slots.{ring_of}
+use Rattle.one_thread.specs.Window.{accesses}
+use Rattle.one_thread.proofs.Accesses.{count_put}
+use Rattle.one_thread.proofs.Slots.{ring_length, ring_set}
+use Rattle.one_thread.proofs.WindowKept.{window_put}
+use Rattle.one_thread.proofs.window.Window.put.Goals as goal
 
 pub invariant_of-self : goal.invariant_of-self
 invariant_of-self c =

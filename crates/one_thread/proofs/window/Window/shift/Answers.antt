@@ -1,13 +1,13 @@
 use Rattle.std.proofs.Common.{◌≡◌, ◌<◌, ◌-◌, suc, length, drop, sym, ap, ◌∙◌, subst, arith}
 use Rattle.std.specs.Prelude.{slice_get}
 use Rattle.std.proofs.lemmas.Option.{slice_get_within}
-use Rattle.unit.specs.Creators.{IsWindow}
-use Rattle.unit.specs.Slots.{ring_of}
-use Rattle.unit.specs.Window.{accesses}
-use Rattle.unit.proofs.Accesses.{count_oldest}
-use Rattle.unit.proofs.Slots.{ring_length, ring_shift}
-use Rattle.unit.proofs.WindowKept.{window_shifted}
-use Rattle.unit.proofs.window.Window.shift.Goals as goal
+use Rattle.one_thread.specs.Creators.{IsWindow}
+use Rattle.one_thread.specs.Slots.{ring_of}
+use Rattle.one_thread.specs.Window.{accesses}
+use Rattle.one_thread.proofs.Accesses.{count_oldest}
+use Rattle.one_thread.proofs.Slots.{ring_length, ring_shift}
+use Rattle.one_thread.proofs.WindowKept.{window_shifted}
+use Rattle.one_thread.proofs.window.Window.shift.Goals as goal
 
 pub invariant_of-self : goal.invariant_of-self
 invariant_of-self c =

@@ -1,6 +1,6 @@
 use Rattle.std.proofs.Common.{inr}
-use Rattle.drive.proofs.Looks.{looks_on, on_may}
-use Rattle.drive.proofs.session.Session.choices.Goals as goal
+use Rattle.session.proofs.Looks.{looks_on, on_may}
+use Rattle.session.proofs.session.Session.choices.Goals as goal
 
 pub returns : goal.returns
 returns g c =

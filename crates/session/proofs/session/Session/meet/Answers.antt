@@ -1,9 +1,9 @@
 use Rattle.std.proofs.Common.{◌∙◌, subst}
-use Rattle.drive.specs.Moments.{GrowsLegally}
-use Rattle.drive.proofs.Histories.{grows_on}
-use Rattle.drive.proofs.Meetings.{have_met}
+use Rattle.session.specs.Moments.{GrowsLegally}
+use Rattle.session.proofs.Histories.{grows_on}
+use Rattle.session.proofs.Meetings.{have_met}
 use Rattle.station.specs.Seats.{TheCore}
-use Rattle.drive.proofs.session.Session.meet.Goals as goal
+use Rattle.session.proofs.session.Session.meet.Goals as goal
 
 pub returns-clause-grows : goal.returns-clause-grows
 returns-clause-grows g c =

@@ -1,6 +1,6 @@
 use Rattle.std.proofs.Common.{rules}
-use Rattle.drive.proofs.Workers.{none_works}
-use Rattle.drive.proofs.session.Session.new.Goals as goal
+use Rattle.session.proofs.Workers.{none_works}
+use Rattle.session.proofs.session.Session.new.Goals as goal
 
 -- src/session.rt:72:36
 pub invariant_of-result : goal.invariant_of-result

@@ -1,6 +1,6 @@
 use Rattle.std.proofs.Common.{inl, inr, refl}
-use Rattle.drive.proofs.Looks.{may_on}
-use Rattle.drive.proofs.session.Session.push_of_stations.Goals as goal
+use Rattle.session.proofs.Looks.{may_on}
+use Rattle.session.proofs.session.Session.push_of_stations.Goals as goal
 
 pub loop-station-init : goal.loop-station-init
 loop-station-init g c = inl refl

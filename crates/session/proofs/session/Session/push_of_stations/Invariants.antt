@@ -1,5 +1,5 @@
-use Rattle.drive.specs.Plays.{MayHaveLooked}
-use Rattle.drive.proofs.session.Session.push_of_stations.Given as goal
+use Rattle.session.specs.Plays.{MayHaveLooked}
+use Rattle.session.proofs.session.Session.push_of_stations.Given as goal
 
 -- only words were looked at
 abbrev pub invariant-loop-station : goal.invariant-loop-station

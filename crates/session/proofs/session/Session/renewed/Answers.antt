@@ -1,12 +1,12 @@
 use Rattle.std.proofs.Common.{ap, subst, sym}
-use Rattle.drive.specs.Moments.{GrowsLegally}
-use Rattle.drive.specs.Renewals.{HasBegunAgain}
-use Rattle.drive.specs.Sessions.{TheSession}
-use Rattle.drive.specs.Workers.{AreWorkers, HasNone}
-use Rattle.drive.proofs.Renewing.{begun_grows}
-use Rattle.drive.proofs.Workers.{all_at_work, none_works}
+use Rattle.session.specs.Moments.{GrowsLegally}
+use Rattle.session.specs.Renewals.{HasBegunAgain}
+use Rattle.session.specs.Sessions.{TheSession}
+use Rattle.session.specs.Workers.{AreWorkers, HasNone}
+use Rattle.session.proofs.Renewing.{begun_grows}
+use Rattle.session.proofs.Workers.{all_at_work, none_works}
 use Rattle.station.specs.Seats.{TheCore}
-use Rattle.drive.proofs.session.Session.renewed.Goals as goal
+use Rattle.session.proofs.session.Session.renewed.Goals as goal
 
 pub forget_units-requires : goal.forget_units-requires
 forget_units-requires g c = all_at_work c.self.inside.core c.self.inside.units.items c.self.invariant.workers
