@@ -12,9 +12,9 @@ ROOT = os.path.dirname(os.path.dirname(os.path.realpath(__file__)))
 
 LAYERS = [
     ("The language, and bytes in and out", "lexical instructions isa encoding elf disassembly counted_io"),
-    ("The machine, and the one_thread as definitions", "lsq inorder lockstep ruu_step elf_runs"),
-    ("The one_thread by one thread", "one_thread in_order_issue bench charts"),
-    ("The one_thread that threads share", "ruu_words station snapshots front back client session"),
+    ("The machine, and the unit as definitions", "lsq inorder lockstep ruu_step elf_runs"),
+    ("The unit by one thread", "one_thread in_order_issue bench charts"),
+    ("The unit that threads share", "ruu_words station snapshots front back client session"),
     ("Threads", "hints counts workers run_ends pool"),
     ("What a command line asks for", "command_line checks without_threads commit_log with_threads command by_hand"),
     ("Programs", "alone ruu checker chart commits driver listing"),
@@ -29,7 +29,7 @@ PICTURE = """\
    +--------+---------+            pool      session              elf
             |                        |          |
        one_thread                    +----+-----+
-                                          |
+            |                             |
             |                       front   back -- snapshots
             |                           \\   /
             |                          station        seats and their calls
