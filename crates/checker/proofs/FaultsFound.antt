@@ -3,8 +3,8 @@ use Rattle.std.proofs.Common.{◌≡◌, ◌+◌, ◌-◌, ◌≤◌, ◌<◌, �
 use Rattle.std.proofs.lemmas.List.{append-nil, length-append}
 use Rattle.isa.specs.declared.listing.fault.TextFault.{TextFault}
 use Rattle.isa.specs.Listing.{listing}
-use Rattle.checks.specs.Faults.{AreFaults, IsFollowed, IsGood, IsMended, is_line}
-use Rattle.checks.specs.Faults.IsFollowed.{Mended, Nowhere}
+use Rattle.checker.specs.Faults.{AreFaults, IsFollowed, IsGood, IsCleared, is_line}
+use Rattle.checker.specs.Faults.IsFollowed.{Cleared, Nowhere}
 
 -- the faults that the text has are the rest of all
 abbrev pub HasFound : (bytes text : List ℕ) (found : List TextFault) → Type 0
@@ -46,10 +46,10 @@ pub ends_nowhere : (bytes text : List ℕ) (found : List TextFault) (f : TextFau
     → listing text ≡ Err (f.line, f.kind) → is_line f.line text ≡ false → AreFaults 200 bytes (found ++ f ∷ [])
 ends_nowhere bytes text found f has few is nowhere = more bytes text found [] f has few is (Nowhere nowhere refl)
 
--- a line is mended
+-- a line is cleared
 pub goes_on : (bytes text better : List ℕ) (found : List TextFault) (f : TextFault) → HasFound bytes text found → length found < 200
-    → listing text ≡ Err (f.line, f.kind) → IsMended f.line text better → HasFound bytes better (found ++ f ∷ [])
-goes_on bytes text better found f has few is mended rest still =
+    → listing text ≡ Err (f.line, f.kind) → IsCleared f.line text better → HasFound bytes better (found ++ f ∷ [])
+goes_on bytes text better found f has few is cleared rest still =
     let size : 200 - length (found ++ f ∷ []) ≡ 199 - length found = omega (arith, length-append found (f ∷ [])) in
     let others : AreFaults (199 - length found) better rest = subst (λ (n : ℕ). AreFaults n better rest) size still in
-    subst (AreFaults 200 bytes) (sym (append_assoc found (f ∷ []) rest)) (more bytes text found rest f has few is (Mended better mended others))
+    subst (AreFaults 200 bytes) (sym (append_assoc found (f ∷ []) rest)) (more bytes text found rest f has few is (Cleared better cleared others))

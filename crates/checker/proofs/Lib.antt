@@ -3,8 +3,8 @@ mod FaultsFound
 mod Keys
 mod Lengths
 mod LinesCounted
-mod MendedTexts
-mod PartsLeft
+mod LongerTexts
+mod Remaining
 mod Reached
 mod Texts
 mod Warned

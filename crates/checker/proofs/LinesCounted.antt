@@ -1,7 +1,7 @@
 -- Lines that are counted one by one.
 use Rattle.std.proofs.Common.{◌≡◌, ◌+◌, ◌≤◌, ◌<◌, ℕ, zero, suc, List, [], ◌∷◌, length, drop, Some, slice_get, slice_index_or, refl, subst, sym, arith}
-use Rattle.checks.specs.Lines.{line_at}
-use Rattle.checks.proofs.Lengths.{total, lines_fit}
+use Rattle.checker.specs.Lines.{numbered_line}
+use Rattle.checker.proofs.Lengths.{total, lines_fit}
 use Rattle.lexical.specs.Line.{lines_of}
 
 -- line n stands behind n others, and the rest behind it
@@ -23,7 +23,7 @@ next_few [] left (suc n) l is = absurd cc
 next_few (x ∷ xs) left zero l is = omega arith
 next_few (x ∷ xs) left (suc n) l is = omega (arith, next_few xs left n l is)
 
-pub next_is : (ls left : List (List ℕ)) (n : ℕ) (l : List ℕ) → drop n ls ≡ l ∷ left → line_at (n + 1) ls ≡ Some l
+pub next_is : (ls left : List (List ℕ)) (n : ℕ) (l : List ℕ) → drop n ls ≡ l ∷ left → numbered_line (n + 1) ls ≡ Some l
 next_is ls left n l is =
     let next : n + 1 ≡ suc n = omega arith in
     rw next (next_get ls left n l is)

@@ -2,18 +2,18 @@
 use Rattle.std.proofs.Common.{◌≡◌, ◌+◌, ◌<◌, ℕ, zero, suc, Bool, false, true, List, [], ◌∷◌, Some, slice_get, slice_index_or, refl, subst, sym, arith, inl, inr}
 use Rattle.std.proofs.lemmas.Bool.{cases_lt}
 use Rattle.instructions.specs.Programs.{Program}
-use Rattle.checks.specs.Reach.{GoesRight}
+use Rattle.checker.specs.Reach.{HasSuccessors}
 
 -- all below k go right, and so does k
 pub below_and : (P : Program) (S : List Bool) (k : ℕ)
-    → ((j : ℕ) → j < k → slice_get S j ≡ Some true → GoesRight P S j)
-    → (slice_get S k ≡ Some true → GoesRight P S k)
-    → (j : ℕ) → j < k + 1 → slice_get S j ≡ Some true → GoesRight P S j
+    → ((j : ℕ) → j < k → slice_get S j ≡ Some true → HasSuccessors P S j)
+    → (slice_get S k ≡ Some true → HasSuccessors P S k)
+    → (j : ℕ) → j < k + 1 → slice_get S j ≡ Some true → HasSuccessors P S j
 below_and P S k before at j less is = elim (cases_lt j k) [
   | inl low ↦ before j low is
   | inr high ↦
       let same : k ≡ j = omega (arith, less, high) in
-      subst (λ (i : ℕ). slice_get S i ≡ Some true → GoesRight P S i) same at is
+      subst (λ (i : ℕ). slice_get S i ≡ Some true → HasSuccessors P S i) same at is
 ]
 
 got : (S : List Bool) (k : ℕ) (b d : Bool) → slice_get S k ≡ Some b → slice_index_or S k d ≡ b

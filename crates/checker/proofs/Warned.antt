@@ -1,7 +1,7 @@
 -- Warnings, one behind the other.
 use Rattle.std.proofs.Common.{◌≡◌, ◌++◌, ℕ, List, [], ◌∷◌, refl, subst, sym}
 use Rattle.instructions.specs.Programs.{Program}
-use Rattle.checks.specs.Warnings.{Warned, IsWarranted, AreWarnings, AreWarned, warning_text}
+use Rattle.checker.specs.Warnings.{Warned, IsWarranted, AreWarnings, AreWarned, warning_text}
 
 -- no warning
 pub none_warned : (file bytes : List ℕ) (P : Program) (text : List ℕ) → AreWarned file bytes P text text

@@ -1,4 +1,4 @@
--- What is told of the bytes that were taken is told of all.
+-- The diagnostics of the bytes that are read at most are those of all bytes.
 use Rattle.std.proofs.Common.{◌≡◌, ◌<◌, ℕ, Bool, true, false, List, [], ◌∷◌, length, take, refl, subst, arith, inl, inr, Result, Err}
 use Rattle.std.proofs.lemmas.Bool.{cases_lt, lt-ltb}
 use Rattle.std.proofs.lemmas.List.{length-take, take_all}
@@ -8,14 +8,14 @@ use Rattle.isa.specs.declared.listing.fault.TextFault.{TextFault}
 use Rattle.isa.specs.Listing.{listing}
 use Rattle.instructions.specs.Programs.{Program}
 use Rattle.bench.specs.Answer.{most_taken}
-use Rattle.checks.specs.Checks.{IsCheckOf, IsExplained, AreExplained}
+use Rattle.checker.specs.Diagnostics.{IsCheckOf, IsExplained, AreExplained}
 use Rattle.isa.specs.Report.{fault_line}
 
--- the status and the text for the bytes of a listing that is not run
+-- the status and the diagnostics of the bytes of a listing
 abbrev pub IsCheck : (file : List ℕ) → (all : Bool) → (status : ℕ) → (bytes text : List ℕ) → Type 0
 IsCheck file all status bytes text = IsCheckOf file all bytes (listing bytes) status text
 
--- text with some status
+-- the diagnostics of the bytes of a listing, with some status
 abbrev pub IsSomeCheck : (file : List ℕ) → (all : Bool) → (bytes text : List ℕ) → Type 0
 IsSomeCheck file all bytes text = (status : ℕ) × IsCheck file all status bytes text
 
@@ -27,7 +27,7 @@ too_long : (bytes : List ℕ) → 4194304 < length bytes → listing bytes ≡ E
 unfolding listing
 too_long bytes more = rw (lt-ltb 4194304 (length bytes) more) refl
 
--- of a fault without a line the same is told, whatever the bytes are
+-- a fault without a line has the same diagnostic, whatever the bytes are
 same_told : (file : List ℕ) (all : Bool) (bytes others text : List ℕ) → IsExplained file all bytes 0 TooLong text
     → IsExplained file all others 0 TooLong text
 same_told file true bytes others text is =
@@ -39,7 +39,7 @@ same_told file false bytes others text is =
     subst (λ (fs : List TextFault). AreExplained file bytes fs (fault_line 0 TooLong) text) is.1.0 is.1.1 in
     (no_line ∷ [], (refl, told))
 
--- a listing that is too long has no line that is told of
+-- a listing that is too long has no line of which there is a diagnostic
 pub told_of_all : (file : List ℕ) (all : Bool) (input : List ℕ) (status : ℕ) (text : List ℕ)
     → IsCheck file all status (take most_taken input) text → IsCheck file all status input text
 told_of_all file all input status text is = elim (cases_lt 4194304 (length input)) [

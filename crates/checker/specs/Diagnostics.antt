@@ -1,4 +1,4 @@
--- What is told of a listing that is read and not run.
+-- The diagnostics of a listing that is read and not run.
 use Rattle.std.specs.Prelude.{◌≡◌, ◌≤◌, ◌+◌, ℕ, zero, suc, Bool, true, false}
 use Rattle.std.specs.Prelude.{List, [], ◌∷◌, ◌++◌, length, map, codes, decimal}
 use Rattle.std.specs.Prelude.{Option, Some, None, Result, Ok, Err, slice_get, flat_map, if◌then◌else◌}
@@ -12,24 +12,24 @@ use Rattle.isa.specs.declared.listing.fault.TextFault.{TextFault}
 use Rattle.isa.specs.Listing.{Lines, labels}
 use Rattle.instructions.specs.Programs.{Program}
 use Rattle.isa.specs.Report.{fault_line, newline}
-use Rattle.checks.specs.Forms.{word_note}
-use Rattle.checks.specs.Lines.{line_at, word_in}
-use Rattle.checks.specs.Parts.{IsPartOf}
-use Rattle.checks.specs.Quotes.{written}
-use Rattle.checks.specs.Spots.{spot_text}
-use Rattle.checks.specs.Faults.{AreTold}
-use Rattle.checks.specs.Warnings.{AreWarned}
-use Rattle.checks.specs.declared.quoting.Layer.TheVariants.{Line, Name}
-use Rattle.checks.specs.declared.parts.Part.{Part}
+use Rattle.checker.specs.Forms.{word_note}
+use Rattle.checker.specs.Lines.{numbered_line, word_in}
+use Rattle.checker.specs.Parts.{IsPartOf}
+use Rattle.checker.specs.Quotes.{on_layer}
+use Rattle.checker.specs.Spots.{spot_text}
+use Rattle.checker.specs.Faults.{AreChosen}
+use Rattle.checker.specs.Warnings.{AreWarned}
+use Rattle.checker.specs.declared.quoting.Layer.TheVariants.{Line, Name}
+use Rattle.checker.specs.declared.parts.Part.{Part}
 
--- ---- a good listing
+-- ---- a listing without a fault
 
 -- how many labels lines have
 abbrev pub how_many_labels : Lines → ℕ
 how_many_labels [] = 0
 how_many_labels (l ∷ ls) = length (labels l) + how_many_labels ls
 
--- what is told of it
+-- the summary: instructions, labels and bytes of data, a line each
 abbrev pub counts_text : (instructions labels bytes : ℕ) → List ℕ
 counts_text instructions labels bytes =
     codes "instructions " ++ (decimal instructions ++ (codes "\nlabels " ++ (decimal labels
@@ -37,7 +37,7 @@ counts_text instructions labels bytes =
 
 -- ---- a fault
 
--- what the language wants where this fault is
+-- the rule of the language that a fault breaks
 abbrev pub sentence : FaultKind → List ℕ
 sentence kind.NotAscii = codes "Before a comment a line has only tabs and printable ASCII characters."
 sentence kind.UnknownOp = codes "A statement begins with an operation, or with .space or .word."
@@ -49,55 +49,55 @@ sentence kind.DoubleLabel = codes "A label stands once in a listing."
 sentence kind.TooLong = codes "A listing has at most 4194304 bytes, 16384 instructions and 65536 bytes of data."
 sentence kind.Memory = codes "There is no memory left."
 
--- whether the form of the operation tells what is wanted
+-- whether the forms of the operation are shown with a fault
 abbrev pub has_form : FaultKind → Bool
 has_form kind.BadRegister = true
 has_form kind.BadNumber = true
 has_form kind.BadOperands = true
 has_form _ = false
 
--- what is said of the line
+-- the forms of the operation of a line, where they are shown with its fault
 abbrev pub form_note : FaultKind → List ℕ → List ℕ
 form_note kind line = if has_form kind then word_note (word_in line) else []
 
--- what stands before what is said of a fault
+-- the beginning of a diagnostic of a fault
 abbrev pub error : List ℕ
 error = codes "error: "
 
--- what helps, as it is shown, in a line of its own; nothing where nothing is known
-abbrev pub advice_line : List ℕ → List ℕ
-advice_line [] = []
-advice_line (b ∷ bs) = flat_map (written Line) (b ∷ bs) ++ newline
+-- a remedy as it is shown, in a line of its own; no line where no remedy is known
+abbrev pub remedy_line : List ℕ → List ℕ
+remedy_line [] = []
+remedy_line (b ∷ bs) = flat_map (on_layer Line) (b ∷ bs) ++ newline
 
--- what is told of a fault of the listing as a whole
+-- the diagnostic of a fault of the listing as a whole
 abbrev pub whole : (file : List ℕ) → FaultKind → List ℕ
-whole file kind = flat_map (written Name) file ++ (codes ": " ++ (error ++ (sentence kind ++ newline)))
+whole file kind = flat_map (on_layer Name) file ++ (codes ": " ++ (error ++ (sentence kind ++ newline)))
 
--- a line with its place and a mark under some part of it, what the language wants there, and some advice that shows as
--- it is whatever the line has; a fault of the listing as a whole has no line
+-- the diagnostic of a fault: the line with its place and a mark under some part, the rule that is broken, the forms of the
+-- operation, and some remedy without control characters; a fault of the listing as a whole has no line
 abbrev pub IsExplanation : (file : List ℕ) → (number : ℕ) → FaultKind → Option (List ℕ) → List ℕ → Type 0
 IsExplanation file number kind None text = text ≡ whole file kind
-IsExplanation file number kind (Some line) text = (part : Part) × ((advice : List ℕ) × (IsPartOf line part
-    × (text ≡ spot_text file number line part error (sentence kind) ++ (form_note kind line ++ advice_line advice))))
+IsExplanation file number kind (Some line) text = (part : Part) × ((remedy : List ℕ) × (IsPartOf line part
+    × (text ≡ spot_text file number line part error (sentence kind) ++ (form_note kind line ++ remedy_line remedy))))
 
--- the new text is the old one and an explanation
+-- the new text is the old one with a diagnostic behind it
 pub record IsExplanationBehind (file : List ℕ) (number : ℕ) (kind : FaultKind) (line : Option (List ℕ)) (old new : List ℕ) : Type 0 where
   pub rest : List ℕ
   pub is : new ≡ old ++ rest
   pub explains : IsExplanation file number kind line rest
 
--- the new text is the old one, and behind it the explanations of these faults
+-- the new text is the old one with the diagnostics of these faults behind it
 abbrev pub AreExplained : (file bytes : List ℕ) → List TextFault → (old new : List ℕ) → Type 0
 AreExplained file bytes [] old new = new ≡ old
 AreExplained file bytes (f ∷ fs) old new = (text : List ℕ)
-    × (IsExplanationBehind file f.line f.kind (line_at f.line (lines_of bytes)) old text × AreExplained file bytes fs text new)
+    × (IsExplanationBehind file f.line f.kind (numbered_line f.line (lines_of bytes)) old text × AreExplained file bytes fs text new)
 
--- the line of the fault as in a report, and the explanations of the faults that are told
+-- the line that a report has for the fault, and the diagnostics of the chosen faults
 abbrev pub IsExplained : (file : List ℕ) → (all : Bool) → (bytes : List ℕ) → (line : ℕ) → FaultKind → List ℕ → Type 0
-IsExplained file all bytes line kind text = (told : List TextFault)
-    × (AreTold all bytes (record { line = line; kind = kind }) told × AreExplained file bytes told (fault_line line kind) text)
+IsExplained file all bytes line kind text = (chosen : List TextFault)
+    × (AreChosen all bytes (record { line = line; kind = kind }) chosen × AreExplained file bytes chosen (fault_line line kind) text)
 
--- ---- both
+-- ---- any listing
 
 -- the status and the text for the program of a listing, or for its fault
 abbrev pub IsCheckOf : (file : List ℕ) → (all : Bool) → (bytes : List ℕ) → Result Program (ℕ × FaultKind) → ℕ → List ℕ → Type 0

@@ -1,4 +1,4 @@
--- Which faults of a listing are told.
+-- The faults of a listing of which there are diagnostics.
 use Rattle.std.specs.Prelude.{◌≡◌, ◌+◌, ◌==◌, ◌&&◌, ℕ, zero, suc, Bool, true, false, not, nat_le, nat_lt, if◌then◌else◌}
 use Rattle.std.specs.Prelude.{List, [], ◌∷◌, ◌++◌, length, drop, Result, Ok, Err, IsPermutation}
 use Rattle.std.specs.List.{before_first, list_all}
@@ -7,29 +7,29 @@ use Rattle.isa.specs.declared.listing.fault.FaultKind.{FaultKind}
 use Rattle.isa.specs.declared.listing.fault.TextFault.{TextFault}
 use Rattle.isa.specs.Listing.{listing}
 
--- ---- a line that is mended
+-- ---- a line that is cleared
 
--- how many line feeds a text has
+-- the number of line feeds of a text
 abbrev pub feeds : List ℕ → ℕ
 feeds [] = 0
 feeds (b ∷ bs) = (if b == 10 then 1 else 0) + feeds bs
 
--- a text has a line of this number, counted from 1
+-- whether a text has line n, counted from 1
 abbrev pub is_line : ℕ → List ℕ → Bool
 is_line n text = nat_lt 0 n && nat_le n (feeds text + 1)
 
--- a text without a line feed was added
+-- the new text is the old one with a text without a line feed behind it
 pub record IsLonger (old new : List ℕ) : Type 0 where
   pub added : List ℕ
   pub is : new ≡ old ++ added
   pub in_line : feeds added ≡ 0
 
--- what stands behind the first line of a text, from its line feed on
+-- a text from the line feed of its first line on
 abbrev pub behind_line : List ℕ → List ℕ
 behind_line text = drop (length (before_first (λ b. b == 10) text)) text
 
 -- the texts differ in line n alone, counted from 1
-pub record IsMended (n : ℕ) (old new : List ℕ) : Type 0 where
+pub record IsCleared (n : ℕ) (old new : List ℕ) : Type 0 where
   pub before : List ℕ
   pub rest : List ℕ
   pub line : List ℕ
@@ -38,9 +38,9 @@ pub record IsMended (n : ℕ) (old new : List ℕ) : Type 0 where
   pub old_is : old ≡ before ++ rest
   pub new_is : new ≡ before ++ (line ++ behind_line rest)
 
--- ---- the faults that are told
+-- ---- the faults that are chosen
 
--- how many at most
+-- the most faults that are shown
 abbrev pub most_faults : ℕ
 most_faults = 200
 
@@ -48,29 +48,28 @@ most_faults = 200
 abbrev pub IsGood : Result Program (ℕ × FaultKind) → Type 0
 IsGood found = (P : Program) × (found ≡ Ok P)
 
--- what follows a fault of line n: nothing where there is no such line, and else the faults of the text with that line
--- mended
+-- the faults behind one of line n: none where the text has no line n, else those of the text with line n cleared
 pub data IsFollowed (n : ℕ) (bytes : List ℕ) (are : List ℕ → List TextFault → Type 0) (faults : List TextFault) : Type 0 where
   Nowhere : is_line n bytes ≡ false → faults ≡ [] → IsFollowed n bytes are faults
-  Mended : (text : List ℕ) → IsMended n bytes text → are text faults → IsFollowed n bytes are faults
+  Cleared : (text : List ℕ) → IsCleared n bytes text → are text faults → IsFollowed n bytes are faults
 
--- The faults that a listing has in turn, where the line of each one is mended before the next is looked for, up to a
--- listing that has none, or one that has its fault in no line, or so many at most.
+-- The faults that are found in turn, where the line of each one is cleared before the next is looked for, up to a listing
+-- without a fault, or one whose fault has no line, or so many at most.
 abbrev pub AreFaults : (most : ℕ) → (bytes : List ℕ) → List TextFault → Type 0
 AreFaults zero bytes faults = faults ≡ []
 AreFaults (suc n) bytes [] = IsGood (listing bytes)
 AreFaults (suc n) bytes (f ∷ fs) =
     (listing bytes ≡ Err (f.line, f.kind)) × IsFollowed f.line bytes (AreFaults n) fs
 
--- the faults of lines are wanted, and not one alone
+-- whether the faults of all lines are wanted, and not one alone
 abbrev pub are_wanted : (all : Bool) → TextFault → Bool
 are_wanted all fault = all && not (fault.line == 0)
 
--- all faults in the order of their lines, or this one
-abbrev pub AreToldIf : (are_wanted : Bool) → List ℕ → TextFault → List TextFault → Type 0
-AreToldIf false bytes fault told = told ≡ fault ∷ []
-AreToldIf true bytes fault told = (found : List TextFault) × (AreFaults most_faults bytes found × IsPermutation found told)
+-- a rearrangement of all faults, or this one alone
+abbrev pub AreChosenIf : (are_wanted : Bool) → List ℕ → TextFault → List TextFault → Type 0
+AreChosenIf false bytes fault chosen = chosen ≡ fault ∷ []
+AreChosenIf true bytes fault chosen = (found : List TextFault) × (AreFaults most_faults bytes found × IsPermutation found chosen)
 
--- what is told of a listing with this first fault
-abbrev pub AreTold : (all : Bool) → List ℕ → TextFault → List TextFault → Type 0
-AreTold all bytes fault told = AreToldIf (are_wanted all fault) bytes fault told
+-- the faults that are shown of a listing with this first fault
+abbrev pub AreChosen : (all : Bool) → List ℕ → TextFault → List TextFault → Type 0
+AreChosen all bytes fault chosen = AreChosenIf (are_wanted all fault) bytes fault chosen

@@ -1,3 +1,12 @@
 pub use Rattle.without_threads.specs.Replies
 pub use Rattle.without_threads.specs.Went
+pub mod Forms
+pub mod Lines
+pub mod Parts
+pub mod Quotes
+pub mod Spots
+pub mod Faults
+pub mod Reach
+pub mod Warnings
+pub mod Diagnostics
 pub mod Checked

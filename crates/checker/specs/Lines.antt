@@ -7,9 +7,9 @@ use Rattle.lexical.specs.Line.{before_comment}
 use Rattle.isa.specs.Listing.{Lines}
 
 -- a line by its number, counted from 1
-abbrev pub line_at : ℕ → Lines → Option (List ℕ)
-line_at zero lines = None
-line_at (suc i) lines = slice_get lines i
+abbrev pub numbered_line : ℕ → Lines → Option (List ℕ)
+numbered_line zero lines = None
+numbered_line (suc i) lines = slice_get lines i
 
 -- the word of a line's statement
 abbrev pub word_in : List ℕ → List ℕ

@@ -1,6 +1,6 @@
 -- Parts of a line.
 use Rattle.std.specs.Prelude.{◌≤◌, ℕ, List, length}
-use Rattle.checks.specs.declared.parts.Part.{Part}
+use Rattle.checker.specs.declared.parts.Part.{Part}
 
 -- the part lies in the line
 abbrev pub IsPartOf : List ℕ → Part → Type 0

@@ -1,17 +1,17 @@
--- The place of what is told, in the form to which editors jump: FILE:LINE:COLUMN, each counted from 1.
+-- Places of a listing, as editors read them: FILE:LINE:COLUMN, where lines and columns are counted from 1.
 use Rattle.std.specs.Prelude.{ℕ, ◌+◌, List, ◌++◌, codes, decimal, flat_map}
 use Rattle.isa.specs.Report.{newline}
-use Rattle.checks.specs.Quotes.{quote, written}
-use Rattle.checks.specs.declared.parts.Part.{Part}
-use Rattle.checks.specs.declared.quoting.Layer.TheVariants.{Name}
+use Rattle.checker.specs.Quotes.{on_layer, quote}
+use Rattle.checker.specs.declared.parts.Part.{Part}
+use Rattle.checker.specs.declared.quoting.Layer.TheVariants.{Name}
 
--- a byte of a line, the first one counted as 0
+-- the place of a byte of a line, of which the first is byte 0
 abbrev pub place : (file : List ℕ) → (number from : ℕ) → List ℕ
 place file number from =
-    flat_map (written Name) file
+    flat_map (on_layer Name) file
     ++ (codes ":" ++ (decimal number ++ (codes ":" ++ (decimal (from + 1) ++ codes ": "))))
 
--- a part of a line with what is said of it, and how grave that is
-unfoldable pub spot_text : (file : List ℕ) → (number : ℕ) → (line : List ℕ) → Part → (grade said : List ℕ) → List ℕ
-spot_text file number line part grade said =
-    place file number part.from ++ (grade ++ (said ++ (newline ++ quote line part)))
+-- the place of a part of a line, the severity, a sentence, and the line with a mark under the part
+unfoldable pub spot_text : (file : List ℕ) → (number : ℕ) → (line : List ℕ) → Part → (severity sentence : List ℕ) → List ℕ
+spot_text file number line part severity sentence =
+    place file number part.from ++ (severity ++ (sentence ++ (newline ++ quote line part)))

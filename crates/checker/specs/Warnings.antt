@@ -1,4 +1,4 @@
--- What is odd in a listing without a fault.
+-- Warnings of a listing without a fault.
 use Rattle.std.specs.Prelude.{◌≡◌, ◌<◌, ◌++◌, ℕ, Bool, false, true, List, [], ◌∷◌, length, codes, Option, Some, is_some, slice_get, slice_range}
 use Rattle.std.specs.List.{flat_map, after_first}
 use Rattle.std.specs.Borrow.{Bor}
@@ -11,37 +11,37 @@ use Rattle.lexical.specs.Line.{before_comment, lines_of}
 use Rattle.lexical.specs.Operand.{operands}
 use Rattle.instructions.specs.Programs.{Program}
 use Rattle.isa.specs.Listing.{Lines, stands_in, instruction_lines}
-use Rattle.checks.specs.Lines.{line_at}
-use Rattle.checks.specs.Parts.{IsPartOf}
-use Rattle.checks.specs.Reach.{IsUnreached, may_leave}
-use Rattle.checks.specs.Spots.{spot_text}
-use Rattle.checks.specs.declared.parts.Part.{Part}
-use Rattle.checks.specs.declared.warnings.Warning.{Warning}
-use Rattle.checks.specs.declared.warnings.Warning.TheVariants.{NeverUsed, Unreached, PastEnd}
+use Rattle.checker.specs.Lines.{numbered_line}
+use Rattle.checker.specs.Parts.{IsPartOf}
+use Rattle.checker.specs.Reach.{IsUnreached, may_run_past_end}
+use Rattle.checker.specs.Spots.{spot_text}
+use Rattle.checker.specs.declared.parts.Part.{Part}
+use Rattle.checker.specs.declared.warnings.Warning.{Warning}
+use Rattle.checker.specs.declared.warnings.Warning.TheVariants.{NeverUsed, Unreached, PastEnd}
 
--- what stands before what is said
+-- the beginning of a warning
 abbrev pub warning : List ℕ
 warning = codes "warning: "
 
--- what is said
+-- the sentence of a kind of warning
 abbrev pub said : Warning → List ℕ
 said NeverUsed = codes "No instruction names this label."
 said Unreached = codes "No path reaches this instruction."
 said PastEnd = codes "A run can go on behind the last instruction: break ends it."
 
 -- the operands of a line's statement
-abbrev pub operands_in : List ℕ → List (List ℕ)
-operands_in line = operands (after_first is_blank (statement_of (before_comment line)))
+abbrev pub operands_of_line : List ℕ → List (List ℕ)
+operands_of_line line = operands (after_first is_blank (statement_of (before_comment line)))
 
--- all operands of lines
+-- the operands of all lines
 abbrev pub all_operands : Lines → List (List ℕ)
-all_operands ls = flat_map operands_in ls
+all_operands ls = flat_map operands_of_line ls
 
--- a map has a name for its key
+-- whether a name is a key of a map
 abbrev pub has_key : BTreeMap (Bor (List ℕ)) ℕ → List ℕ → Bool
 has_key map name = is_some (get_by (λ k. slice_cmp nat_cmp name k.now) map)
 
--- the keys of a map are the operands of lines
+-- the keys of a map are the operands of all lines
 abbrev pub AreOperandsOf : Lines → BTreeMap (Bor (List ℕ)) ℕ → Type 0
 AreOperandsOf ls map = (name : List ℕ) → has_key map name ≡ stands_in (all_operands ls) name
 
@@ -49,37 +49,37 @@ AreOperandsOf ls map = (name : List ℕ) → has_key map name ≡ stands_in (all
 abbrev pub StandsOn : List ℕ → (k n : ℕ) → Type 0
 StandsOn bytes k n = slice_get (instruction_lines bytes) k ≡ Some n
 
--- the warning is right for a part of line n: the label is no operand, or the line's instruction is one to which no run
--- comes, or one that may lead behind the last one
-abbrev pub IsRight : (bytes : List ℕ) → Program → (n : ℕ) → (line : List ℕ) → Part → Warning → Type 0
-IsRight bytes P n line part NeverUsed =
+-- the warning is true of a part of line n: the label is no operand, or no run reaches the line's instruction, or a run can
+-- go on from it past the last one
+abbrev pub Applies : (bytes : List ℕ) → Program → (n : ℕ) → (line : List ℕ) → Part → Warning → Type 0
+Applies bytes P n line part NeverUsed =
     stands_in (all_operands (lines_of bytes)) (slice_range line part.from part.to) ≡ false
-IsRight bytes P n line part Unreached = (k : ℕ) × (StandsOn bytes k n × IsUnreached P k)
-IsRight bytes P n line part PastEnd = (k : ℕ) × (StandsOn bytes k n × (may_leave P k ≡ true))
+Applies bytes P n line part Unreached = (k : ℕ) × (StandsOn bytes k n × IsUnreached P k)
+Applies bytes P n line part PastEnd = (k : ℕ) × (StandsOn bytes k n × (may_run_past_end P k ≡ true))
 
--- a part of a line, and what is odd there
+-- a warning: its line, its part and its kind
 pub record Warned : Type 0 where
   pub number : ℕ
   pub line : List ℕ
   pub part : Part
   pub kind : Warning
 
--- the line is there, the part lies in it, and the warning is right
+-- the line is in the listing, the part lies in it, and the warning is true
 pub record IsWarranted (bytes : List ℕ) (P : Program) (w : Warned) : Type 0 where
-  pub line_is : line_at w.number (lines_of bytes) ≡ Some w.line
+  pub line_is : numbered_line w.number (lines_of bytes) ≡ Some w.line
   pub lies : IsPartOf w.line w.part
-  pub right : IsRight bytes P w.number w.line w.part w.kind
+  pub right : Applies bytes P w.number w.line w.part w.kind
 
--- what is told of one
+-- the text of a warning
 abbrev pub warning_text : (file : List ℕ) → Warned → List ℕ
 warning_text file w = spot_text file w.number w.line w.part warning (said w.kind)
 
--- the new text is the old one and these warnings, each of which is warranted
+-- the new text is the old one with these warnings behind it, each of which is warranted
 abbrev pub AreWarnings : (file bytes : List ℕ) → Program → List Warned → (old new : List ℕ) → Type 0
 AreWarnings file bytes P [] old new = new ≡ old
 AreWarnings file bytes P (w ∷ ws) old new =
     IsWarranted bytes P w × AreWarnings file bytes P ws (old ++ warning_text file w) new
 
--- the new text is the old one, and behind it some warnings, each of which is warranted
+-- the new text is the old one with some warnings behind it, each of which is warranted
 abbrev pub AreWarned : (file bytes : List ℕ) → Program → (old new : List ℕ) → Type 0
 AreWarned file bytes P old new = (ws : List Warned) × AreWarnings file bytes P ws old new

@@ -1,12 +1,12 @@
 //! The part of a line that is at fault.
 ghost use Rattle.std.specs.Prelude.{◌≤◌, ◌<◌, IfOk, IfSome};
-ghost use Rattle.checks.specs.Parts.{IsPartOf, LiesIn};
+ghost use Rattle.checker.specs.Parts.{IsPartOf, LiesIn};
 
 mod numbers;
 mod operands;
 mod registers;
 
-use super::mending::Labels;
+use super::clearing::Labels;
 use super::parts::{Part, code, label_at, operands, statement, word};
 use isa::{FaultKind, TextFault};
 use lexical::is_plain_text;
@@ -15,10 +15,10 @@ use operands::{bad_operands, last_operand};
 use registers::bad_register;
 use std::alloc::{AllocError, Global};
 
-/// How many bytes a character has at most.
+/// The most bytes of a character.
 const MOST_BYTES: usize = 4;
 
-// Where the character ends that begins at this byte: a first byte has some behind it that only go on.
+// The end of the character that begins at a byte: behind its continuation bytes in UTF-8.
 fn end_of_character(line: &[u8], code: Part, at: usize) -> usize
     requires code { IsPartOf line.now code }
     requires inside { at < code.to }
@@ -34,7 +34,7 @@ fn end_of_character(line: &[u8], code: Part, at: usize) -> usize
     code.to
 }
 
-// The first character that may not stand before a comment.
+// The first character that is not allowed before a comment.
 fn odd_character(line: &[u8], code: Part) -> Part
     requires { IsPartOf line.now code }
     ensures { LiesIn code result }
@@ -50,7 +50,7 @@ fn odd_character(line: &[u8], code: Part) -> Part
     code
 }
 
-// The label that stands before; all code where there is none.
+// The first label of a line with an earlier place; all code where there is none.
 fn double_label(labels: &Labels<'_>, line: &[u8], code: Part, number: u64) -> Part
     requires { IsPartOf line.now code }
     ensures { LiesIn code result }
@@ -65,7 +65,7 @@ fn double_label(labels: &Labels<'_>, line: &[u8], code: Part, number: u64) -> Pa
     code
 }
 
-// Where a comment begins in the manner of another language, behind `;` or `//`.
+// The place of `;` or `//`, with which a comment of another language begins.
 fn other_comment(line: &[u8], part: Part) -> Option<usize>
     requires { IsPartOf line.now part }
     ensures { IfSome result (λ at. (part.from ≤ at) × (at < part.to)) }
@@ -78,7 +78,7 @@ fn other_comment(line: &[u8], part: Part) -> Option<usize>
     None
 }
 
-// The part, or the comment in the manner of another language that begins in it.
+// The part, or the comment of another language that begins in it.
 fn without_comment(line: &[u8], statement: Part, part: Part) -> Part
     requires statement { IsPartOf line.now statement }
     requires part { LiesIn statement part }
@@ -93,7 +93,7 @@ fn without_comment(line: &[u8], statement: Part, part: Part) -> Part
     }
 }
 
-/// The part of a line that has this fault, as far as that can be said.
+/// The part of a line that has a fault, as far as that can be told apart.
 pub(crate) fn part_at_fault(
     alloc: Global,
     labels: &Labels<'_>,

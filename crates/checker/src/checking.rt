@@ -7,8 +7,8 @@ ghost use Rattle.without_threads.specs.Replies.{HasWritten, IfRefused, IsLeftBy}
 ghost use Rattle.without_threads.specs.Went.{IsOfOneThread, refused};
 ghost use Rattle.without_threads.specs.declared.went.Line.TheVariants.{Nothing};
 
+use crate::diagnostics::diagnostics;
 use bench::MOST_TAKEN;
-use checks::told;
 use command_line::Checked;
 use counted_io::{Counted, Reply, Unanswered, reply_to};
 use instructions::Memory;
@@ -16,7 +16,7 @@ use std::alloc::Global;
 use std::io::{Read, Write};
 use without_threads::{Line, Refusal, Went, refused};
 
-// What answers a listing of this file with what is told of it.
+// The reply to the bytes of a listing: its diagnostics.
 #[derive(Drop)]
 struct Checking<'a> {
     file: &'a str,
@@ -37,15 +37,14 @@ impl Reply for Checking<'_> {
     }
 
     fn text(self, alloc: Global, bytes: &[u8]) -> Result<(u8, Vec<u8>), Memory> {
-        Ok(told(alloc, self.file, bytes, self.all)?)
+        Ok(diagnostics(alloc, self.file, bytes, self.all)?)
     }
 
     ghost enough = { λ c input status text is. told_of_all c.file.now c.all input status text is };
 }
 
-/// Reads a listing and runs nothing. For a good one it writes how many instructions, labels and
-/// bytes of data it has, and what is odd in it, and for one with a fault where and what that is, or all of
-/// its faults; the status is 0 or 2.
+/// Reads a listing and writes its diagnostics, without a run: the numbers of instructions, labels and bytes of data with
+/// warnings, or a fault with its place, or all faults. The status is 0 or 2.
 /// There is no reader where the file did not open. A failed read or write is not tried again.
 pub fn check<R: Read + Drop, W: Write>(
     alloc: Global,
@@ -57,7 +56,7 @@ pub fn check<R: Read + Drop, W: Write>(
     requires writer_room { failures_of writer.old < 2 ^ 64 - 1 }
     // Without a reader nothing is read.
     ensures open { reader ≡ None → result ≡ refused Refusal.Open }
-    // What was written whole is told of the reader's bytes.
+    // A text that was written whole is the diagnostics of the reader's bytes.
     ensures answer { result.line ≡ Nothing → HasWritten R.remaining W.contents reader
         writer.old writer.new (IsCheck asked.now.file.now asked.now.all result.status) }
     ensures line { IsOfOneThread result.line }

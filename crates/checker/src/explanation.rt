@@ -1,32 +1,33 @@
-//! What is told of faults.
+//! The diagnostics of faults.
 ghost use Rattle.std.specs.Prelude.{◌≡◌, ◌++◌, IfOk, OnOk, None, Some};
 ghost use Rattle.std.specs.Option.{option_map};
 ghost use Rattle.lexical.specs.Line.{lines_of};
-ghost use Rattle.checks.specs.Checks.{AreExplained, IsExplained, IsExplanationBehind};
-ghost use Rattle.checks.specs.Lines.{line_at};
-ghost use Rattle.checks.specs.Checks.{advice_line, form_note, has_form, sentence};
+ghost use Rattle.checker.specs.Diagnostics.{AreExplained, IsExplained, IsExplanationBehind};
+ghost use Rattle.checker.specs.Lines.{numbered_line};
+ghost use Rattle.checker.specs.Diagnostics.{remedy_line, form_note, has_form, sentence};
 
-use super::advice::advice;
 use super::blame::part_at_fault;
-use super::faults::faults_told;
+use super::clearing::Labels;
+use super::faults::chosen_faults;
 use super::forms::push_forms;
-use super::lines::{line_at, word_in};
-use super::mending::Labels;
+use super::lines::{numbered_line, word_in};
 use super::quoting::{Layer, push_bytes};
+use super::remedies::remedy;
 use super::spot::{Spot, push_spot};
 use isa::{FaultKind, TextFault, fault_text};
 use std::alloc::{AllocError, Global};
 
-// What stands before what is said of a fault.
+// The beginning of a diagnostic of a fault.
 const ERROR: &str = "error: ";
 
-// A listing: its file and its bytes.
+// A listing: the name of its file, and its bytes.
 #[derive(Clone, Copy)]
 struct Source<'a> {
     file: &'a [u8],
     bytes: &'a [u8],
 }
 
+// The rule of the language that a fault breaks.
 fn sentence(kind: FaultKind) -> &'static str
     ensures { result.now ≡ sentence kind }
 {
@@ -55,6 +56,7 @@ fn sentence(kind: FaultKind) -> &'static str
     }
 }
 
+// Whether the forms of the operation are shown with a fault.
 fn has_form(kind: FaultKind) -> bool
     ensures { result ≡ has_form kind }
 {
@@ -64,7 +66,7 @@ fn has_form(kind: FaultKind) -> bool
     )
 }
 
-// The forms of the line's word, where they tell what is wanted.
+// Adds the forms of the operation of a line, where they are shown with its fault.
 fn push_form(text: &mut Vec<u8>, kind: FaultKind, line: &[u8]) -> Result<(), AllocError>
     ensures { OnOk result (text.new.items ≡ text.old.items ++ form_note kind line.now) }
 {
@@ -74,18 +76,18 @@ fn push_form(text: &mut Vec<u8>, kind: FaultKind, line: &[u8]) -> Result<(), All
     Ok(())
 }
 
-// What helps, in a line of its own, if something is known that does.
-fn push_advice(text: &mut Vec<u8>, advice: &[u8]) -> Result<(), AllocError>
-    ensures { OnOk result (text.new.items ≡ text.old.items ++ advice_line advice.now) }
+// Adds a remedy in a line of its own, if one is known.
+fn push_remedy(text: &mut Vec<u8>, remedy: &[u8]) -> Result<(), AllocError>
+    ensures { OnOk result (text.new.items ≡ text.old.items ++ remedy_line remedy.now) }
 {
-    if !advice.is_empty() {
-        push_bytes(text, Layer::Line, advice)?;
+    if !remedy.is_empty() {
+        push_bytes(text, Layer::Line, remedy)?;
         text.push(b'\n')?;
     }
     Ok(())
 }
 
-// The line of the listing with its place and its mark, what is wanted there, and what helps.
+// Adds the diagnostic of a fault in a line of the listing.
 fn push_line(
     alloc: Global,
     text: &mut Vec<u8>,
@@ -103,14 +105,14 @@ fn push_line(
         line,
     };
     let part = part_at_fault(alloc, labels, line, fault)?;
-    let advice = advice(alloc, source.bytes, labels, line, fault)?;
+    let remedy = remedy(alloc, source.bytes, labels, line, fault)?;
     push_spot(alloc, text, spot, part, ERROR, sentence(fault.kind))?;
     push_form(text, fault.kind, line)?;
-    push_advice(text, advice.as_slice())?;
+    push_remedy(text, remedy.as_slice())?;
     Ok(())
 }
 
-// What is wanted, where there is no line.
+// Adds the diagnostic of a fault of the listing as a whole.
 fn push_whole(text: &mut Vec<u8>, file: &[u8], fault: TextFault) -> Result<(), AllocError>
     ensures { OnOk result (IsExplanationBehind file.now fault.line fault.kind
         None text.old.items text.new.items) }
@@ -123,7 +125,7 @@ fn push_whole(text: &mut Vec<u8>, file: &[u8], fault: TextFault) -> Result<(), A
     Ok(())
 }
 
-// What stands behind the line of the report.
+// Adds the diagnostic of a fault.
 fn push_explanation(
     alloc: Global,
     text: &mut Vec<u8>,
@@ -132,14 +134,15 @@ fn push_explanation(
     fault: TextFault,
 ) -> Result<(), AllocError>
     ensures { OnOk result (IsExplanationBehind source.entry.file.now fault.line fault.kind
-        (line_at fault.line (lines_of source.entry.bytes.now)) text.old.items text.new.items) }
+        (numbered_line fault.line (lines_of source.entry.bytes.now)) text.old.items text.new.items) }
 {
-    match line_at(source.bytes, fault.line) {
+    match numbered_line(source.bytes, fault.line) {
         Some(line) => push_line(alloc, text, source, labels, fault, line),
         None => push_whole(text, source.file, fault),
     }
 }
 
+// Adds the diagnostics of faults in their order.
 fn push_all(
     alloc: Global,
     text: &mut Vec<u8>,
@@ -156,8 +159,8 @@ fn push_all(
     Ok(())
 }
 
-/// The line that a report has for a fault, and behind it what is told of the fault, and of the first of each
-/// other line where all are wanted.
+/// The line that a report has for a fault, and behind it the diagnostics: of this fault, or of the first one of each
+/// line where all are wanted.
 pub(crate) fn explained<'a>(
     alloc: Global,
     file: &'a [u8],
@@ -171,7 +174,7 @@ pub(crate) fn explained<'a>(
     let head = fault_text(alloc, fault)?;
     let labels = Labels::of(alloc, bytes)?;
     let source = Source { file, bytes };
-    let faults = faults_told(alloc, bytes, &labels, all, fault)?;
+    let faults = chosen_faults(alloc, bytes, &labels, all, fault)?;
     let mut text = head.into_bytes();
     push_all(alloc, &mut text, source, &labels, faults.as_slice())?;
     Ok(text)

@@ -1,16 +1,16 @@
-//! Which faults of a listing are told.
+//! The faults of a listing of which there are diagnostics.
 ghost use Rattle.std.specs.Prelude.{◌≡◌, IfOk};
 ghost use Rattle.isa.specs.Listing.{listing};
-ghost use Rattle.checks.specs.Faults.{AreFaults, AreTold, most_faults};
+ghost use Rattle.checker.specs.Faults.{AreFaults, AreChosen, most_faults};
 
-use super::mending::{Labels, mended};
+use super::clearing::{Labels, cleared};
 use isa::{FaultKind, TextFault, parse};
 use std::alloc::{AllocError, Global};
 
-/// How many faults are told of a listing at most.
+/// The most faults of a listing that are shown.
 const MOST_FAULTS: usize = 200;
 
-// The faults that would be told in turn, were the line of each one mended before the next run.
+// The faults that are found in turn, where the line of each one is cleared before the next is looked for.
 fn faults(alloc: Global, bytes: &[u8], labels: &Labels<'_>) -> Result<Vec<TextFault>, AllocError>
     ensures { IfOk result (λ found. AreFaults most_faults bytes.now found.items) }
 {
@@ -23,7 +23,7 @@ fn faults(alloc: Global, bytes: &[u8], labels: &Labels<'_>) -> Result<Vec<TextFa
             Err(fault) => fault,
         };
         found.push(fault)?;
-        match mended(alloc, text.as_slice(), labels, fault.line)? {
+        match cleared(alloc, text.as_slice(), labels, fault.line)? {
             Some(better) => text = better,
             None => return Ok(found),
         }
@@ -31,20 +31,20 @@ fn faults(alloc: Global, bytes: &[u8], labels: &Labels<'_>) -> Result<Vec<TextFa
     Ok(found)
 }
 
-/// The fault of a listing, or the first one of each line, in the order of the lines.
-pub(crate) fn faults_told(
+/// The fault of a listing, or where all are wanted the first one of each line, in the order of the lines.
+pub(crate) fn chosen_faults(
     alloc: Global,
     bytes: &[u8],
     labels: &Labels<'_>,
     all: bool,
     fault: &TextFault,
 ) -> Result<Vec<TextFault>, AllocError>
-    ensures { IfOk result (λ told. AreTold all bytes.now fault.now told.items) }
+    ensures { IfOk result (λ chosen. AreChosen all bytes.now fault.now chosen.items) }
 {
     if !all || fault.line == 0 {
         return Ok([*fault].to_vec(alloc)?);
     }
-    let mut told = faults(alloc, bytes, labels)?;
-    told.sort_unstable_by_key(|fault: &TextFault| fault.line);
-    Ok(told)
+    let mut chosen = faults(alloc, bytes, labels)?;
+    chosen.sort_unstable_by_key(|fault: &TextFault| fault.line);
+    Ok(chosen)
 }

@@ -1,18 +1,19 @@
-//! The forms of a word, as they are told to whoever got it wrong.
+//! The forms of an operation, as they are shown with a fault.
 ghost use Rattle.std.specs.Prelude.{◌≡◌, ◌∷◌, ◌++◌, [], false, map, filter, OnOk};
 ghost use Rattle.isa.specs.Forms.{form_text, form_view, has_word};
-ghost use Rattle.checks.specs.Forms.{alternatives, lead, word_note};
+ghost use Rattle.checker.specs.Forms.{alternatives, lead, word_note};
 
 use isa::{Form, directive_text, forms};
 use std::alloc::AllocError;
 
-// What stands before a form: before the first the beginning of the sentence.
+// The words before a form: the beginning of the sentence before the first one.
 fn lead(began: bool) -> &'static str
     ensures { result.now ≡ lead began }
 {
     if began { " or " } else { "The form is " }
 }
 
+// Adds a form with the words before it.
 fn push_form(text: &mut Vec<u8>, began: bool, form: &Form) -> Result<(), AllocError>
     ensures { OnOk result (text.new.items
         ≡ text.old.items ++ (lead began ++ form_text (form_view form.now))) }
@@ -24,7 +25,7 @@ fn push_form(text: &mut Vec<u8>, began: bool, form: &Form) -> Result<(), AllocEr
     Ok(())
 }
 
-// The forms of a table that have the word, in a line of their own.
+// Adds the forms of a table that have the word, in a line of their own.
 fn push_forms_in(text: &mut Vec<u8>, table: &[Form], word: &[u8]) -> Result<(), AllocError>
     ensures { OnOk result (text.new.items ≡ text.old.items
         ++ alternatives false
@@ -43,6 +44,7 @@ fn push_forms_in(text: &mut Vec<u8>, table: &[Form], word: &[u8]) -> Result<(), 
     Ok(())
 }
 
+// Adds the form of a directive, in a line of its own.
 fn push_directive(text: &mut Vec<u8>, form: &str) -> Result<(), AllocError>
     ensures { OnOk result (text.new.items
         ≡ text.old.items ++ alternatives false (form.now ∷ [])) }
@@ -53,7 +55,7 @@ fn push_directive(text: &mut Vec<u8>, form: &str) -> Result<(), AllocError>
     Ok(())
 }
 
-/// Adds a line that tells the forms of a word, in letters of either case, if it has some.
+/// Adds a line with the forms of a word, in letters of either case, if it has some.
 pub(crate) fn push_forms(text: &mut Vec<u8>, word: &[u8]) -> Result<(), AllocError>
     ensures { OnOk result (text.new.items ≡ text.old.items ++ word_note word.now) }
 {

@@ -3,13 +3,13 @@ ghost use Rattle.std.specs.Prelude.{◌≡◌};
 ghost use Rattle.std.specs.Option.{option_map};
 ghost use Rattle.lexical.specs.Line.{lines_of};
 ghost use Rattle.lexical.specs.Label.{statement_of};
-ghost use Rattle.checks.specs.Lines.{line_at, word_in};
+ghost use Rattle.checker.specs.Lines.{numbered_line, word_in};
 
 use lexical::{before_comment, cut_word, next_label, next_line, trim};
 
 /// A line by its number, counted from 1.
-pub(crate) fn line_at(text: &[u8], number: u64) -> Option<&[u8]>
-    ensures { option_map (λ t. t.now) result ≡ line_at number (lines_of text.now) }
+pub(crate) fn numbered_line(text: &[u8], number: u64) -> Option<&[u8]>
+    ensures { option_map (λ t. t.now) result ≡ numbered_line number (lines_of text.now) }
 {
     if number == 0 {
         return None;
@@ -27,7 +27,7 @@ pub(crate) fn line_at(text: &[u8], number: u64) -> Option<&[u8]>
     None
 }
 
-/// What stands behind the labels of a line.
+/// The statement of a line: all behind its labels, without blanks at its ends.
 pub(crate) fn statement(code: &[u8]) -> &[u8]
     ensures { result.now ≡ statement_of code.now }
 {

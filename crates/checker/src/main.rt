@@ -1,7 +1,23 @@
 //! The program `checker`, which is `./ruu check FILE`: its words, its file and its standard streams.
 #![tactic(auto)]
 
+mod blame;
 mod checking;
+mod clearing;
+mod diagnostics;
+mod explanation;
+mod faults;
+mod forms;
+mod lines;
+mod parts;
+mod quoting;
+mod reach;
+mod registers;
+mod remedies;
+mod spot;
+mod statements;
+mod summary;
+mod warnings;
 
 use checking::check;
 use command_line::{Checked, checked, is_standard_input, refuse, words};
@@ -25,7 +41,7 @@ fn main(rt: HostRuntime) -> ExitCode {
     }
 }
 
-// A file that does not open is named with the system's reason.
+// Checks a file; one that does not open is named with the system's reason.
 fn check_file(rt: &HostRuntime, asked: &Checked<'_>) -> ExitCode {
     let file = asked.file;
     if is_standard_input(file) {

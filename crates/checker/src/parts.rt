@@ -1,6 +1,6 @@
 //! The parts of a line: its labels, its statement, its word and its operands.
 ghost use Rattle.std.specs.Prelude.{◌≤◌, ◌<◌, IfSome};
-ghost use Rattle.checks.specs.Parts.{IsPartOf, LiesIn};
+ghost use Rattle.checker.specs.Parts.{IsPartOf, LiesIn};
 
 use lexical::is_name;
 
@@ -11,11 +11,12 @@ pub(crate) struct Part {
     pub to: usize,
 }
 
+/// Whether a byte is a blank or a tab.
 pub(crate) fn is_blank(byte: u8) -> bool {
     byte == b' ' || byte == b'\t'
 }
 
-// Where this byte first stands in the part.
+/// The first place of a byte in a part.
 pub(crate) fn find(line: &[u8], part: Part, byte: u8) -> Option<usize>
     requires { IsPartOf line.now part }
     ensures { IfSome result (λ at. (part.from ≤ at) × (at < part.to)) }
@@ -28,7 +29,7 @@ pub(crate) fn find(line: &[u8], part: Part, byte: u8) -> Option<usize>
     None
 }
 
-// Where the first byte that is no blank stands, or the end.
+// The place of the first byte of a part that is no blank, or the end.
 fn behind_blanks(line: &[u8], part: Part) -> usize
     requires { IsPartOf line.now part }
     ensures least { part.from ≤ result }
@@ -42,7 +43,7 @@ fn behind_blanks(line: &[u8], part: Part) -> usize
     part.to
 }
 
-// Where the first blank stands, or the end.
+// The place of the first blank of a part, or the end.
 fn before_blank(line: &[u8], part: Part) -> usize
     requires { IsPartOf line.now part }
     ensures least { part.from ≤ result }
@@ -56,7 +57,7 @@ fn before_blank(line: &[u8], part: Part) -> usize
     part.to
 }
 
-// Where the blanks at the end begin.
+// The place at which the blanks at the end of a part begin.
 fn before_blanks(line: &[u8], part: Part) -> usize
     requires { IsPartOf line.now part }
     ensures least { part.from ≤ result }
@@ -71,7 +72,7 @@ fn before_blanks(line: &[u8], part: Part) -> usize
     end
 }
 
-// The part without the blanks at its ends.
+/// A part without the blanks at its ends.
 pub(crate) fn trimmed(line: &[u8], part: Part) -> Part
     requires { IsPartOf line.now part }
     ensures { LiesIn part result }
@@ -82,7 +83,7 @@ pub(crate) fn trimmed(line: &[u8], part: Part) -> Part
     Part { from, to }
 }
 
-// What stands before the comment.
+/// The part of a line before its comment.
 pub(crate) fn code(line: &[u8]) -> Part
     ensures { IsPartOf line.now result }
 {
@@ -96,7 +97,7 @@ pub(crate) fn code(line: &[u8]) -> Part
     }
 }
 
-// Where the colon of the label at the front stands, if there is one.
+// The place of the colon behind the label at the front of a part, if there is one.
 fn colon(line: &[u8], part: Part) -> Option<usize>
     requires { IsPartOf line.now part }
     ensures { IfSome result (λ at. (part.from ≤ at) × (at < part.to)) }
@@ -114,7 +115,7 @@ fn colon(line: &[u8], part: Part) -> Option<usize>
     }
 }
 
-/// The name of the label at the front of a part, if there is one, and what stands behind its colon.
+/// The name of the label at the front of a part, if there is one, and the part behind its colon.
 pub(crate) fn label_at(line: &[u8], part: Part) -> Option<(Part, Part)>
     requires { IsPartOf line.now part }
     ensures name { IfSome result (λ found. LiesIn part found.0) }
@@ -133,7 +134,7 @@ pub(crate) fn label_at(line: &[u8], part: Part) -> Option<(Part, Part)>
     Some((trimmed(line, front), behind))
 }
 
-// Where the labels end, behind their last colon.
+// The place at which the labels end, behind their last colon.
 fn behind_labels(line: &[u8], code: Part) -> usize
     requires { IsPartOf line.now code }
     ensures least { code.from ≤ result }
@@ -147,6 +148,7 @@ fn behind_labels(line: &[u8], code: Part) -> usize
     from
 }
 
+/// The statement of a line: its code without labels and without blanks at its ends.
 pub(crate) fn statement(line: &[u8], code: Part) -> Part
     requires { IsPartOf line.now code }
     ensures { LiesIn code result }
@@ -155,6 +157,7 @@ pub(crate) fn statement(line: &[u8], code: Part) -> Part
     trimmed(line, Part { from, to: code.to })
 }
 
+/// The word of a statement.
 pub(crate) fn word(line: &[u8], statement: Part) -> Part
     requires { IsPartOf line.now statement }
     ensures { LiesIn statement result }
@@ -166,7 +169,7 @@ pub(crate) fn word(line: &[u8], statement: Part) -> Part
     }
 }
 
-// All operands; where there are none, the place behind the word.
+/// The operands of a statement; where there are none, the place behind the word.
 pub(crate) fn operands(line: &[u8], statement: Part) -> Part
     requires { IsPartOf line.now statement }
     ensures { LiesIn statement result }

@@ -1,8 +1,8 @@
-//! A line of a listing as it is quoted, with a mark below a part of it.
+//! A line of a listing as it is shown, with a mark below a part of it.
 ghost use Rattle.std.specs.Prelude.{◌≡◌, ◌≤◌, ◌<◌, ◌++◌, OnOk, flat_map, length};
 ghost use Rattle.lexical.specs.Name.{is_plain};
-ghost use Rattle.checks.specs.Parts.{IsPartOf};
-ghost use Rattle.checks.specs.Quotes.{caret, cut, digit, is_in_name, number, quote, quoted, three_if, underline, written};
+ghost use Rattle.checker.specs.Parts.{IsPartOf};
+ghost use Rattle.checker.specs.Quotes.{caret, escape, excerpt, is_in_name, nibble, on_layer, quote, quoted, three_if, underline};
 
 use super::parts::Part;
 use std::alloc::AllocError;
@@ -10,8 +10,7 @@ use std::alloc::AllocError;
 /// How many bytes of a line are shown at most.
 const MOST_SHOWN: usize = 200;
 
-// What is written for a byte: the byte, or what stands below it before the mark, or in the mark; and a byte of a
-// file's name.
+// Where a byte is shown: in a line, as a blank below the line or as a mark below it, and in the name of a file.
 #[derive(Clone, Copy)]
 pub(crate) enum Layer {
     Line,
@@ -20,59 +19,59 @@ pub(crate) enum Layer {
     Name,
 }
 
-// A tab, or what can be printed.
+// Whether a byte is a tab or can be printed.
 fn is_plain(byte: u8) -> bool
     ensures { result ≡ is_plain byte }
 {
     byte == b'\t' || (0x20 <= byte && byte <= 0x7e)
 }
 
-// What can be printed, and bytes of characters of other scripts, but none that begins a control character.
+// Whether a byte of a file's name can be printed, or is part of a character beyond ASCII that is no control character.
 fn is_in_name(byte: u8) -> bool
     ensures { result ≡ is_in_name byte }
 {
     (0x20 <= byte && byte <= 0x7e) || (0x80 <= byte && byte != 0xc2)
 }
 
-fn digit(n: u8) -> u8
+fn nibble(n: u8) -> u8
     requires { n < 16 }
-    ensures { result ≡ digit n }
+    ensures { result ≡ nibble n }
 {
     if n < 10 { b'0' + n } else { b'a' - 10 + n }
 }
 
-// A byte that cannot be printed, by its number.
-fn push_number(text: &mut Vec<u8>, byte: u8) -> Result<(), AllocError>
-    ensures { OnOk result (text.new.items ≡ text.old.items ++ number byte) }
+// Adds the escape of a byte: `\x` and two hexadecimal digits.
+fn push_escape(text: &mut Vec<u8>, byte: u8) -> Result<(), AllocError>
+    ensures { OnOk result (text.new.items ≡ text.old.items ++ escape byte) }
 {
     text.extend_from_slice(b"\\x")?;
-    text.push(digit(byte / 16))?;
-    text.push(digit(byte % 16))?;
+    text.push(nibble(byte / 16))?;
+    text.push(nibble(byte % 16))?;
     Ok(())
 }
 
-// What a byte has on a layer.
+// Adds a byte as it is shown on a layer.
 fn push_byte(text: &mut Vec<u8>, layer: Layer, byte: u8) -> Result<(), AllocError>
-    ensures { OnOk result (text.new.items ≡ text.old.items ++ written layer byte) }
+    ensures { OnOk result (text.new.items ≡ text.old.items ++ on_layer layer byte) }
 {
     let plain = is_plain(byte);
     match layer {
         Layer::Line if plain => text.push(byte)?,
-        Layer::Line => push_number(text, byte)?,
+        Layer::Line => push_escape(text, byte)?,
         Layer::Blank if byte == b'\t' => text.push(byte)?,
         Layer::Blank if plain => text.push(b' ')?,
         Layer::Blank => text.extend_from_slice(b"    ")?,
         Layer::Mark if plain => text.push(b'^')?,
         Layer::Mark => text.extend_from_slice(b"^^^^")?,
         Layer::Name if is_in_name(byte) => text.push(byte)?,
-        Layer::Name => push_number(text, byte)?,
+        Layer::Name => push_escape(text, byte)?,
     }
     Ok(())
 }
 
-/// Adds what each byte has on a layer.
+/// Adds each byte as it is shown on a layer.
 pub(crate) fn push_bytes(text: &mut Vec<u8>, layer: Layer, bytes: &[u8]) -> Result<(), AllocError>
-    ensures { OnOk result (text.new.items ≡ text.old.items ++ flat_map (written layer) bytes.now) }
+    ensures { OnOk result (text.new.items ≡ text.old.items ++ flat_map (on_layer layer) bytes.now) }
 {
     for byte in bytes {
         push_byte(text, layer, *byte)?;
@@ -80,7 +79,7 @@ pub(crate) fn push_bytes(text: &mut Vec<u8>, layer: Layer, bytes: &[u8]) -> Resu
     Ok(())
 }
 
-// Three of a character, where something is left out.
+// Adds a character three times, where something is left out.
 fn push_three(text: &mut Vec<u8>, left_out: bool, character: u8) -> Result<(), AllocError>
     ensures { OnOk result (text.new.items ≡ text.old.items ++ three_if left_out character) }
 {
@@ -91,10 +90,10 @@ fn push_three(text: &mut Vec<u8>, left_out: bool, character: u8) -> Result<(), A
     Ok(())
 }
 
-// The bytes of a line that are shown, where the part that is marked begins at this one.
-fn cut(line: &[u8], at: usize) -> Part
+// The bytes of a line that are shown, where the marked part begins at this byte.
+fn excerpt(line: &[u8], at: usize) -> Part
     requires { at ≤ length line.now }
-    ensures shown { result ≡ cut line.now at }
+    ensures shown { result ≡ excerpt line.now at }
     ensures inside { IsPartOf line.now result }
     ensures before { result.from ≤ at }
     ensures behind { at ≤ result.to }
@@ -115,7 +114,7 @@ fn push_line(text: &mut Vec<u8>, line: &[u8], kept: Part) -> Result<(), AllocErr
     Ok(())
 }
 
-// The mark of a part without bytes, which is the place of something that is missing.
+// Adds the mark of a part without bytes, which is the place of something that is missing.
 fn push_caret(text: &mut Vec<u8>, part: Part) -> Result<(), AllocError>
     ensures { OnOk result (text.new.items ≡ text.old.items ++ caret part) }
 {
@@ -139,13 +138,13 @@ fn push_mark(text: &mut Vec<u8>, line: &[u8], kept: Part, part: Part) -> Result<
     Ok(())
 }
 
-/// The line, and below it a mark under the part.
+/// Adds a line, and below it a mark under the part.
 #[tactic(auto, unfolding(crate::specs::Quotes::quote))]
 pub(crate) fn push_quote(text: &mut Vec<u8>, line: &[u8], part: Part) -> Result<(), AllocError>
     requires { IsPartOf line.now part }
     ensures { OnOk result (text.new.items ≡ text.old.items ++ quote line.now part) }
 {
-    let kept = cut(line, part.from);
+    let kept = excerpt(line, part.from);
     push_line(text, line, kept)?;
     text.push(b'\n')?;
     push_mark(text, line, kept, part)?;

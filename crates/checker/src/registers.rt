@@ -1,9 +1,9 @@
-//! What the language takes for a register.
+//! Whether a text is a register of the language.
 
 use isa::{FaultKind, parse};
 use std::alloc::{AllocError, Global};
 
-/// Whether the text is a register: a listing that jumps by it has no such fault.
+/// Whether a text is a register: a listing that jumps to that register has no fault.
 pub(crate) fn is_register(alloc: Global, text: &[u8]) -> Result<bool, AllocError> {
     let mut listing = b"jr ".to_vec(alloc)?;
     listing.extend_from_slice(text)?;

@@ -1,13 +1,13 @@
 //! The place of what is told, in the form to which editors jump, and the line with its mark.
 ghost use Rattle.std.specs.Prelude.{◌≡◌, ◌++◌, OnOk};
-ghost use Rattle.checks.specs.Parts.{IsPartOf};
-ghost use Rattle.checks.specs.Spots.{place, spot_text};
+ghost use Rattle.checker.specs.Parts.{IsPartOf};
+ghost use Rattle.checker.specs.Spots.{place, spot_text};
 
 use super::parts::Part;
 use super::quoting::{Layer, push_bytes, push_quote};
 use std::alloc::{AllocError, Global};
 
-/// A line of a listing by its number, with the file that has it.
+/// A line of a listing, with its number and the name of the file.
 #[derive(Clone, Copy)]
 pub(crate) struct Spot<'a> {
     pub file: &'a [u8],
@@ -15,7 +15,7 @@ pub(crate) struct Spot<'a> {
     pub line: &'a [u8],
 }
 
-// `FILE:LINE:COLUMN: `, each counted from 1.
+// Adds `FILE:LINE:COLUMN: `, where lines and columns are counted from 1.
 fn push_place(
     alloc: Global,
     text: &mut Vec<u8>,
@@ -34,23 +34,23 @@ fn push_place(
     Ok(())
 }
 
-/// Adds the place of a part, how grave it is, what is said of it, and the line with a mark under the part.
+/// Adds the place of a part, the severity, a sentence, and the line with a mark under the part.
 pub(crate) fn push_spot(
     alloc: Global,
     text: &mut Vec<u8>,
     spot: Spot<'_>,
     part: Part,
-    grade: &str,
-    said: &str,
+    severity: &str,
+    sentence: &str,
 ) -> Result<(), AllocError>
     requires { IsPartOf spot.line.now part }
     ensures { OnOk result (text.new.items ≡ text.old.items
-        ++ spot_text spot.entry.file.now spot.entry.number spot.entry.line.now part grade.now
-        said.now) }
+        ++ spot_text spot.entry.file.now spot.entry.number spot.entry.line.now part severity.now
+        sentence.now) }
 {
     push_place(alloc, text, spot, part)?;
-    text.extend_from_slice(grade.as_bytes())?;
-    text.extend_from_slice(said.as_bytes())?;
+    text.extend_from_slice(severity.as_bytes())?;
+    text.extend_from_slice(sentence.as_bytes())?;
     text.push(b'\n')?;
     push_quote(text, spot.line, part)?;
     Ok(())

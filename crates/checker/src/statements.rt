@@ -1,9 +1,9 @@
-//! A statement as it is written: its word and its operands.
+//! The statement of a line: its word and its operands.
 
 use super::lines::statement;
 use lexical::{before_comment, count_operands, cut_word, next_operand, operand_part};
 
-/// A word, how many operands stand behind it, and the first three of them, each empty where it is missing.
+/// A word, the number of its operands, and the first three of these, each empty where it is missing.
 #[derive(Clone, Copy)]
 pub(crate) struct Statement<'a> {
     pub word: &'a [u8],
@@ -25,7 +25,7 @@ pub(crate) fn statement_in(line: &[u8]) -> Statement<'_> {
     }
 }
 
-// The first operand, and what is left of the others.
+// The first operand, and the others.
 fn operand(part: Option<&[u8]>) -> (&[u8], Option<&[u8]>) {
     match part {
         Some(part) => next_operand(part),

@@ -1,9 +1,9 @@
-//! What a good listing holds.
+//! The summary of a listing without a fault.
 ghost use Rattle.std.specs.Prelude.{◌≡◌, ◌≤◌, length, IfOk};
 ghost use Rattle.lexical.specs.Label.{labels_of};
 ghost use Rattle.lexical.specs.Line.{lines_of};
 ghost use Rattle.isa.specs.Listing.{labels};
-ghost use Rattle.checks.specs.Checks.{counts_text, how_many_labels};
+ghost use Rattle.checker.specs.Diagnostics.{counts_text, how_many_labels};
 
 use instructions::Program;
 use lexical::{before_comment, next_label, next_line};
@@ -36,7 +36,7 @@ fn how_many_labels(bytes: &[u8]) -> usize
     n
 }
 
-/// How many instructions, labels and bytes of data the program of a listing has, a line each.
+/// How many instructions, labels and bytes of data a listing has, a line each.
 pub(crate) fn counted(alloc: Global, program: &Program, bytes: &[u8]) -> Result<Vec<u8>, AllocError>
     ensures { IfOk result (λ text. text.items ≡ counts_text (length program.now.code)
         (how_many_labels (lines_of bytes.now)) (length program.now.bytes)) }

@@ -1,26 +1,26 @@
-//! What is odd in a listing without a fault.
+//! Warnings of a listing without a fault.
 ghost use Rattle.std.specs.Prelude.{◌≡◌, ◌<◌, length, IfOk, OnOk, Some, slice_get, true};
 ghost use Rattle.lexical.specs.Line.{lines_of};
 ghost use Rattle.isa.specs.Listing.{instruction_lines};
-ghost use Rattle.checks.specs.Lines.{line_at};
-ghost use Rattle.checks.specs.Parts.{IsPartOf};
-ghost use Rattle.checks.specs.Reach.{IsClosed, may_leave};
-ghost use Rattle.checks.specs.Warnings.{AreOperandsOf, AreWarned, IsRight, StandsOn, said};
+ghost use Rattle.checker.specs.Lines.{numbered_line};
+ghost use Rattle.checker.specs.Parts.{IsPartOf};
+ghost use Rattle.checker.specs.Reach.{IsClosedSet, may_run_past_end};
+ghost use Rattle.checker.specs.Warnings.{AreOperandsOf, AreWarned, Applies, StandsOn, said};
 
 mod operands;
 
 use super::parts::{Part, code, label_at, statement};
-use super::reach::{ends_path, has_target, is_closed, reached};
+use super::reach::{ends_path, is_closed, names_target, reached};
 use super::spot::{Spot, push_spot};
 use instructions::Program;
 use lexical::next_line;
 use operands::{Operands, is_operand, operands_of};
 use std::alloc::{AllocError, Global};
 
-// What stands before what is said.
+// The beginning of a warning.
 const WARNING: &str = "warning: ";
 
-/// What is odd.
+/// The kinds of warnings.
 #[derive(Clone, Copy)]
 pub(crate) enum Warning {
     NeverUsed,
@@ -40,8 +40,8 @@ impl Warning {
     }
 }
 
-/// A listing without a fault, its program with the line of each instruction, and which of them are reached; where
-/// these are all, that is known.
+/// A listing without a fault, its program with the line of each instruction, a flag for each instruction that is
+/// reached, and whether a run reaches no other one.
 #[derive(Clone, Copy)]
 pub(crate) struct Good<'a> {
     pub file: &'a [u8],
@@ -52,15 +52,15 @@ pub(crate) struct Good<'a> {
     pub is_closed: bool,
 }
 
-// Whether instruction k may lead behind the last one.
-fn may_leave(program: &Program, k: usize) -> bool
+// Whether a run can go on from instruction k past the last one.
+fn may_run_past_end(program: &Program, k: usize) -> bool
     requires { k < length program.now.code }
-    ensures { result ≡ may_leave program.now k }
+    ensures { result ≡ may_run_past_end program.now k }
 {
     let instr = program.instr(k);
     let end = Program::START + 4 * program.len() as u32;
     let goes_on = !ends_path(instr) && k + 1 == program.len();
-    let jumps = has_target(instr) && instr.number == end;
+    let jumps = names_target(instr) && instr.number == end;
     goes_on || jumps
 }
 
@@ -73,9 +73,9 @@ fn push_warning(
     warning: Warning,
 ) -> Result<(), AllocError>
     requires file { spot.file.now ≡ good.now.file.now }
-    requires line { line_at spot.number (lines_of good.now.bytes.now) ≡ Some spot.line.now }
+    requires line { numbered_line spot.number (lines_of good.now.bytes.now) ≡ Some spot.line.now }
     requires part { IsPartOf spot.line.now part }
-    requires right { IsRight good.now.bytes.now good.now.program.now spot.number spot.line.now part
+    requires right { Applies good.now.bytes.now good.now.program.now spot.number spot.line.now part
         warning }
     ensures { OnOk result (AreWarned good.now.file.now good.now.bytes.now good.now.program.now
         text.old.items text.new.items) }
@@ -84,8 +84,8 @@ fn push_warning(
     Ok(())
 }
 
-// Warns of the labels of a line that no instruction names, unless the first instruction is behind them, where they may
-// name the beginning for a reader.
+// Warns of the labels of a line that no instruction names. Labels before the first instruction may name the beginning
+// for a reader.
 fn push_labels(
     alloc: Global,
     text: &mut Vec<u8>,
@@ -95,7 +95,7 @@ fn push_labels(
     k: usize,
 ) -> Result<(), AllocError>
     requires file { spot.file.now ≡ good.now.file.now }
-    requires line { line_at spot.number (lines_of good.now.bytes.now) ≡ Some spot.line.now }
+    requires line { numbered_line spot.number (lines_of good.now.bytes.now) ≡ Some spot.line.now }
     requires operands { AreOperandsOf (lines_of good.now.bytes.now) operands.now }
     ensures { OnOk result (AreWarned good.now.file.now good.now.bytes.now good.now.program.now
         text.old.items text.new.items) }
@@ -114,7 +114,8 @@ fn push_labels(
     Ok(())
 }
 
-// Warns of an instruction that is the first of some that no path reaches, or that may lead behind the last one.
+// Warns of instruction k, where it is the first of some that no path reaches, or where a run can go on from it past the
+// last one.
 fn push_instruction(
     alloc: Global,
     text: &mut Vec<u8>,
@@ -123,18 +124,18 @@ fn push_instruction(
     k: usize,
 ) -> Result<(), AllocError>
     requires file { spot.file.now ≡ good.now.file.now }
-    requires line { line_at spot.number (lines_of good.now.bytes.now) ≡ Some spot.line.now }
+    requires line { numbered_line spot.number (lines_of good.now.bytes.now) ≡ Some spot.line.now }
     requires inside { k < length good.now.program.now.code }
     requires size { length good.now.reached.now ≡ length good.now.program.now.code }
     requires closed { good.now.is_closed ≡ true →
-        IsClosed good.now.program.now good.now.reached.now }
+        IsClosedSet good.now.program.now good.now.reached.now }
     requires stands { StandsOn good.now.bytes.now k spot.number }
     ensures { OnOk result (AreWarned good.now.file.now good.now.bytes.now good.now.program.now
         text.old.items text.new.items) }
 {
     let part = statement(spot.line, code(spot.line));
     if good.reached[k] {
-        if may_leave(good.program, k) {
+        if may_run_past_end(good.program, k) {
             push_warning(alloc, text, good, spot, part, Warning::PastEnd)?;
         }
         return Ok(());
@@ -146,7 +147,7 @@ fn push_instruction(
     Ok(())
 }
 
-// Whether instruction k stands on a line, by the lines of all.
+// Whether instruction k stands on a line.
 fn stands_on(lines: &[u64], k: usize, number: u64) -> bool
     ensures { result ≡ true → slice_get lines.now k ≡ Some number }
 {
@@ -156,7 +157,7 @@ fn stands_on(lines: &[u64], k: usize, number: u64) -> bool
     }
 }
 
-// Warns of instruction k, if it stands on this line. The answer is the number of the first one behind the line.
+// Warns of instruction k, if it stands on a line. The result is the number of the first instruction behind the line.
 fn push_numbered(
     alloc: Global,
     text: &mut Vec<u8>,
@@ -165,11 +166,11 @@ fn push_numbered(
     k: usize,
 ) -> Result<usize, AllocError>
     requires file { spot.file.now ≡ good.now.file.now }
-    requires line { line_at spot.number (lines_of good.now.bytes.now) ≡ Some spot.line.now }
+    requires line { numbered_line spot.number (lines_of good.now.bytes.now) ≡ Some spot.line.now }
     requires lines { good.now.lines.now ≡ instruction_lines good.now.bytes.now }
     requires size { length good.now.reached.now ≡ length good.now.program.now.code }
     requires closed { good.now.is_closed ≡ true →
-        IsClosed good.now.program.now good.now.reached.now }
+        IsClosedSet good.now.program.now good.now.reached.now }
     ensures { IfOk result (λ _. AreWarned good.now.file.now good.now.bytes.now good.now.program.now
         text.old.items text.new.items) }
 {
@@ -181,7 +182,7 @@ fn push_numbered(
     Ok(k)
 }
 
-// Warns line by line.
+// Warns of each line in turn.
 fn push_lines(
     alloc: Global,
     text: &mut Vec<u8>,
@@ -192,7 +193,7 @@ fn push_lines(
     requires lines { good.now.lines.now ≡ instruction_lines good.now.bytes.now }
     requires size { length good.now.reached.now ≡ length good.now.program.now.code }
     requires closed { good.now.is_closed ≡ true →
-        IsClosed good.now.program.now good.now.reached.now }
+        IsClosedSet good.now.program.now good.now.reached.now }
     ensures { OnOk result (AreWarned good.now.file.now good.now.bytes.now good.now.program.now
         text.old.items text.new.items) }
 {
@@ -211,8 +212,8 @@ fn push_lines(
     Ok(())
 }
 
-/// Warns of labels that no instruction names, of instructions that no path reaches, and of those from which a run
-/// can go on behind the last one, in the order of their lines.
+/// Adds the warnings of a listing, in the order of their lines: labels that no instruction names, instructions that no
+/// path reaches, and those from which a run can go on past the last one.
 pub(crate) fn push_warnings(
     alloc: Global,
     text: &mut Vec<u8>,

@@ -1,6 +1,6 @@
 //! The number that is at fault.
 ghost use Rattle.std.specs.Prelude.{◌≤◌};
-ghost use Rattle.checks.specs.Parts.{IsPartOf, LiesIn};
+ghost use Rattle.checker.specs.Parts.{IsPartOf, LiesIn};
 
 use super::super::parts::{Part, trimmed};
 use super::operands::{end_of_first, has_offset, last_operand, offset_in};

@@ -1,12 +1,12 @@
-//! The operand that is of another kind than is due, missing, or one too many.
+//! The operand that is of another kind than the form has, missing, or one too many.
 ghost use Rattle.std.specs.Prelude.{◌≤◌, ◌<◌, IfSome};
-ghost use Rattle.checks.specs.Parts.{IsPartOf, LiesIn};
+ghost use Rattle.checker.specs.Parts.{IsPartOf, LiesIn};
 
 use super::super::parts::{Part, find, is_blank, trimmed};
 use isa::{Form, Operands, Slot, directive_text, form_of, forms};
 use lexical::{begins_number, first_is, is_name};
 
-/// Where the first operand of some ends: at its comma, or at their end.
+/// The end of the first operand: its comma, or the end of all operands.
 pub(crate) fn end_of_first(line: &[u8], operands: Part) -> usize
     requires { IsPartOf line.now operands }
     ensures least { operands.from ≤ result }
@@ -18,7 +18,7 @@ pub(crate) fn end_of_first(line: &[u8], operands: Part) -> usize
     }
 }
 
-/// The last operand, in which a label is due, or most numbers.
+/// The last operand, where a form has its label, and most forms their number.
 pub(crate) fn last_operand(line: &[u8], operands: Part) -> Part
     requires { IsPartOf line.now operands }
     ensures { LiesIn operands result }
@@ -31,7 +31,7 @@ pub(crate) fn last_operand(line: &[u8], operands: Part) -> Part
     trimmed(line, Part { from, to })
 }
 
-/// Whether the word's last operand is an offset with a register, as its form says.
+/// Whether a form of the word has an offset with a register.
 pub(crate) fn has_offset(word: &[u8]) -> bool {
     let has_offset = |form: &Form| matches!(form.operands, Operands::Load | Operands::Store);
     forms()
@@ -39,7 +39,7 @@ pub(crate) fn has_offset(word: &[u8]) -> bool {
         .any(|form| form.has_word(word) && has_offset(form))
 }
 
-/// The offset of an operand `offset(register)`: what stands before its first parenthesis.
+/// The offset of an operand `offset(register)`: all before its first parenthesis.
 pub(crate) fn offset_in(line: &[u8], operand: Part) -> Part
     requires { IsPartOf line.now operand }
     ensures { LiesIn operand result }
@@ -52,8 +52,8 @@ pub(crate) fn offset_in(line: &[u8], operand: Part) -> Part
     trimmed(line, front)
 }
 
-/// The register of an operand `offset(register)`: what stands behind its first parenthesis, without the
-/// last byte, which is the other one.
+/// The register of an operand `offset(register)`: all behind its first parenthesis but the last byte, which is the
+/// closing one.
 pub(crate) fn register_in(line: &[u8], operand: Part) -> Part
     requires { IsPartOf line.now operand }
     ensures { LiesIn operand result }
@@ -66,7 +66,8 @@ pub(crate) fn register_in(line: &[u8], operand: Part) -> Part
     trimmed(line, Part { from, to })
 }
 
-// An offset with a register: the register, or the offset, or all of it where the parentheses are not there.
+// The part of an offset with a register that is of another kind: the register, or the offset, or all where there are no
+// parentheses.
 fn other_address(line: &[u8], operand: Part) -> Option<Part>
     requires { IsPartOf line.now operand }
     ensures { IfSome result (LiesIn operand) }
@@ -88,7 +89,7 @@ fn other_address(line: &[u8], operand: Part) -> Option<Part>
     }
 }
 
-// The part of an operand that is of another kind than is due there.
+// The part of an operand that is of another kind than its slot.
 fn other_kind(line: &[u8], slot: Slot, operand: Part) -> Option<Part>
     requires { IsPartOf line.now operand }
     ensures { IfSome result (LiesIn operand) }
@@ -124,7 +125,7 @@ fn next_operand(line: &[u8], operands: Part) -> (Part, Option<Part>)
     (trimmed(line, first), rest)
 }
 
-// The first part of operands that is of another kind than is due there; all of them where that is not found.
+// The first part of operands that is of another kind than its slot; all operands where there is none.
 fn first_of_other_kind(line: &[u8], operands: Part, slots: &[Slot]) -> Part
     requires { IsPartOf line.now operands }
     ensures { LiesIn operands result }
@@ -143,7 +144,7 @@ fn first_of_other_kind(line: &[u8], operands: Part, slots: &[Slot]) -> Part
     operands
 }
 
-// The first operand of a directive that is no number; all of them where that is not found.
+// The first operand of a directive that is no number; all operands where there is none.
 fn no_number(line: &[u8], operands: Part) -> Part
     requires { IsPartOf line.now operands }
     ensures { LiesIn operands result }
@@ -159,7 +160,7 @@ fn no_number(line: &[u8], operands: Part) -> Part
     operands
 }
 
-// The second of two words that stand in an operand without a comma between them.
+// The second of two words in an operand, between which a comma is missing.
 fn second_word(line: &[u8], operand: Part) -> Option<Part>
     requires { IsPartOf line.now operand }
     ensures { IfSome result (LiesIn operand) }
@@ -177,7 +178,7 @@ fn second_word(line: &[u8], operand: Part) -> Option<Part>
     None
 }
 
-// The second of two operands between which there is no comma, if there are such.
+// The second of two operands between which a comma is missing, if there are two.
 fn without_comma(line: &[u8], operands: Part) -> Option<Part>
     requires { IsPartOf line.now operands }
     ensures { IfSome result (LiesIn operands) }
@@ -193,7 +194,7 @@ fn without_comma(line: &[u8], operands: Part) -> Option<Part>
     None
 }
 
-// The operands from one on, counted from 0, if it is there.
+// The operands from one on, by its number counted from 0, if there are as many.
 fn from_operand(line: &[u8], operands: Part, number: usize) -> Option<Part>
     requires { IsPartOf line.now operands }
     ensures { IfSome result (LiesIn operands) }
@@ -206,7 +207,7 @@ fn from_operand(line: &[u8], operands: Part, number: usize) -> Option<Part>
     Some(trimmed(line, Part { from, to }))
 }
 
-// How many operands there are: one more than commas, where there is anything.
+// The number of operands: one more than commas, or none where there is no byte.
 fn how_many(line: &[u8], operands: Part) -> usize
     requires { IsPartOf line.now operands }
 {
@@ -220,7 +221,7 @@ fn how_many(line: &[u8], operands: Part) -> usize
         .wrapping_add(1)
 }
 
-// The most operands that a form of the word has.
+// The most operands of a form of the word.
 fn most_operands(word: &[u8]) -> usize {
     let mut most = 0;
     for form in forms() {
@@ -231,7 +232,7 @@ fn most_operands(word: &[u8]) -> usize {
     most
 }
 
-// What is missing or too many, where no form has so many operands.
+// The operand that is missing or too many, where no form has as many operands.
 fn other_count(line: &[u8], operands: Part, most: usize) -> Part
     requires { IsPartOf line.now operands }
     ensures { LiesIn operands result }
@@ -248,7 +249,7 @@ fn other_count(line: &[u8], operands: Part, most: usize) -> Part
     }
 }
 
-/// The operand that is of another kind than is due, or one too many, or the place of one that is missing.
+/// The operand that is of another kind than the form has, or one too many, or the place of one that is missing.
 pub(crate) fn bad_operands(line: &[u8], word: Part, operands: Part) -> Part
     requires word { IsPartOf line.now word }
     requires operands { IsPartOf line.now operands }

@@ -1,13 +1,13 @@
 //! The register that is at fault.
 ghost use Rattle.std.specs.Prelude.{◌≤◌, IfOk};
-ghost use Rattle.checks.specs.Parts.{IsPartOf, LiesIn};
+ghost use Rattle.checker.specs.Parts.{IsPartOf, LiesIn};
 
 use super::super::parts::{Part, trimmed};
 use super::super::registers::is_register;
 use super::operands::{end_of_first, has_offset, register_in};
 use std::alloc::{AllocError, Global};
 
-/// The first operand, or in it the register of an offset, that begins as a register and is none.
+/// The first operand that begins as a register and is none, or the register in it behind an offset.
 pub(crate) fn bad_register(
     alloc: Global,
     line: &[u8],

@@ -1,16 +1,16 @@
-//! The operands of a listing, among which one is found by its bytes.
+//! The operands of a listing as a set.
 ghost use Rattle.std.specs.Prelude.{◌≡◌, ◌||◌, ℕ, List, IfOk, OnOk};
 ghost use Rattle.std.specs.Str.{bytes_eq};
 ghost use Rattle.lexical.specs.Line.{lines_of};
 ghost use Rattle.isa.specs.Listing.{stands_in};
-ghost use Rattle.checks.specs.Warnings.{AreOperandsOf, has_key, operands_in};
+ghost use Rattle.checker.specs.Warnings.{AreOperandsOf, has_key, operands_of_line};
 
 use super::super::lines::statement;
 use lexical::{before_comment, cut_word, next_line, next_operand, operand_part};
 use std::alloc::{AllocError, Global};
 use std::collections::BTreeMap;
 
-/// Operands, in the order of their bytes.
+/// A set of operands: the keys of a map.
 pub(crate) type Operands<'a> = BTreeMap<&'a [u8], u8>;
 
 fn note<'a>(operands: &mut Operands<'a>, operand: &'a [u8]) -> Result<(), AllocError>
@@ -21,10 +21,10 @@ fn note<'a>(operands: &mut Operands<'a>, operand: &'a [u8]) -> Result<(), AllocE
     Ok(())
 }
 
-// Notes the operands of a line.
+// Adds the operands of a line to the set.
 fn note_line<'a>(operands: &mut Operands<'a>, line: &'a [u8]) -> Result<(), AllocError>
     ensures { OnOk result ((name : List ℕ) → has_key operands.new name
-        ≡ (has_key operands.old name || stands_in (operands_in line.now) name)) }
+        ≡ (has_key operands.old name || stands_in (operands_of_line line.now) name)) }
 {
     let (_, behind) = cut_word(statement(before_comment(line)));
     let mut rest = operand_part(behind);
@@ -36,7 +36,7 @@ fn note_line<'a>(operands: &mut Operands<'a>, line: &'a [u8]) -> Result<(), Allo
     Ok(())
 }
 
-/// All operands of a listing.
+/// The set of the operands of a listing.
 pub(crate) fn operands_of(alloc: Global, bytes: &[u8]) -> Result<Operands<'_>, AllocError>
     ensures { IfOk result (AreOperandsOf (lines_of bytes.now)) }
 {
@@ -50,7 +50,7 @@ pub(crate) fn operands_of(alloc: Global, bytes: &[u8]) -> Result<Operands<'_>, A
     Ok(operands)
 }
 
-/// Whether this is one of the operands.
+/// Whether a name is one of the operands.
 pub(crate) fn is_operand(operands: &Operands<'_>, name: &[u8]) -> bool
     ensures { result ≡ has_key operands.now name.now }
 {

@@ -1,6 +1,6 @@
 use Rattle.std.proofs.Common.{◌-◌}
-use Rattle.checks.specs.Parts.{LiesIn}
-use Rattle.checks.proofs.blame.double_label.Given as goal
+use Rattle.checker.specs.Parts.{LiesIn}
+use Rattle.checker.proofs.blame.double_label.Given as goal
 
 abbrev pub invariant-loop-name : goal.invariant-loop-name
 invariant-loop-name l = LiesIn l.code l.rest

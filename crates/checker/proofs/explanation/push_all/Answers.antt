@@ -1,5 +1,5 @@
-use Rattle.checks.proofs.Explained.{explained_next}
-use Rattle.checks.proofs.explanation.push_all.Goals as goal
+use Rattle.checker.proofs.Explained.{explained_next}
+use Rattle.checker.proofs.explanation.push_all.Goals as goal
 
 pub loop-fault-preserved : goal.loop-fault-preserved
 loop-fault-preserved c = λ new rest.

@@ -1,8 +1,8 @@
 use Rattle.std.proofs.Common.{◌≡◌, ◌<◌, ◌≤◌, length, false, Err, rules}
 use Rattle.isa.specs.Listing.{listing}
-use Rattle.checks.specs.Faults.{IsGood, IsMended, is_line}
-use Rattle.checks.proofs.FaultsFound.{begins, ends_full, ends_good, ends_nowhere, goes_on}
-use Rattle.checks.proofs.faults.faults.Goals as goal
+use Rattle.checker.specs.Faults.{IsGood, IsCleared, is_line}
+use Rattle.checker.proofs.FaultsFound.{begins, ends_full, ends_good, ends_nowhere, goes_on}
+use Rattle.checker.proofs.faults.faults.Goals as goal
 
 pub faults-init : goal.faults-init
 faults-init c =
@@ -21,9 +21,9 @@ faults-preserved c =
     let few : length c.faults.found.items < 200 = search rules in
     let is : listing c.faults.text.items ≡ Err (fault.line, fault.kind) =
     rw c.as_slice.ensures.value at (c.in-Err.ensures.fault (search rules)) in
-    let mended : IsMended fault.line c.faults.text.items c.in-Some.better.items = search rules in
+    let cleared : IsCleared fault.line c.faults.text.items c.in-Some.better.items = search rules in
     rw c.in_ok-push.ensures.items
-    (goes_on c.args.bytes.now c.faults.text.items c.in-Some.better.items c.faults.found.items fault c.faults.invariant few is mended)
+    (goes_on c.args.bytes.now c.faults.text.items c.in-Some.better.items c.faults.found.items fault c.faults.invariant few is cleared)
 
 pub returns-in-None : goal.returns-in-None
 returns-in-None c =

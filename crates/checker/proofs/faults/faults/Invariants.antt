@@ -1,6 +1,6 @@
 use Rattle.std.proofs.Common.{◌-◌, length}
-use Rattle.checks.proofs.FaultsFound.{HasFound}
-use Rattle.checks.proofs.faults.faults.Given as goal
+use Rattle.checker.proofs.FaultsFound.{HasFound}
+use Rattle.checker.proofs.faults.faults.Given as goal
 
 abbrev pub invariant-faults : goal.invariant-faults
 invariant-faults l = HasFound l.bytes l.text.items l.found.items

@@ -1,6 +1,6 @@
 use Rattle.isa.specs.Forms.{form_view, forms}
-use Rattle.checks.specs.Forms.{forms_of}
-use Rattle.checks.proofs.forms.push_forms.Goals as goal
+use Rattle.checker.specs.Forms.{forms_of}
+use Rattle.checker.proofs.forms.push_forms.Goals as goal
 
 pub returns-in-None : goal.returns-in-None
 unfolding forms_of

@@ -1,7 +1,7 @@
 use Rattle.std.proofs.Common.{◌≡◌, ◌++◌, false, drop, map, filter}
 use Rattle.isa.specs.Forms.{form_text, form_view, has_word}
-use Rattle.checks.specs.Forms.{alternatives}
-use Rattle.checks.proofs.forms.push_forms_in.Given as goal
+use Rattle.checker.specs.Forms.{alternatives}
+use Rattle.checker.proofs.forms.push_forms_in.Given as goal
 
 -- the text so far and what the rest of the table adds are the whole
 abbrev pub invariant-loop-form : goal.invariant-loop-form

@@ -1,6 +1,6 @@
 use Rattle.std.proofs.Common.{◌≡◌, length}
 use Rattle.lexical.specs.Label.{statement_of}
-use Rattle.checks.proofs.lines.statement.Given as goal
+use Rattle.checker.proofs.lines.statement.Given as goal
 
 abbrev pub invariant-loop-after : goal.invariant-loop-after
 invariant-loop-after l = statement_of l.rest ≡ statement_of l.code

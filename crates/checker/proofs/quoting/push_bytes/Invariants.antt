@@ -1,10 +1,10 @@
 use Rattle.std.proofs.Common.{◌≡◌, ◌++◌, drop}
 use Rattle.std.specs.Prelude.{flat_map}
-use Rattle.checks.specs.Quotes.{written}
-use Rattle.checks.proofs.quoting.push_bytes.Given as goal
+use Rattle.checker.specs.Quotes.{on_layer}
+use Rattle.checker.proofs.quoting.push_bytes.Given as goal
 
--- the text so far, and what is to come
+-- the text so far and the bytes still to be shown make the whole
 abbrev pub invariant-loop-byte : goal.invariant-loop-byte
 invariant-loop-byte l =
-    l.text.items ++ flat_map (written l.layer) (drop l.byte-index l.bytes)
-    ≡ l.fn.text.items ++ flat_map (written l.layer) l.bytes
+    l.text.items ++ flat_map (on_layer l.layer) (drop l.byte-index l.bytes)
+    ≡ l.fn.text.items ++ flat_map (on_layer l.layer) l.bytes

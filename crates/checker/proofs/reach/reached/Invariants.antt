@@ -1,5 +1,5 @@
 use Rattle.std.proofs.Common.{◌≡◌, length}
-use Rattle.checks.proofs.reach.reached.Given as goal
+use Rattle.checker.proofs.reach.reached.Given as goal
 
 abbrev pub invariant-loop : goal.invariant-loop
 invariant-loop l = length l.reached.items ≡ length l.program.code

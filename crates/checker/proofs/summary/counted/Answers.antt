@@ -1,5 +1,5 @@
 use Rattle.std.proofs.Common.{◌∙◌, ap}
-use Rattle.checks.proofs.summary.counted.Goals as goal
+use Rattle.checker.proofs.summary.counted.Goals as goal
 
 pub returns : goal.returns
 returns c =

@@ -1,8 +1,8 @@
 use Rattle.std.proofs.Common.{◌≤◌, ◌+◌, arith, length}
 use Rattle.std.specs.Option.{option_map}
 use Rattle.lexical.specs.Line.{before_comment, lines_of, lines_left}
-use Rattle.checks.proofs.Lengths.{counted_in, lines_fit, total}
-use Rattle.checks.proofs.summary.how_many_labels.Goals as goal
+use Rattle.checker.proofs.Lengths.{counted_in, lines_fit, total}
+use Rattle.checker.proofs.summary.how_many_labels.Goals as goal
 
 pub overflow_add-n : goal.overflow_add-n
 overflow_add-n c =

@@ -2,9 +2,9 @@ use Rattle.std.proofs.Common.{◌≡◌, ◌+◌, ◌≤◌}
 use Rattle.std.specs.Option.{option_map}
 use Rattle.lexical.specs.Line.{lines_of, lines_left}
 use Rattle.lexical.proofs.Splits.{size_left}
-use Rattle.checks.specs.Checks.{how_many_labels}
-use Rattle.checks.proofs.Lengths.{total}
-use Rattle.checks.proofs.summary.how_many_labels.Given as goal
+use Rattle.checker.specs.Diagnostics.{how_many_labels}
+use Rattle.checker.proofs.Lengths.{total}
+use Rattle.checker.proofs.summary.how_many_labels.Given as goal
 
 abbrev pub invariant-loop-rest : goal.invariant-loop-rest
 invariant-loop-rest l = record {

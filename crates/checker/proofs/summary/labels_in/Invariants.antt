@@ -1,6 +1,6 @@
 use Rattle.std.proofs.Common.{◌≡◌, ◌+◌, ◌≤◌, length}
 use Rattle.lexical.specs.Label.{labels_of}
-use Rattle.checks.proofs.summary.labels_in.Given as goal
+use Rattle.checker.proofs.summary.labels_in.Given as goal
 
 abbrev pub invariant-loop-after : goal.invariant-loop-after
 invariant-loop-after l = record {

@@ -1,6 +1,6 @@
 use Rattle.std.proofs.Common.{rules}
-use Rattle.checks.proofs.Warned.{all_warned}
-use Rattle.checks.proofs.warnings.push_labels.Goals as goal
+use Rattle.checker.proofs.Warned.{all_warned}
+use Rattle.checker.proofs.warnings.push_labels.Goals as goal
 
 pub loop-name-preserved-in_ok-push_warning : goal.loop-name-preserved-in_ok-push_warning
 loop-name-preserved-in_ok-push_warning c = record {

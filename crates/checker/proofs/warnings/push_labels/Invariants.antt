@@ -1,7 +1,7 @@
 use Rattle.std.proofs.Common.{◌-◌}
-use Rattle.checks.specs.Parts.{IsPartOf}
-use Rattle.checks.specs.Warnings.{AreWarned}
-use Rattle.checks.proofs.warnings.push_labels.Given as goal
+use Rattle.checker.specs.Parts.{IsPartOf}
+use Rattle.checker.specs.Warnings.{AreWarned}
+use Rattle.checker.proofs.warnings.push_labels.Given as goal
 
 abbrev pub invariant-loop-name : goal.invariant-loop-name
 invariant-loop-name l = record {

@@ -1,9 +1,9 @@
 use Rattle.std.proofs.Common.{◌∙◌, ◌≡◌, ◌∷◌, sym, arith, drop}
 use Rattle.std.specs.Option.{option_map}
 use Rattle.lexical.specs.Line.{lines_of, lines_left}
-use Rattle.checks.proofs.LinesCounted.{few_lines, next_is, next_rest}
-use Rattle.checks.proofs.Warned.{all_warned}
-use Rattle.checks.proofs.warnings.push_lines.Goals as goal
+use Rattle.checker.proofs.LinesCounted.{few_lines, next_is, next_rest}
+use Rattle.checker.proofs.Warned.{all_warned}
+use Rattle.checker.proofs.warnings.push_lines.Goals as goal
 
 pub overflow_add-number : goal.overflow_add-number
 overflow_add-number c =

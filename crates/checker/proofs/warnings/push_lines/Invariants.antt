@@ -2,8 +2,8 @@ use Rattle.std.proofs.Common.{◌≡◌, drop}
 use Rattle.std.specs.Option.{option_map}
 use Rattle.lexical.specs.Line.{lines_of, lines_left}
 use Rattle.lexical.proofs.Splits.{size_left}
-use Rattle.checks.specs.Warnings.{AreWarned}
-use Rattle.checks.proofs.warnings.push_lines.Given as goal
+use Rattle.checker.specs.Warnings.{AreWarned}
+use Rattle.checker.proofs.warnings.push_lines.Given as goal
 
 abbrev pub invariant-loop-rest : goal.invariant-loop-rest
 invariant-loop-rest l = record {

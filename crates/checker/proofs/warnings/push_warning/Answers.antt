@@ -1,8 +1,8 @@
 use Rattle.std.proofs.Common.{◌≡◌, ◌∙◌, ◌++◌, ap}
-use Rattle.checks.specs.Spots.{spot_text}
-use Rattle.checks.specs.Warnings.{Warned, warning, said}
-use Rattle.checks.proofs.Warned.{one_warned}
-use Rattle.checks.proofs.warnings.push_warning.Goals as goal
+use Rattle.checker.specs.Spots.{spot_text}
+use Rattle.checker.specs.Warnings.{Warned, warning, said}
+use Rattle.checker.proofs.Warned.{one_warned}
+use Rattle.checker.proofs.warnings.push_warning.Goals as goal
 
 pub returns : goal.returns
 returns c =

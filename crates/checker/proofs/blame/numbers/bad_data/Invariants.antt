@@ -1,5 +1,5 @@
 use Rattle.std.proofs.Common.{◌≤◌, ◌-◌}
-use Rattle.checks.proofs.blame.numbers.bad_data.Given as goal
+use Rattle.checker.proofs.blame.numbers.bad_data.Given as goal
 
 abbrev pub invariant-loop-from : goal.invariant-loop-from
 invariant-loop-from l = l.operands.from ≤ l.from

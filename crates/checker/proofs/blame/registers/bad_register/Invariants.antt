@@ -1,5 +1,5 @@
 use Rattle.std.proofs.Common.{◌≤◌, ◌-◌}
-use Rattle.checks.proofs.blame.registers.bad_register.Given as goal
+use Rattle.checker.proofs.blame.registers.bad_register.Given as goal
 
 abbrev pub invariant-loop-from : goal.invariant-loop-from
 invariant-loop-from l = l.operands.from ≤ l.from

@@ -2,9 +2,9 @@ use Rattle.std.proofs.Common.{◌≡◌, ◌∙◌, ℕ, List, ap, Bool}
 use Rattle.std.specs.Prelude.{is_some, ◌||◌}
 use Rattle.std.specs.Str.{bytes_eq}
 use Rattle.std.proofs.lemmas.Map.Text.{btree_map_updates_str}
-use Rattle.checks.specs.Warnings.{has_key}
-use Rattle.checks.proofs.Keys.{some_or}
-use Rattle.checks.proofs.warnings.operands.note.Goals as goal
+use Rattle.checker.specs.Warnings.{has_key}
+use Rattle.checker.proofs.Keys.{some_or}
+use Rattle.checker.proofs.warnings.operands.note.Goals as goal
 
 pub returns : goal.returns
 returns c = λ name.

@@ -4,13 +4,13 @@ use Rattle.std.specs.Option.{option_map}
 use Rattle.lexical.specs.Operand.{operands_left}
 use Rattle.lexical.proofs.Splits.{size_left}
 use Rattle.isa.specs.Listing.{stands_in}
-use Rattle.checks.specs.Warnings.{has_key, operands_in}
-use Rattle.checks.proofs.warnings.operands.note_line.Given as goal
+use Rattle.checker.specs.Warnings.{has_key, operands_of_line}
+use Rattle.checker.proofs.warnings.operands.note_line.Given as goal
 
 abbrev pub invariant-loop-rest : goal.invariant-loop-rest
 invariant-loop-rest l =
     (name : List ℕ) → (has_key l.operands name || stands_in (operands_left (option_map (λ t. t.now) l.rest)) name)
-    ≡ (has_key l.initial.operands name || stands_in (operands_in l.line) name)
+    ≡ (has_key l.initial.operands name || stands_in (operands_of_line l.line) name)
 
 abbrev pub decreases-loop-rest : goal.decreases-loop-rest
 decreases-loop-rest l = size_left (option_map (λ t. t.now) l.rest)

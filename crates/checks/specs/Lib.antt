@@ -1,9 +1,0 @@
-pub mod Forms
-pub mod Lines
-pub mod Parts
-pub mod Quotes
-pub mod Spots
-pub mod Faults
-pub mod Reach
-pub mod Warnings
-pub mod Checks
