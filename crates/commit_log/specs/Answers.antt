@@ -1,4 +1,4 @@
--- What is written for the bytes of a listing, and the status that goes with it.
+-- The log that is written for the bytes of a listing, and its status.
 use Rattle.std.specs.Prelude.{⊤, ◌≡◌, ℕ, List, Option, Result}
 use Rattle.std.specs.Io.KnownBytes.{Appends}
 use Rattle.instructions.specs.Programs.{Program}
@@ -14,12 +14,12 @@ pub record IsLogged (limit : ℕ) (found : Result Program (ℕ × FaultKind)) (s
   pub status_is : status ≡ status_number (status_for limit found)
   pub says : Appends before after (text_for limit found)
 
--- how many calls of the writer have failed where a log was refused
+-- the number of failed calls of the writer where a log was refused
 abbrev pub writer_failures : Refusal → ℕ
 writer_failures Write = 1
 writer_failures _ = 0
 
--- what a log can be refused for once its program is there
+-- the reasons for which a log can be refused once its program is there
 abbrev pub IsOfWriting : Refusal → Type 0
 IsOfWriting Memory = ⊤
 IsOfWriting Write = ⊤

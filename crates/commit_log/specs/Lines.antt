@@ -15,7 +15,7 @@ use Rattle.commit_log.specs.Words.{word_of}
 
 -- ---- parts
 
--- what every line begins with: the core, its mode and the pc
+-- the beginning of each line: the core, its mode and the pc
 abbrev pub head : ℕ → List ℕ
 head pc = codes "core   0: 3 " ++ (hexadecimal pc ++ codes " ")
 
@@ -31,7 +31,7 @@ register_label r =
     else (if r == hi then codes "hi "
     else (if nat_lt r 10 then codes "x" ++ (decimal r ++ codes " ") else codes "x" ++ decimal r))
 
--- a register with what it holds
+-- a register with its value
 abbrev pub register_text : ℕ → List ℕ → List ℕ
 register_text r registers = register_label r ++ (codes " " ++ hexadecimal (slice_index registers r))
 
@@ -53,36 +53,36 @@ memory_text i registers =
     ++ (hexadecimal (sum (slice_index registers (first_of i)) i.number)
     ++ (codes " " ++ stored_text (width i.op) (slice_index registers (second_of i))))
 
--- ---- what an instruction has changed
+-- ---- changes by an instruction
 
--- what stands between a text of this length and what the instruction has changed: the latter begins in column 17 behind
--- the begin of the text, or one column behind a longer text
+-- the blanks between a text of this length and the change: the change begins in column 17 from the begin of the text, or
+-- one column after a longer text
 abbrev pub gap : ℕ → List ℕ
 gap length = replicate (1 + (16 - length)) 32
 
--- the register that was written; nothing of register 0, which never changes
+-- the change of a register; none of register 0, which never changes
 abbrev pub change_of_register : (length r : ℕ) → List ℕ → List ℕ
 change_of_register length r registers =
     if r == 0 then [] else gap length ++ register_text r registers
 
--- by the kind of an instruction that writes at most one register
+-- the change by an instruction that writes at most one register
 abbrev pub change_by : Kind → (length : ℕ) → Instr → List ℕ → List ℕ
 change_by Stores length i registers = gap length ++ memory_text i registers
 change_by _ length i registers = change_of_register length (destination i Low) registers
 
--- a multiplication or division has written LO and HI
+-- the change by a multiplication or division, which writes LO and HI
 abbrev pub change_if : Bool → (length : ℕ) → Instr → List ℕ → List ℕ
 change_if true length i registers =
     gap length ++ (register_text lo registers ++ (codes " " ++ register_text hi registers))
 change_if false length i registers = change_by (kind i.op) length i registers
 
--- what an instruction with a text of this length has changed, by the registers behind it
+-- the change by an instruction with a text of this length, by the registers after it
 abbrev pub change_text : (length : ℕ) → Instr → List ℕ → List ℕ
 change_text length i registers = change_if (is_pair i.op) length i registers
 
 -- ---- lines
 
--- the line of an instruction at pc, by the registers behind it
+-- the line of an instruction at pc, by the registers after it
 abbrev pub commit_line : ℕ → Instr → List ℕ → List ℕ
 commit_line pc i registers =
     head pc

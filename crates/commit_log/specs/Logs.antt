@@ -9,17 +9,17 @@ use Rattle.isa.specs.Report.{fault_line}
 use Rattle.inorder.specs.Machine.{Goes, Halts, Ran, State, start, step}
 use Rattle.commit_log.specs.Lines.{commit_line, stop_line}
 
--- the line of the instruction at pc, by the registers behind it
+-- the line of the instruction at pc, by the registers after it
 abbrev pub line_at : ℕ → Option Instr → List ℕ → List ℕ
 line_at pc None registers = []
 line_at pc (Some i) registers = commit_line pc i registers
 
--- what is told of a step from pc, and of what follows it: a stop is the last line
+-- the log of a step from pc and of the steps after it: a stop is the last line
 abbrev pub log_behind : (State → List ℕ) → ℕ → Option Instr → Ran → List ℕ
 log_behind rest pc i (Goes t) = line_at pc i t.registers ++ rest t
 log_behind rest pc i (Halts c) = stop_line pc c
 
--- what is told of so many steps from a state on
+-- the log of so many steps from a state on
 abbrev pub log_from : Program → ℕ → State → List ℕ
 log_from P zero s = []
 log_from P (suc k) s = log_behind (log_from P k) s.pc (instr_at P s.pc) (step P s)
@@ -28,12 +28,12 @@ log_from P (suc k) s = log_behind (log_from P k) s.pc (instr_at P s.pc) (step P 
 abbrev pub log : Program → ℕ → List ℕ
 log P limit = log_from P limit (start P)
 
--- what is told of the end of a run: a stop, where it has ended by one
+-- the last line of a run that has ended by a stop; none of another run
 abbrev pub last_line : Ending → (pc : ℕ) → List ℕ
 last_line (ByStop c) pc = stop_line pc c
 last_line ByLimit pc = []
 
--- what is written for a program that may run so many instructions, or for the fault of a listing
+-- the text for a program that may run so many instructions, or for the fault of a listing
 abbrev pub text_for : (limit : ℕ) → Result Program (ℕ × FaultKind) → List ℕ
 text_for limit (Ok P) = log P limit
 text_for limit (Err f) = fault_line f.0 f.1

@@ -1,4 +1,4 @@
--- What a retirement of the unit has to do with a step of the in-order machine.
+-- Retirements of the unit as steps of the in-order machine.
 use Rattle.std.specs.Prelude.{◌≡◌, ℕ, ◌-◌, ◌≤◌, List, ◌++◌, length, take, Option, None, Some, unwrap_or}
 use Rattle.std.specs.Io.KnownBytes.{Appends}
 use Rattle.instructions.specs.Programs.{instr_at}
@@ -9,7 +9,7 @@ use Rattle.one_thread.specs.declared.station.Station.{Station}
 use Rattle.one_thread.specs.Changes.{RetiresOne, registers_of, run_from}
 use Rattle.commit_log.specs.Logs.{last_line, log_from}
 
--- the registers behind the retirement of a station's tenant
+-- the registers after the retirement of a station's tenant
 abbrev pub registers_behind : Option Station → List ℕ → List ℕ
 registers_behind None registers = registers
 registers_behind (Some w) registers = write registers w.destination (unwrap_or w.made 0)
@@ -23,7 +23,7 @@ pub record HasCommitted (b : Pipeline) (w : Station) (later : Pipeline) : Type 0
   pub one : RetiresOne None b later
   pub registers : registers_of later ≡ later.committed.registers
 
--- the log of what is left of a run
+-- the log of the steps that remain of a run
 abbrev pub log_left : Pipeline → (limit : ℕ) → List ℕ
 log_left b limit = log_from b.program.now (limit - b.committed.count) b.committed
 
@@ -31,12 +31,12 @@ log_left b limit = log_from b.program.now (limit - b.committed.count) b.committe
 abbrev pub last_of : Ending × State → List ℕ
 last_of e = last_line e.0 e.1.pc
 
--- The run ends as it did from here on, and of its log nothing but the last line is left
+-- The run ends as it did from here on, and of its log the last line alone remains.
 pub record IsOver (b : Pipeline) (limit : ℕ) (later : Pipeline) : Type 0 where
   pub ends : run_from later limit ≡ run_from b limit
   pub log : log_left b limit ≡ last_of (run_from b limit)
 
--- the part of a log before what is left of it was written
+-- the part of a log was written that stands before the part that remains
 pub record HasTold (whole left : List ℕ) (before after : Option (List ℕ)) : Type 0 where
   pub text : List ℕ
   pub says : Appends before after text

@@ -4,22 +4,22 @@ use Rattle.instructions.specs.declared.instr.Instr.{Instr}
 use Rattle.encoding.specs.Layouts.{has_layout, layout}
 use Rattle.encoding.specs.Words.{decode, packed}
 
--- two instructions are one: the same operation, by its opcode and what selects it, the same registers and number
+-- whether two instructions are equal: in their operation, by its layout, and in their registers and number
 abbrev pub is_same : Instr → Instr → Bool
 is_same i j =
     has_layout (layout j.op).opcode (layout j.op).select i.op
     && ((i.target == j.target) && ((i.first == j.first) && ((i.second == j.second) && (i.number == j.number))))
 
--- a word that was decoded says this instruction
+-- whether a word that was decoded says this instruction
 abbrev pub is_said : Instr → Option Instr → Bool
 is_said i None = false
 is_said i (Some j) = is_same j i
 
--- this word of 32 bits says an instruction at pc
+-- whether this word of 32 bits says an instruction at pc
 abbrev pub says : ℕ → ℕ → Instr → Bool
 says pc word i = nat_lt word (2 ^ 32) && is_said i (decode pc word)
 
--- the word of an instruction at pc: the only one that can say it, if that does
+-- the word of an instruction at pc: the only one that can say the instruction, if there is one
 unfoldable pub word_of : ℕ → Instr → Option ℕ
 word_of pc i = if says pc (packed pc i) i then Some (packed pc i) else None
 

@@ -34,7 +34,7 @@ pub fn log_commits<R: Read + Drop, W: Write>(
     ensures open { reader ≡ None → result ≡ refused Refusal.Open }
     ensures unopened { reader ≡ None → writer.new ≡ writer.old }
     ensures opened { result.line ≡ Refused Refusal.Open → reader ≡ None }
-    // What was written whole is the log of the in-order machine's steps, for any predictor, sizes and seed.
+    // A log that was written whole is that of the in-order machine's steps, for any predictor, sizes and seed.
     ensures answer { result.line ≡ Nothing → HoldsOfInput R.remaining reader (λ input.
         IsLogged asked.now.config.limit (listing input) result.status
         (known_by W.contents writer.old) (known_by W.contents writer.new)) }
@@ -46,7 +46,7 @@ pub fn log_commits<R: Read + Drop, W: Write>(
     // The writer is blamed for one failed call, and only then.
     ensures write { (refusal : Refusal) → result.line ≡ Refused refusal →
         failures_of writer.new ≡ failures_of writer.old + writer_failures refusal }
-    // What was written before a refusal is a beginning of the log; nothing, where reading failed.
+    // The part that was written before a refusal is a beginning of the log; none, where reading failed.
     ensures begun { (refusal : Refusal) → result.line ≡ Refused refusal →
         HoldsOfInput R.remaining reader (λ input.
         IsBegun (text_for asked.now.config.limit (listing input))
@@ -62,7 +62,7 @@ pub fn log_commits<R: Read + Drop, W: Write>(
     }
 }
 
-// Reads a listing and logs its run; gives the status, once all is written.
+// Reads a listing and logs its run. The result is the status, once all is written.
 fn logged<R: Read, W: Write>(
     alloc: Global,
     asked: &Committed<'_>,
@@ -88,7 +88,7 @@ fn logged<R: Read, W: Write>(
     told(alloc, asked, listing.as_slice(), writer)
 }
 
-// Logs the run of the listing of these bytes, or writes the line of its fault; gives the status.
+// Logs the run of the listing of these bytes, or writes the line of its fault. The result is the status.
 fn told<W: Write>(
     alloc: Global,
     asked: &Committed<'_>,
@@ -117,7 +117,7 @@ fn told<W: Write>(
     }
 }
 
-// Logs the run of a program; gives the status.
+// Logs the run of a program. The result is the status.
 fn told_of<W: Write>(
     alloc: Global,
     asked: &Committed<'_>,

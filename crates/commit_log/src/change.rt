@@ -1,4 +1,4 @@
-//! What an instruction has changed.
+//! The change by an instruction: registers and stored bytes.
 ghost use Rattle.std.specs.Prelude.{◌≡◌, ◌++◌, Some, OnOk, replicate, string_bytes, slice_index};
 ghost use Rattle.commit_log.specs.Lines.{change_text, gap, memory_text, register_label, register_text};
 
@@ -8,7 +8,7 @@ use isa::Hexadecimal;
 use std::alloc::AllocError;
 use std::fmt;
 
-/// The column in which a change begins, behind the begin of the text before it.
+/// The column in which a change begins, from the begin of the text before it.
 const COLUMN: usize = 16;
 
 // A register in three columns.
@@ -69,7 +69,7 @@ fn push_memory(out: &mut String, registers: &[u32; 34], instr: &Instr) -> Result
     write!(out, "mem {address} {stored}")
 }
 
-/// Adds what an instruction has changed, behind its text of this length, by the registers behind it.
+/// Adds the change by an instruction after its text of this length, by the registers after it.
 pub(crate) fn push_change(
     out: &mut String,
     length: usize,

@@ -22,7 +22,7 @@ impl fmt::Display for Head {
     }
 }
 
-/// The line of an instruction that has committed, by the registers behind it.
+/// The line of an instruction that has committed, by the registers after it.
 pub(crate) fn commit_line(
     alloc: Global,
     pc: u32,

@@ -7,7 +7,7 @@ ghost use Rattle.commit_log.specs.Retirements.{HasCommitted, IsOver, registers_b
 use instructions::{Predictor, Reg};
 use one_thread::{Bench, Chooser, Order, Station, Turn};
 
-// A write to register 0 is dropped.
+// Writes a register; a write to register 0 is dropped.
 fn write(registers: &mut [u32; 34], r: Reg, value: u32)
     ensures { registers.new ≡ written registers.old r value }
 {
@@ -26,8 +26,8 @@ fn retire(registers: &mut [u32; 34], station: &Option<Station>)
     }
 }
 
-/// Turns in an order until an instruction commits, and gives the station from which it did, which for a multiplication or division is
-/// that of the second half; none where the unit has ended, or its count has reached the limit. The registers are kept as the
+/// Turns in an order until an instruction commits. The result is its station, for a multiplication or division that of the
+/// second half; none where the unit has ended, or its count has reached the limit. The registers are kept as the
 /// retirements write them.
 pub(crate) fn next_commit<P: Predictor + Drop, C: Chooser + Drop>(
     bench: &mut Bench<'_, P>,

@@ -4,20 +4,20 @@ use Rattle.encoding.specs.Fields.{opcode_of, rt_of, funct_of}
 use Rattle.disassembly.specs.declared.foreign.Foreign.{Foreign}
 use Rattle.disassembly.specs.declared.foreign.Foreign.TheVariants.{Syscall, Break, Bltzal, Bgezal, Lwl, Lwr, Swl, Swr, Coprocessor, Unknown}
 
--- with opcode 0, by the function
+-- the name of a word with opcode 0, by the function
 abbrev pub special : ℕ → Foreign
 special function =
     if function == 12 then Syscall else (if function == 13 then Break else Unknown)
 
--- with opcode 1, by the field rt
+-- the name of a word with opcode 1, by the field rt
 abbrev pub linking : ℕ → Foreign
 linking rt = if rt == 16 then Bltzal else (if rt == 17 then Bgezal else Unknown)
 
--- operations of the coprocessors, their loads and their stores: four opcodes each
+-- the names of operations of the coprocessors, of their loads and of their stores: four opcodes each
 abbrev pub is_of_coprocessor : ℕ → Bool
 is_of_coprocessor opcode = (opcode / 4 == 4) || ((opcode / 4 == 12) || (opcode / 4 == 14))
 
--- with another opcode
+-- the name of a word with another opcode
 abbrev pub other : ℕ → Foreign
 other opcode =
     if opcode == 34 then Lwl

@@ -1,4 +1,4 @@
--- What the words of a text mean.
+-- The instructions that the words of a text mean.
 use Rattle.std.specs.Prelude.{ℕ, zero, suc, ◌+◌, ◌%◌, ◌==◌, ◌&&◌, Bool, true, false, not, nat_lt, nat_le, List, [], ◌∷◌, ◌++◌, length, slice_get, slice_index, Option, Some, None, Result, Ok, Err, if◌then◌else◌}
 use Rattle.instructions.specs.declared.op.Op.{Op}
 use Rattle.instructions.specs.declared.op.Op.TheVariants.{Jr, Jalr}
@@ -12,13 +12,13 @@ use Rattle.disassembly.specs.declared.refusal.Refusal.{Refusal}
 use Rattle.disassembly.specs.declared.refusal.Refusal.TheVariants.{Word, Target, Slot, NoSlot}
 use Rattle.disassembly.specs.Foreign.{foreign_of}
 
--- branches and jumps have a delay slot: the word behind them
+-- whether operations of a kind have a delay slot, the word after them: branches and jumps do
 abbrev pub has_slot_by : Kind → Bool
 has_slot_by Jumps = true
 has_slot_by Links = true
 has_slot_by _ = false
 
--- an operation with a delay slot behind it
+-- whether an operation has a delay slot
 abbrev pub has_slot : Op → Bool
 has_slot op = has_slot_by (kind op)
 
@@ -28,17 +28,17 @@ has_target Jr = false
 has_target Jalr = false
 has_target op = has_slot op
 
--- an address is that of one of n instructions
+-- whether an address is that of one of n instructions
 abbrev pub is_inside : ℕ → ℕ → Bool
 is_inside n target = (target % 4 == 0) && (nat_le text_start target && nat_lt target (address n))
 
--- An instruction at an address, with the word behind it. Here nothing is done in a delay slot, so it
--- has to be a `nop`, which is the word 0.
+-- An instruction at an address, with the word after it. A delay slot has to be a `nop`, which is the word 0, since
+-- nothing is done there.
 abbrev pub with_delay_slot : (at word : ℕ) → Instr → Option ℕ → Result Instr Refusal
 with_delay_slot at word i None = Err (NoSlot at word)
 with_delay_slot at word i (Some next) = if next == 0 then Ok i else Err (Slot (at + 4) next)
 
--- instruction k of a text, if where it goes and its delay slot are as they have to be
+-- instruction k of a text, if its target and its delay slot are allowed
 abbrev pub checked : List ℕ → ℕ → Instr → Result Instr Refusal
 checked words k i =
     if has_target i.op && not (is_inside (length words) i.number)
@@ -57,12 +57,12 @@ checked_if words k (Some i) = checked words k i
 abbrev pub meant : List ℕ → ℕ → Result Instr Refusal
 meant words k = checked_if words k (decode (address k) (slice_index words k))
 
--- an instruction behind others; the first refusal decides
+-- an instruction after others; the first refusal decides
 abbrev pub appended : List Instr → Result Instr Refusal → Result (List Instr) Refusal
 appended is (Ok i) = Ok (is ++ i ∷ [])
 appended is (Err refusal) = Err refusal
 
--- the instructions before word n, with that of word n behind them
+-- the instructions before word n, with that of word n after them
 abbrev pub with_next : List ℕ → ℕ → Result (List Instr) Refusal → Result (List Instr) Refusal
 with_next words k (Ok is) = appended is (meant words k)
 with_next words k (Err refusal) = Err refusal

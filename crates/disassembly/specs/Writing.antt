@@ -22,7 +22,7 @@ as_line line = line ++ 10 ∷ []
 abbrev pub unlines : Lines → List ℕ
 unlines lines = flat_map as_line lines
 
--- a byte of printable ASCII
+-- whether a byte is printable ASCII
 abbrev pub printable : ℕ → Bool
 printable b = nat_le 32 b && nat_le b 126
 
@@ -68,7 +68,7 @@ pub record IsQuieter (most : ℕ) (old new : List ℕ) : Type 0 where
   pub grown : new ≡ old ++ unlines lines
   pub short : length (unlines lines) ≤ most
 
--- ---- which instructions have a label
+-- ---- instructions with a label
 
 -- an address is that of an instruction that has a label
 pub record IsLabelled (marks : List Bool) (target : ℕ) : Type 0 where
@@ -89,36 +89,36 @@ marked marks (suc k) = marked marks k ++ with_mark k (slice_index_or marks k fal
 
 -- ---- instructions that can be written
 
--- a listing can write the instruction, and where it goes is one of n instructions
+-- a listing can write the instruction, and its target is one of n instructions
 pub record IsSound (n : ℕ) (i : Instr) : Type 0 where
   pub writable : IsWritable i
   pub inside : has_target i.op ≡ true → is_inside n i.number ≡ true
 
--- a listing can write each of these, and each goes to one of n instructions
+-- a listing can write each of these, and their targets are among n instructions
 abbrev pub AllSound : ℕ → List Instr → Type 0
 AllSound n [] = ⊤
 AllSound n (i ∷ is) = IsSound n i × AllSound n is
 
--- each instruction that goes to one of n instructions goes to one that has a label
+-- each target among n instructions has a label
 abbrev pub AllMarked : List Bool → ℕ → List Instr → Type 0
 AllMarked marks n [] = ⊤
 AllMarked marks n (i ∷ is) =
     (has_target i.op ≡ true → is_inside n i.number ≡ true → IsLabelled marks i.number)
     × AllMarked marks n is
 
--- ---- what lines say
+-- ---- the meaning of lines
 
 -- each line is printable ASCII
 abbrev pub AllPrintable : Lines → Type 0
 AllPrintable [] = ⊤
 AllPrintable (l ∷ ls) = (list_all printable l ≡ true) × AllPrintable ls
 
--- no line has a fault, behind those before it
+-- no line has a fault, after those before it
 abbrev pub Faultless : Lines → Lines → Type 0
 Faultless before [] = ⊤
 Faultless before (l ∷ ls) = (fault_in before l ≡ None) × Faultless (before ++ l ∷ []) ls
 
--- what was read is this instruction, and has a label only if the operation names a target
+-- the instruction that was read is this one, and has a label only if its operation names a target
 pub record IsReadAs (p : Parsed) (i : Instr) : Type 0 where
   pub stands : ReadsAs p i
   pub unlabelled : has_target i.op ≡ false → p.label ≡ None
@@ -162,7 +162,7 @@ row_words row =
     hexadecimal (row_word row 0) ∷ hexadecimal (row_word row 4) ∷ hexadecimal (row_word row 8)
     ∷ hexadecimal (row_word row 12) ∷ []
 
--- the line of 16 bytes, with their address behind it
+-- the line of 16 bytes, with their address after them
 abbrev pub row_line : ℕ → List ℕ → List ℕ
 row_line at row =
     (replicate 8 32 ++ with_operands_text (codes ".word") (row_words row))
@@ -174,7 +174,7 @@ abbrev pub space_line : ℕ → List ℕ
 space_line count =
     replicate 8 32 ++ with_operands_text (codes ".space") (decimal count ∷ [])
 
--- none where no bytes are asked for
+-- the line that asks for so many bytes of memory; none where these are 0
 abbrev pub space_lines : ℕ → Lines
 space_lines count = if count == 0 then [] else space_line count ∷ []
 

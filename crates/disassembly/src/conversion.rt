@@ -8,7 +8,7 @@ use crate::writing::text_of;
 use elf::{read_functions, read_image};
 use std::alloc::Global;
 
-/// The listing of an executable, or why it has none. `parse` gives of the listing exactly the program
+/// The listing of an executable, or the refusal. `parse` gives of the listing exactly the program
 /// that the words and bytes of the file mean.
 pub fn listing_of(alloc: Global, file: &[u8]) -> Result<String, Refusal>
     ensures ok { IfOk result (λ text. IsSaid file.now (string_bytes text)) }

@@ -6,7 +6,7 @@ ghost use Rattle.disassembly.specs.Writing.{as_line, unlines, row_word as word_o
 use isa::Hexadecimal;
 use std::alloc::AllocError;
 
-/// How many bytes are in a line.
+/// The number of bytes in a line.
 const ROW: usize = 16;
 
 fn word_at(bytes: &[u8], at: usize) -> u32
@@ -16,7 +16,7 @@ fn word_at(bytes: &[u8], at: usize) -> u32
     u32::from_le_bytes([bytes[at], bytes[at + 1], bytes[at + 2], bytes[at + 3]])
 }
 
-// the line of 16 bytes
+// Adds the line of 16 bytes.
 #[tactic(auto, using(crate::proofs::DataSteps::row_added))]
 fn push_row(out: &mut String, at: u32, row: &[u8]) -> Result<(), AllocError>
     requires { 16 ≤ length row.now }
@@ -34,7 +34,7 @@ fn push_row(out: &mut String, at: u32, row: &[u8]) -> Result<(), AllocError>
     )
 }
 
-// so many bytes of 0
+// Adds the line of so many bytes of 0.
 #[tactic(auto, using(crate::proofs::DataSteps::space_added))]
 fn push_space(out: &mut String, count: usize) -> Result<(), AllocError>
     ensures { OnOk result (string_bytes out.new
@@ -57,7 +57,7 @@ fn is_zero(row: &[u8]) -> bool
     true
 }
 
-/// Adds the lines of all bytes, of which there are whole rows.
+/// Adds the lines of all bytes, which are whole rows.
 #[tactic(auto, using(crate::proofs::DataSteps::rows_none, crate::proofs::DataSteps::rows_zero, crate::proofs::DataSteps::rows_some, crate::proofs::DataSteps::rows_all))]
 pub fn push_data(out: &mut String, bytes: &[u8]) -> Result<(), AllocError>
     requires { length bytes.now ≡ 65536 }

@@ -29,7 +29,7 @@ pub enum Foreign {
     Unknown,
 }
 
-// the name of a word with opcode 0
+// The name of a word with opcode 0.
 fn special(function: u32) -> Foreign
     ensures { result ≡ Rattle.disassembly.specs.Foreign.special function }
 {
@@ -40,7 +40,7 @@ fn special(function: u32) -> Foreign
     }
 }
 
-// the name of a word with opcode 1
+// The name of a word with opcode 1.
 fn linking(selected: u32) -> Foreign
     ensures { result ≡ Rattle.disassembly.specs.Foreign.linking selected }
 {
@@ -51,7 +51,7 @@ fn linking(selected: u32) -> Foreign
     }
 }
 
-// the name of a word with another opcode
+// The name of a word with another opcode.
 fn other(opcode: u32) -> Foreign
     ensures { result ≡ Rattle.disassembly.specs.Foreign.other opcode }
 {

@@ -1,4 +1,4 @@
-//! What the words of a text mean.
+//! The instructions that the words of a text mean.
 ghost use Rattle.std.specs.Prelude.{◌≡◌, ◌≢◌, ◌<◌, ◌≤◌, Ok, Err, IfOk, IfErr, length};
 ghost use Rattle.instructions.specs.Programs.{address as address_at};
 ghost use Rattle.disassembly.specs.Writing.{AllSound};
@@ -41,7 +41,7 @@ fn is_inside(len: usize, target: u32) -> bool
     target % 4 == 0 && Program::START <= target && target < address_of(len)
 }
 
-// instruction k, if where it goes and its delay slot are as they have to be
+// Instruction k, if its target and its delay slot are allowed.
 fn checked(code: &[u32], k: usize, instr: Instr) -> Result<Instr, Refusal>
     requires small { length code.now ≤ 16384 }
     requires inside { k < length code.now }
@@ -71,7 +71,7 @@ fn checked(code: &[u32], k: usize, instr: Instr) -> Result<Instr, Refusal>
     }
 }
 
-// the instruction that word k is
+// The instruction that word k means.
 fn meant(code: &[u32], k: usize) -> Result<Instr, Refusal>
     requires small { length code.now ≤ 16384 }
     requires inside { k < length code.now }
@@ -92,7 +92,7 @@ fn meant(code: &[u32], k: usize) -> Result<Instr, Refusal>
     }
 }
 
-/// The instructions that the words of a text are, or the first refusal.
+/// The instructions that the words of a text mean, or the first refusal.
 #[tactic(auto, using(crate::proofs::Steps::meant_none, crate::proofs::Steps::meant_next, crate::proofs::Steps::refused_by_one, crate::proofs::Sound::all_sound))]
 pub fn instructions(alloc: Global, code: &[u32]) -> Result<Vec<Instr>, Refusal>
     requires { length code.now ≤ 16384 }

@@ -1,4 +1,4 @@
-//! Why a file gives no listing.
+//! The refusals of an executable.
 ghost use Rattle.std.specs.Prelude.{◌≡◌};
 ghost use Rattle.disassembly.specs.declared.refusal.Refusal.TheVariants.{Memory};
 ghost use Rattle.disassembly.specs.Conversion.{refusal_by_file};
@@ -8,7 +8,7 @@ use elf::Refusal as FileRefusal;
 use std::alloc::{AllocError, AllocFailed};
 use thiserror::Error;
 
-/// Why a file gives no listing.
+/// The reason for which a file gives no listing.
 #[derive(Clone, Copy, Debug, Drop, PartialEq, Eq, Error)]
 pub enum Refusal {
     /// The file is no program for this machine.

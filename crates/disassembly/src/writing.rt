@@ -14,7 +14,7 @@ use instructions::{Instr, Program};
 use std::alloc::{AllocError, Global};
 use std::str;
 
-// the number of the instruction at an address, among so many
+// The number of the instruction at an address, among so many.
 fn index_of(len: usize, at: u32) -> Option<usize>
     requires { len ≤ 16384 }
     ensures inside { IfSome result (λ k. k < len) }
@@ -29,7 +29,7 @@ fn index_of(len: usize, at: u32) -> Option<usize>
     }
 }
 
-// marks the instruction that this one goes to
+// Marks the target of an instruction.
 #[tactic(auto, using(crate::proofs::Marks::mark_kept, crate::proofs::Marks::mark_new))]
 fn mark(marks: &mut Vec<bool>, instr: &Instr)
     requires { length marks.old.items ≤ 16384 }
@@ -48,7 +48,7 @@ fn mark(marks: &mut Vec<bool>, instr: &Instr)
     }
 }
 
-// which instructions are those that others go to
+// The instructions that are targets of others, as a flag for each one.
 #[tactic(auto, using(crate::proofs::Marks::marks_more, crate::proofs::Marks::marks_all))]
 fn labels(alloc: Global, code: &[Instr]) -> Result<Vec<bool>, AllocError>
     requires { length code.now ≤ 16384 }
@@ -63,7 +63,7 @@ fn labels(alloc: Global, code: &[Instr]) -> Result<Vec<bool>, AllocError>
     Ok(marks)
 }
 
-// where in the file the names of the functions are that begin with each instruction
+// The place in the file of the name of the function that begins with each instruction, if one does.
 fn names(
     alloc: Global,
     functions: &[Function],
@@ -82,7 +82,7 @@ fn names(
     Ok(names)
 }
 
-// an empty line before each comment but the first line
+// Adds an empty line before a comment, unless the comment is the first line.
 fn push_gap(out: &mut String, k: usize) -> Result<(), AllocError>
     ensures { OnOk result (string_bytes out.new ≡ string_bytes out.old ++ unlines (gap_lines k)) }
 {
@@ -92,6 +92,7 @@ fn push_gap(out: &mut String, k: usize) -> Result<(), AllocError>
     out.push_str("\n")
 }
 
+// Adds the line of a comment.
 fn push_text(out: &mut String, text: &str) -> Result<(), AllocError>
     ensures { OnOk result (string_bytes out.new
         ≡ string_bytes out.old ++ as_line (comment_line text.now)) }
@@ -99,7 +100,7 @@ fn push_text(out: &mut String, text: &str) -> Result<(), AllocError>
     write!(out, "# {text}\n")
 }
 
-// the comment that names a function
+// Adds the comment that names a function.
 #[tactic(auto, using(crate::proofs::Names::quieter_name, crate::proofs::Names::quieter_none))]
 fn push_name(out: &mut String, name: &[u8], k: usize) -> Result<(), AllocError>
     requires short { length name.now ≤ 60 }
@@ -113,7 +114,7 @@ fn push_name(out: &mut String, name: &[u8], k: usize) -> Result<(), AllocError>
     push_text(out, text)
 }
 
-// the comment that names a function, where there is one
+// Adds the comment that names the function of an instruction, if there is one.
 #[tactic(auto, using(crate::proofs::Names::quieter_none, crate::proofs::Names::name_short, crate::proofs::Names::name_plain))]
 fn push_comment(
     out: &mut String,
@@ -129,7 +130,7 @@ fn push_comment(
     }
 }
 
-// the label of instruction k, if it has one
+// Adds the label of instruction k, if it has one.
 fn push_mark(out: &mut String, k: usize, mark: bool) -> Result<(), AllocError>
     requires { k ≤ 16384 }
     ensures { OnOk result (string_bytes out.new

@@ -1,4 +1,4 @@
--- The header of an ELF32 file, and where its program headers are.
+-- The header of an ELF32 file, and its table of program headers.
 use Rattle.std.specs.Prelude.{ℕ, ◌+◌, ◌*◌, ◌==◌, ◌&&◌, Bool, not, nat_lt, List, length, slice_index, Option, Some, None, Result, Ok, Err, if◌then◌else◌}
 use Rattle.instructions.specs.Programs.{text_start}
 use Rattle.elf.specs.declared.header.Table.{Table}
@@ -7,11 +7,11 @@ use Rattle.elf.specs.declared.refusal.Refusal.{Refusal}
 use Rattle.elf.specs.declared.refusal.Refusal.TheVariants.{NotElf, Cut, Class, ByteOrder, Kind, Machine, Entry, Headers}
 use Rattle.elf.specs.Bytes.{half_at, word_at}
 
--- the first four bytes: 0x7f and `ELF`
+-- the first four bytes of an ELF file: 0x7f and `ELF`
 abbrev pub has_magic : List ℕ → Bool
 has_magic file = not (nat_lt (length file) 4) && (word_at file 0 == 0x464c457f)
 
--- what is wrong with the first 20 bytes, in the order in which they stand
+-- the first refusal by the first 20 bytes, in their order
 unfoldable pub unfit : List ℕ → Option Refusal
 unfit file =
     if not (slice_index file 4 == 1) then Some Class

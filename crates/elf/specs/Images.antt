@@ -1,12 +1,12 @@
--- What a program is loaded as.
+-- The image of a loaded program.
 use Rattle.std.specs.Prelude.{ℕ, List, [], replicate}
 
--- the words of the text, and the bytes of data memory
+-- an image: the words of the text, and the bytes of data memory
 pub record Loaded : Type 0 where
   pub code : List ℕ
   pub bytes : List ℕ
 
--- how many bytes data memory has: data, heap and stack share them
+-- the size of data memory, which data, heap and stack share
 abbrev pub data_size : ℕ
 data_size = 65536
 
@@ -14,6 +14,6 @@ data_size = 65536
 unfoldable pub zeros : ℕ → List ℕ
 zeros count = replicate count 0
 
--- before any segment
+-- the image before any segment is loaded
 abbrev pub nothing_loaded : Loaded
 nothing_loaded = record { code = []; bytes = zeros data_size }

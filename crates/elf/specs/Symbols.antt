@@ -5,7 +5,7 @@ use Rattle.elf.specs.declared.symbol.Symbols.{Symbols}
 use Rattle.elf.specs.declared.symbol.Function.{Function}
 use Rattle.elf.specs.Bytes.{half_at, word_at}
 
--- the section headers, of 40 bytes each, are inside the file
+-- whether the section headers, of 40 bytes each, are inside the file
 abbrev pub has_sections : List ℕ → Bool
 has_sections file =
     not (nat_lt (length file) 52) && ((half_at file 46 == 40)
@@ -50,7 +50,7 @@ symbols_in file =
     if has_sections file then symbols_up_to file (word_at file 32) (half_at file 48) (half_at file 48)
     else None
 
--- the lower four bits of a symbol's info say what it is: 2 is a function
+-- whether a symbol is a function: the lower four bits of its info are 2
 abbrev pub is_function : List ℕ → ℕ → Bool
 is_function file at = slice_index file (at + 12) % 16 == 2
 
@@ -81,7 +81,7 @@ functions_in file = functions_by file (symbols_in file)
 
 -- ---- names
 
--- a printable character of ASCII that is no blank
+-- whether a byte is a printable character of ASCII and no blank
 abbrev pub is_graphic : ℕ → Bool
 is_graphic b = nat_le 33 b && nat_le b 126
 

@@ -1,4 +1,4 @@
-//! The header of a file.
+//! The header of an ELF32 file.
 ghost use Rattle.std.specs.Prelude.{◌≡◌, ◌≤◌, ◌+◌, ◌*◌, IfOk, length};
 ghost use Rattle.elf.specs.Headers.{has_magic as has_magic_of, unfit as unfit_of, table_in as table_inside, table_of as table_by};
 
@@ -6,17 +6,17 @@ use crate::Refusal;
 use crate::bytes::{half_at, word_at};
 use instructions::Program;
 
-/// Where the program headers begin, and how many there are. Each has 32 bytes.
+/// The table of program headers: its place in the file, and the number of headers. Each has 32 bytes.
 #[derive(Clone, Copy)]
 pub struct Table {
     pub at: u32,
     pub count: u32,
 }
 
-/// How many bytes the header has.
+/// The size of the header of a file in bytes.
 const HEADER: usize = 52;
 
-/// How many bytes a program header has.
+/// The size of a program header in bytes.
 pub const PROGRAM_HEADER: usize = 32;
 
 fn has_magic(file: &[u8]) -> bool

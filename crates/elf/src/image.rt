@@ -1,4 +1,4 @@
-//! What a file loads.
+//! The image that a file loads.
 ghost use Rattle.std.specs.Prelude.{◌≡◌, ◌≢◌, ◌≤◌, ◌<◌, ◌+◌, ◌*◌, Ok, Err, length, IfOk, IfErr, IsTrue};
 ghost use Rattle.elf.specs.Images.{Loaded, nothing_loaded};
 ghost use Rattle.elf.specs.Placing.{overlaid as overlaid_with, is_text as is_text_of, with_text as with_text_of, with_data as with_data_of, placed as placed_with, placed_up_to, loaded_from};
@@ -43,6 +43,7 @@ impl Image {
         self.bytes.as_slice()
     }
 
+    // The image before any segment is loaded.
     fn nothing(alloc: Global) -> Result<Image, AllocError>
         ensures { IfOk result (λ image. image ≡ nothing_loaded) }
     {
@@ -54,7 +55,7 @@ impl Image {
     }
 }
 
-// bytes written over others, from a place on
+// Bytes with others written over them, from a place on.
 fn overlaid(alloc: Global, below: &[u8], at: usize, bytes: &[u8]) -> Result<Vec<u8>, AllocError>
     requires { at + length bytes.now ≤ length below.now }
     ensures value { IfOk result (λ v. v.items ≡ overlaid_with below.now at bytes.now) }
@@ -69,6 +70,7 @@ fn overlaid(alloc: Global, below: &[u8], at: usize, bytes: &[u8]) -> Result<Vec<
     Ok(all)
 }
 
+// Whether a segment is the text: the only one, of whole words, all of them in the file.
 fn is_text(segment: Segment, image: &Image) -> bool
     ensures value { result ≡ is_text_of segment image.now }
     ensures small { IsTrue result → segment.size ≤ 65536 }
@@ -125,7 +127,7 @@ fn with_data(alloc: Global, file: &[u8], segment: Segment, image: Image) -> Resu
     })
 }
 
-// what is loaded with one more segment
+// Loads one more segment.
 #[tactic(auto, unfolding(crate::specs::Placing::placed))]
 fn placed(alloc: Global, file: &[u8], segment: Segment, image: Image) -> Result<Image, Refusal>
     ensures ok { IfOk result (λ i. placed_with file.now segment image ≡ Ok i) }
@@ -160,7 +162,7 @@ fn all_placed(alloc: Global, file: &[u8], table: Table) -> Result<Image, Refusal
     Ok(image)
 }
 
-/// The image that a file loads, or why it is refused. No byte outside the file is looked at, whatever
+/// The image that a file loads, or its refusal. No byte outside the file is looked at, whatever
 /// its headers say.
 #[tactic(auto, unfolding(crate::specs::Placing::loaded_from))]
 pub fn read_image(alloc: Global, file: &[u8]) -> Result<Image, Refusal>

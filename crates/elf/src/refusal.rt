@@ -1,11 +1,11 @@
-//! Why a file is refused.
+//! The refusals of a file.
 ghost use Rattle.std.specs.Prelude.{◌≡◌};
 ghost use Rattle.elf.specs.declared.refusal.Refusal.TheVariants.{Memory};
 
 use std::alloc::{AllocError, AllocFailed};
 use thiserror::Error;
 
-/// Why a file is no program for this machine.
+/// The reason for which a file is no program for this machine.
 #[derive(Clone, Copy, Debug, Drop, PartialEq, Eq, Error)]
 pub enum Refusal {
     #[error("this is no ELF file")]

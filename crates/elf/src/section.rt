@@ -4,11 +4,11 @@ ghost use Rattle.elf.specs.Symbols.{section_of};
 
 use crate::bytes::word_at;
 
-/// A section, as its header says.
+/// The header of a section.
 #[derive(Clone, Copy)]
 pub struct Section {
     pub kind: u32,
-    /// Where its bytes begin in the file.
+    /// The place in the file at which the section begins.
     pub offset: u32,
     pub size: u32,
     /// The number of another section: for symbols, that of their names.

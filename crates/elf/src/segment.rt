@@ -4,17 +4,17 @@ ghost use Rattle.elf.specs.Headers.{segment_of};
 
 use crate::bytes::word_at;
 
-/// A segment, as its program header says.
+/// The program header of a segment.
 #[derive(Clone, Copy)]
 pub struct Segment {
     pub kind: u32,
-    /// Where its bytes begin in the file.
+    /// The place in the file at which the segment begins.
     pub offset: u32,
-    /// Where they go.
+    /// The address at which the segment is loaded.
     pub address: u32,
-    /// How many bytes the file has of it.
+    /// The number of its bytes in the file.
     pub filled: u32,
-    /// How many bytes it takes.
+    /// The number of its bytes in memory.
     pub size: u32,
 }
 

@@ -6,7 +6,7 @@ use crate::bytes::{half_at, word_at};
 use crate::section::Section;
 use std::alloc::{AllocError, Global};
 
-/// Where the symbols begin, how many there are, and where their names begin.
+/// The table of symbols: its place in the file, the number of symbols, and the place of their names.
 #[derive(Clone, Copy)]
 pub struct Symbols {
     pub at: u32,
@@ -21,13 +21,13 @@ pub struct Function {
     pub name: usize,
 }
 
-/// How many bytes the header of a file has.
+/// The size of the header of a file in bytes.
 const HEADER: usize = 52;
 
-/// How many bytes a section header has.
+/// The size of a section header in bytes.
 const SECTION_HEADER: usize = 40;
 
-/// How many bytes a symbol has.
+/// The size of a symbol in bytes.
 const SYMBOL: usize = 16;
 
 /// The most bytes of a name.
@@ -49,7 +49,7 @@ fn is_symbols(file: &[u8], count: usize, section: Section) -> bool
         && file.len() >= section.offset as usize + section.size as usize
 }
 
-// the last table of symbols, where the headers lead to one
+// The last table of symbols, if the headers lead to one.
 #[tactic(auto, unfolding(crate::specs::Symbols::symbols_in), using(crate::proofs::Tables::symbols_none, crate::proofs::Tables::symbols_next))]
 fn symbols_in(file: &[u8]) -> Option<Symbols>
     ensures value { result ≡ symbols_by file.now }
@@ -75,7 +75,7 @@ fn symbols_in(file: &[u8]) -> Option<Symbols>
     found
 }
 
-// the functions among the symbols of a table
+// The functions among the symbols of a table.
 #[tactic(auto, using(crate::proofs::Tables::functions_none, crate::proofs::Tables::functions_next))]
 fn functions_of(alloc: Global, file: &[u8], symbols: Symbols) -> Result<Vec<Function>, AllocError>
     requires { symbols.at + 16 * symbols.count ≤ length file.now }
@@ -113,14 +113,14 @@ fn is_graphic(b: u8) -> bool
     33 <= b && b <= 126
 }
 
-// where a name ends, if it does
+// The place at which a name ends, if there is one.
 fn end_of(text: &[u8]) -> Option<usize>
     ensures { result ≡ position (λ b. not (is_graphic_of b)) text.now }
 {
     text.iter().position(|b| !is_graphic(*b))
 }
 
-// the bytes from a place on, at most so many as a name has
+// The bytes from a place on, at most as many as a name has.
 fn window(file: &[u8], at: usize) -> &[u8]
     ensures { result.now ≡ window_of file.now at }
 {

@@ -1,27 +1,27 @@
 -- The fields of a machine word, as MIPS I divides its 32 bits.
 use Rattle.std.specs.Prelude.{ℕ, ◌/◌, ◌%◌, ◌^◌, ◌==◌, if◌then◌else◌}
 
--- the upper 6 bits say what kind of word it is
+-- the opcode: the upper 6 bits
 abbrev pub opcode_of : ℕ → ℕ
 opcode_of word = word / 2 ^ 26
 
--- then follow three registers of 5 bits each
+-- the first register field, rs: 5 bits
 abbrev pub rs_of : ℕ → ℕ
 rs_of word = word / 2 ^ 21 % 32
 
--- the second of them
+-- the second register field, rt: 5 bits
 abbrev pub rt_of : ℕ → ℕ
 rt_of word = word / 2 ^ 16 % 32
 
--- the third of them
+-- the third register field, rd: 5 bits
 abbrev pub rd_of : ℕ → ℕ
 rd_of word = word / 2 ^ 11 % 32
 
--- the amount of a shift: 5 bits
+-- the shift amount: 5 bits
 abbrev pub shift_of : ℕ → ℕ
 shift_of word = word / 2 ^ 6 % 32
 
--- the lower 6 bits select among the operations with opcode 0
+-- the function, by which operations with opcode 0 differ: the lower 6 bits
 abbrev pub funct_of : ℕ → ℕ
 funct_of word = word % 64
 
@@ -33,7 +33,7 @@ immediate_of word = word % 2 ^ 16
 abbrev pub region_index_of : ℕ → ℕ
 region_index_of word = word % 2 ^ 26
 
--- with opcode 0 the function selects the operation, with opcode 1 the field rt
+-- the field that selects among the operations with one opcode: the function with opcode 0, rt with opcode 1
 abbrev pub select_of : ℕ → ℕ
 select_of word =
     if opcode_of word == 0 then funct_of word

@@ -1,4 +1,4 @@
--- What holds of every word and every operation.
+-- Laws of every word and every operation.
 use Rattle.std.specs.Prelude.{◌≡◌, ℕ, ◌<◌, ◌^◌, Some}
 use Rattle.instructions.specs.declared.op.Op.{Op}
 use Rattle.instructions.specs.declared.instr.Instr.{Instr}
@@ -23,7 +23,7 @@ pub record HasWord (op : Op) (pc : ℕ) : Type 0 where
 abbrev pub EachOperationHasAWord : Type 0
 EachOperationHasAWord = (op : Op) (pc : ℕ) → HasWord op pc
 
--- what a word says at an address can be written in a listing
+-- the instruction of a word at an address can be written in a listing
 abbrev pub EachWordIsWritten : Type 0
 EachWordIsWritten =
     (pc word : ℕ) (i : Instr) → decode pc word ≡ Some i → IsWritable i

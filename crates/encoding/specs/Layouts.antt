@@ -1,4 +1,4 @@
--- Where each operation has its registers and its number: the opcodes and functions of MIPS I.
+-- The layouts of the operations: the opcodes, functions and fields of MIPS I.
 use Rattle.std.specs.Prelude.{ℕ, ◌==◌, ◌&&◌, Bool, Option}
 use Rattle.std.specs.List.{find}
 use Rattle.instructions.specs.declared.op.Op.{Op}
@@ -12,11 +12,11 @@ use Rattle.encoding.specs.declared.layout.Shape.{Shape}
 use Rattle.encoding.specs.declared.layout.Shape.TheVariants.{ThreeRegisters, ShiftByAmount, ShiftByRegister, TwoRegisters, MoveFrom, MoveTo, JumpRegister, LinkRegister, Bare, SignedHalf, UnsignedHalf, UpperHalf, Store, BranchOnTwo, BranchOnOne, Region}
 use Rattle.encoding.specs.Fields.{opcode_of, select_of}
 
--- a row of the table
+-- a layout: an opcode, a selecting field and a shape
 abbrev pub layout_of : ℕ → ℕ → Shape → Layout
 layout_of opcode select shape = record { opcode = opcode; select = select; shape = shape }
 
--- the opcode, what selects the operation among those with this opcode, and the shape
+-- the layout of an operation
 abbrev pub layout : Op → Layout
 layout Addu = layout_of 0 33 ThreeRegisters
 layout Subu = layout_of 0 35 ThreeRegisters
@@ -70,7 +70,7 @@ layout Jr = layout_of 0 8 JumpRegister
 layout Jalr = layout_of 0 9 LinkRegister
 layout Break = layout_of 0 13 Bare
 
--- an operation has this opcode, and is selected so
+-- whether an operation has this opcode and this selecting field
 abbrev pub has_layout : ℕ → ℕ → Op → Bool
 has_layout opcode select op = ((layout op).opcode == opcode) && ((layout op).select == select)
 

@@ -1,4 +1,4 @@
--- What a machine word says.
+-- The instruction of a machine word, and the word of an instruction.
 use Rattle.std.specs.Prelude.{ℕ, ◌+◌, ◌-◌, ◌*◌, ◌/◌, ◌%◌, ◌^◌, ◌==◌, ◌&&◌, Bool, Option, Some, None, if◌then◌else◌}
 use Rattle.std.specs.Int.{w16}
 use Rattle.instructions.specs.declared.op.Op.{Op}
@@ -14,11 +14,11 @@ use Rattle.encoding.specs.Layouts.{layout, operation_of}
 
 -- ---- targets
 
--- a branch at pc goes so many words beyond pc + 4, forwards or backwards
+-- the target of a branch at pc, by its distance in words from pc + 4, forwards or backwards
 abbrev pub branch_target : ℕ → ℕ → ℕ
 branch_target pc word = (pc_plus_4 pc + 4 * extended w16 (immediate_of word)) % 2 ^ 32
 
--- a jump at pc stays in the region of 2^28 bytes of pc + 4
+-- the target of a jump at pc, by the number of a word in the region of 2^28 bytes of pc + 4
 abbrev pub region_target : ℕ → ℕ → ℕ
 region_target pc word = pc_plus_4 pc / 2 ^ 28 * 2 ^ 28 + 4 * region_index_of word
 
@@ -74,7 +74,7 @@ decode_as pc word (Some op) = read (layout op).shape (layout op).select op pc wo
 unfoldable pub decode : ℕ → ℕ → Option Instr
 decode pc word = decode_as pc word (operation_of word)
 
--- what the code holds
+-- an instruction, by the record of the code
 abbrev pub instruction_of : Decoded → Instr
 instruction_of d = instruction d.op d.target d.first d.second d.number
 
@@ -89,7 +89,7 @@ registers rs rt rd shift function =
 abbrev pub immediate : (rs rt number : ℕ) → ℕ
 immediate rs rt number = rs % 32 * 2 ^ 21 + (rt % 32 * 2 ^ 16 + number % 2 ^ 16)
 
--- how many words a target lies beyond pc + 4
+-- the distance in words of a target from pc + 4
 abbrev pub distance : ℕ → ℕ → ℕ
 distance pc target = (target + (2 ^ 32 - pc_plus_4 pc)) % 2 ^ 32 / 4
 

@@ -31,7 +31,7 @@ fn region_target(word: u32, pc: u32) -> u32
     (pc_plus_4(pc) >> 28 << 28) + 4 * fields::index(word)
 }
 
-// the register that an operation writes without a name for it
+// The register that an operation writes without naming it.
 fn implied_target(op: Op) -> Reg
     ensures { result ≡ implied_target_of op }
 {
@@ -43,7 +43,7 @@ fn implied_target(op: Op) -> Reg
     }
 }
 
-// the register that it reads so
+// The register that an operation reads without naming it.
 fn implied_source(op: Op) -> Reg
     ensures { result ≡ implied_source_of op }
 {
@@ -54,7 +54,7 @@ fn implied_source(op: Op) -> Reg
     }
 }
 
-// where a field that has no use is not 0, the word is none of the operation's
+// Whether each field is 0 that the shape does not use: else the word is none of the operation.
 #[tactic(auto, unfolding(crate::specs::Words::read))]
 fn read(op: Op, layout: Layout, word: u32, pc: u32) -> Option<Decoded>
     ensures { option_map instruction_of result ≡ read_of layout.shape layout.select op pc word }

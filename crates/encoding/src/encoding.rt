@@ -67,7 +67,7 @@ fn packed(decoded: &Decoded, pc: u32) -> u32
     (layout.opcode << 26) + written(layout, pc, decoded)
 }
 
-// a comparison of its own, since it is one of 51 by 51 cases
+// Whether two operations are equal: a comparison of its own, since it has 51 by 51 cases.
 fn same_op(said: Op, op: Op) -> bool
     ensures yes { IsTrue result → said ≡ op }
     ensures no { said ≡ op → IsTrue result }

@@ -1,4 +1,4 @@
-//! What holds of every word. Each function is a law: it does nothing, and its contract is proved.
+//! Laws of every word: functions that do nothing, with contracts that are proved.
 ghost use Rattle.encoding.specs.Laws.{OneWordForEachInstruction, EachOperationHasAWord, EachWordIsWritten};
 
 /// Two words that say one instruction at an address are one word: no bit of a word is without a
@@ -7,7 +7,7 @@ pub fn one_word_for_each_instruction()
     ensures { OneWordForEachInstruction }
 {}
 
-/// Each operation of the language is what some word says.
+/// Each operation of the language has a word.
 pub fn each_operation_has_a_word()
     ensures { EachOperationHasAWord }
 {}

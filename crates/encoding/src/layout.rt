@@ -1,4 +1,4 @@
-//! How each operation lies in its word.
+//! The layout of each operation in its word.
 ghost use Rattle.std.specs.Prelude.{◌≡◌, ◌<◌, ◌&&◌, ◌==◌};
 ghost use Rattle.std.specs.List.{find};
 ghost use Rattle.encoding.specs.Layouts.{layout as layout_by, operation_of as operation, has_layout};
@@ -6,20 +6,20 @@ ghost use Rattle.encoding.specs.Layouts.{layout as layout_by, operation_of as op
 use crate::fields;
 use instructions::Op;
 
-/// The fields of a word behind its opcode.
+/// The shape of a word: its fields after the opcode.
 #[derive(Clone, Copy, Debug, PartialEq, Eq)]
 pub enum Shape {
     /// rd is written, rs and rt are read.
     ThreeRegisters,
     /// rd is written, rt is read, and there is a shift amount.
     ShiftByAmount,
-    /// rd is written, rt is read, and then rs, the shift amount.
+    /// rd is written, rt and then rs, the shift amount, are read.
     ShiftByRegister,
     /// rs and rt are read.
     TwoRegisters,
-    /// rd is written; what is read is not named.
+    /// rd is written; the register that is read is not named.
     MoveFrom,
-    /// rs is read; what is written is not named.
+    /// rs is read; the register that is written is not named.
     MoveTo,
     /// rs is read.
     JumpRegister,
@@ -43,8 +43,8 @@ pub enum Shape {
     Region,
 }
 
-/// The opcode of an operation, what selects it among those with that opcode, and its shape. With
-/// opcode 0 the function field selects, with opcode 1 the field rt; else it is 0.
+/// The layout of an operation: its opcode, the field that selects it among those with that opcode, and its shape. With
+/// opcode 0 the function selects, with opcode 1 the field rt; else the selecting field is 0.
 #[derive(Clone, Copy)]
 pub struct Layout {
     pub opcode: u32,

@@ -19,13 +19,13 @@ AStepIsTheMachines =
     (P : Program) (text : List ℕ) (s : State) → IsTextOf text P
     → length s.memory ≡ length P.bytes → step_over text s ≡ Some (step P s)
 
--- how and where a run ends that has come to a step's result; none where the word was no operation
+-- the end of a run after the result of a step; none where the word was no operation
 abbrev pub end_behind : (State → Option (Ending × State)) → State → Option Ran → Option (Ending × State)
 end_behind rest s None = None
 end_behind rest s (Some (Goes t)) = rest t
 end_behind rest s (Some (Halts c)) = Some (ByStop c, s)
 
--- how and where so many steps over a text end
+-- the end of so many steps over a text
 abbrev pub end_over : List ℕ → ℕ → State → Option (Ending × State)
 end_over text zero s = Some (ByLimit, s)
 end_over text (suc k) s = end_behind (end_over text k) s (step_over text s)

@@ -8,12 +8,12 @@ use Rattle.encoding.specs.Words.{decode}
 use Rattle.lockstep.specs.declared.stepping.Answer.{Answer}
 use Rattle.lockstep.specs.declared.stepping.Answer.TheVariants.{Went, Stopped, NoOperation}
 
--- the word at an address, if it is that of one
+-- the word at an address, if there is one
 unfoldable pub word_at : List ℕ → ℕ → Option ℕ
 word_at text pc =
     if address ((pc - text_start) / 4) == pc then slice_get text ((pc - text_start) / 4) else None
 
--- the step of an instruction that a word says; none where it says none
+-- the step of the instruction of a word; none where the word is no operation
 abbrev pub step_by : State → Option Instr → Option Ran
 step_by s None = None
 step_by s (Some i) = Some (fetched (record { code = []; bytes = s.memory }) s (Some i))
@@ -27,7 +27,7 @@ step_at s (Some w) = step_by s (decode s.pc w)
 abbrev pub step_over : List ℕ → State → Option Ran
 step_over text s = step_at s (word_at text s.pc)
 
--- a state that counts nothing
+-- a state of these registers, data memory and pc, whose count is 0
 abbrev pub state_of : (registers memory : List ℕ) → ℕ → State
 state_of registers memory pc =
     record { registers = registers; memory = memory; pc = pc; count = 0 }
@@ -38,7 +38,7 @@ pub record Holds (registers memory : List ℕ) (pc : ℕ) (s : State) : Type 0 w
   pub memory_is : memory ≡ s.memory
   pub pc_is : pc ≡ s.pc
 
--- what a step answers and leaves: all is as it was, unless it went on
+-- the answer of a step and the state after it, which is that before the step unless the instruction was run
 abbrev pub IsStepped : State → Answer → (registers memory : List ℕ) → ℕ → Option Ran → Type 0
 IsStepped old answer registers memory pc (Some (Goes t)) =
     (answer ≡ Went) × Holds registers memory pc t

@@ -1,4 +1,4 @@
-//! What a step over buffers has to do with the machine. Each function is a law: it does nothing, and its contract is proved.
+//! Laws of steps over buffers as steps of the machine: functions that do nothing, with contracts that are proved.
 ghost use Rattle.lockstep.specs.Law.{ARunIsTheMachines, AStepIsTheMachines};
 
 /// A step over a text of words is a step of the machine that runs the program that the words say.

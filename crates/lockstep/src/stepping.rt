@@ -1,4 +1,4 @@
-//! One step.
+//! One step over machine words and buffers.
 ghost use Rattle.std.specs.Prelude.{◌≡◌, ◌≤◌, ◌+◌, length, slice_index};
 ghost use Rattle.instructions.specs.Instruction.{kind as kind_of, width as width_of, pc_plus_4 as pc_plus_4_of};
 ghost use Rattle.inorder.specs.Machine.{after_access, write as written};
@@ -48,7 +48,7 @@ fn register(registers: &[u32; 34], r: Reg) -> u32
     registers[r.number() as usize]
 }
 
-// A write to register 0 is dropped.
+// Writes a register; a write to register 0 is dropped.
 fn write(registers: &mut [u32; 34], r: Reg, value: u32)
     ensures { registers.new ≡ written registers.old r value }
 {
@@ -58,7 +58,7 @@ fn write(registers: &mut [u32; 34], r: Reg, value: u32)
     }
 }
 
-// The load or store at an address.
+// Runs the load or store at an address.
 fn access(memory: &mut [u8], registers: &mut [u32; 34], pc: u32, instr: &Instr, address: usize)
     requires inside { address + width_of instr.now.op ≤ length memory.old }
     ensures { Holds registers.new memory.new (pc_plus_4_of pc) (after_access (kind_of instr.now.op)

@@ -1,30 +1,31 @@
--- What `ruu_step` answers and leaves.
+-- The answer of `ruu_step`, and the state after the call.
 use Rattle.std.specs.Prelude.{ℕ, ℤ, pos, negsuc, ◌+◌, ◌%◌, Bool, List, length, Option, None, Some, ◌==◌, ◌&&◌, nat_le, if◌then◌else◌}
 use Rattle.instructions.specs.Operations.{code_of}
 use Rattle.inorder.specs.Machine.{State, Ran, Goes, Halts}
 use Rattle.lockstep.specs.Step.{step_over}
 
--- the sizes of text and data memory that a program can have
+-- whether a program can have these sizes of text and data memory
 abbrev pub are_allowed : (words bytes : ℕ) → Bool
 are_allowed words bytes = nat_le words 16384 && (nat_le bytes 65536 && (bytes % 4 == 0))
 
--- -1: the word at the pc is no operation; 0: it went on; 1 and the stop's number: it stops
+-- the answer of a step: -1 where the word at the pc is no operation, 0 where it was run, 1 and the stop's number where it
+-- stops
 abbrev pub number_of : Option Ran → ℤ
 number_of None = negsuc 0
 number_of (Some (Goes t)) = pos 0
 number_of (Some (Halts c)) = pos (1 + code_of c)
 
--- the state behind it: the same, unless it went on
+-- the state after a step: that before the step, unless the word was run
 abbrev pub left_by : State → Option Ran → State
 left_by s (Some (Goes t)) = t
 left_by s _ = s
 
--- -2: the sizes are not allowed
+-- the answer of a call: -2 where the sizes are not allowed
 abbrev pub answer_of : List ℕ → State → ℤ
 answer_of text s =
     if are_allowed (length text) (length s.memory) then number_of (step_over text s) else negsuc 1
 
--- the state that the call leaves
+-- the state after a call
 abbrev pub left_of : List ℕ → State → State
 left_of text s =
     if are_allowed (length text) (length s.memory) then left_by s (step_over text s) else s
