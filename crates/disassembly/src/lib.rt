@@ -1,4 +1,4 @@
-//! Disassembly: from the bytes of an executable to a listing, which says exactly what the words of its
+//! From the bytes of an executable to a listing, which says exactly what the words of its
 //! text and the bytes of its data mean.
 #![tactic(auto)]
 
