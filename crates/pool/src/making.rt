@@ -1,6 +1,5 @@
 //! What a run is made of, before a thread has begun.
 ghost use Rattle.std.specs.Prelude.{◌≡◌, [], IfOk};
-ghost use Rattle.back.specs.Backs.{HasRetiredNothing, IsNewBack};
 ghost use Rattle.counts.specs.Shares.{all_parts};
 ghost use Rattle.pool.specs.Terms.{MayBegin};
 ghost use Rattle.workers.specs.Turns.{untaken};
@@ -12,13 +11,13 @@ use back::{Back, Naming, Snapper};
 use counts::{CountSeat, Counts};
 use hints::{Hints, Ring};
 use instructions::{Config, Memory, Predictor, Program};
-use station::{BackSeat, Core};
+use station::Core;
 use std::alloc::Global;
 use workers::{Bounds, RunState, Turns};
 
-/// What a run is given: how its threads wait, where it allocates, the program, how it is to run, and its gate.
+/// What all terms of a run share: how its threads wait, where it allocates, the program, how it is to run, and its gate.
 #[derive(Drop)]
-pub(crate) struct Task<'x, G, R> {
+pub(crate) struct RunShared<'x, G, R> {
     pub wait: &'x R,
     pub alloc: Global,
     pub program: &'x Program,
@@ -26,33 +25,8 @@ pub(crate) struct Task<'x, G, R> {
     pub gate: &'x G,
 }
 
-/// What a run is made of: its state, the commit side, its first term, and its first snapper.
-pub(crate) struct Parts<J: Naming, K: Bounds + Ring, P: Predictor + Drop> {
-    pub state: RunState<K>,
-    pub committer: Committer<J, K>,
-    pub term: Term<P>,
-    pub snapper: Snapper<J>,
-}
-
-// The back at a core, and its first snapper.
-fn back_at<J: Naming>(
-    alloc: Global,
-    core: &Core,
-    seat: BackSeat,
-    program: &Program,
-    config: &Config,
-) -> Result<(Back<J>, Snapper<J>), Memory>
-    requires core { seat.core ≡ core.now }
-    requires program { program.now ≡ core.now.program }
-    requires named { program.now ≡ J.program }
-    requires fresh { HasRetiredNothing seat }
-    ensures { IfOk result (λ made. IsNewBack seat made.0) }
-{
-    Back::new(alloc, core, seat, program, config).map_err(|refused| refused.0)
-}
-
-// The state of a run, with hints for its ring.
-fn make_state<K: Bounds + Ring>(
+/// The state of a run before its first term, with hints for its ring.
+pub(crate) fn make_state<K: Bounds + Ring>(
     alloc: Global,
     config: &Config,
     counts: Counts,
@@ -65,27 +39,24 @@ fn make_state<K: Bounds + Ring>(
     RunState::new(alloc, counts, hints, config.units(), config.turns())
 }
 
-/// All that a run is made of.
+/// The commit side of a run, its first term, and its first snapper.
 pub(crate) fn make<J: Naming, K: Bounds + Ring, P: Predictor + Drop, G, R>(
-    task: &Task<'_, G, R>,
-    counts: Counts,
+    run: &RunShared<'_, G, R>,
+    state: &RunState<K>,
     count: CountSeat,
     predictor: P,
-) -> Result<Parts<J, K, P>, Memory>
-    requires counts { counts ≡ K.counts }
-    requires count { count ≡ record { of = counts; shares = all_parts; seen = [] } }
-    requires program { task.now.program.now ≡ J.program }
-    requires config { task.now.config.now ≡ K.config }
-    requires ring { task.now.config.now.ring ≡ K.ring }
-    ensures begins { IfOk result (λ parts.
-        MayBegin K.counts K.config parts.committer parts.term) }
-    ensures turns { IfOk result (λ parts.
-        parts.term.dispatcher.turns ≡ untaken (K.config).turns) }
+) -> Result<(Committer<J, K>, Term<P>, Snapper<J>), Memory>
+    requires count { count ≡ record { of = K.counts; shares = all_parts; seen = [] } }
+    requires program { run.now.program.now ≡ J.program }
+    requires config { run.now.config.now ≡ K.config }
+    ensures begins { IfOk result (λ made. MayBegin K.counts K.config made.0 made.1) }
+    ensures turns { IfOk result (λ made. made.1.dispatcher.turns ≡ untaken (K.config).turns) }
 {
-    let (config, program) = (task.config, task.program);
-    let state = make_state::<K>(task.alloc, config, counts)?;
-    let (core, front, seat, unit) = Core::make(task.alloc, program, config)?;
-    let (back, snapper) = back_at::<J>(task.alloc, &core, seat, program, config)?;
+    let (config, program) = (run.config, run.program);
+    let (core, front, seat, unit) = Core::make(run.alloc, program, config)?;
+    let (back, snapper) = Back::<J>::new(run.alloc, &core, seat, program, config).map_err(
+        |refused| refused.0,
+    )?;
     let (back_count, workers) = state.counts.split_worker(count);
     let (front_count, unit_count) = state.counts.split_workers(workers);
     let committer = Committer::<J, K>::new(back, back_count, config.limit(), config.turns());
@@ -101,10 +72,5 @@ pub(crate) fn make<J: Naming, K: Bounds + Ring, P: Predictor + Drop, G, R>(
         unit,
         count: unit_count,
     };
-    Ok(Parts {
-        state,
-        committer,
-        term,
-        snapper,
-    })
+    Ok((committer, term, snapper))
 }

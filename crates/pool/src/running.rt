@@ -8,7 +8,7 @@ ghost use Rattle.run_ends.specs.Runs.{RunIsRight, IsWithinLimit, TakesTurns};
 
 use crate::answer::RunInTurns;
 use crate::commit::Committer;
-use crate::making::{Parts, Task, make};
+use crate::making::{RunShared, make, make_state};
 use crate::ran::Ran;
 use crate::snappers::start_snappers;
 use crate::terms::{Term, run_terms};
@@ -25,7 +25,7 @@ use std::thread::Threads;
 use workers::{Bounds, Gate, RunState, Turns};
 
 // Starts the snapshot threads, runs all terms, and returns when each thread has ended.
-fn in_threads<
+fn run_in_threads<
     'x,
     J: Naming + Send + Sync,
     K: Bounds + Ring + Send + Sync,
@@ -33,33 +33,33 @@ fn in_threads<
     G: Gate + Sync,
     R: Threads + Wait + Sync,
 >(
-    task: &'x Task<'x, G, R>,
+    run: &'x RunShared<'x, G, R>,
     state: &'x RunState<K>,
     term: Term<P>,
     snapper: Snapper<J>,
     committer: &'x mut Committer<J, K>,
 )
-    requires config { task.now.config.now ≡ K.config }
+    requires config { run.now.config.now ≡ K.config }
     requires begins { MayBegin state.now.counts K.config committer.old term }
 {
     thread::scope(
         thread::scope_env(),
-        task.wait,
+        run.wait,
         move |scope|
-            requires config { task.now.config.now ≡ K.config }
+            requires config { run.now.config.now ≡ K.config }
             requires begins { MayBegin state.now.counts K.config committer.now term }
         {
-            let (wait, gate) = (task.wait, task.gate);
-            let places = task.config.places();
+            let (wait, gate) = (run.wait, run.gate);
+            let places = run.config.places();
             if let Some(places) = start_snappers(scope, wait, state, gate, places, snapper) {
-                run_terms(task, state, &places, term, committer);
+                run_terms(run, state, &places, term, committer);
             }
             state.end_run();
         },
     )
 }
 
-// Makes a run, runs it in threads, and tells how it ended when each thread has.
+// Makes a run, runs it in threads, and answers how it ended when each thread has.
 fn run_named<
     J: Naming + Send + Sync,
     K: Bounds + Ring + Send + Sync,
@@ -67,26 +67,22 @@ fn run_named<
     G: Gate + Sync,
     R: Threads + Wait + Sync,
 >(
-    task: &Task<'_, G, R>,
+    run: &RunShared<'_, G, R>,
     counts: Counts,
     count: CountSeat,
     predictor: P,
 ) -> Result<RunInTurns, Memory>
     requires counts { counts ≡ K.counts }
     requires count { count ≡ record { of = counts; shares = all_parts; seen = [] } }
-    requires program { task.now.program.now ≡ J.program }
-    requires config { task.now.config.now ≡ K.config }
-    requires ring { task.now.config.now.ring ≡ K.ring }
+    requires program { run.now.program.now ≡ J.program }
+    requires config { run.now.config.now ≡ K.config }
+    requires ring { run.now.config.now.ring ≡ K.ring }
     ensures { IfOk result (HasRun J.program K.config) }
 {
-    let Parts {
-        state,
-        mut committer,
-        term,
-        snapper,
-    } = make::<J, K, P, G, R>(task, counts, count, predictor)?;
-    in_threads(&*task, &state, term, snapper, &mut committer);
-    Ok(committer.end(task.wait, &state))
+    let state = make_state::<K>(run.alloc, run.config, counts)?;
+    let (mut committer, term, snapper) = make::<J, K, P, G, R>(run, &state, count, predictor)?;
+    run_in_threads(&*run, &state, term, snapper, &mut committer);
+    Ok(committer.end(run.wait, &state))
 }
 
 // What is answered where memory is wanting before a thread has begun.
@@ -120,14 +116,14 @@ pub fn run_in_turns<'x, P: Predictor + Drop + Send, G: Gate + Sync, R: Threads +
     let Ok((counts, count)) = Counts::make(alloc) else {
         return wants_memory(config);
     };
-    let task = Task {
+    let run = RunShared {
         wait,
         alloc,
         program,
         config,
         gate,
     };
-    match run_named::<Brand, Brand, P, G, R>(&task, counts, count, predictor) {
+    match run_named::<Brand, Brand, P, G, R>(&run, counts, count, predictor) {
         Ok(run) => run,
         Err(_) => wants_memory(config),
     }

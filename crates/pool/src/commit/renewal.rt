@@ -2,29 +2,30 @@
 ghost use Rattle.std.specs.Prelude.{◌≡◌, Err, IfNone, IfSome};
 ghost use Rattle.inorder.specs.History.{unit_of};
 ghost use Rattle.pool.specs.Committing.{MayRenew};
-ghost use Rattle.pool.specs.Terms.{AreRenewed};
+ghost use Rattle.pool.specs.Terms.{AreRenewed, IsReturned, MayBegin};
 ghost use Rattle.station.specs.Renewals.{HasNobody};
+ghost use Rattle.workers.specs.Configured.{configured_sizes};
 
 use super::Committer;
+use crate::dispatch::Dispatcher;
+use crate::terms::Term;
 use back::{Naming, a_back_enters_behind_a_renewal};
 use core::mem::replace_with;
 use counts::Total;
 use front::a_front_enters_behind_a_renewal;
 use hints::Ring;
+use instructions::Predictor;
 use run_ends::Refusal;
 use station::{Core, FrontSeat, UnitSeat};
 use std::alloc::Global;
 use workers::{Bounds, RunState};
 
-/// A core that was renewed, the front's seat, and a unit's.
-pub(crate) type Renewed = (Core, FrontSeat, UnitSeat);
-
-/// What a core is renewed with: memory, the run's totals, the core, and its front's and a unit's seat.
-type Renewable<'x, K> = (Global, &'x RunState<K>, Core, FrontSeat, UnitSeat);
-
 impl<J: Naming, K: Bounds + Ring> Committer<J, K> {
     // The commit side with another core, by value.
-    fn renewed(self, parts: Renewable<'_, K>) -> (Self, Option<Renewed>)
+    fn renewed(
+        self,
+        parts: (Global, &RunState<K>, Core, FrontSeat, UnitSeat),
+    ) -> (Self, Option<(Core, FrontSeat, UnitSeat)>)
         requires core { self.back.core ≡ parts.2 }
         requires may { MayRenew self }
         requires front { parts.3.core ≡ parts.2 }
@@ -72,27 +73,51 @@ impl<J: Naming, K: Bounds + Ring> Committer<J, K> {
         (committer, now)
     }
 
-    /// Another core, whose tags begin again, where there is memory for it. The back leaves the old one and enters it,
-    /// and goes on with the turns that are left. Without memory it enters the old core again.
-    pub(crate) fn renew(
+    /// The next term, at another core, whose tags begin again, where there is memory for it. The back leaves the old core
+    /// and enters the other one, and goes on with the turns that are left. Without memory it enters the old core again.
+    pub(crate) fn renew<P: Predictor + Drop>(
         &mut self,
         alloc: Global,
         state: &RunState<K>,
-        core: Core,
-        front: FrontSeat,
-        unit: UnitSeat,
-    ) -> Option<Renewed>
-        requires core { self.old.back.core ≡ core }
-        requires may { MayRenew self.old }
-        requires front { front.core ≡ core }
-        requires nobody { HasNobody (unit_of core.program core.sizes front.seen) }
-        requires unit { unit.core ≡ core }
+        term: Term<P>,
+    ) -> Option<Term<P>>
+        requires returned { IsReturned term.core state.now.counts term.dispatcher term.unit
+            self.old }
+        requires sizes { term.core.sizes ≡ configured_sizes K.config }
+        requires count { term.count.of ≡ state.now.counts }
         ensures turns { self.new.turns ≡ self.old.turns }
-        ensures begins { IfSome result (λ t. self.new.over ≡ Err Refusal.Thread) }
+        ensures begins { IfSome result (MayBegin state.now.counts K.config self.new) }
         ensures refused { IfNone result (self.new.over ≡ Err Refusal.Memory) }
-        ensures goes_on { IfSome result (λ t.
-            AreRenewed core front.seen t.0 t.1 t.2 self.new.back.core) }
+        ensures goes_on { IfSome result (λ next. AreRenewed term.core term.dispatcher.seat.seen
+            next.core next.dispatcher.seat next.unit self.new.back.core) }
+        ensures front_turns { IfSome result (λ next.
+            next.dispatcher.turns ≡ term.dispatcher.turns) }
     {
-        replace_with(self, (alloc, state, core, front, unit), Self::renewed)
+        let Term {
+            core,
+            dispatcher,
+            unit,
+            count,
+        } = term;
+        let Dispatcher {
+            seat,
+            begin,
+            count: front_count,
+            turns,
+        } = dispatcher;
+        let parts = (alloc, state, core, seat, unit);
+        let (core, seat, unit) = replace_with(self, parts, Self::renewed)?;
+        let dispatcher = Dispatcher {
+            seat,
+            begin,
+            count: front_count,
+            turns,
+        };
+        Some(Term {
+            core,
+            dispatcher,
+            unit,
+            count,
+        })
     }
 }

@@ -1,10 +1,10 @@
 use Rattle.pool.proofs.running.run_in_turns.Given as goal
 
 abbrev pub ghosts-run_named-J-Naming : goal.ghosts-run_named-J-Naming
-ghosts-run_named-J-Naming g a = record { program = a.task.now.program.now }
+ghosts-run_named-J-Naming g a = record { program = a.run.now.program.now }
 
 abbrev pub ghosts-run_named-K-Bounds : goal.ghosts-run_named-K-Bounds
-ghosts-run_named-K-Bounds g a = record { counts = a.counts; config = a.task.now.config.now }
+ghosts-run_named-K-Bounds g a = record { counts = a.counts; config = a.run.now.config.now }
 
 abbrev pub ghosts-run_named-K-Ring : goal.ghosts-run_named-K-Ring
-ghosts-run_named-K-Ring g a = record { ring = a.task.now.config.now.ring }
+ghosts-run_named-K-Ring g a = record { ring = a.run.now.config.now.ring }
