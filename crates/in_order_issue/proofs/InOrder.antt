@@ -1,4 +1,4 @@
--- A run of the pipeline is in order: by the law that several steps lead on it stands for a unit that allowed steps reach,
+-- A run of the model is in order: by the law that several steps lead on it stands for a unit that allowed steps reach,
 -- and by the law that the one-thread unit is right what that has committed is in order.
 use Rattle.std.proofs.Common.{◌≡◌, ℕ, ◌<◌, List, Some, Ok, Err, sym, ap, ◌∙◌, subst}
 use Rattle.instructions.specs.Programs.{Program}
@@ -13,14 +13,13 @@ use Rattle.inorder.specs.Moves.{IsReached, SeveralLead}
 use Rattle.inorder.specs.Runs.{after, end_state, stop, stop_of, then_stop}
 use Rattle.inorder.specs.Theorem.{IsInOrder, IsRight}
 use Rattle.inorder.specs.Unit.{UpdateUnit}
-use Rattle.in_order_issue.specs.declared.pipeline.Pipeline.{Pipeline}
+use Rattle.in_order_issue.specs.declared.station.OneStation.{OneStation}
 use Rattle.in_order_issue.specs.Moves.{ByStop, Goes, Nowhere, StopsWith}
 use Rattle.in_order_issue.specs.Runs.{EndsBehind, IsInOrderEnd}
-use Rattle.in_order_issue.specs.StandsFor.{StandsForSome, stations}
-use Rattle.in_order_issue.proofs.Left.{flight_commits_nothing}
+use Rattle.in_order_issue.specs.StandsFor.{StandsForSome, one}
 
 -- what the law says of a unit that allowed steps reach
-module _ (P : Program) (right : (history : List Taken) → IsRight P stations history) (U : UpdateUnit) (reached : IsReached P stations U) where
+module _ (P : Program) (right : (history : List Taken) → IsRight P one history) (U : UpdateUnit) (reached : IsReached P one U) where
   in_order : IsInOrder P U.tenants
   in_order = subst (λ V. IsInOrder P V.tenants) reached.is (right reached.history reached.allowed)
 
@@ -36,26 +35,24 @@ module _ (P : Program) (right : (history : List Taken) → IsRight P stations hi
     ends = subst (λ (q : Ending × State). EndsBehind P limit q.1.count q.0) (sym is) h;
   }
 
--- what the laws say of the pipeline
-pub stands_on : ((P : Program) → SeveralLead P stations 0) → (b later : Pipeline) → StandsForSome b → Goes (Ok tt) b later → StandsForSome later
+-- what the laws say of the model
+pub stands_on : ((P : Program) → SeveralLead P one 0) → (b later : OneStation) → StandsForSome b → Goes (Ok tt) b later → StandsForSome later
 stands_on lead b later u m =
     let x = m.0 u.unit u.reached u.stands in
     record {
       unit = x.unit;
-      reached = subst (λ p. IsReached p.now stations x.unit) (sym m.1) ((lead b.program.now).reached u.unit x.unit x.steps u.reached x.leads);
+      reached = subst (λ p. IsReached p.now one x.unit) (sym m.1) ((lead b.program.now).reached u.unit x.unit x.steps u.reached x.leads);
       stands = x.stands;
     }
 
-module _ (right : (P : Program) (history : List Taken) → IsRight P stations history) (P : Program) (limit : ℕ) (b : Pipeline) (same : b.program.now ≡ P) (u : StandsForSome b) (e : End) where
+module _ (right : (P : Program) (history : List Taken) → IsRight P one history) (P : Program) (limit : ℕ) (b : OneStation) (same : b.program.now ≡ P) (u : StandsForSome b) (e : End) where
   -- a run that has reached its limit
   pub at_limit : b.state.count ≡ limit → end_state e ≡ (Limit, b.state) → IsInOrderEnd P limit e
   at_limit all is =
-      let s = u.stands in
-      let state = s.state ∙ sym (flight_commits_nothing b.program.now b.younger u.unit.tenants s.behind s.younger ∙ flight_commits_nothing b.program.now b.older s.behind s.left s.older) in
-      subst (λ Q. IsInOrderEnd Q limit e) same (ended b.program.now (right b.program.now) u.unit u.reached limit e Limit b.state state is all)
+      subst (λ Q. IsInOrderEnd Q limit e) same (ended b.program.now (right b.program.now) u.unit u.reached limit e Limit b.state u.stands.state is all)
 
   -- a run that stops before it
-  pub at_stop : ((P : Program) → SeveralLead P stations 0) → (later : Pipeline) (c : Stop) → Goes (Err c) b later → b.state.count < limit → end_state e ≡ (ByCode c, later.state) → IsInOrderEnd P limit e
+  pub at_stop : ((P : Program) → SeveralLead P one 0) → (later : OneStation) (c : Stop) → Goes (Err c) b later → b.state.count < limit → end_state e ≡ (ByCode c, later.state) → IsInOrderEnd P limit e
   at_stop lead later c m below is =
       let Q = b.program.now in
       let x = m.0 u.unit u.reached u.stands in

@@ -1,7 +1,6 @@
 pub mod Left
-pub mod Sources
 pub mod Predicted
+pub mod Retiring
 pub mod Issuing
-pub mod IssueMoves
-pub mod RetireMoves
+pub mod Moves
 pub mod InOrder

@@ -1,4 +1,4 @@
-pub mod Issued
+pub mod Left
 pub mod StandsFor
 pub mod Moves
 pub mod Runs

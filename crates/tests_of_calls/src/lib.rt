@@ -26,11 +26,11 @@ mod loads;
 #[cfg(test)]
 mod making;
 #[cfg(test)]
+mod one_station;
+#[cfg(test)]
 mod operations;
 #[cfg(test)]
 mod passed_on;
-#[cfg(test)]
-mod pipeline;
 #[cfg(test)]
 mod programs;
 #[cfg(test)]

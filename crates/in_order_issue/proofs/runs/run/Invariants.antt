@@ -1,16 +1,15 @@
-use Rattle.std.proofs.Common.{◌≡◌, ◌-◌, ◌*◌, ◌≤◌, None}
-use Rattle.in_order_issue.specs.Moves.{progress}
+use Rattle.std.proofs.Common.{◌≡◌, ◌-◌, ◌*◌, ◌≤◌}
+use Rattle.in_order_issue.specs.Moves.{halves}
 use Rattle.in_order_issue.specs.StandsFor.{StandsForSome}
 use Rattle.in_order_issue.proofs.runs.run.Given as goal
 
-abbrev pub invariant-loop-pipeline : goal.invariant-loop-pipeline
-invariant-loop-pipeline l =
+abbrev pub invariant-loop-unit : goal.invariant-loop-unit
+invariant-loop-unit l =
     record {
-      unit : StandsForSome l.pipeline;
-      empty : l.pipeline.younger ≡ None;
-      program : l.pipeline.program.now ≡ l.program;
-      count : l.pipeline.state.count ≤ l.limit;
+      stands : StandsForSome l.unit;
+      program : l.unit.program.now ≡ l.program;
+      count : l.unit.state.count ≤ l.limit;
     }
 
-abbrev pub decreases-loop-pipeline : goal.decreases-loop-pipeline
-decreases-loop-pipeline l = 8 * l.limit - progress l.pipeline
+abbrev pub decreases-loop-unit : goal.decreases-loop-unit
+decreases-loop-unit l = 2 * l.limit - halves l.unit

@@ -1,4 +1,4 @@
-//! Runs of the pipeline that issues in order.
+//! Runs of the unit that issues in order.
 use crate::same::same_in;
 use in_order_issue::run;
 use inorder::{Ended, Machine};
@@ -46,7 +46,7 @@ fn ends_in_order(
 }
 
 #[test]
-fn a_pipeline_ends_in_order(rt: HostRuntime) -> Result<(), Fail> {
+fn one_station_ends_in_order(rt: HostRuntime) -> Result<(), Fail> {
     let program = parse(rt.alloc(), CALLS)?;
     for limit in [0, 1, 4, 8, 20, 1_000] {
         ends_in_order(&rt, rt.alloc(), &program, limit)?;
