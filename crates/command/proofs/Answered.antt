@@ -1,5 +1,5 @@
 -- What is told of a listing, from what is known of its end.
-use Rattle.std.proofs.Common.{◌≡◌, ℕ, true, List, refl, sym, subst, Option, Result, Ok, Err}
+use Rattle.std.proofs.Common.{◌≡◌, ℕ, true, List, refl, sym, subst, Option, None, Result, Ok, Err}
 use Rattle.isa.specs.declared.listing.fault.FaultKind.{FaultKind}
 use Rattle.isa.specs.Listing.{listing}
 use Rattle.instructions.specs.Programs.{Program}
@@ -14,11 +14,11 @@ use Rattle.bench.specs.declared.outcome.Fault.TheVariants.{Write as Unwritten}
 use Rattle.bench.specs.declared.outcome.Status.{Status}
 use Rattle.command_line.specs.declared.request.Asked.{Asked}
 use Rattle.without_threads.specs.declared.went.Line.TheVariants.{Nothing}
-use Rattle.without_threads.specs.Answers.{IsAnswerFor, IsAnswerTo, IsRunEnd, IsLineWith, IsSomeAnswerTo}
-use Rattle.without_threads.specs.Went.{written_whole}
+use Rattle.command.specs.Answers.{IsAnswerFor, IsAnswerTo, IsRunEnd, IsLineWith, IsSomeAnswerTo}
+use Rattle.command.specs.Runs.{written_run}
 
 alone_for : (asked : Asked) → asked.alone ≡ true → (found : Result Program (ℕ × FaultKind))
-    → IsAnswerFor asked found (text_for asked.config.limit found) (written_whole (status_for asked.config.limit found) Nothing)
+    → IsAnswerFor asked found (text_for asked.config.limit found) (written_run (status_for asked.config.limit found) Nothing None)
 alone_for asked is (Ok P) =
     let end = end_of P asked.config.limit in
     record {
@@ -33,7 +33,7 @@ alone_for asked is (Err f) = (refl, refl)
 
 -- the text and the status of the one-thread unit are an answer
 pub alone_answers : (asked : Asked) → asked.alone ≡ true → (status : Status) (bytes text : List ℕ)
-    → IsAnswerAlone asked.config.limit status bytes text → IsAnswerTo asked (written_whole status Nothing) bytes text
+    → IsAnswerAlone asked.config.limit status bytes text → IsAnswerTo asked (written_run status Nothing None) bytes text
 unfolding text_of status_of
 alone_answers asked is status bytes text answer =
     rw (answer.text_is, answer.status_is) (alone_for asked is (listing bytes))
@@ -46,5 +46,5 @@ pub alone_begins : {R W : Type 0} (remaining : R → Option (List ℕ)) (content
 alone_begins remaining contents r r' w w' asked is fault unwritten left =
     let limit = asked.config.limit in
     begun_as remaining contents most_taken r r' w w' (HasAnAnswer limit) (IsSomeAnswerTo asked)
-    (λ bytes text answer. (written_whole answer.0 Nothing, alone_answers asked is answer.0 bytes text answer.1))
+    (λ bytes text answer. (written_run answer.0 Nothing None, alone_answers asked is answer.0 bytes text answer.1))
     (subst (λ (why : Fault). IsUnanswered remaining contents most_taken r r' w w' (HasAnAnswer limit) (unanswered why)) unwritten left)

@@ -6,8 +6,8 @@ use Rattle.counted_io.specs.Replies.{HasRead, HasTextFor}
 use Rattle.counted_io.specs.declared.counted.Counted.{Counted}
 use Rattle.bench.specs.Answer.{most_taken}
 use Rattle.command_line.specs.declared.request.Asked.{Asked}
-use Rattle.without_threads.specs.declared.went.Went.{Went}
-use Rattle.without_threads.specs.Answers.{IsAnswerTo, IsSomeAnswerTo, answer_of_all}
+use Rattle.command.specs.declared.went.Went.{Went}
+use Rattle.command.specs.Answers.{IsAnswerTo, IsSomeAnswerTo, answer_of_all}
 
 -- these bytes are so much of the known ones as is taken
 abbrev pub IsTaken : Option (List ℕ) → List ℕ → Type 0

@@ -1,3 +1,4 @@
+mod Answered
 mod Answering
 mod AsAlone
 mod ThreadAnswers

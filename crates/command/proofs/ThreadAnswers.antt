@@ -1,85 +1,138 @@
 -- What is told of a listing that threads have run, from what is known of the end.
-use Rattle.std.proofs.Common.{◌≡◌, ◌≤◌, ◌∙◌, ℕ, inl, inr, false, List, refl, ap, sym, subst, arith, Option, Some, Result, Ok}
+use Rattle.std.proofs.Common.{◌≡◌, ◌≢◌, ◌≤◌, ◌<◌, ◌∙◌, ◌+◌, ℕ, inl, inr, false, List, refl, ap, sym, subst, arith, Some, Result, Ok}
 use Rattle.std.proofs.lemmas.Bool.{cases_lt}
+use Rattle.counts.specs.declared.tally.Tally.{Tally as Totals}
 use Rattle.instructions.specs.declared.end.End.{End}
 use Rattle.instructions.specs.declared.end.Ending.{Ending}
-use Rattle.instructions.specs.declared.end.Ending.TheVariants.{Limit}
+use Rattle.instructions.specs.declared.end.Ending.TheVariants.{Limit, Stop as ByStop}
+use Rattle.instructions.specs.declared.stop.Stop.{Stop}
+use Rattle.instructions.specs.declared.stop.Stop.TheVariants.{Break, Overflow, Unaligned, OutOfRange, BadPc}
 use Rattle.isa.specs.declared.listing.fault.FaultKind.{FaultKind}
 use Rattle.instructions.specs.Programs.{Program}
 use Rattle.isa.specs.Report.{report_of}
 use Rattle.instructions.specs.Settings.{Settings}
 use Rattle.inorder.specs.Runs.{state_in}
-use Rattle.bench.specs.Answer.{ending_status, most_taken}
+use Rattle.bench.specs.Answer.{ending_status}
 use Rattle.bench.specs.declared.outcome.Status.{Status}
-use Rattle.counted_io.specs.Replies.{HasNoReply}
-use Rattle.counted_io.specs.declared.counted.Counted.{Counted}
-use Rattle.run_ends.specs.declared.answer.Refusal.{Refusal as RunRefusal}
-use Rattle.run_ends.specs.declared.answer.Refusal.TheVariants as refusal
+use Rattle.bench.specs.declared.outcome.Status.TheVariants as status
 use Rattle.run_ends.specs.declared.answer.Run.{Run}
 use Rattle.run_ends.specs.declared.answer.Run.TheVariants as run
-use Rattle.counts.specs.declared.tally.Tally.{Tally as Totals}
-use Rattle.run_ends.specs.Runs.{IsAfter, RunIsRight, IsWithinLimit, TakesTurns}
+use Rattle.run_ends.specs.Runs.{IsAfter, IsStopEnding, IsWithinLimit, RunIsRight}
+use Rattle.pool.specs.Ended.{HasRun}
+use Rattle.pool.specs.Records.{TheRan, configured_term}
+use Rattle.pool.specs.Runs.{IsCarriedOut, IsLimit, LeavesTurns}
+use Rattle.pool.specs.declared.answer.RunInTurns.{RunInTurns}
 use Rattle.command_line.specs.declared.request.Asked.{Asked}
 use Rattle.without_threads.specs.declared.went.Line.TheVariants.{Tally}
-use Rattle.without_threads.specs.declared.went.Went.{Went}
-use Rattle.without_threads.specs.Answers.{AsAlone, Early, IsAnswerFor, IsRunEnd, IsEndOfThreads, IsLineWith, IsReport}
-use Rattle.without_threads.specs.Went.{written_whole}
-use Rattle.without_threads.specs.Replies.{IsUnansweredBy}
-use Rattle.with_threads.specs.Threads.{ended_of, run_refusal}
-use Rattle.with_threads.proofs.WholeRuns.{at_a_stop, at_the_limit}
+use Rattle.without_threads.specs.Went.{status_number}
+use Rattle.command.specs.Answers.{AsAlone, Early, IsAnswerFor, IsRunEnd, IsEndOfThreads, IsLineWith, IsReport}
+use Rattle.command.specs.Runs.{IsCarriedOutWith, IsRunWith, written_run}
+use Rattle.command.specs.Threads.{ended_of}
+use Rattle.command.specs.declared.threads.Ended.{Ended}
+use Rattle.command.specs.declared.went.Went.{Went}
+use Rattle.command.proofs.WholeRuns.{at_a_stop, at_the_limit}
 
--- what is known of the end that a run on threads has
-record IsKnown (config : Settings) (P : Program) (end : End) (totals : Totals) : Type 0 where
-  pub is : IsEndOfThreads config.limit P end.outcome (state_in end)
-  pub turns : end.n ≤ config.turns
-  pub retires : totals.retires ≡ end.n
+-- the exit status of a run by how it ended
+abbrev number_of : Ending → ℕ
+number_of ending = status_number (ending_status ending)
 
--- at the limit it ends as on one thread, and early before it
-limit_known : (config : Settings) (P : Program) (end : End) (totals : Totals) → IsAfter P end totals → end.outcome ≡ Limit
-    → end.n ≤ config.limit → end.n ≤ config.turns → IsKnown config P end totals
-limit_known config P end totals after outcome within turns = record {
-  is = elim (cases_lt end.n config.limit) [
-    | inl below ↦ Early (record { outcome = outcome; reached = after.in_order.state; below = below })
-    | inr above ↦ AsAlone (ap (λ (o : Ending). (o, state_in end)) outcome
-        ∙ at_the_limit P end.n config.limit (state_in end) after.in_order.state (omega (arith, within, above)))
-  ];
-  turns = turns;
-  retires = after.retires;
+-- what is known of a run on threads that came to its end
+record IsKnown (config : Settings) (P : Program) (e : Ended) : Type 0 where
+  pub is : IsEndOfThreads config.limit P e.end.outcome (state_in e.end)
+  pub turns : e.end.n ≤ config.turns
+  pub retires : e.tally.retires ≡ e.end.n
+  pub carried : IsCarriedOutWith config (number_of e.end.outcome) e.tally e.ran
+
+-- the status of a stop is not that of a limit
+code_is_no_limit : (code : Stop) → number_of (ByStop code) ≢ status_number status.Limit
+code_is_no_limit Break is = absurd (omega (arith, is))
+code_is_no_limit Overflow is = absurd (omega (arith, is))
+code_is_no_limit Unaligned is = absurd (omega (arith, is))
+code_is_no_limit OutOfRange is = absurd (omega (arith, is))
+code_is_no_limit BadPc is = absurd (omega (arith, is))
+
+stop_is_no_limit : (ending : Ending) → IsStopEnding ending → number_of ending ≢ status_number status.Limit
+stop_is_no_limit (ByStop code) stopped = code_is_no_limit code
+stop_is_no_limit Limit stopped = absurd stopped
+
+-- at the limit a run ends as on one thread, and early before it
+limit_end : (config : Settings) (P : Program) (end : End) (totals : Totals) → IsAfter P end totals → end.outcome ≡ Limit
+    → end.n ≤ config.limit → IsEndOfThreads config.limit P end.outcome (state_in end)
+limit_end config P end totals after outcome within =
+    elim (cases_lt end.n config.limit) [
+      | inl below ↦ Early (record { outcome = outcome; reached = after.in_order.state; below = below })
+      | inr above ↦ AsAlone (ap (λ (o : Ending). (o, state_in end)) outcome
+          ∙ at_the_limit P end.n config.limit (state_in end) after.in_order.state (omega (arith, within, above)))
+    ]
+
+-- how a run with such an end was carried out, if below the limit its status is that of a limit only without turns
+carried_out : (config : Settings) (end : End) (totals : Totals) (ran : TheRan) → totals.retires ≡ end.n
+    → (ran.turns).all ≡ config.turns → end.n + (ran.turns).left ≤ (ran.turns).all
+    → ran.last ≡ Some (configured_term config end.n totals.renewals)
+    → (number_of end.outcome ≡ status_number status.Limit → totals.retires < config.limit → (ran.turns).left ≡ 0)
+    → IsCarriedOutWith config (number_of end.outcome) totals ran
+carried_out config end totals ran retires all left last spent = record {
+  last = last ∙ ap (λ n. Some (configured_term config n totals.renewals)) (sym retires);
+  all = all;
+  left = omega (arith, retires, all, left);
+  spent = spent;
 }
 
-run_known : (config : Settings) (P : Program) (r : Run) (end : End) (totals : Totals) → RunIsRight P r → IsWithinLimit config.limit r
-    → TakesTurns config.turns r → ended_of r ≡ Some (end, totals) → IsKnown config P end totals
-run_known config P (run.Ended e t) end totals right within turns is =
-    let same : ◌≡◌ {A = End × Totals} (e, t) (end, totals) = cc in
+run_known : (config : Settings) (P : Program) (r : Run) (ran : TheRan) (e : Ended) → RunIsRight P r → IsWithinLimit config.limit r
+    → (ran.turns).all ≡ config.turns → LeavesTurns ran r → IsCarriedOut config ran r → IsLimit config.limit ran r
+    → ended_of r ran ≡ Some e → IsKnown config P e
+run_known config P (run.Ended end totals) ran e right within all left carried limit is =
+    let same : ◌≡◌ {A = Ended} (record { end = end; tally = totals; ran = ran }) e = cc in
     let order = right.0.in_order in
-    subst (λ (p : End × Totals). IsKnown config P p.0 p.1) same (record {
-      is = AsAlone (at_a_stop P e.n config.limit (state_in e) e.outcome order.state right.1 order.stops within);
-      turns = turns;
+    subst (λ (o : Ended). IsKnown config P o) same (record {
+      is = AsAlone (at_a_stop P end.n config.limit (state_in end) end.outcome order.state right.1 order.stops within);
+      turns = omega (arith, all, left);
       retires = right.0.retires;
+      carried = carried_out config end totals ran right.0.retires all left carried
+          (λ is below. absurd (stop_is_no_limit end.outcome right.1 is));
     })
-run_known config P (run.LimitReached e t) end totals right within turns is =
-    let same : ◌≡◌ {A = End × Totals} (e, t) (end, totals) = cc in
-    subst (λ (p : End × Totals). IsKnown config P p.0 p.1) same (limit_known config P e t right.0 right.1 within turns)
-run_known config P (run.Refused why) end totals right within turns is = absurd (grind arith)
+run_known config P (run.LimitReached end totals) ran e right within all left carried limit is =
+    let same : ◌≡◌ {A = Ended} (record { end = end; tally = totals; ran = ran }) e = cc in
+    let retires = right.0.retires in
+    subst (λ (o : Ended). IsKnown config P o) same (record {
+      is = limit_end config P end totals right.0 right.1 within;
+      turns = omega (arith, all, left);
+      retires = retires;
+      carried = carried_out config end totals ran retires all left carried
+          (λ is below. elim limit [
+            | inl whole ↦ absurd (omega (arith, retires, whole, below))
+            | inr none ↦ none
+          ]);
+    })
+run_known config P (run.Refused why) ran e right within all left carried limit is = absurd (grind arith)
+
+known : (config : Settings) (P : Program) (r : RunInTurns) (e : Ended) → HasRun P config r → ended_of r.run r.ran ≡ Some e
+    → IsKnown config P e
+known config P r e has is =
+    run_known config P r.run r.ran e has.right has.within has.all has.left has.carried has.limit_is is
 
 -- the report of that end
-thread_reports : (asked : Asked) (P : Program) (end : End) (totals : Totals) → asked.alone ≡ false
-    → IsKnown asked.config P end totals
-    → IsReport asked P (report_of end) (written_whole (ending_status end.outcome) (Tally totals))
-thread_reports asked P end totals is known = record {
-  ending = end.outcome;
-  state = state_in end;
-  is = subst (λ b. IsRunEnd b asked.config P end.outcome (state_in end)) (sym is) (known.is, known.turns);
+thread_reports : (asked : Asked) (P : Program) (e : Ended) → asked.alone ≡ false → IsKnown asked.config P e
+    → IsReport asked P (report_of e.end) (written_run (ending_status e.end.outcome) (Tally e.tally) (Some e.ran))
+thread_reports asked P e is known = record {
+  ending = e.end.outcome;
+  state = state_in e.end;
+  is = subst (λ b. IsRunEnd b asked.config P e.end.outcome (state_in e.end)) (sym is) (known.is, known.turns);
   report = refl;
   status = refl;
-  line = subst (λ b. IsLineWith b end.n (Tally totals)) (sym is) known.retires;
+  line = subst (λ b. IsLineWith b e.end.n (Tally e.tally)) (sym is) known.retires;
 }
 
 -- the text and what is told where the threads have run the program of a listing
-pub thread_answers : (asked : Asked) (found : Result Program (ℕ × FaultKind)) (P : Program) (r : Run) (end : End) (totals : Totals)
-    (status : Status) (text : List ℕ) (went : Went) → asked.alone ≡ false → found ≡ Ok P → RunIsRight P r
-    → IsWithinLimit asked.config.limit r → TakesTurns asked.config.turns r → ended_of r ≡ Some (end, totals)
-    → status ≡ ending_status end.outcome → text ≡ report_of end
-    → went ≡ written_whole status (Tally totals) → IsAnswerFor asked found text went
-thread_answers asked found P r end totals status text went is parsed right within turns ended same reported told =
-    rw (parsed, reported, told, same) (thread_reports asked P end totals is (run_known asked.config P r end totals right within turns ended))
+pub thread_answers : (asked : Asked) (found : Result Program (ℕ × FaultKind)) (P : Program) (r : RunInTurns) (e : Ended)
+    (status : Status) (text : List ℕ) (went : Went) → asked.alone ≡ false → found ≡ Ok P → HasRun P asked.config r
+    → ended_of r.run r.ran ≡ Some e → status ≡ ending_status e.end.outcome → text ≡ report_of e.end
+    → went ≡ written_run status (Tally e.tally) (Some e.ran) → IsAnswerFor asked found text went
+thread_answers asked found P r e status text went is parsed has ended same reported told =
+    rw (parsed, reported, told, same) (thread_reports asked P e is (known asked.config P r e has ended))
+
+-- and how the threads tell that they carried it out
+pub thread_runs : (config : Settings) (P : Program) (r : RunInTurns) (e : Ended) (status : Status) (went : Went)
+    → HasRun P config r → ended_of r.run r.ran ≡ Some e → status ≡ ending_status e.end.outcome
+    → went ≡ written_run status (Tally e.tally) (Some e.ran) → IsRunWith config went.status went.line went.ran
+thread_runs config P r e status went has ended same told = rw (told, same) ((known config P r e has ended).carried)

@@ -1,5 +1,5 @@
 -- What is told of a listing.
-use Rattle.std.specs.Prelude.{◌≡◌, ◌≤◌, ◌<◌, ℕ, Bool, true, false, Result, Ok, Err, List, Some, take}
+use Rattle.std.specs.Prelude.{◌≡◌, ◌≤◌, ◌<◌, ℕ, Bool, true, false, Result, Ok, Err, List, None, Some, take}
 use Rattle.std.proofs.Common.{subst}
 use Rattle.instructions.specs.declared.end.Ending.{Ending}
 use Rattle.instructions.specs.declared.end.Ending.TheVariants.{Limit}
@@ -16,8 +16,9 @@ use Rattle.bench.specs.declared.outcome.Status.TheVariants.{TextFault}
 use Rattle.command_line.specs.declared.request.Asked.{Asked}
 use Rattle.without_threads.specs.declared.went.Line.{Line}
 use Rattle.without_threads.specs.declared.went.Line.TheVariants.{Nothing, Tally, Refused}
-use Rattle.without_threads.specs.declared.went.Went.{Went}
-use Rattle.without_threads.specs.Went.{status_number, written_whole}
+use Rattle.without_threads.specs.Went.{status_number}
+use Rattle.command.specs.declared.went.Went.{Went}
+use Rattle.command.specs.Runs.{written_run}
 
 -- a run on several threads that had no turn left: it says limit behind some steps of the machine in order, and
 -- might have made more
@@ -57,13 +58,13 @@ pub record IsReport (asked : Asked) (P : Program) (text : List ℕ) (went : Went
 -- what is told of the program of a listing, or of its fault
 abbrev pub IsAnswerFor : Asked → Result Program (ℕ × FaultKind) → List ℕ → Went → Type 0
 IsAnswerFor asked (Ok P) text went = IsReport asked P text went
-IsAnswerFor asked (Err f) text went = (text ≡ fault_line f.0 f.1) × (went ≡ written_whole TextFault Nothing)
+IsAnswerFor asked (Err f) text went = (text ≡ fault_line f.0 f.1) × (went ≡ written_run TextFault Nothing None)
 
 -- the text goes with what is told of the bytes of a listing
 abbrev pub IsAnswerTo : Asked → Went → (bytes text : List ℕ) → Type 0
 IsAnswerTo asked went bytes text = IsAnswerFor asked (listing bytes) text went
 
--- the same, whatever is told
+-- the text goes with something that may be told of the bytes of a listing
 abbrev pub IsSomeAnswerTo : Asked → (bytes text : List ℕ) → Type 0
 IsSomeAnswerTo asked bytes text = (went : Went) × IsAnswerTo asked went bytes text
 

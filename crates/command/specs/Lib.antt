@@ -1,2 +1,5 @@
 pub use Rattle.without_threads.specs.Went
-pub use Rattle.without_threads.specs.Answers
+pub mod Answers
+pub mod Runs
+pub mod Threads
+pub mod Unanswered

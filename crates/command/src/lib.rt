@@ -2,7 +2,11 @@
 #![tactic(auto)]
 
 mod running;
+mod single_thread;
+mod threads;
+mod went;
 
 pub use command_line::{Asked, BranchPredictor, NoRun, asked, is_standard_input, status};
 pub use running::go;
-pub use without_threads::{Line, Progress, Refusal, Went, end};
+pub use went::{Went, end};
+pub use without_threads::{Line, Progress, Refusal};

@@ -1,20 +1,22 @@
 //! The run that a command line asks for.
-ghost use Rattle.std.specs.Prelude.{◌≡◌, ◌-◌, ◌^◌, ◌<◌, IfSome, None, true};
+ghost use Rattle.std.specs.Prelude.{◌≡◌, ◌-◌, ◌^◌, ◌<◌, IfSome, IfOk, IfErr, None, true};
 ghost use Rattle.counted_io.specs.Counted.{failures_of, Gives};
-ghost use Rattle.without_threads.specs.Answers.{IsAnswerTo, IsAsAlone, IsSomeAnswerTo};
+ghost use Rattle.counted_io.specs.Replies.{HasReplied};
+ghost use Rattle.bench.specs.Answer.{most_taken};
+ghost use Rattle.command.specs.Answers.{IsAnswerTo, IsAsAlone, IsSomeAnswerTo};
+ghost use Rattle.command.specs.Runs.{IsRunWith, IsWhole, WasWritten, refused_run, went_of};
+ghost use Rattle.command.specs.Unanswered.{IsUnansweredBy};
 ghost use Rattle.without_threads.specs.Replies.{HasWritten, IfRefused, IsLeftBy};
-ghost use Rattle.without_threads.specs.Went.{HoldsOfInput, IsOfOneThread, IsWhole, WasWritten, refused};
+ghost use Rattle.without_threads.specs.Went.{HoldsOfInput, IsOfOneThread};
 
-use crate::{Asked, Refusal, Went};
-use command_line::Chosen;
+use crate::went::refused;
+use crate::{Asked, Refusal, Went, single_thread, threads};
 use counted_io::Counted;
-use instructions::Program;
-use pool::{Gate, run};
+use pool::Gate;
 use std::alloc::Global;
 use std::io::{Read, Write};
 use std::sync::Wait;
 use std::thread::Threads;
-use with_threads::go_by;
 
 /// Reads the listing, runs it and writes its report, or the line of the fault in its text. There is
 /// no reader where the file did not open. A failed read or write is not tried again. The gate
@@ -30,7 +32,7 @@ pub fn go<T: Threads + Wait + Sync, R: Read + Drop, W: Write, G: Gate + Sync>(
     requires reader_room { IfSome reader (λ r. failures_of r < 2 ^ 64 - 1) }
     requires writer_room { failures_of writer.old < 2 ^ 64 - 1 }
     // Without a reader nothing is run.
-    ensures open { reader ≡ None → result ≡ refused Refusal.Open }
+    ensures open { reader ≡ None → result ≡ refused_run Refusal.Open }
     // What was written whole answers the reader's bytes, and the status and the line go with it.
     ensures answer { WasWritten result.line → HasWritten R.remaining W.contents reader
         writer.old writer.new (IsAnswerTo asked.now result) }
@@ -39,14 +41,45 @@ pub fn go<T: Threads + Wait + Sync, R: Read + Drop, W: Write, G: Gate + Sync>(
         HoldsOfInput R.remaining reader (λ input. IsAsAlone asked.now.config.limit input result
         (Gives W.contents writer.old writer.new)) }
     ensures alone { asked.now.alone ≡ true → IsOfOneThread result.line }
+    // Threads ran with the ring, queue, first tag, units, places and turns that are asked for, and tell so.
+    ensures ran { IsRunWith asked.now.config result.status result.line result.ran }
     // A run that is refused has a status of its own.
-    ensures refused { IfRefused result.line (λ refusal. result ≡ refused refusal) }
+    ensures refused { IfRefused result.line (λ refusal. result ≡ refused_run refusal) }
     // The writer is blamed for one failed call, and only then, and there is no log to blame.
     ensures left { IfRefused result.line (IsLeftBy R.remaining W.contents reader
         writer.old writer.new (IsSomeAnswerTo asked.now)) }
 {
-    let by_threads = |program: &Program, predictor: Chosen| {
-        run(wait, alloc, program, &asked.config, predictor, gate)
+    let Some(mut reader) = reader else {
+        return refused(Refusal::Open);
     };
-    go_by(&by_threads, alloc, asked, reader, writer)
+    match ended(wait, alloc, asked, &mut reader, writer, gate) {
+        Ok(went) => went,
+        Err(refusal) => refused(refusal),
+    }
+}
+
+// Runs a listing on one thread or on several, as is asked for.
+fn ended<T: Threads + Wait + Sync, R: Read, W: Write, G: Gate + Sync>(
+    wait: &T,
+    alloc: Global,
+    asked: &Asked<'_>,
+    reader: &mut Counted<R>,
+    writer: &mut Counted<W>,
+    gate: &G,
+) -> Result<Went, Refusal>
+    requires reader_room { failures_of reader.old < 2 ^ 64 - 1 }
+    requires writer_room { failures_of writer.old < 2 ^ 64 - 1 }
+    ensures ok { IfOk result (λ went. HasReplied R.remaining W.contents most_taken
+        reader.old reader.new writer.old writer.new (IsAnswerTo asked.now went)) }
+    ensures line { IfOk result (λ went. WasWritten went.line) }
+    ensures alone { asked.now.alone ≡ true → IsOfOneThread (went_of result).line }
+    ensures ran { IfOk result (λ went. IsRunWith asked.now.config went.status went.line went.ran) }
+    ensures err { IfErr result (IsUnansweredBy R.remaining W.contents
+        reader.old reader.new writer.old writer.new (IsSomeAnswerTo asked.now)) }
+{
+    if asked.alone {
+        single_thread::run(alloc, asked, reader, writer)
+    } else {
+        threads::run(wait, alloc, asked, reader, writer, gate)
+    }
 }

@@ -6,14 +6,16 @@ ghost use Rattle.bench.specs.Answer.{IsAnswerAlone, most_taken};
 ghost use Rattle.bench.specs.Faults.{HasAnAnswer, unanswered};
 ghost use Rattle.command_line.specs.Predictors.{IsChosen};
 ghost use Rattle.one_thread.specs.Seeds.{order_by};
-ghost use Rattle.without_threads.specs.Answers.{IsAnswerTo, IsSomeAnswerTo};
-ghost use Rattle.without_threads.specs.Replies.{IsUnansweredBy};
+ghost use Rattle.command.specs.Answers.{IsAnswerTo, IsSomeAnswerTo};
+ghost use Rattle.command.specs.Runs.{IsRunWith};
+ghost use Rattle.command.specs.Unanswered.{IsUnansweredBy};
 ghost use Rattle.without_threads.specs.Went.{IsOfOneThread};
 ghost use Rattle.without_threads.specs.declared.went.Line.TheVariants.{Nothing, Refused};
 
-use crate::{Line, Refusal, Went, written};
+use crate::went::written;
+use crate::{Asked, Line, Refusal, Went};
 use bench::{Fault, Status, alone_in};
-use command_line::{Asked, Chosen, choose};
+use command_line::{Chosen, choose};
 use counted_io::Counted;
 use one_thread::{Order, Seeded};
 use std::alloc::Global;
@@ -21,7 +23,7 @@ use std::io::{Read, Write};
 
 /// Reads the listing, runs it on the one-thread unit, in the order of the seed where one is asked for, and writes its
 /// report.
-pub fn run<R: Read, W: Write>(
+pub(crate) fn run<R: Read, W: Write>(
     alloc: Global,
     asked: &Asked<'_>,
     reader: &mut Counted<R>,
@@ -33,6 +35,7 @@ pub fn run<R: Read, W: Write>(
     ensures ok { IfOk result (λ went. HasReplied R.remaining W.contents most_taken
         reader.old reader.new writer.old writer.new (IsAnswerTo asked.now went)) }
     ensures line { IfOk result (λ went. went.line ≡ Nothing) }
+    ensures ran { IfOk result (λ went. IsRunWith asked.now.config went.status went.line went.ran) }
     ensures err { IfErr result (IsUnansweredBy R.remaining W.contents
         reader.old reader.new writer.old writer.new (IsSomeAnswerTo asked.now)) }
     ensures thread { IfErr result (λ refusal. IsOfOneThread (Refused refusal)) }
@@ -40,14 +43,14 @@ pub fn run<R: Read, W: Write>(
     let predictor = choose(asked.predictor);
     let order = Order::by_seed(asked.seed);
     match ordered(alloc, asked, predictor, order, reader, writer) {
-        Ok(status) => Ok(written(status, Line::Nothing)),
+        Ok(status) => Ok(written(status, Line::Nothing, None)),
         Err(Fault::Read) => Err(Refusal::Read),
         Err(Fault::Memory) => Err(Refusal::Memory),
         Err(Fault::Write) => Err(Refusal::Write),
     }
 }
 
-// With the predictor and in the order that are asked for.
+// Runs a listing with the predictor and in the order that are asked for.
 fn ordered<R: Read, W: Write>(
     alloc: Global,
     asked: &Asked<'_>,

@@ -1,9 +1,8 @@
 -- How a reader and a writer are left where a listing was answered, or an answer was refused.
 use Rattle.std.specs.Prelude.{◌≡◌, ◌+◌, ⊤, ℕ, None, Option, List}
 use Rattle.counted_io.specs.Counted.{failures_of, Gives, GivesPart}
-use Rattle.counted_io.specs.Replies.{HasNoReply, HasReplyBegun, HasText}
+use Rattle.counted_io.specs.Replies.{HasText}
 use Rattle.counted_io.specs.declared.counted.Counted.{Counted}
-use Rattle.bench.specs.Answer.{most_taken}
 use Rattle.without_threads.specs.Went.{HoldsOfInput}
 use Rattle.without_threads.specs.declared.went.Line.{Line}
 use Rattle.without_threads.specs.declared.went.Line.TheVariants.{Nothing, Tally, Refused}
@@ -15,17 +14,6 @@ abbrev pub IfRefused : Line → (Refusal → Type 0) → Type 0
 IfRefused Nothing P = ⊤
 IfRefused (Tally totals) P = ⊤
 IfRefused (Refused refusal) P = P refusal
-
--- a device was blamed for one failed call, and only then; there was a reader, and nobody asked for a log
-abbrev pub IsUnansweredBy : {R W : Type 0} → (R → Option (List ℕ)) → (W → Option (List ℕ))
-    → (reader reader_new : Counted R) → (writer writer_new : Counted W)
-    → (IsText : (input text : List ℕ) → Type 0) → Refusal → Type 0
-IsUnansweredBy remaining contents r r' w w' IsText Open = ⊥
-IsUnansweredBy remaining contents r r' w w' IsText Read = HasNoReply 1 remaining most_taken r r' w w'
-IsUnansweredBy remaining contents r r' w w' IsText Memory = HasNoReply 0 remaining most_taken r r' w w'
-IsUnansweredBy remaining contents r r' w w' IsText Thread = HasNoReply 0 remaining most_taken r r' w w'
-IsUnansweredBy remaining contents r r' w w' IsText Write = HasReplyBegun remaining contents most_taken r r' w w' IsText
-IsUnansweredBy remaining contents r r' w w' IsText Trace = ⊥
 
 -- a text for the reader's bytes was written whole, and no call of the writer failed
 pub record HasWritten {R W : Type 0} (remaining : R → Option (List ℕ)) (contents : W → Option (List ℕ))

@@ -1,5 +1,5 @@
 -- How a run went.
-use Rattle.std.specs.Prelude.{◌≡◌, ◌≢◌, ℕ, ⊤, Result, Ok, Err, List, [], ◌++◌, codes, decimal, Option, IfSome}
+use Rattle.std.specs.Prelude.{ℕ, ⊤, List, [], ◌++◌, codes, decimal, Option, IfSome}
 use Rattle.counted_io.specs.Counted.{known_by}
 use Rattle.counted_io.specs.declared.counted.Counted.{Counted}
 use Rattle.counted_io.specs.declared.input.InputFault.{InputFault}
@@ -32,24 +32,6 @@ refused refusal = record { status = 5; line = Refused refusal }
 abbrev pub input_refusal : InputFault → Refusal
 input_refusal input.Read = Read
 input_refusal input.Memory = Memory
-
--- a run, or its refusal
-abbrev pub went_of : Result Went Refusal → Went
-went_of (Ok went) = went
-went_of (Err refusal) = refused refusal
-
--- the whole text was written
-abbrev pub WasWritten : Line → Type 0
-WasWritten Nothing = ⊤
-WasWritten (Tally totals) = ⊤
-WasWritten (Refused refusal) = ⊥
-
--- it came to its end: without threads, at a stop or a fault of the text, or with as many instructions as the limit
--- allows
-pub data IsWhole (limit : ℕ) (went : Went) : Type 0 where
-  WithoutThreads : went.line ≡ Nothing → IsWhole limit went
-  AtAStop : went.status ≢ status_number end.Limit → IsWhole limit went
-  AtTheLimit : (totals : Totals) → went.line ≡ Tally totals → totals.retires ≡ limit → IsWhole limit went
 
 -- it may be told of a run without threads: none was refused, and none has counted
 abbrev pub IsOfOneThread : Line → Type 0

@@ -1,6 +1,6 @@
 use Rattle.counted_io.specs.Counted.{Gives}
-use Rattle.with_threads.proofs.AsAlone.{reader_as_alone}
-use Rattle.with_threads.proofs.running.go_by.Goals as goal
+use Rattle.command.proofs.AsAlone.{reader_as_alone}
+use Rattle.command.proofs.running.go.Goals as goal
 
 pub returns-in-Ok-clause-same : goal.returns-in-Ok-clause-same
 returns-in-Ok-clause-same g c = λ written whole.

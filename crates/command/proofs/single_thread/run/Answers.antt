@@ -1,16 +1,17 @@
 use Rattle.bench.specs.Answer.{IsAnswerAlone, most_taken}
 use Rattle.counted_io.proofs.Replied.{replied_as}
-use Rattle.without_threads.specs.Answers.{IsAnswerTo}
-use Rattle.without_threads.specs.Went.{written_whole}
+use Rattle.command.specs.Answers.{IsAnswerTo}
+use Rattle.command.specs.Runs.{written_run}
+use Rattle.std.specs.Prelude.{None}
 use Rattle.without_threads.specs.declared.went.Line.TheVariants.{Nothing}
-use Rattle.without_threads.proofs.Answered.{alone_answers, alone_begins}
-use Rattle.without_threads.proofs.single_thread.run.Goals as goal
+use Rattle.command.proofs.Answered.{alone_answers, alone_begins}
+use Rattle.command.proofs.single_thread.run.Goals as goal
 
 pub returns-in-Ok-clause-ok : goal.returns-in-Ok-clause-ok
 returns-in-Ok-clause-ok g c =
     let asked = c.args.asked.now in
     rw c.written.ensures (replied_as g.R.Read.remaining g.W.Write.contents most_taken _ _ _ _
-    (IsAnswerAlone asked.config.limit c.in-Ok.status) (IsAnswerTo asked (written_whole c.in-Ok.status Nothing))
+    (IsAnswerAlone asked.config.limit c.in-Ok.status) (IsAnswerTo asked (written_run c.in-Ok.status Nothing None))
     (alone_answers asked c.requires.alone c.in-Ok.status) c.in-Ok.ensures.ok)
 
 pub returns-in-Err-Write-clause-err : goal.returns-in-Err-Write-clause-err

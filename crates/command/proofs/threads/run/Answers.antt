@@ -1,7 +1,7 @@
 use Rattle.std.proofs.Common.{◌∙◌}
 use Rattle.counted_io.specs.Counted.{known_by, Gives, GivesPart}
-use Rattle.with_threads.proofs.Answering.{answers_all, answers_all_somehow, has_read}
-use Rattle.with_threads.proofs.threads.run.Goals as goal
+use Rattle.command.proofs.Answering.{answers_all, answers_all_somehow, has_read}
+use Rattle.command.proofs.threads.run.Goals as goal
 
 pub returns-in-Ok-write_whole-clause-ok : goal.returns-in-Ok-write_whole-clause-ok
 returns-in-Ok-write_whole-clause-ok g c =

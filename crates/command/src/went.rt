@@ -1,0 +1,54 @@
+//! How a run that a command line asks for went.
+ghost use Rattle.std.specs.Prelude.{◌≡◌};
+ghost use Rattle.std.specs.Process.{exit_status};
+ghost use Rattle.command.specs.Runs.{refused_run, written_run};
+
+use crate::{Line, Refusal};
+use bench::Status;
+use pool::Ran;
+use std::process::ExitCode;
+
+/// How a run went: the exit status of the program, what standard error is told, and what the threads of a run tell of
+/// how they carried it out, once its report was written. A run alone has none, and a listing with a fault.
+#[derive(Drop)]
+pub struct Went {
+    pub status: u8,
+    pub line: Line,
+    pub ran: Option<Ran>,
+}
+
+/// A run whose text was written whole.
+pub(crate) fn written(status: Status, line: Line, ran: Option<Ran>) -> Went
+    ensures { result ≡ written_run status line ran }
+{
+    let exit = without_threads::written(status, line);
+    Went {
+        status: exit.status,
+        line: exit.line,
+        ran,
+    }
+}
+
+/// A run that was refused.
+pub(crate) fn refused(refusal: Refusal) -> Went
+    ensures { result ≡ refused_run refusal }
+{
+    let exit = without_threads::refused(refusal);
+    Went {
+        status: exit.status,
+        line: exit.line,
+        ran: None,
+    }
+}
+
+/// Prints the line of a run on standard error, if it has one, and gives its status. A failure to
+/// print changes no status.
+pub fn end(rt: &HostRuntime, went: Went) -> ExitCode
+    ensures { exit_status result ≡ went.status }
+{
+    let exit = without_threads::Went {
+        status: went.status,
+        line: went.line,
+    };
+    without_threads::end(rt, exit)
+}
