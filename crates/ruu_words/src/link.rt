@@ -26,6 +26,7 @@ impl LinkWord {
         ensures none { IsNone result ↔ (word ≡ 0) }
         ensures producer { IfSome result (λ l. l.producer ≡ producer_of word) }
         ensures consumer { IfSome result (λ l. l.consumer ≡ consumer_of word) }
+        ensures small { IfSome result (λ l. l.consumer < tag_count) }
     {
         if word == 0 {
             return None;

@@ -1,7 +1,8 @@
 //! Operand words.
-ghost use Rattle.std.specs.Prelude.{◌≡◌, ◌<◌};
+ghost use Rattle.std.specs.Prelude.{◌≡◌, ◌<◌, ◌↔◌};
 ghost use Rattle.ruu_words.specs.Fields.{tag_count, pack, tag_of, state_of, word_value};
 ghost use Rattle.ruu_words.specs.States.{IsOperandCode, operand_state_code};
+ghost use Rattle.ruu_words.specs.declared.operand.OperandState.TheVariants.{Val};
 
 /// Whether a source has its value.
 #[derive(Clone, Copy, Debug, PartialEq, Eq)]
@@ -34,18 +35,20 @@ impl OperandWord {
         (tag << 36) + (state << 32) + u64::from(self.value)
     }
 
-    /// The fields of a word.
+    /// The fields of a word. A state's number that no state has reads as `Wait`.
     pub fn unpack(word: u64) -> OperandWord
-        requires state { IsOperandCode (state_of word) }
         ensures tag { result.tag ≡ tag_of word }
-        ensures state { operand_state_code result.state ≡ state_of word }
+        ensures state { IsOperandCode (state_of word) →
+            operand_state_code result.state ≡ state_of word }
+        ensures val { (result.state ≡ Val) ↔ (state_of word ≡ 2) }
+        ensures small { result.tag < tag_count }
         ensures value { result.value ≡ word_value word }
     {
         let code = (word >> 32) & 15;
-        let state = if code == 1 {
-            OperandState::Wait
-        } else {
+        let state = if code == 2 {
             OperandState::Val
+        } else {
+            OperandState::Wait
         };
         OperandWord {
             tag: (word >> 36) as u32,

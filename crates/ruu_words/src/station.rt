@@ -3,6 +3,7 @@ ghost use Rattle.std.specs.Prelude.{◌≡◌, ◌<◌, ◌≤◌, ◌+◌, ◌^
 ghost use Rattle.inorder.specs.Replies.{last_tag};
 ghost use Rattle.ruu_words.specs.Fields.{tag_count, pack, tag_of, state_of, word_value};
 ghost use Rattle.ruu_words.specs.States.{state_count, state_code};
+ghost use Rattle.ruu_words.specs.declared.station.StationState.TheVariants.{Stop};
 
 /// How far the last tenant of a station has come.
 #[derive(Clone, Copy, Debug, PartialEq, Eq)]
@@ -36,10 +37,10 @@ impl StationState {
         }
     }
 
-    /// The state with this number.
+    /// The state with this number. A number that no state has reads as `Stop`.
     pub fn of(code: u64) -> StationState
-        requires small { code < state_count }
-        ensures { state_code result ≡ code }
+        ensures state { code < state_count → state_code result ≡ code }
+        ensures other { state_count ≤ code → result ≡ Stop }
     {
         match code {
             0 => StationState::Free,
@@ -75,11 +76,12 @@ impl StationWord {
         (tag << 36) + (state << 32) + u64::from(self.value)
     }
 
-    /// The fields of a word.
+    /// The fields of a word. A state's number that no state has reads as `Stop`.
     pub fn unpack(word: u64) -> StationWord
-        requires state { state_of word < state_count }
         ensures tag { result.tag ≡ tag_of word }
-        ensures state { state_code result.state ≡ state_of word }
+        ensures state { state_of word < state_count → state_code result.state ≡ state_of word }
+        ensures other { state_count ≤ state_of word → result.state ≡ Stop }
+        ensures small { result.tag < tag_count }
         ensures value { result.value ≡ word_value word }
     {
         let state = StationState::of((word >> 32) & 15);

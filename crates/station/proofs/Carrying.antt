@@ -120,6 +120,15 @@ module _ (P : Program) (C : Sizes) where
   made_of h legal q s g v m i =
       subst (λ z. HasMade (unit_of P C h) z v) (one_named P C h legal m.p q s g (named_of m.named) i) (record { tenant = m.named.tenant; is = m.named.is; made = m.named.fact })
 
+  -- A word 0 names no tenant
+  pub tag_above_zero : (h : List Entry) → IsLegal P C h → 1 ≤ C.first_tag → (s g v : ℕ) → HasValueOf P C h s g v → 1 ≤ g
+  tag_above_zero h legal first s g v m =
+      let t = m.named in
+      let its = recent_at (unit_of P C h) m.p t.tenant t.is t.new in
+      let least = from_first C (recent (unit_of P C h)) (tagged P C (taken_of h) (allowed_steps P C h legal)) its.r t.tenant its.is in
+      let tag = t.tag_is in
+      omega arith
+
   -- One link
 
   module _ (by p g c n val : ℕ) (k : Source) (v0 v1 : View) (g1 : Grows P C by v0 v1 (ReadsLink P C p c k n)) where

@@ -18,26 +18,22 @@ use Rattle.ruu_words.specs.declared.rule.Draft.TheVariants.{Nothing, Of}
 use Rattle.ruu_words.specs.declared.rule.Stage.TheVariants.{BothOperands}
 use Rattle.ruu_words.specs.declared.link.LinkWord.{LinkWord}
 use Rattle.ruu_words.specs.declared.place.Place.TheVariants.{Info, Link, Operand}
-use Rattle.ruu_words.specs.Content.{IsDraft, IsInfo, IsOperand, NamesLink, info_unit, operand_code, operand_unit}
-use Rattle.ruu_words.specs.Fields.{consumer_of, half_of, index_of, predicted_of, producer_of, state_of, tag_of, word_value}
+use Rattle.ruu_words.specs.Content.{IsDraft, IsInfo, IsOperand, NamesLink, info_unit, operand_unit}
+use Rattle.ruu_words.specs.Fields.{consumer_of, half_of, index_of, predicted_of, producer_of, tag_of, word_value}
 use Rattle.ruu_words.proofs.Walking.{consumer_is, producer_is}
 use Rattle.ruu_words.proofs.Reading.{operand_last}
 use Rattle.station.specs.declared.answers.Seen.{Seen}
 use Rattle.station.specs.declared.answers.SourceState.{SourceState}
 use Rattle.station.proofs.Carrying.{from_first}
-use Rattle.station.specs.Looking.{IsLinkOf, SeesInfo, SeesLink, SeesOperand, SeesWord, ShowsInfo, ShowsOperand, source_state, source_state_of}
+use Rattle.station.specs.Looking.{IsLinkOf, SeesInfo, SeesLink, SeesOperand, SeesWord, ShowsInfo, ShowsOperand, IsSourceState}
 
 shows_info : (o : Option Tenant) (n : ℕ) → IsInfo o n → ShowsInfo o (index_of n) (half_of n) (predicted_of n)
 shows_info None n e = (omega arith, ap half_of e, omega arith)
 shows_info (Some t) n i = (i.index, i.half, i.predicted)
 
-by_code : (v : Option ℕ) → source_state_of (operand_code v) ≡ source_state v
-by_code None = refl
-by_code (Some v) = refl
-
-shows_operand : (o : Option OperandWord) (n : ℕ) → IsOperand o n → ShowsOperand o (tag_of n) (source_state_of (state_of n)) (word_value n)
-shows_operand None n e = (ap tag_of e, ap (λ z. source_state_of (state_of z)) e, ap word_value e)
-shows_operand (Some o) n i = (i.tag, ap source_state_of i.state ∙ by_code o.value, i.value)
+shows_operand : (o : Option OperandWord) (n : ℕ) (state : SourceState) → IsSourceState n state → IsOperand o n → ShowsOperand o (tag_of n) state (word_value n)
+shows_operand None n state has e = (ap tag_of e, has None e, ap word_value e)
+shows_operand (Some o) n state has i = (i.tag, has (Some o) i, i.value)
 
 module _ (P : Program) (C : Sizes) (h : List Entry) (legal : IsLegal P C h) where
   -- a live tenant is the last of its station, also beside a let in progress
@@ -56,12 +52,12 @@ module _ (P : Program) (C : Sizes) (h : List Entry) (legal : IsLegal P C h) wher
         (shows_info (last_of (recent (info_unit P C (unit_of P C h) w.draft)) s) n w.content);
   }
 
-  pub sees_operand : (s : ℕ) (k : Source) (n : ℕ) (seen : Seen SourceState) → seen.tag ≡ tag_of n → seen.state ≡ source_state_of (state_of n) → seen.value ≡ word_value n →
+  pub sees_operand : (s : ℕ) (k : Source) (n : ℕ) (seen : Seen SourceState) → seen.tag ≡ tag_of n → IsSourceState n seen.state → seen.value ≡ word_value n →
       SeesWord P C h (Operand s k) n → SeesOperand P C h s k seen
   sees_operand s k n seen tag state value w =
       let all : ShowsOperand (operand_word (recent (operand_unit P C (unit_of P C h) w.draft k)) s k) seen.tag seen.state seen.value = subst
-      (λ (z : ℕ × (SourceState × ℕ)). ShowsOperand (operand_word (recent (operand_unit P C (unit_of P C h) w.draft k)) s k) z.0 z.1.0 z.1.1) (λ i. (sym tag i, (sym state i, sym value i)))
-      (shows_operand (operand_word (recent (operand_unit P C (unit_of P C h) w.draft k)) s k) n w.content) in
+      (λ (z : ℕ × (SourceState × ℕ)). ShowsOperand (operand_word (recent (operand_unit P C (unit_of P C h) w.draft k)) s k) z.0 z.1.0 z.1.1) (λ i. (sym tag i, (seen.state, sym value i)))
+      (shows_operand (operand_word (recent (operand_unit P C (unit_of P C h) w.draft k)) s k) n seen.state state w.content) in
       record {
         draft = w.draft;
         proper = w.proper;

@@ -1,5 +1,5 @@
 -- What the reading calls answer.
-use Rattle.std.specs.Prelude.{◌≡◌, ℕ, List, Option, Some, None, IfSome, ◌==◌, if◌then◌else◌}
+use Rattle.std.specs.Prelude.{◌≡◌, ℕ, List, Option, Some, None, IfSome}
 use Rattle.instructions.specs.Programs.{Program}
 use Rattle.instructions.specs.declared.op.Half.{Half}
 use Rattle.instructions.specs.declared.op.Half.TheVariants.{Low}
@@ -14,7 +14,7 @@ use Rattle.ruu_words.specs.declared.link.LinkWord.{LinkWord}
 use Rattle.ruu_words.specs.declared.place.Place.{Place}
 use Rattle.ruu_words.specs.declared.rule.Draft.{Draft}
 use Rattle.ruu_words.specs.declared.station.StationState.{StationState}
-use Rattle.ruu_words.specs.Content.{Content, HasValue, IsDraft, IsLinked, code, info_unit, operand_unit, value_field}
+use Rattle.ruu_words.specs.Content.{Content, HasValue, IsDraft, IsLinked, IsOperand, code, info_unit, operand_unit, value_field}
 use Rattle.ruu_words.specs.Kinds.{HasLink, IsNamed, IsTenant}
 use Rattle.ruu_words.specs.States.{state_code}
 use Rattle.station.specs.declared.answers.Seen.{Seen}
@@ -55,14 +55,19 @@ pub record SeesInfo (P : Program) (C : Sizes) (h : List Entry) (s index : ℕ) (
       t.standing ≡ Live →
       (index ≡ t.index) × (half ≡ t.half) × (predicted ≡ t.predicted)
 
--- The state of a source, by the number in its operand word
-abbrev pub source_state_of : ℕ → SourceState
-source_state_of n = if n == 0 then Unset else if n == 1 then Wait else Val
-
 -- The state of a source by its value: the source waits while it has none
 abbrev pub source_state : Option ℕ → SourceState
 source_state None = Wait
 source_state (Some v) = Val
+
+-- The state of a source by its operand word, which a station that has had no tenant lacks
+abbrev pub source_state_of : Option OperandWord → SourceState
+source_state_of None = Unset
+source_state_of (Some o) = source_state o.value
+
+-- The operand word n has this state, whichever operand it is that of
+abbrev pub IsSourceState : ℕ → SourceState → Type 0
+IsSourceState n state = (o : Option OperandWord) → IsOperand o n → state ≡ source_state_of o
 
 -- The fields of an operand word
 abbrev pub ShowsOperand : Option OperandWord → ℕ → SourceState → ℕ → Type 0

@@ -42,8 +42,8 @@ impl Telling for Brand {
     ghost kind = { λ n P C h d events. events ≡ [] };
 }
 
-// What a step tells is picked where it is made, by the arguments of the call alone: so each of these
-// names the place, and what else it is about, which no code reads.
+// The contract of a step is picked where the step is made, from the arguments alone. So each of these
+// functions takes its place and, in `about`, all else that the contract names, which no code reads.
 impl<'a, P: Part> Call<'a, P> {
     pub(crate) fn of(core: &'a Core, seat: &'a mut Seat<u8, View>) -> Call<'a, P>
         requires { IsCall core.now P.role seat.old.table_id seat.old.me }

@@ -13,14 +13,14 @@ use crate::call::Call;
 use crate::cores::Core;
 use crate::job::Job;
 use crate::seat::{UnitPart, UnitSeat};
-use crate::words::{busy_word, has_value, is_open, open_word, tag_in, value_in};
+use crate::words::{busy_word, open_word};
 use atomic_table::Seat;
 use inorder::history::Source;
 use instructions::{Kind, Program};
-use ruu_words::InfoWord;
 use ruu_words::rule::View;
+use ruu_words::{InfoWord, OperandState, OperandWord, StationState, StationWord};
 
-// The address of an instruction. A program has so few that it does not wrap.
+// The address of an instruction. No program is so long that the address wraps.
 fn pc_of(index: u32) -> u32
     requires { index < 16384 }
     ensures { result ≡ address index }
@@ -38,13 +38,13 @@ fn needs_second(kind: Kind) -> bool
 fn source_says(word: u64, tag: u32, k: Source) -> Result<u32, Claim>
     ensures { SourceSays word tag k result }
 {
-    if tag_in(word) != tag {
+    let operand = OperandWord::unpack(word);
+    if operand.tag != tag {
         return Err(Claim::Moved { tag });
     }
-    if has_value(word) {
-        Ok(value_in(word))
-    } else {
-        Err(Claim::Waiting { tag, k })
+    match operand.state {
+        OperandState::Val => Ok(operand.value),
+        OperandState::Wait => Err(Claim::Waiting { tag, k }),
     }
 }
 
@@ -116,10 +116,10 @@ impl<'a> Call<'a, UnitPart> {
         ensures { ComesTo self.old self.new (AnswersClaim station result) }
     {
         let found = self.peek(station);
-        if !is_open(found) {
+        let StationWord { tag, state, .. } = StationWord::unpack(found);
+        if state != StationState::Open {
             return Claim::NotOpen;
         }
-        let tag = tag_in(found);
         let open = open_word(tag);
         let word = self.read_info(station);
         let again = self.recheck(station, open);

@@ -12,11 +12,11 @@ use crate::answers::Tenant;
 use crate::call::Call;
 use crate::cores::Core;
 use crate::seat::{FrontPart, FrontSeat};
-use crate::words::{open_word, operand_word, tag_in};
+use crate::words::{open_word, operand_word};
 use atomic_table::Seat;
 use inorder::wrapped;
 use ruu_words::rule::View;
-use ruu_words::{InfoWord, Place};
+use ruu_words::{InfoWord, Place, StationWord};
 
 impl<'a> Call<'a, FrontPart> {
     // Stores the words of the tenant, the station's last, and gives its tag.
@@ -27,7 +27,7 @@ impl<'a> Call<'a, FrontPart> {
     {
         let _ = &self.seat;
         let found = self.look(Place::Station(station));
-        let tag = tag_in(found);
+        let StationWord { tag, .. } = StationWord::unpack(found);
         let info = InfoWord {
             half: tenant.half,
             index: tenant.index,

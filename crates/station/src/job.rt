@@ -1,4 +1,4 @@
-//! What a unit holds between its claim and its finish.
+//! A unit's job, from its claim to its finish.
 ghost use Rattle.station.specs.Claiming.{Holds};
 
 use crate::seat::UnitSeat;

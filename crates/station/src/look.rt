@@ -12,12 +12,12 @@ use crate::answers::{Seen, SourceState};
 use crate::call::Call;
 use crate::cores::Core;
 use crate::seat::{BackSeat, Part, SeatOf};
-use crate::words::{source_state, tag_in, value_in};
+use crate::words::source_state;
 use atomic_table::Seat;
 use inorder::history::Source;
 use instructions::Half;
 use ruu_words::rule::View;
-use ruu_words::{InfoWord, LinkWord, Place, StationState, StationWord};
+use ruu_words::{InfoWord, LinkWord, OperandWord, Place, StationState, StationWord};
 
 impl Core {
     // Looks at any word.
@@ -85,12 +85,9 @@ impl Core {
         ensures reply { SeesOperand self.now.program self.now.sizes seat.new.seen station k result }
     {
         let word = self.read(seat, Place::Operand(station, k));
+        let OperandWord { tag, value, .. } = OperandWord::unpack(word);
         let state = source_state(word);
-        Seen {
-            tag: tag_in(word),
-            state,
-            value: value_in(word),
-        }
+        Seen { tag, state, value }
     }
 
     /// The link word from a station to source k of another one: whose value is awaited there, by the tags of

@@ -1,4 +1,4 @@
-//! What one caller has seen reaches another.
+//! Meetings: the history that one caller has seen reaches another.
 ghost use Rattle.std.specs.Prelude.{◌≡◌, ◌≢◌, []};
 ghost use Rattle.inorder.specs.History.{StartsWith, own};
 ghost use Rattle.ruu_words.specs.Views.{half, other_half};
@@ -15,7 +15,7 @@ use ruu_words::rule::View;
 use std::marker::PhantomData;
 use std::snapshot::Snapshot;
 
-// A seat is told by a note, a seat that is spent.
+// A seat takes over the history of a note, which is a seat that makes no calls.
 pub(crate) struct Told;
 
 impl Join<View> for Told {
@@ -29,7 +29,7 @@ impl Join<View> for Told {
     ghost spent = { view Spent 0 nobody [] Nothing };
 }
 
-// A note has seen what this seat has seen, and does nothing.
+// A note is cut from a seat, with the history that the seat has seen.
 pub(crate) struct NoteCut;
 
 impl Split<View> for NoteCut {
@@ -42,7 +42,8 @@ impl Split<View> for NoteCut {
     ghost right = { λ v. view Spent 0 nobody v.seen Nothing };
 }
 
-// A new unit's seat has seen what this one has seen, and each may give away half of the numbers.
+// A new unit's seat is cut from a seat, with the history that the seat has seen. Each may give away half of
+// the numbers that the seat could.
 pub(crate) struct UnitCut;
 
 impl Split<View> for UnitCut {
@@ -82,7 +83,7 @@ impl Core {
         (seat, other_seat)
     }
 
-    // The second caller learns what the first has seen.
+    // Tells the second caller the history that the first has seen.
     pub(crate) fn tell<P: Part, Q: Part>(&self, from: &mut SeatOf<P>, to: &mut SeatOf<Q>)
         requires from { from.old.core ≡ self.now }
         requires to { to.old.core ≡ self.now }

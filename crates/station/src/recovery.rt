@@ -9,14 +9,14 @@ ghost use Rattle.station.specs.Seats.{IsSameSeat};
 use crate::call::Call;
 use crate::cores::Core;
 use crate::seat::{FrontPart, FrontSeat};
-use crate::words::{done_word, left_word, tag_in, value_in};
+use crate::words::{done_word, left_word};
 use atomic_table::Seat;
 use inorder::wrapped;
-use ruu_words::Place;
 use ruu_words::rule::View;
+use ruu_words::{Place, StationWord};
 
 impl<'a> Call<'a, FrontPart> {
-    // Looks at the miss for where it goes on, and writes that it is done.
+    // Reads the computed next pc of a miss, and marks the miss as done.
     fn mend_miss(&mut self, station: usize)
         requires draft { self.old.view.draft ≡ Nothing }
         requires miss { SeesMiss self.old.core.program self.old.core.sizes self.old.view.seen
@@ -25,14 +25,16 @@ impl<'a> Call<'a, FrontPart> {
     {
         let _ = &self.seat;
         let found = self.look(Place::Station(station));
-        let tag = tag_in(found);
-        let next = value_in(found);
+        let StationWord {
+            tag,
+            value: next,
+            ..
+        } = StationWord::unpack(found);
         let done = done_word(tag, next);
         self.mend_tenant(station, done);
     }
 
-    // Looks at the last tenant of the path for its tag, and writes that it has left. Gives its station
-    // and tag.
+    // Squashes the youngest live tenant: reads its tag and frees its station. Gives station and tag.
     fn squash_youngest(&mut self, next: usize) -> (usize, u32)
         requires place { next < self.old.core.sizes.ring }
         requires draft { self.old.view.draft ≡ Nothing }
@@ -44,7 +46,7 @@ impl<'a> Call<'a, FrontPart> {
         let core = self.core;
         let station = wrapped(next + core.ring - 1, core.ring);
         let found = self.look(Place::Station(station));
-        let tag = tag_in(found);
+        let StationWord { tag, .. } = StationWord::unpack(found);
         let free = left_word(tag, 0);
         self.squash_tenant(station, tag, free);
         (station, tag)

@@ -1,11 +1,12 @@
-//! The words of results, and what links say.
+//! Words of results, operands and links, packed.
 ghost use Rattle.std.specs.Prelude.{◌≡◌, ◌<◌, IsTrue, false};
 ghost use Rattle.inorder.specs.StationWords.{live_word};
 ghost use Rattle.inorder.specs.Tenants.{Addr, Stopped};
 ghost use Rattle.instructions.specs.declared.stop.Outcome.TheVariants.{Next};
 ghost use Rattle.ruu_words.specs.Content.{IsOperandOf, IsStation};
-ghost use Rattle.ruu_words.specs.Fields.{consumer_of, pack_link, producer_of, state_of, tag_count};
+ghost use Rattle.ruu_words.specs.Fields.{pack_link, tag_count};
 ghost use Rattle.ruu_words.specs.Kinds.{IsMade, IsUnmade, fate_of};
+ghost use Rattle.ruu_words.specs.States.{state_code};
 ghost use Rattle.station.specs.Writeback.{val_word, wait_word};
 
 use crate::words::done_word;
@@ -92,21 +93,6 @@ pub(crate) fn value_word(tag: u32, value: u32) -> u64
     word.pack()
 }
 
-/// The producer's tag in a link.
-pub(crate) fn producer_in(word: u64) -> u32
-    ensures { result ≡ producer_of word }
-{
-    (word >> 36) as u32
-}
-
-/// The consumer's tag in a link.
-pub(crate) fn consumer_in(word: u64) -> u32
-    ensures value { result ≡ consumer_of word }
-    ensures small { result < tag_count }
-{
-    ((word >> 8) & 0xfff_ffff) as u32
-}
-
 /// The word of a link from a producer to a consumer.
 pub(crate) fn link_word(producer: u32, consumer: u32) -> u64
     requires producer { producer < tag_count }
@@ -116,12 +102,10 @@ pub(crate) fn link_word(producer: u32, consumer: u32) -> u64
     LinkWord { producer, consumer }.pack()
 }
 
-/// A station that is free or done shows the value of its last tenant. By the condition of `ask`
-/// that is the creator.
-pub(crate) fn shows_value(word: u64) -> bool
-    ensures made { IsTrue result → IsMade (state_of word) }
-    ensures unmade { (result ≡ false) → IsUnmade (state_of word) }
+/// True if a station in this state holds the result of its last tenant.
+pub(crate) fn shows_value(state: StationState) -> bool
+    ensures made { IsTrue result → IsMade (state_code state) }
+    ensures unmade { (result ≡ false) → IsUnmade (state_code state) }
 {
-    let state = (word >> 32) & 15;
-    state == 0 || state == 4
+    matches!(state, StationState::Free | StationState::Done)
 }

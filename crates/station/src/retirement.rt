@@ -10,12 +10,12 @@ use crate::call::Call;
 use crate::cores::Core;
 use crate::seat::{BackPart, BackSeat};
 use crate::steps::{Access, Leaving};
-use crate::words::{has_value, left_word, stop_of, tag_in, value_in};
+use crate::words::{left_word, stop_of};
 use atomic_table::Seat;
 use inorder::wrapped;
 use instructions::Kind;
 use ruu_words::rule::View;
-use ruu_words::{InfoWord, StationState, StationWord};
+use ruu_words::{InfoWord, OperandState, OperandWord, StationState, StationWord};
 
 fn kept(last: Last) -> u32
     ensures { result ≡ kept_value last }
@@ -27,7 +27,7 @@ fn kept(last: Last) -> u32
     }
 }
 
-// How a tenant ended that is done or stops.
+// The end of a tenant that is done or stops.
 fn last_of(state: StationState, value: u32) -> Last
     requires { state ≡ Stop → value < 5 }
     ensures { IsLastOf state value result }
@@ -46,7 +46,7 @@ fn ends(last: Last) -> bool
 }
 
 impl<'a> Call<'a, BackPart> {
-    // Writes that the oldest live tenant has left.
+    // Frees the station of the oldest live tenant, which retires.
     fn leave(&mut self, leaving: Leaving) -> Retire
         requires { MayLeave self.old.core.program self.old.core.sizes self.old.view.seen leaving }
         ensures { RetiresFrom self.old self.new leaving.station result }
@@ -71,7 +71,7 @@ impl<'a> Call<'a, BackPart> {
         }
     }
 
-    // A store with its data retires, and a load does not before it has its value.
+    // Retires a store if its data is there. A load with an address still waits for its value.
     fn retire_access(&mut self, access: Access) -> Retire
         requires { HasAccess self.old.core.program self.old.core.sizes self.old.view.seen access }
         ensures { RetiresFrom self.old self.new access.station result }
@@ -90,21 +90,23 @@ impl<'a> Call<'a, BackPart> {
             return Retire::NotDone;
         }
         let found = self.read_data(access);
-        if !has_value(found) {
-            return Retire::NotDone;
+        let data = OperandWord::unpack(found);
+        match data.state {
+            OperandState::Wait => Retire::NotDone,
+            OperandState::Val => {
+                let last = Last::Stored(address, data.value);
+                self.leave(Leaving {
+                    station,
+                    tag,
+                    index,
+                    half,
+                    last,
+                })
+            }
         }
-        let last = Last::Stored(address, value_in(found));
-        let leaving = Leaving {
-            station,
-            tag,
-            index,
-            half,
-            last,
-        };
-        self.leave(leaving)
     }
 
-    // The oldest live tenant has this word, and has its address, is done or stops.
+    // Retires the oldest live tenant if it can. Its word shows an address, a result or a stop.
     fn retire_at_end(&mut self, station: usize, found: StationWord) -> Retire
         requires place { station < self.old.core.sizes.ring }
         requires end { HasEnd self.old.core.program self.old.core.sizes self.old.view.seen

@@ -1,4 +1,4 @@
-//! Asking for a source.
+//! Questions for a source.
 ghost use Rattle.std.specs.Prelude.{◌<◌, ◌≡◌};
 ghost use Rattle.ruu_words.specs.declared.rule.Draft.TheVariants.{Nothing};
 ghost use Rattle.station.specs.Calls.{LeadsTo, let_place};
@@ -11,13 +11,14 @@ use crate::call::Call;
 use crate::cores::Core;
 use crate::results::{link_word, shows_value, value_word, waiting_word};
 use crate::seat::{FrontPart, FrontSeat};
-use crate::words::value_in;
 use atomic_table::Seat;
 use inorder::history::Source;
+use ruu_words::StationWord;
 use ruu_words::rule::View;
 
 impl<'a> Call<'a, FrontPart> {
-    // The link first, and the look behind it: a creator that finishes in between finds the link.
+    // Stores the link, and looks at the creator only behind that: one that finishes in between finds the link.
+    // A creator that holds its result by then gives it at once.
     fn ask_creator(&mut self, of: (usize, u32), k: Source, from: (usize, u32)) -> Ask
         requires draft { self.old.view.draft ≡ Nothing }
         requires may { MayAsk self.old.core.program self.old.core.sizes self.old.view.seen
@@ -28,10 +29,10 @@ impl<'a> Call<'a, FrontPart> {
         let link = link_word(from.1, of.1);
         self.store_link(of, k, from, link);
         let found = self.look_at_creator(of, k, from);
-        if !shows_value(found) {
+        let StationWord { state, value, .. } = StationWord::unpack(found);
+        if !shows_value(state) {
             return Ask::Linked;
         }
-        let value = value_in(found);
         let old = waiting_word(of.1);
         let new = value_word(of.1, value);
         self.take_value(of.0, k, old, new);

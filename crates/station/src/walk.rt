@@ -1,16 +1,17 @@
-//! A value is carried along the links of its station.
+//! Wakeup: a value is carried along the links of its station.
 ghost use Rattle.std.specs.Prelude.{◌≡◌, ◌<◌, ◌≤◌, true};
 ghost use Rattle.station.specs.Calls.{Carried, Carries, HasComeTo, IsLegalCall, MadeValue, Serves, WalksOf};
 ghost use Rattle.station.specs.Carrying.{IsWriter};
 ghost use Rattle.station.specs.Waking.{IsSet, IsWith};
 
 use crate::call::Call;
-use crate::results::{consumer_in, producer_in, value_word, waiting_word};
+use crate::results::{value_word, waiting_word};
 use crate::seat::Part;
 use inorder::history::Source;
 use instructions::Outcome;
+use ruu_words::LinkWord;
 
-// The set of stations with this one, if it was woken.
+// Adds a station to the set of stations that were woken, if it was.
 fn with_station(woken: u32, station: usize, wakes: bool) -> u32
     requires { station < 32 }
     ensures { IsWith woken station wakes result }
@@ -22,8 +23,8 @@ fn with_station(woken: u32, station: usize, wakes: bool) -> u32
 }
 
 impl<'a, P: Part> Call<'a, P> {
-    // Reads one link of the tenant's station, and takes the value to the consumer that it names. True
-    // where that has got it by this.
+    // Reads one link of the producer's station, and delivers the value to the consumer that the link names.
+    // True if the consumer got its value by this delivery.
     fn serve(&mut self, from: (usize, u32), to: usize, k: Source, value: u32) -> bool
         requires tags { 1 ≤ self.old.core.sizes.first_tag }
         requires to { to < self.old.core.sizes.ring }
@@ -32,21 +33,23 @@ impl<'a, P: Part> Call<'a, P> {
             (λ s. (result ≡ true) × (s ≡ to)) }
     {
         let _ = &self.seat;
-        let link = self.read_link(from.0, to, k);
-        if producer_in(link) == from.1 {
-            let consumer = consumer_in(link);
-            let old = waiting_word(consumer);
-            let new = value_word(consumer, value);
-            let found = self.deliver(to, k, old, new);
-            found == old
-        } else {
-            false
+        let word = self.read_link(from.0, to, k);
+        let link = match LinkWord::unpack(word) {
+            Some(link) => link,
+            None => return false,
+        };
+        if link.producer != from.1 {
+            return false;
         }
+        let old = waiting_word(link.consumer);
+        let new = value_word(link.consumer, value);
+        let found = self.deliver(to, k, old, new);
+        found == old
     }
 
-    /// Takes the value of a station's tenant to all who asked for it in time. Each link is read once;
-    /// the last one may still need its delivery then, so one more look at the station has the mark.
-    /// The answer has a bit for each station that the value was taken to.
+    /// Delivers the value of a station's tenant to all consumers that asked for it in time. Each link is read
+    /// once. One more look at the station has the mark of the walk, since the last delivery comes behind its link.
+    /// The answer has a bit for each station that was woken.
     pub(crate) fn walk(&mut self, from: (usize, u32), value: u32) -> u32
         requires writer { IsWriter P.role }
         requires made { MadeValue self.old from value }
@@ -63,7 +66,7 @@ impl<'a, P: Part> Call<'a, P> {
         woken
     }
 
-    /// Takes the outcome of a station's tenant to all who asked for it in time, if that is a value.
+    /// Delivers the outcome of a station's tenant to all consumers that asked for it in time, if it is a value.
     pub(crate) fn carry(&mut self, from: (usize, u32), outcome: Outcome) -> u32
         requires writer { IsWriter P.role }
         requires legal { IsLegalCall self.old }

@@ -1,59 +1,29 @@
-//! Words, made and read.
-ghost use Rattle.std.specs.Prelude.{◌≡◌, suc, ◌<◌, ◌↔◌, IsTrue, Some};
+//! Words of tenants and sources, packed.
+ghost use Rattle.std.specs.Prelude.{◌≡◌, suc, ◌<◌, Some};
 ghost use Rattle.instructions.specs.Operations.{code_of};
 ghost use Rattle.inorder.specs.Replies.{last_tag};
 ghost use Rattle.inorder.specs.StationWords.{IsFree, live_word};
 ghost use Rattle.inorder.specs.Tenants.{Done, Open};
 ghost use Rattle.ruu_words.specs.Content.{IsOperandOf, IsStation};
-ghost use Rattle.ruu_words.specs.Fields.{state_of, tag_count, tag_of, word_value};
+ghost use Rattle.ruu_words.specs.Fields.{tag_count};
 ghost use Rattle.station.specs.Claiming.{IsBusyWord};
 ghost use Rattle.station.specs.Letting.{given_value};
-ghost use Rattle.station.specs.Looking.{source_state_of};
+ghost use Rattle.station.specs.Looking.{IsSourceState};
 
 use crate::answers::{SourceState, Supply};
 use instructions::Stop;
 use ruu_words::{OperandState, OperandWord, StationState, StationWord};
 
-/// The tag of a station's or an operand's word.
-pub(crate) fn tag_in(word: u64) -> u32
-    ensures value { result ≡ tag_of word }
-    ensures small { result < tag_count }
-{
-    (word >> 36) as u32
-}
-
-/// The value in a station's or an operand's word.
-pub(crate) fn value_in(word: u64) -> u32
-    ensures { result ≡ word_value word }
-{
-    (word & 0xffff_ffff) as u32
-}
-
-/// A station's word is that of an open tenant.
-pub(crate) fn is_open(word: u64) -> bool
-    ensures { IsTrue result ↔ (state_of word ≡ 1) }
-{
-    (word >> 32) & 15 == 1
-}
-
-/// An operand word has its value.
-pub(crate) fn has_value(word: u64) -> bool
-    ensures { IsTrue result ↔ (state_of word ≡ 2) }
-{
-    (word >> 32) & 15 == 2
-}
-
-/// The state of a source, by its operand word.
+/// The state of a source, by its operand word. The word is 0 while its station has had no tenant.
 pub(crate) fn source_state(word: u64) -> SourceState
-    ensures { result ≡ source_state_of (state_of word) }
+    ensures { IsSourceState word result }
 {
-    let code = (word >> 32) & 15;
-    if code == 0 {
-        SourceState::Unset
-    } else if code == 1 {
-        SourceState::Wait
-    } else {
-        SourceState::Val
+    if word == 0 {
+        return SourceState::Unset;
+    }
+    match OperandWord::unpack(word).state {
+        OperandState::Wait => SourceState::Wait,
+        OperandState::Val => SourceState::Val,
     }
 }
 

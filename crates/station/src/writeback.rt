@@ -1,4 +1,4 @@
-//! Results: into their station, and then along the links.
+//! Writeback: a result goes into its station, and then along the links.
 ghost use Rattle.std.specs.Prelude.{◌<◌, ◌≡◌};
 ghost use Rattle.station.specs.Calls.{Carried};
 ghost use Rattle.station.specs.Answers.{AnswersFinish, AnswersSettle};
@@ -13,14 +13,15 @@ use crate::cores::Core;
 use crate::job::Job;
 use crate::results::{address_word, outcome_word};
 use crate::seat::{BackPart, BackSeat, UnitPart, UnitSeat};
-use crate::words::{busy_word, done_word, value_in};
+use crate::words::{busy_word, done_word};
 use atomic_table::Seat;
 use instructions::Outcome;
-use ruu_words::Place;
 use ruu_words::rule::View;
+use ruu_words::{Place, StationWord};
 
 impl<'a> Call<'a, UnitPart> {
-    // The station's word first, and the links only behind it. With the answer goes whom it has woken.
+    // Writes the result into the station's word, and reads the links only behind that. Gives the stations
+    // that were woken, too.
     fn finish_job(&mut self, job: Job, outcome: Outcome) -> (Finish, u32)
         requires job { Holds self.old.core.program self.old.core.sizes self.old.view.by
             self.old.view.seen job }
@@ -50,8 +51,8 @@ impl<'a> Call<'a, UnitPart> {
 }
 
 impl<'a> Call<'a, BackPart> {
-    // The look tells the address that stands in the word. Where another word stands there, the load
-    // was squashed: the exchange fails, and says so.
+    // Reads the load's address in its word, and exchanges that word for the value's. If the load was
+    // squashed, the exchange fails and says so.
     fn settle_load(&mut self, station: usize, tag: u32, value: u32) -> (Settle, u32)
         requires { MaySettle self.old.core.program self.old.core.sizes self.old.view.seen
             station tag value }
@@ -60,7 +61,7 @@ impl<'a> Call<'a, BackPart> {
     {
         let _ = &self.seat;
         let seen = self.look(Place::Station(station));
-        let address = value_in(seen);
+        let StationWord { value: address, .. } = StationWord::unpack(seen);
         let old = address_word(tag, address);
         let new = done_word(tag, value);
         let found = self.settle_tenant(station, old, new);

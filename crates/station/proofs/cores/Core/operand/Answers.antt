@@ -6,7 +6,7 @@ use Rattle.station.proofs.cores.Core.operand.Goals as goal
 pub returns-clause-reply : goal.returns-clause-reply
 returns-clause-reply c =
     let core = c.args.self.now in
-    let seen : Seen SourceState = record { tag = c.tag_in.result; state = c.source_state-state.result; value = c.value_in.result } in
-    sees_operand core.program core.sizes c.read-word.new.seat.seen c.read-word.ensures.looked.adds.legal c.args.station c.args.k c.read-word.result seen c.tag_in.ensures.value
+    let seen : Seen SourceState = record { tag = c.unpack-tag.result.tag; state = c.source_state-state.result; value = c.unpack-tag.result.value } in
+    sees_operand core.program core.sizes c.read-word.new.seat.seen c.read-word.ensures.looked.adds.legal c.args.station c.args.k c.read-word.result seen c.unpack-tag.ensures.tag
     c.source_state-state.ensures
-    c.value_in.ensures c.read-word.ensures.reply
+    c.unpack-tag.ensures.value c.read-word.ensures.reply

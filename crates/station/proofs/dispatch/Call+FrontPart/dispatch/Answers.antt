@@ -63,7 +63,7 @@ store_first-requires-clause-word c =
     let by_is = caller_at c.self.invariant c.self.view_is in
     let r1 = looked legal by_is c.requires.letting c.look-found.ensures in
     let r2 = stored r1 c.store_info.ensures in
-    let tag_is = tag_read legal by_is c.requires.letting c.look-found.ensures c.tag_in-tag.result c.tag_in-tag.ensures.value in
+    let tag_is = tag_read legal by_is c.requires.letting c.look-found.ensures c.unpack-tag.result.tag c.unpack-tag.ensures.tag in
     subst (λ z. IsOperandOf (record { tag = z; value = given_value c.args.tenant.sources.0 }) c.operand_word-first.result) (tag_is ∙ sym (tag_at r2)) c.operand_word-first.ensures
 
 pub store_second-requires-clause-word : goal.store_second-requires-clause-word
@@ -73,7 +73,7 @@ store_second-requires-clause-word c =
     let r1 = looked legal by_is c.requires.letting c.look-found.ensures in
     let r2 = stored r1 c.store_info.ensures in
     let r3 = stored r2 c.store_first.ensures in
-    let tag_is = tag_read legal by_is c.requires.letting c.look-found.ensures c.tag_in-tag.result c.tag_in-tag.ensures.value in
+    let tag_is = tag_read legal by_is c.requires.letting c.look-found.ensures c.unpack-tag.result.tag c.unpack-tag.ensures.tag in
     subst (λ z. IsOperandOf (record { tag = z; value = given_value c.args.tenant.sources.1 }) c.operand_word-second.result) (tag_is ∙ sym (tag_at r3)) c.operand_word-second.ensures
 
 pub let_tenant-requires-clause-word : goal.let_tenant-requires-clause-word
@@ -84,7 +84,7 @@ let_tenant-requires-clause-word c =
     let r2 = stored r1 c.store_info.ensures in
     let r3 = stored r2 c.store_first.ensures in
     let r4 = stored r3 c.store_second.ensures in
-    let tag_is = tag_read legal by_is c.requires.letting c.look-found.ensures c.tag_in-tag.result c.tag_in-tag.ensures.value in
+    let tag_is = tag_read legal by_is c.requires.letting c.look-found.ensures c.unpack-tag.result.tag c.unpack-tag.ensures.tag in
     subst (λ z. IsStation (live_word z Open) c.open_word-open.result) (tag_is ∙ sym (tag_at r4)) c.open_word-open.ensures
 
 pub returns : goal.returns
@@ -99,6 +99,6 @@ returns c =
     record {
       same = joined r4.same last.same;
       draft = last.grows.kind.draft;
-      tag_is = tag_read legal by_is c.requires.letting c.look-found.ensures c.tag_in-tag.result c.tag_in-tag.ensures.value;
+      tag_is = tag_read legal by_is c.requires.letting c.look-found.ensures c.unpack-tag.result.tag c.unpack-tag.ensures.tag;
       out = let_now r4 last;
     }

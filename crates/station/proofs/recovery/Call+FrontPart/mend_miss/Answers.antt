@@ -32,8 +32,8 @@ mend_tenant-requires-clause-miss c =
     let miss1 : HasMiss P C h c.args.station tag next = miss_on P C c.args.station tag next between v.view.seen looked.legal looked.none c.requires.miss.miss in
     let found = miss_word P C h looked.legal c.args.station tag next c.look-found.result miss1 c.look-found.ensures.grows.kind.content in
     let done = c.done_word-done.result in
-    let tag_is : tag_of done ≡ tag = c.done_word-done.ensures.tag ∙ (c.tag_in-tag.ensures.value ∙ found.0) in
-    let next_is : word_value done ≡ next = c.done_word-done.ensures.value ∙ (c.value_in-next.ensures ∙ found.1) in
+    let tag_is : tag_of done ≡ tag = c.done_word-done.ensures.tag ∙ (c.unpack-tag.ensures.tag ∙ found.0) in
+    let next_is : word_value done ≡ next = c.done_word-done.ensures.value ∙ (c.unpack-tag.ensures.value ∙ found.1) in
     subst (λ (z : Of × (List Entry × (ℕ × ℕ))). HasMiss z.0.0.program z.0.0.sizes z.1.0 c.args.station z.1.1.0 z.1.1.1)
     (λ i. (sym (of_one v c.look-found.new.self c.look-found.ensures.same) i, (sym looked.is i, (sym tag_is i, sym next_is i)))) miss1
 

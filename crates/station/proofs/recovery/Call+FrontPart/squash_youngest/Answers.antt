@@ -17,7 +17,7 @@ pub left_word-free-requires : goal.left_word-free-requires
 left_word-free-requires c =
     let ring_is = ring_at c.core.inside.table.shared.key c.core.invariant.ring_is c.core.view_is c.self.view_is in
     (youngest_read c.wrapped-station.ensures.value (legal_at c.self.invariant c.self.view_is) (caller_at c.self.invariant c.self.view_is) ring_is c.requires.place c.requires.next c.requires.may c.look-found.ensures
-    c.tag_in-tag.result c.tag_in-tag.ensures.value).0
+    c.unpack-tag.result.tag c.unpack-tag.ensures.tag).0
 
 pub squash_tenant-requires-clause-draft : goal.squash_tenant-requires-clause-draft
 squash_tenant-requires-clause-draft c =
@@ -27,7 +27,7 @@ pub squash_tenant-requires-clause-youngest : goal.squash_tenant-requires-clause-
 squash_tenant-requires-clause-youngest c =
     let ring_is = ring_at c.core.inside.table.shared.key c.core.invariant.ring_is c.core.view_is c.self.view_is in
     (youngest_read c.wrapped-station.ensures.value (legal_at c.self.invariant c.self.view_is) (caller_at c.self.invariant c.self.view_is) ring_is c.requires.place c.requires.next c.requires.may c.look-found.ensures
-    c.tag_in-tag.result c.tag_in-tag.ensures.value).1
+    c.unpack-tag.result.tag c.unpack-tag.ensures.tag).1
 
 pub returns-clause-squashed : goal.returns-clause-squashed
 returns-clause-squashed c =
@@ -45,7 +45,7 @@ returns-clause-squashed c =
     record {
       same = on2;
       draft = c.squash_tenant.ensures.grows.kind.draft;
-      reply = squashed_out P C v.view.by station c.tag_in-tag.result v.view at w kind g1 g1.kind.none g2 by_is c.requires.may;
+      reply = squashed_out P C v.view.by station c.unpack-tag.result.tag v.view at w kind g1 g1.kind.none g2 by_is c.requires.may;
       next = sym (after (λ z. station ≡ next_station z.0.sizes (recent (unit_of z.0.program z.0.sizes w.seen))) on2
-          (squashed_next P C v.view.by station c.tag_in-tag.result v.view at w kind g1 g1.kind.none g2 by_is));
+          (squashed_next P C v.view.by station c.unpack-tag.result.tag v.view at w kind g1 g1.kind.none g2 by_is));
     }

@@ -10,7 +10,8 @@ use Rattle.ruu_words.specs.Fields.{state_of}
 use Rattle.ruu_words.specs.Kinds.{Tells}
 use Rattle.station.specs.Retirement.{RetireAnswers}
 use Rattle.station.proofs.Adding.{adds_these}
-use Rattle.station.proofs.Retiring.{answers_on, data_missing, data_there, inside}
+use Rattle.station.proofs.Retiring.{answers_on, inside}
+use Rattle.station.proofs.RetireLoads.{data_missing, data_there}
 use Rattle.station.proofs.Calls.{before, joined, leave_after, legal_at, program_at}
 use Rattle.station.proofs.retirement.Call+BackPart.retire_access.Goals as goal
 
@@ -34,8 +35,8 @@ returns-then-ne c =
       head = tt;
     }
 
-pub returns-then-not-has_value : goal.returns-then-not-has_value
-returns-then-not-has_value c =
+pub returns-in-Wait : goal.returns-in-Wait
+returns-in-Wait c =
     let v = c.args.self.now in
     let P = v.core.program in
     let C = v.core.sizes in
@@ -62,11 +63,11 @@ leave-requires c =
     let stores : kind (instr_of P c.args.access.index).op ≡ Stores =
     sym (c.kind-kind.ensures ∙ ap kind (c.op.ensures ∙ (ap (λ (z : Instr). z.op) c.instr.ensures ∙ ap (λ (z : Program). (instr_of z c.args.access.index).op)
     (program_at c.core.inside.table.shared.key c.core.invariant.program c.core.view_is c.self.view_is)))) ∙ store in
-    let there = data_there P C by v.view m1 c.args.access n c.read_data-found.ensures.grows c.value_in.result c.value_in.ensures stores there_is in
+    let there = data_there P C by v.view m1 c.args.access n c.read_data-found.ensures.grows c.unpack-data.result.value c.unpack-data.ensures.value stores there_is in
     leave_after c.read_data-found.ensures.same there.0
 
-pub returns : goal.returns
-returns c =
+pub returns-in-Val : goal.returns-in-Val
+returns-in-Val c =
     let v = c.args.self.now in
     let P = v.core.program in
     let C = v.core.sizes in
@@ -78,7 +79,7 @@ returns c =
     let stores : kind (instr_of P c.args.access.index).op ≡ Stores =
     sym (c.kind-kind.ensures ∙ ap kind (c.op.ensures ∙ (ap (λ (z : Instr). z.op) c.instr.ensures ∙ ap (λ (z : Program). (instr_of z c.args.access.index).op)
     (program_at c.core.inside.table.shared.key c.core.invariant.program c.core.view_is c.self.view_is)))) ∙ store in
-    let there = data_there P C by v.view m1 c.args.access n c.read_data-found.ensures.grows c.value_in.result c.value_in.ensures stores there_is in
+    let there = data_there P C by v.view m1 c.args.access n c.read_data-found.ensures.grows c.unpack-data.result.value c.unpack-data.ensures.value stores there_is in
     let new = c.leave.new.self.view.seen in
     record {
       same = joined c.read_data-found.ensures.same c.leave.ensures.same;

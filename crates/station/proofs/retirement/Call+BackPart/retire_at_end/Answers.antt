@@ -2,7 +2,8 @@ use Rattle.std.proofs.Common.{◌≡◌, ◌≢◌, rules}
 use Rattle.ruu_words.specs.declared.rule.View.{View}
 use Rattle.ruu_words.specs.declared.station.StationState.TheVariants.{Addr}
 use Rattle.station.specs.Retirement.{RetireAnswers}
-use Rattle.station.proofs.Retiring.{answers_on, end_access, end_adds, end_leaves}
+use Rattle.station.proofs.Retiring.{answers_on}
+use Rattle.station.proofs.RetireLoads.{end_access, end_adds, end_leaves}
 use Rattle.station.proofs.Calls.{access_after, before, caller_at, joined, leave_after}
 use Rattle.station.proofs.retirement.Call+BackPart.retire_at_end.Goals as goal
 

@@ -1,9 +1,10 @@
 use Rattle.std.proofs.Common.{◌∙◌, refl, arith}
-use Rattle.ruu_words.specs.Fields.{tag_of, word_value}
+use Rattle.ruu_words.specs.Fields.{state_of, tag_of, word_value}
 use Rattle.ruu_words.proofs.Stays.{named_of, tag_small}
 use Rattle.station.specs.Wakeup.{CanAnswer, HasAskedFrom}
 use Rattle.station.proofs.Asking.{answered_by, asked_now, is_answered, is_linked, quiet_found}
 use Rattle.station.proofs.Calls.{after, caller_at, joined, legal_at, next_kept, taken}
+use Rattle.station.proofs.Unpacked.{made_number, unmade_number}
 use Rattle.station.proofs.wakeup.Call+FrontPart.ask_creator.Goals as goal
 
 pub link_word-link-requires-clause-producer : goal.link_word-link-requires-clause-producer
@@ -53,11 +54,13 @@ returns-then-not-shows_value c =
     let found = c.look_at_creator-found.result in
     let e = taken c.store_link.ensures.same c.look_at_creator-found.ensures in
     let on2 = joined c.store_link.ensures.same c.look_at_creator-found.ensures.same in
+    let state = c.unpack-state in
+    let unmade = unmade_number state.result.state (state_of found) state.ensures.state state.ensures.other (c.shows_value.ensures.unmade c.if-not-shows_value.true) in
     record {
       same = on2;
       draft = quiet_found P C found by_is x e;
-      reply = (is_linked P C found by_is x e (c.shows_value.ensures.unmade c.if-not-shows_value.true)).reply;
-      next = next_kept on2 (is_linked P C found by_is x e (c.shows_value.ensures.unmade c.if-not-shows_value.true)).next;
+      reply = (is_linked P C found by_is x e unmade).reply;
+      next = next_kept on2 (is_linked P C found by_is x e unmade).next;
     }
 
 pub waiting_word-old-requires : goal.waiting_word-old-requires
@@ -91,8 +94,9 @@ take_value-requires-clause-answer c =
     let found = c.look_at_creator-found.result in
     let e = taken c.store_link.ensures.same c.look_at_creator-found.ensures in
     let on2 = joined c.store_link.ensures.same c.look_at_creator-found.ensures.same in
-    let made = c.shows_value.ensures.made c.if-not-shows_value.false in
-    let can = answered_by P C found c.waiting_word-old.ensures.tag (c.value_word-new.ensures.value ∙ c.value_in-value.ensures) by_is x e made in
+    let state = c.unpack-state in
+    let made = made_number state.result.state (state_of found) state.ensures.state state.ensures.other (c.shows_value.ensures.made c.if-not-shows_value.false) in
+    let can = answered_by P C found c.waiting_word-old.ensures.tag (c.value_word-new.ensures.value ∙ c.unpack-state.ensures.value) by_is x e made in
     after (λ z. CanAnswer z.0.program z.0.sizes c.look_at_creator-found.new.self.view.seen c.args.of.0 (tag_of c.waiting_word-old.result) c.args.k (word_value c.value_word-new.result)) on2 can
 
 pub returns : goal.returns
@@ -105,7 +109,8 @@ returns c =
     let found = c.look_at_creator-found.result in
     let e = taken c.store_link.ensures.same c.look_at_creator-found.ensures in
     let on2 = joined c.store_link.ensures.same c.look_at_creator-found.ensures.same in
-    let made = c.shows_value.ensures.made c.if-not-shows_value.false in
+    let state = c.unpack-state in
+    let made = made_number state.result.state (state_of found) state.ensures.state state.ensures.other (c.shows_value.ensures.made c.if-not-shows_value.false) in
     let end = is_answered P C found c.waiting_word-old.result c.take_value.result by_is x e made refl c.waiting_word-old.ensures.tag (taken on2 c.take_value.ensures) in
     record {
       same = joined on2 c.take_value.ensures.same;

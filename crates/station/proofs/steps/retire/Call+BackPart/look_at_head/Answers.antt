@@ -1,4 +1,4 @@
-use Rattle.station.proofs.Retiring.{looks_plan}
+use Rattle.station.proofs.RetirePlans.{looks_plan}
 use Rattle.station.proofs.steps.retire.Call+BackPart.look_at_head.Goals as goal
 
 pub load-requires : goal.load-requires

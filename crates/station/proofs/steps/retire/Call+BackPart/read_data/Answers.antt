@@ -1,5 +1,5 @@
 use Rattle.station.proofs.Places.{access_inside}
-use Rattle.station.proofs.Retiring.{finds_plan}
+use Rattle.station.proofs.RetirePlans.{finds_plan}
 use Rattle.station.proofs.steps.retire.Call+BackPart.read_data.Goals as goal
 
 pub load-requires : goal.load-requires

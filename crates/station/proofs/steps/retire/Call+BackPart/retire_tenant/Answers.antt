@@ -1,5 +1,5 @@
 use Rattle.station.proofs.Places.{leaving_inside}
-use Rattle.station.proofs.Retiring.{leaves_plan}
+use Rattle.station.proofs.RetirePlans.{leaves_plan}
 use Rattle.station.proofs.steps.retire.Call+BackPart.retire_tenant.Goals as goal
 
 pub swap-requires : goal.swap-requires

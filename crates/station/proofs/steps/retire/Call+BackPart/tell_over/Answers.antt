@@ -1,5 +1,5 @@
 use Rattle.ruu_words.specs.declared.place.Place.TheVariants.{Station}
-use Rattle.station.proofs.Retiring.{tells_over}
+use Rattle.station.proofs.RetirePlans.{tells_over}
 use Rattle.station.proofs.steps.retire.Call+BackPart.tell_over.Goals as goal
 
 pub load-requires : goal.load-requires

@@ -1,6 +1,6 @@
 use Rattle.station.proofs.Places.{access_inside}
 use Rattle.ruu_words.specs.declared.place.Place.TheVariants.{Station}
-use Rattle.station.proofs.Retiring.{waits_plan}
+use Rattle.station.proofs.RetirePlans.{waits_plan}
 use Rattle.station.proofs.steps.retire.Call+BackPart.tell_waiting.Goals as goal
 
 pub load-requires : goal.load-requires
