@@ -1,7 +1,7 @@
 -- The look of a rest: nobody is live.
-use Rattle.std.proofs.Common.{◌≡◌, ◌≤◌, [], ◌∷◌, Some, None, sym, ◌∙◌, subst, ⊎_elim}
+use Rattle.std.proofs.Common.{◌≡◌, ◌≤◌, [], ◌∷◌, Some, None, refl, sym, ◌∙◌, subst, ⊎_elim}
 use Rattle.std.specs.List.{AllByRecursion}
-use Rattle.inorder.specs.History.{front, unit_of}
+use Rattle.inorder.specs.History.{IsLegal, front, unit_of}
 use Rattle.inorder.specs.OneHistory.{Adds}
 use Rattle.ruu_words.specs.declared.station.StationState.{StationState}
 use Rattle.ruu_words.specs.declared.station.StationState.TheVariants.{Free}
@@ -67,3 +67,14 @@ module _ (core : TheCore) (v w : Caller) (same : IsSameSeat v w) (path : Path) (
           let left = note_left core.program core.sizes w.seen adds.legal l.one noted new newest seen (subst (λ (z : Record). SeesStation core.program core.sizes w.seen z.station seen) one sees) free
           in
           youngest_left core.program core.sizes w.seen adds.legal path.records path.base (IsFolded U (rested_at path.base)) knows_now l noted left.retired
+
+-- A rest has seen that nobody is live: it keeps no tenant, or found the youngest one's station free
+module _ (core : TheCore) (v : Caller) (by_is : v.by ≡ front) (path : Path) (k : FrontKnows core.program core.sizes (unit_of core.program core.sizes v.seen) path.records path.base) where
+  pub rests_empty : {seat : Caller} → IsLegal core.program core.sizes v.seen → youngest_record path.records ≡ None → seat ≡ v → HasSeen core v seat
+  rests_empty legal none here = subst (HasSeen core v) (sym here) (seen_none core v v (record { core = refl; by = refl }) path k
+      (record { begins = record { more = []; is = refl }; legal = legal; mine = refl; one_table = refl }) none)
+
+  pub rests_free : {w seat : Caller} {youngest : Record} → IsSameSeat v w → Adds core.program core.sizes v.by v.seen w.seen [] → youngest_record path.records ≡ Some youngest →
+      (seen : Seen StationState) → SeesStation core.program core.sizes w.seen youngest.station seen → seen.state ≡ Free → seat ≡ w → HasSeen core v seat
+  rests_free {w} {seat} {youngest} same adds is seen sees free here = subst (HasSeen core v) (sym here)
+      (seen_free core v w same path k (subst (λ i. Adds core.program core.sizes i v.seen w.seen []) by_is adds) youngest is seen sees free)

@@ -35,6 +35,7 @@ pub mod FirstMiss
 pub mod Tables
 pub mod Supplied
 pub mod Creating
+pub mod DispatchFacts
 pub mod Resting
 pub mod Lefts
 pub mod Folding

@@ -1,4 +1,4 @@
-//! Where the path goes on, as the front knows it.
+//! Front pc, half and station of the next tenant.
 ghost use Rattle.std.specs.Prelude.{◌≡◌};
 ghost use Rattle.inorder.specs.Unit.{front_half, front_pc, next_station, recent};
 ghost use Rattle.front.specs.Fronts.{unit_seen};

@@ -1,4 +1,4 @@
-//! What is let next, or why nothing is.
+//! Fetch: the instruction that is let next, or the reason why none is.
 ghost use Rattle.std.specs.Prelude.{◌≡◌, ◌≤◌, ◌<◌, [], IfOk, IfErr};
 ghost use Rattle.inorder.specs.History.{IsLegal, front, unit_of};
 ghost use Rattle.inorder.specs.OneHistory.{Adds};
@@ -13,7 +13,7 @@ use crate::queue::queue_is_full;
 use instructions::{Half, Instr, Program};
 use station::{Core, FrontSeat, StationState};
 
-// No tenant gets this tag.
+// The tag that no tenant gets.
 const LAST_TAG: u32 = 0x0fff_ffff;
 
 /// The next instruction and its half, where it goes, and what the last tenant of its station left.

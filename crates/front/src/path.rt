@@ -19,14 +19,15 @@ use record::new_record;
 pub use record::{Record, Records};
 use station::FrontSeat;
 
-/// The tenants whose stations were not let again since the front last rested, and what all older ones have left.
+/// The records of all tenants whose stations were not let again since the front last rested, and in `base` what
+/// older tenants have left.
 #[derive(Drop)]
 pub struct Path {
     pub records: Records,
     pub base: Base,
 }
 
-// The value of a tenant that left this one in its station's word: of a jump that links, its return address.
+// The result of a retired tenant, by the value in its station's word. A jump that links made its return address.
 fn made_of(tenant: &Record, left: u32) -> u32
     ensures { result ≡ made_of_record tenant.now left }
 {
@@ -84,8 +85,8 @@ impl Path {
         }
     }
 
-    /// Where all stations have had a tenant the next one goes to the oldest's: that one's value goes to the base
-    /// registers.
+    /// If each station has a record, drops the oldest, whose station the next tenant gets, and moves the value that
+    /// its tenant left into the base registers.
     pub fn release(&mut self, creators: &mut Counted, ring: usize, left: u32) -> Option<Record>
         requires { 0 < ring }
         ensures reply { Releases ring left self.old result self.new }
@@ -99,7 +100,7 @@ impl Path {
         self.fold(left)
     }
 
-    /// The oldest goes to the base registers: it has left this value.
+    /// Drops the oldest record, and writes the value that its tenant left into the base registers.
     pub fn fold(&mut self, left: u32) -> Option<Record>
         ensures some { IfSome result (λ x. Released left self.old x self.new) }
         ensures none { IfNone result (self.old.records ≡ []) }
@@ -113,7 +114,7 @@ impl Path {
         Some(record)
     }
 
-    /// Where the path goes on is kept apart from its tenants.
+    /// Saves the next pc, half and station of the path in its base, so that they do not depend on its records.
     pub fn keep_front(&mut self, ring: usize)
         requires least { 2 ≤ ring }
         requires most { ring ≤ 32 }
@@ -129,7 +130,7 @@ impl Path {
         self.base.station = station;
     }
 
-    /// A tenant is let: it is the youngest, and the newest writer of its register.
+    /// Adds the record of a new tenant, the youngest, and enters the tenant as the newest writer of its register.
     pub fn enter(&mut self, creators: &mut Counted, next: &Fetched, tag: u32, predicted: u32)
         requires room { length self.old.records < 32 }
         requires station { next.now.station < 32 }

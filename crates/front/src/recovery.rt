@@ -19,7 +19,7 @@ pub struct Missed {
     pub next: u32,
 }
 
-// Looks at the tenants from the oldest on, for the first miss. At those that are no jumps it need not look.
+// Finds the oldest miss, from the oldest tenant on. Only jumps can miss, so only their stations are looked at.
 fn find_miss(core: &Core, seat: &mut FrontSeat, path: &Path) -> Option<Missed>
     requires least { 2 ≤ core.now.sizes.ring }
     requires core { seat.old.core ≡ core.now }
@@ -50,7 +50,7 @@ fn find_miss(core: &Core, seat: &mut FrontSeat, path: &Path) -> Option<Missed>
     None
 }
 
-// Squashes from the tail on until the miss is the youngest, and says how many.
+// Squashes the youngest tenants until the miss is the youngest, and gives the number of squashes.
 fn squash_behind(
     core: &Core,
     seat: &mut FrontSeat,
@@ -70,7 +70,7 @@ fn squash_behind(
     ensures knows { KnowsPath core.now seat.new.seen path.new }
     ensures miss { IsMissAt core.now.program core.now.sizes seat.new.seen path.new.records missed }
     ensures last { length path.new.records ≡ missed.at + 1 }
-    ensures rest { path.new.records ≡ take (missed.at + 1) path.old.records }
+    ensures records { path.new.records ≡ take (missed.at + 1) path.old.records }
     ensures table { KnowsTable core.now seat.new.seen path.new.base creators.new }
     ensures touched { IsTouched (2 * result) creators.old.touched creators.new.touched }
 {
@@ -83,7 +83,7 @@ fn squash_behind(
     all - path.records.len()
 }
 
-/// Recovers from the first miss that is found.
+/// Recovers from the oldest miss, if there is one.
 pub fn recover_on(
     core: &Core,
     seat: &mut FrontSeat,

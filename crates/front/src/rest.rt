@@ -15,7 +15,7 @@ use instructions::{Predictor, tell};
 use station::{Core, FrontSeat, StationState};
 use std::snapshot::Snapshot;
 
-// The tenants that are kept go to the base registers, the oldest first, and the predictor is told of them.
+// Drops all records, the oldest first: values go into the base registers, and the predictor is trained.
 fn fold_all<P: Predictor>(core: &Core, seat: &mut FrontSeat, path: &mut Path, predictor: &mut P)
     requires core { seat.old.core ≡ core.now }
     requires by { seat.old.by ≡ front }
@@ -37,7 +37,7 @@ fn fold_all<P: Predictor>(core: &Core, seat: &mut FrontSeat, path: &mut Path, pr
     }
 }
 
-/// Whether anybody is in flight: the youngest tenant is, since tenants leave in order.
+/// Comes to rest if nobody is in flight. Tenants leave in order, so one look at the youngest tells.
 pub fn rest_on<P: Predictor>(
     core: &Core,
     seat: &mut FrontSeat,

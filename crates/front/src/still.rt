@@ -70,7 +70,7 @@ impl<'a, P: Predictor + Drop> Front<'a, P> {
 }
 
 impl<P: Predictor + Drop> FrontStill<P> {
-    // The next tenant of this seat goes to this station.
+    // Enters the core of a seat whose next tenant goes to this station.
     fn enter_at<'a>(self, seat: FrontSeat, program: &'a Program, station: usize) -> Front<'a, P>
         requires program { program.now ≡ seat.core.program }
         requires goes_on { GoesOnForFront self.core self.seen seat }

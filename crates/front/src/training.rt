@@ -1,4 +1,4 @@
-//! Who leaves, as the predictor is told of it.
+//! Training of the predictor by the tenants that leave.
 ghost use Rattle.std.specs.Prelude.{◌≡◌};
 ghost use Rattle.front.specs.Training.{leaver_of};
 

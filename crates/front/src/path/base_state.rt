@@ -1,4 +1,4 @@
-//! What the path stands on.
+//! The base of a path: the registers and the front pc behind all tenants that have no record.
 ghost use Rattle.std.specs.Prelude.{◌≡◌, replicate};
 ghost use Rattle.instructions.specs.declared.op.Half.TheVariants.{Low};
 ghost use Rattle.instructions.specs.Programs.{text_start};
@@ -20,7 +20,7 @@ pub struct Base {
 }
 
 impl Base {
-    /// Nothing was let.
+    /// The base of a path on which nothing was let.
     pub fn new(seat: &FrontSeat) -> Base
         ensures registers { result.registers ≡ replicate 34 0 }
         ensures pc { result.pc ≡ text_start }

@@ -24,14 +24,14 @@ pub struct Saved {
     pub replaced: Option<Maker>,
 }
 
-/// By register its newest writer, and by station what is kept of its last tenant.
+/// The newest writer of each register, and the part that is kept of each station's last tenant.
 #[derive(Drop)]
 pub struct Table {
     entries: [Option<Maker>; 34],
     latest: [Saved; 32],
 }
 
-/// The create vector, as a turn or a recovery gets it: what is read or written is counted, modulo 2^64.
+/// The create vector, as turns and recoveries get it: each reading and writing is counted, modulo 2^64.
 #[derive(Drop)]
 pub struct Counted {
     table: Table,
@@ -45,7 +45,7 @@ pub struct Creators {
 }
 
 impl Counted {
-    // One more is read or written.
+    // Counts one reading or writing.
     pub(super) fn touch(&mut self)
         ensures table { self.new.table ≡ self.old.table }
         ensures touched { self.new.touched ≡ (self.old.touched + 1) % 2 ^ 64 }
@@ -116,8 +116,8 @@ impl Creators {
         }
     }
 
-    /// The tenants that there are create no register any more. No turn and no recovery does this, and it is not
-    /// counted.
+    /// Empties the create vector: no tenant creates a register any more. Turns and recoveries do not call this, so
+    /// nothing is counted.
     pub fn forget(&mut self)
         ensures entries { self.new.counted.table.entries ≡ replicate 34 None }
         ensures latest { self.new.counted.table.latest ≡ self.old.counted.table.latest }

@@ -48,7 +48,7 @@ impl Counted {
         })
     }
 
-    // A tenant is let.
+    // Enters a new tenant as the last one of its station and the newest writer of its register.
     pub(super) fn enter(&mut self, newest: &Record)
         requires { newest.now.station < 32 }
         ensures table { IsEntered self.old.table self.new.table newest.now }
@@ -71,7 +71,7 @@ impl Counted {
         }
     }
 
-    /// The last tenant of a station, the youngest of the path, is squashed.
+    /// Undoes the entry of a squashed tenant: the youngest of the path, and the last one of its station.
     pub fn restore(&mut self, station: usize)
         ensures table { IsRestored self.old.table self.new.table station }
         ensures touched { IsTouched 2 self.old.touched self.new.touched }

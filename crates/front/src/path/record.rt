@@ -109,7 +109,7 @@ impl Records {
         self.records.as_slice().get(i).copied()
     }
 
-    /// The youngest.
+    /// The youngest record.
     pub fn last(&self) -> Option<Record>
         ensures { result ≡ slice_get self.now (length self.now - 1) }
     {
@@ -123,16 +123,16 @@ impl Records {
         self.records.push(newest);
     }
 
-    /// Takes the youngest out.
+    /// Takes the youngest record out.
     pub fn pop(&mut self) -> Option<Record>
         ensures some { IfSome result (λ r. self.old ≡ self.new ++ r ∷ []) }
         ensures none { IfNone result (self.old ≡ []) }
-        ensures rest { self.new ≡ take (length self.old - 1) self.old }
+        ensures kept { self.new ≡ take (length self.old - 1) self.old }
     {
         self.records.pop()
     }
 
-    /// Takes the oldest out.
+    /// Takes the oldest record out.
     pub(super) fn shift(&mut self) -> Option<Record>
         ensures some { IfSome result (λ r. self.old ≡ r ∷ self.new) }
         ensures none { IfNone result (self.old ≡ []) }
@@ -141,7 +141,7 @@ impl Records {
         self.records.pop_at(0)
     }
 
-    /// The youngest goes on elsewhere.
+    /// Corrects the next pc of the youngest record.
     pub fn redirect(&mut self, next: u32)
         ensures { YoungestGoesOn next self.old self.new }
     {

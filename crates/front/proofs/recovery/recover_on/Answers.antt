@@ -50,7 +50,7 @@ returns-clause-reply c =
     let by : s.new.seat.by ≡ front = s.ensures.kept.by ∙ (c.find_miss.ensures.kept.by ∙ c.requires.by) in
     let mended : IsMended P C front m.station s.new.seat.seen c.mend.new.seat.seen = subst (λ i. IsMended P C i m.station s.new.seat.seen c.mend.new.seat.seen) by c.mend.ensures.history in
     let whole = recovered P C c.args.seat.now.seen c.find_miss.new.seat.seen s.new.seat.seen c.mend.new.seat.seen c.requires.legal c.args.path.now.records c.args.path.now.base c.requires.knows m
-    found.first c.find_miss.ensures.history s.new.path.records s.new.path.base s.ensures.rest s.ensures.knows s.ensures.miss s.ensures.last s.result s.ensures.history mended in
+    found.first c.find_miss.ensures.history s.new.path.records s.new.path.base s.ensures.records s.ensures.knows s.ensures.miss s.ensures.last s.result s.ensures.history mended in
     whole.is
 
 pub returns-clause-knows : goal.returns-clause-knows
@@ -63,7 +63,7 @@ returns-clause-knows c =
     let by : s.new.seat.by ≡ front = s.ensures.kept.by ∙ (c.find_miss.ensures.kept.by ∙ c.requires.by) in
     let mended : IsMended P C front m.station s.new.seat.seen c.mend.new.seat.seen = subst (λ i. IsMended P C i m.station s.new.seat.seen c.mend.new.seat.seen) by c.mend.ensures.history in
     let whole = recovered P C c.args.seat.now.seen c.find_miss.new.seat.seen s.new.seat.seen c.mend.new.seat.seen c.requires.legal c.args.path.now.records c.args.path.now.base c.requires.knows m
-    found.first c.find_miss.ensures.history s.new.path.records s.new.path.base s.ensures.rest s.ensures.knows s.ensures.miss s.ensures.last s.result s.ensures.history mended in
+    found.first c.find_miss.ensures.history s.new.path.records s.new.path.base s.ensures.records s.ensures.knows s.ensures.miss s.ensures.last s.result s.ensures.history mended in
     whole.knows c.redirect.new.self c.redirect.ensures
 
 pub returns-in_default-clause-table : goal.returns-in_default-clause-table

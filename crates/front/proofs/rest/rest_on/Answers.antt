@@ -13,7 +13,7 @@ use Rattle.front.specs.declared.path.Path.{Path}
 use Rattle.station.specs.Renewals.{HasNobody}
 use Rattle.front.proofs.Folding.{folding_begins, knows_rested}
 use Rattle.front.proofs.Fronts.{forgotten}
-use Rattle.front.proofs.Idling.{HasSeen, seen_free, seen_none}
+use Rattle.front.proofs.Idling.{HasSeen, rests_empty, rests_free}
 use Rattle.front.proofs.Lefts.{all_told}
 use Rattle.front.proofs.Moments.{at_end}
 use Rattle.front.proofs.Named.{all_get, small_stations}
@@ -71,14 +71,9 @@ returns-in_default-state g c =
 pub fold_all-requires-clause-folding : goal.fold_all-requires-clause-folding
 fold_all-requires-clause-folding g c =
     let seen : HasSeen c.args.core.now c.args.seat.now c.match-last.seat = elim c.match-last.branch [
-      | in-Some+in-Free w ↦
-          let mine : Adds c.args.core.now.program c.args.core.now.sizes front c.args.seat.now.seen w.look-seen.new.seat.seen [] = subst
-          (λ i. Adds c.args.core.now.program c.args.core.now.sizes i c.args.seat.now.seen w.look-seen.new.seat.seen []) c.requires.by w.look-seen.ensures.history in
-          subst (HasSeen c.args.core.now c.args.seat.now) (sym w.seat-is) (seen_free c.args.core.now c.args.seat.now w.look-seen.new.seat w.look-seen.ensures.kept c.args.path.now c.requires.knows mine
-          w.in-Some.youngest (sym c.last.ensures ∙ w.in-Some.is) w.look-seen.result w.look-seen.ensures.reply w.in-Free.is)
-      | in_default w ↦
-          subst (HasSeen c.args.core.now c.args.seat.now) (sym w.seat-is) (seen_none c.args.core.now c.args.seat.now c.args.seat.now (record { core = refl; by = refl }) c.args.path.now
-          c.requires.knows (record { begins = record { more = []; is = refl }; legal = c.requires.legal; mine = refl; one_table = refl }) (sym c.last.ensures ∙ w.in_default.is))
+      | in-Some+in-Free w ↦ rests_free c.args.core.now c.args.seat.now c.requires.by c.args.path.now c.requires.knows w.look-seen.ensures.kept w.look-seen.ensures.history
+          (sym c.last.ensures ∙ w.in-Some.is) w.look-seen.result w.look-seen.ensures.reply w.in-Free.is w.seat-is
+      | in_default w ↦ rests_empty c.args.core.now c.args.seat.now c.requires.by c.args.path.now c.requires.knows c.requires.legal (sym c.last.ensures ∙ w.in_default.is) w.seat-is
     ] in
     let P = c.args.core.now.program in
     let C = c.args.core.now.sizes in
@@ -90,28 +85,18 @@ fold_all-requires-clause-folding g c =
 pub fold_all-requires-clause-nobody : goal.fold_all-requires-clause-nobody
 fold_all-requires-clause-nobody g c =
     let seen : HasSeen c.args.core.now c.args.seat.now c.match-last.seat = elim c.match-last.branch [
-      | in-Some+in-Free w ↦
-          let mine : Adds c.args.core.now.program c.args.core.now.sizes front c.args.seat.now.seen w.look-seen.new.seat.seen [] = subst
-          (λ i. Adds c.args.core.now.program c.args.core.now.sizes i c.args.seat.now.seen w.look-seen.new.seat.seen []) c.requires.by w.look-seen.ensures.history in
-          subst (HasSeen c.args.core.now c.args.seat.now) (sym w.seat-is) (seen_free c.args.core.now c.args.seat.now w.look-seen.new.seat w.look-seen.ensures.kept c.args.path.now c.requires.knows mine
-          w.in-Some.youngest (sym c.last.ensures ∙ w.in-Some.is) w.look-seen.result w.look-seen.ensures.reply w.in-Free.is)
-      | in_default w ↦
-          subst (HasSeen c.args.core.now c.args.seat.now) (sym w.seat-is) (seen_none c.args.core.now c.args.seat.now c.args.seat.now (record { core = refl; by = refl }) c.args.path.now
-          c.requires.knows (record { begins = record { more = []; is = refl }; legal = c.requires.legal; mine = refl; one_table = refl }) (sym c.last.ensures ∙ w.in_default.is))
+      | in-Some+in-Free w ↦ rests_free c.args.core.now c.args.seat.now c.requires.by c.args.path.now c.requires.knows w.look-seen.ensures.kept w.look-seen.ensures.history
+          (sym c.last.ensures ∙ w.in-Some.is) w.look-seen.result w.look-seen.ensures.reply w.in-Free.is w.seat-is
+      | in_default w ↦ rests_empty c.args.core.now c.args.seat.now c.requires.by c.args.path.now c.requires.knows c.requires.legal (sym c.last.ensures ∙ w.in_default.is) w.seat-is
     ] in
     seen.nobody
 
 pub returns-clause-reply : goal.returns-clause-reply
 returns-clause-reply g c =
     let seen : HasSeen c.args.core.now c.args.seat.now c.match-last.seat = elim c.match-last.branch [
-      | in-Some+in-Free w ↦
-          let mine : Adds c.args.core.now.program c.args.core.now.sizes front c.args.seat.now.seen w.look-seen.new.seat.seen [] = subst
-          (λ i. Adds c.args.core.now.program c.args.core.now.sizes i c.args.seat.now.seen w.look-seen.new.seat.seen []) c.requires.by w.look-seen.ensures.history in
-          subst (HasSeen c.args.core.now c.args.seat.now) (sym w.seat-is) (seen_free c.args.core.now c.args.seat.now w.look-seen.new.seat w.look-seen.ensures.kept c.args.path.now c.requires.knows mine
-          w.in-Some.youngest (sym c.last.ensures ∙ w.in-Some.is) w.look-seen.result w.look-seen.ensures.reply w.in-Free.is)
-      | in_default w ↦
-          subst (HasSeen c.args.core.now c.args.seat.now) (sym w.seat-is) (seen_none c.args.core.now c.args.seat.now c.args.seat.now (record { core = refl; by = refl }) c.args.path.now
-          c.requires.knows (record { begins = record { more = []; is = refl }; legal = c.requires.legal; mine = refl; one_table = refl }) (sym c.last.ensures ∙ w.in_default.is))
+      | in-Some+in-Free w ↦ rests_free c.args.core.now c.args.seat.now c.requires.by c.args.path.now c.requires.knows w.look-seen.ensures.kept w.look-seen.ensures.history
+          (sym c.last.ensures ∙ w.in-Some.is) w.look-seen.result w.look-seen.ensures.reply w.in-Free.is w.seat-is
+      | in_default w ↦ rests_empty c.args.core.now c.args.seat.now c.requires.by c.args.path.now c.requires.knows c.requires.legal (sym c.last.ensures ∙ w.in_default.is) w.seat-is
     ] in
     let P = c.args.core.now.program in
     let C = c.args.core.now.sizes in
@@ -131,14 +116,9 @@ returns-clause-reply g c =
 pub returns-clause-knows : goal.returns-clause-knows
 returns-clause-knows g c =
     let seen : HasSeen c.args.core.now c.args.seat.now c.match-last.seat = elim c.match-last.branch [
-      | in-Some+in-Free w ↦
-          let mine : Adds c.args.core.now.program c.args.core.now.sizes front c.args.seat.now.seen w.look-seen.new.seat.seen [] = subst
-          (λ i. Adds c.args.core.now.program c.args.core.now.sizes i c.args.seat.now.seen w.look-seen.new.seat.seen []) c.requires.by w.look-seen.ensures.history in
-          subst (HasSeen c.args.core.now c.args.seat.now) (sym w.seat-is) (seen_free c.args.core.now c.args.seat.now w.look-seen.new.seat w.look-seen.ensures.kept c.args.path.now c.requires.knows mine
-          w.in-Some.youngest (sym c.last.ensures ∙ w.in-Some.is) w.look-seen.result w.look-seen.ensures.reply w.in-Free.is)
-      | in_default w ↦
-          subst (HasSeen c.args.core.now c.args.seat.now) (sym w.seat-is) (seen_none c.args.core.now c.args.seat.now c.args.seat.now (record { core = refl; by = refl }) c.args.path.now
-          c.requires.knows (record { begins = record { more = []; is = refl }; legal = c.requires.legal; mine = refl; one_table = refl }) (sym c.last.ensures ∙ w.in_default.is))
+      | in-Some+in-Free w ↦ rests_free c.args.core.now c.args.seat.now c.requires.by c.args.path.now c.requires.knows w.look-seen.ensures.kept w.look-seen.ensures.history
+          (sym c.last.ensures ∙ w.in-Some.is) w.look-seen.result w.look-seen.ensures.reply w.in-Free.is w.seat-is
+      | in_default w ↦ rests_empty c.args.core.now c.args.seat.now c.requires.by c.args.path.now c.requires.knows c.requires.legal (sym c.last.ensures ∙ w.in_default.is) w.seat-is
     ] in
     let v = c.fold_all.new.seat in
     let here : v.core ≡ c.args.core.now = c.fold_all.ensures.kept.core ∙ (seen.same.core ∙ c.requires.core) in
@@ -150,14 +130,9 @@ returns-clause-knows g c =
 pub returns-clause-table : goal.returns-clause-table
 returns-clause-table g c =
     let seen : HasSeen c.args.core.now c.args.seat.now c.match-last.seat = elim c.match-last.branch [
-      | in-Some+in-Free w ↦
-          let mine : Adds c.args.core.now.program c.args.core.now.sizes front c.args.seat.now.seen w.look-seen.new.seat.seen [] = subst
-          (λ i. Adds c.args.core.now.program c.args.core.now.sizes i c.args.seat.now.seen w.look-seen.new.seat.seen []) c.requires.by w.look-seen.ensures.history in
-          subst (HasSeen c.args.core.now c.args.seat.now) (sym w.seat-is) (seen_free c.args.core.now c.args.seat.now w.look-seen.new.seat w.look-seen.ensures.kept c.args.path.now c.requires.knows mine
-          w.in-Some.youngest (sym c.last.ensures ∙ w.in-Some.is) w.look-seen.result w.look-seen.ensures.reply w.in-Free.is)
-      | in_default w ↦
-          subst (HasSeen c.args.core.now c.args.seat.now) (sym w.seat-is) (seen_none c.args.core.now c.args.seat.now c.args.seat.now (record { core = refl; by = refl }) c.args.path.now
-          c.requires.knows (record { begins = record { more = []; is = refl }; legal = c.requires.legal; mine = refl; one_table = refl }) (sym c.last.ensures ∙ w.in_default.is))
+      | in-Some+in-Free w ↦ rests_free c.args.core.now c.args.seat.now c.requires.by c.args.path.now c.requires.knows w.look-seen.ensures.kept w.look-seen.ensures.history
+          (sym c.last.ensures ∙ w.in-Some.is) w.look-seen.result w.look-seen.ensures.reply w.in-Free.is w.seat-is
+      | in_default w ↦ rests_empty c.args.core.now c.args.seat.now c.requires.by c.args.path.now c.requires.knows c.requires.legal (sym c.last.ensures ∙ w.in_default.is) w.seat-is
     ] in
     let v = c.fold_all.new.seat in
     let here : v.core ≡ c.args.core.now = c.fold_all.ensures.kept.core ∙ (seen.same.core ∙ c.requires.core) in
