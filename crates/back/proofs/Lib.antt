@@ -21,4 +21,5 @@ pub mod Standing
 pub mod Scanning
 pub mod Refreshing
 pub mod Wakings
+pub mod TrialFacts
 pub mod Behind

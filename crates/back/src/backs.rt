@@ -17,9 +17,9 @@ use std::marker::Model;
 pub struct Back<J: Naming> {
     pub(crate) seat: BackSeat,
     pub(crate) committed: Committed,
-    // what the first half of a multiplication or division has left for LO, while the second is awaited
+    // the value for LO of a first half that has retired, until its second half does
     pub(crate) low: Option<u32>,
-    // where the oldest live tenant stands, if there is one
+    // the station of the oldest live tenant, or of the next one where nobody is live
     pub(crate) head: usize,
     pub(crate) ended: Option<Stop>,
     pub(crate) publisher: Publisher<J>,

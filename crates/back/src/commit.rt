@@ -70,7 +70,7 @@ fn commit_last(committed: &mut Committed, instr: &Instr, half: Half, last: Last)
     }
 }
 
-// The value of a first half, which waits for the second.
+// The result of a first half, which is held until the second half retires.
 fn low_value(instr: &Instr, half: Half, last: Last) -> Option<u32>
     ensures { result ≡ low_in instr.now half last }
 {
@@ -139,7 +139,7 @@ impl<J: Naming> Back<J> {
             Retire::Retired { half, last, .. } => (half, last),
             Retire::NotDone => return Commit::NotDone,
             Retire::Empty => return Commit::Empty,
-            // no stop has retired, or it would have ended
+            // no stop has retired, since a back that has retired one has ended
             Retire::Over => return Commit::Empty,
         };
         self.head = wrapped(self.head + 1, ring);

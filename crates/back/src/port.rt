@@ -34,7 +34,7 @@ pub enum Tried {
     Loaded(u32, u32),
 }
 
-// Looks at a tenant. Its instruction is read first, so that the station's word is the newest that is known.
+// Reads a tenant: first its info word and then its station's word, so that the latter is as new as can be.
 fn look(core: &Core, seat: &mut BackSeat, station: usize) -> Entry
     requires core { seat.old.core ≡ core.now }
     requires by { seat.old.by ≡ back }
@@ -169,7 +169,7 @@ fn waiting(core: &Core, seat: &mut BackSeat, station: usize) -> Option<Load>
     load_at(core.program(), index as usize, seen.tag, address)
 }
 
-// The load still waits.
+// True if the load at this station still waits.
 fn is_still(core: &Core, seat: &mut BackSeat, station: usize, load: &Load) -> bool
     requires core { seat.old.core ≡ core.now }
     requires by { seat.old.by ≡ back }

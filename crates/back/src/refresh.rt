@@ -14,7 +14,7 @@ use inorder::{Committed, wrapped};
 use snapshots::Naming;
 use station::{BackSeat, Core};
 
-// Goes through the stations from the head on, up to the first load that gets its value.
+// Tries the loads from the head on, up to the first that gets its value.
 fn scan(
     core: &Core,
     seat: &mut BackSeat,

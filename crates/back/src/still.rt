@@ -70,7 +70,7 @@ impl<J: Naming> Back<J> {
 }
 
 impl<J: Naming> BackStill<J> {
-    // The oldest live tenant of this seat stands at this station, if there is one.
+    // Enters the core of a seat whose oldest live tenant, if there is one, stands at this station.
     fn enter_at(self, seat: BackSeat, head: usize) -> Back<J>
         requires goes_on { GoesOnForBack self.core self.seen seat }
         requires head { head_at seat.core seat.seen ≡ head }
