@@ -125,7 +125,7 @@ knows_both id v f g cut s h here =
       history = h.history;
       kept = record {
         sums = subst (λ (z : List Shares). Summed (record { words = s.words; homes = s.homes; views = z })) (sym views) (splits id v.shares l.shares r.shares cut (shares_of s) h.kept.sums there);
-        told = λ at low. h.kept.told at low ∙ sym (ap (λ z. sum_by (λ u. (share at u).added) z) views ∙ cut_sum (shares_of s).views id at v.shares l.shares r.shares there (cut at low));
+        adds_up = λ at low. h.kept.adds_up at low ∙ sym (ap (λ z. sum_by (λ u. (share at u).added) z) views ∙ cut_sum (shares_of s).views id at v.shares l.shares r.shares there (cut at low));
         seen = every_push (λ (u : Known). StartsWith h.history u.seen) (set s.views id l) r (every_set (λ (u : Known). StartsWith h.history u.seen) s.views id l h.kept.seen own) own;
         whole = more_seats h.history (set s.views id l) r (still_seen h.history s.views id v l here (λ all. all) h.kept.whole);
       };
@@ -161,7 +161,7 @@ merges_known id other v w s h here apart after =
       history = h.history;
       kept = record {
         sums = subst (λ (z : List Shares). Summed (record { words = s.words; homes = s.homes; views = z })) (sym views) (merges id other v.shares w.shares (shares_of s) h.kept.sums there apart after_shares);
-        told = λ at low. h.kept.told at low ∙ sym (ap (λ z. sum_by (λ u. (share at u).added) z) views ∙ join_sum (shares_of s).views id other at v.shares w.shares low there after_shares);
+        adds_up = λ at low. h.kept.adds_up at low ∙ sym (ap (λ z. sum_by (λ u. (share at u).added) z) views ∙ join_sum (shares_of s).views id other at v.shares w.shares low there after_shares);
         seen = every_set P (set s.views id b) other nothing_known
             (every_set P s.views id b h.kept.seen (longer_begins v.seen w.seen (h.kept.seen id v here) (h.kept.seen other w was)))
             (record { more = h.history; is = sym (append-nil h.history) });

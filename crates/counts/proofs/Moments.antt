@@ -26,7 +26,7 @@ begins_known =
       history = [];
       kept = record {
         sums = begins;
-        told = λ at low. sym (sum_one (λ v. (share at v).added) all_parts ∙ ap (λ s. s.added) (share_each (λ _. everything) at low));
+        adds_up = λ at low. sym (sum_one (λ v. (share at v).added) all_parts ∙ ap (λ s. s.added) (share_each (λ _. everything) at low));
         seen = every_one (λ (v : Known). StartsWith [] v.seen) all_known (as_itself []);
         whole = record { id = 0; v = all_known; here = refl; all = refl };
       };
@@ -48,8 +48,8 @@ adds slots id m at k low some_part s h wide here small =
         history = a ∷ h.history;
         kept = record {
           sums = subst (λ (z : List Shares). Summed (record { words = words; homes = s.homes; views = z })) (sym views) (raises (shares_of s) h.kept.sums id at k v.shares there low some_part);
-          told = λ i below. subst (λ (z : List Shares). total_at i (a ∷ h.history) ≡ sum_by (λ u. (share i u).added) z) (sym views)
-              (told_more (shares_of s).views id at k v.shares h.history there i below (h.kept.told i below));
+          adds_up = λ i below. subst (λ (z : List Shares). total_at i (a ∷ h.history) ≡ sum_by (λ u. (share i u).added) z) (sym views)
+              (told_more (shares_of s).views id at k v.shares h.history there i below (h.kept.adds_up i below));
           seen = every_set (λ (u : Known). StartsWith (a ∷ h.history) u.seen) s.views id w (λ j u e. one_more a (h.kept.seen j u e)) (as_itself (a ∷ h.history));
           whole = sees_all (a ∷ h.history) s.views id v w here refl;
         };
@@ -68,7 +68,7 @@ looks slots id m at low s h wide here small =
     let views : map held (set s.views id w) ≡ map held s.views = map_set held s.views id w ∙ set_again (map held s.views) id v.shares there in
     let words : set s.words (8 * at) (slice_index s.words (8 * at)) ≡ s.words = set-get_or s.words (8 * at) 0 in
     let sum = h.kept.sums.sum at low in
-    let told = h.kept.told at low in (
+    let told = h.kept.adds_up at low in (
       w,
       keeps,
       tt,
@@ -76,7 +76,7 @@ looks slots id m at low s h wide here small =
         history = h.history;
         kept = record {
           sums = subst (λ (z : List ℕ × List Shares). Summed (record { words = z.0; homes = s.homes; views = z.1 })) (λ j. (sym words j, sym views j)) h.kept.sums;
-          told = λ i below. subst (λ (z : List Shares). total_at i h.history ≡ sum_by (λ u. (share i u).added) z) (sym views) (h.kept.told i below);
+          adds_up = λ i below. subst (λ (z : List Shares). total_at i h.history ≡ sum_by (λ u. (share i u).added) z) (sym views) (h.kept.adds_up i below);
           seen = every_set (λ (u : Known). StartsWith h.history u.seen) s.views id w h.kept.seen (as_itself h.history);
           whole = sees_all h.history s.views id v w here refl;
         };

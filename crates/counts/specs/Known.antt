@@ -1,4 +1,4 @@
--- What seats know: their shares, and the additions that they have seen, the last one first.
+-- The knowledge of seats: their shares, and the additions that they have seen, the last one first.
 use Rattle.std.specs.Prelude.{◌≡◌, ℕ, ◌==◌, nat_lt, if◌then◌else◌, List, [], ◌∷◌, ◌++◌, length, sum_by}
 use Rattle.counts.specs.declared.shares.Addition.{Addition}
 use Rattle.counts.specs.declared.shares.Known.{Known}
@@ -7,11 +7,11 @@ use Rattle.counts.specs.declared.tally.Total.{Total}
 use Rattle.counts.specs.Shares.{all_parts, merged, no_parts}
 use Rattle.counts.specs.Totals.{position_of}
 
--- What an addition adds to the total at a position
+-- The amount that an addition adds to the total at a position
 abbrev pub adds_at : ℕ → Addition → ℕ
 adds_at at a = if a.at == at then a.k else 0
 
--- What was added to the total at a position
+-- The sum of all that a history adds to the total at a position
 abbrev pub total_at : ℕ → List Addition → ℕ
 total_at at history = sum_by (adds_at at) history
 
@@ -25,25 +25,25 @@ pub record IsWithin (old new point : List Addition) : Type 0 where
   pub before_return : StartsWith new point
   pub behind_call : StartsWith point old
 
--- The last that was seen is this addition, and before it all that was seen at the call
+-- The seat has added: the last entry that it has seen is its addition, behind all that it had seen at the call
 pub record HasAddedAt (at k : ℕ) (old new : List Addition) : Type 0 where
   pub before : List Addition
   pub behind : StartsWith before old
   pub added : new ≡ record { at = at; k = k } ∷ before
 
--- This addition, by the total
+-- The seat has added this amount to this total
 abbrev pub HasAdded : Total → ℕ → List Addition → List Addition → Type 0
 HasAdded total k old new = HasAddedAt (position_of total) k old new
 
--- All parts of each total, and nothing was added
+-- The first seat's knowledge: all parts of each total, and no addition
 abbrev pub all_known : Known
 all_known = record { shares = all_parts; seen = [] }
 
--- No part of any, and nothing was seen
+-- A new seat's knowledge: no part of any total, and no addition
 abbrev pub nothing_known : Known
 nothing_known = record { shares = no_parts; seen = [] }
 
--- Other shares; what was seen stays
+-- A seat with other shares, which has seen as much
 abbrev pub with_shares : (Shares → Shares) → Known → Known
 with_shares f v = record { shares = f v.shares; seen = v.seen }
 
@@ -51,6 +51,6 @@ with_shares f v = record { shares = f v.shares; seen = v.seen }
 abbrev pub longer : List Addition → List Addition → List Addition
 longer h g = if nat_lt (length h) (length g) then g else h
 
--- What two seats know together
+-- The knowledge of two seats that become one
 abbrev pub both_known : Known → Known → Known
 both_known v w = record { shares = merged v.shares w.shares; seen = longer v.seen w.seen }

@@ -1,4 +1,4 @@
--- What is read of a total.
+-- A read of a total.
 use Rattle.std.specs.Prelude.{◌≡◌, ℕ, ◌%◌, ◌^◌, List}
 use Rattle.counts.specs.declared.shares.Addition.{Addition}
 use Rattle.counts.specs.declared.shares.Shares.{Shares}

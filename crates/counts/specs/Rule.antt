@@ -34,22 +34,22 @@ pub record Summed (s : State ⊤ Shares) : Type 0 where
 abbrev pub shares_of : State ⊤ Known → State ⊤ Shares
 shares_of s = record { words = s.words; homes = s.homes; views = map (λ v. v.shares) s.views }
 
--- Some seat has seen all of it
+-- Some seat has seen the whole history
 pub record HasSeenAll (history : List Addition) (views : List Known) : Type 0 where
   pub id : ℕ
   pub v : Known
   pub here : get_elem? views id ≡ some v
   pub all : v.seen ≡ history
 
--- The rule, for a history of additions: it adds up to the shares, each seat has seen a beginning of it, and one has
--- seen all of it
+-- The rule for one history of additions: for each total its additions are the sum of the shares, each seat has seen a
+-- beginning of the history, and one has seen all of it
 pub record IsKept (history : List Addition) (s : State ⊤ Known) : Type 0 where
   pub sums : Summed (shares_of s)
-  pub told : (at : ℕ) → at < total_count → total_at at history ≡ sum_by (λ v. (share at v).added) (shares_of s).views
+  pub adds_up : (at : ℕ) → at < total_count → total_at at history ≡ sum_by (λ v. (share at v).added) (shares_of s).views
   pub seen : (id : ℕ) (v : Known) → get_elem? s.views id ≡ some v → StartsWith history v.seen
   pub whole : HasSeenAll history s.views
 
--- The rule: there is one history for which this is so
+-- The rule: some history of additions is kept
 pub record Kept (s : State ⊤ Known) : Type 0 where
   pub history : List Addition
   pub kept : IsKept history s

@@ -1,4 +1,4 @@
--- What contracts see of a seat, and what is true of each.
+-- A seat as contracts see it, and the parts that each kind of seat holds.
 use Rattle.std.specs.Prelude.{⊤, ◌≡◌, ℕ, ◌<◌, false, List, []}
 use Rattle.atomic_table.specs.Seated.{TableId}
 use Rattle.atomic_table.specs.Table.{Me}
@@ -14,12 +14,12 @@ pub record Counter : Type 0 where
   pub shares : Shares
   pub seen : List Addition
 
--- It holds a part of each total
+-- A count seat holds a part of each total
 pub record HasParts (me : Me ⊤ Known) : Type 0 where
   pub some : (at : ℕ) → at < total_count → 0 < (share at me.0.shares).parts
   pub slots : me.1 ≡ []
 
--- It holds a part of each total but the retirements and the renewals
+-- A worker's seat holds a part of each total but the retirements and the renewals
 pub record HasOtherParts (me : Me ⊤ Known) : Type 0 where
   pub some : (at : ℕ) → at < total_count → is_kept at ≡ false → 0 < (share at me.0.shares).parts
   pub slots : me.1 ≡ []

@@ -1,4 +1,4 @@
--- What seats have added to the totals, and the parts of the totals that they hold.
+-- The shares of seats: how much each has added to a total, and the part of that total that it holds.
 use Rattle.std.specs.Prelude.{ℕ, Bool, ◌||◌, ◌+◌, ◌-◌, ◌*◌, ◌^◌, ◌==◌, if◌then◌else◌, max, [], ◌∷◌, get_or}
 use Rattle.counts.specs.declared.shares.Share.{Share}
 use Rattle.counts.specs.declared.shares.Shares.{Shares}
@@ -6,11 +6,11 @@ use Rattle.counts.specs.declared.tally.Total.{Total}
 use Rattle.counts.specs.declared.tally.Total.TheVariants.{Renewals, Retires}
 use Rattle.counts.specs.Totals.{position_of}
 
--- No part, to which nothing is added
+-- No part of a total, with nothing added
 abbrev pub nothing : Share
 nothing = record { added = 0; parts = 0; halvings = 0 }
 
--- All there is, to which nothing was added
+-- All parts of a total, with nothing added
 abbrev pub everything : Share
 everything = record { added = 0; parts = 1; halvings = 0 }
 
@@ -34,31 +34,31 @@ all_parts = each (λ _. everything)
 abbrev pub no_parts : Shares
 no_parts = each (λ _. nothing)
 
--- An addition
+-- A share behind an addition of its seat
 abbrev pub plus : ℕ → Share → Share
 plus k s = record { added = s.added + k; parts = s.parts; halvings = s.halvings }
 
--- An addition to the total at a position
+-- A seat's shares behind its addition to the total at a position
 abbrev pub raised_at : ℕ → ℕ → Shares → Shares
 raised_at at k v = each (λ i. if i == at then plus k (share i v) else share i v)
 
--- An addition to a total
+-- A seat's shares behind its addition to a total
 abbrev pub added_to : Total → ℕ → Shares → Shares
 added_to total k v = raised_at (position_of total) k v
 
--- Two halves of a share: what was added stays with the first
+-- The first half of a share, which keeps the amount that was added
 abbrev pub kept_half : Share → Share
 kept_half s = record { added = s.added; parts = s.parts; halvings = s.halvings + 1 }
 
--- The other half: nothing was added to it
+-- The second half of a share, with nothing added
 abbrev pub given_half : Share → Share
 given_half s = record { added = 0; parts = s.parts; halvings = s.halvings + 1 }
 
--- The same of each total: the first halves
+-- The first half of the share of each total
 abbrev pub first_half : Shares → Shares
 first_half v = each (λ i. kept_half (share i v))
 
--- And the other halves
+-- The second half of the share of each total
 abbrev pub second_half : Shares → Shares
 second_half v = each (λ i. given_half (share i v))
 
@@ -66,15 +66,15 @@ second_half v = each (λ i. given_half (share i v))
 abbrev pub is_kept : ℕ → Bool
 is_kept at = at == position_of Retires || at == position_of Renewals
 
--- The same, but that all of those stay with the first
+-- The first half of each share, but all of those of which a worker has no part
 abbrev pub with_kept : Shares → Shares
 with_kept v = each (λ i. if is_kept i then share i v else kept_half (share i v))
 
--- And the other halves, with no part of those
+-- The second half of each share, without those of which a worker has no part
 abbrev pub without_kept : Shares → Shares
 without_kept v = each (λ i. if is_kept i then nothing else given_half (share i v))
 
--- Two shares in one
+-- Two shares of a total, joined to one
 abbrev pub joined_of : Share → Share → Share
 joined_of s t =
     record {
@@ -83,6 +83,6 @@ joined_of s t =
       halvings = max s.halvings t.halvings;
     }
 
--- The same of each total
+-- Two seats' shares, joined for each total
 abbrev pub merged : Shares → Shares → Shares
 merged v w = each (λ i. joined_of (share i v) (share i w))

@@ -4,11 +4,11 @@ use Rattle.counts.specs.declared.tally.Tally.{Tally}
 use Rattle.counts.specs.declared.tally.Total.{Total}
 use Rattle.counts.specs.declared.tally.Total.TheVariants.{Claims, Finishes, Hints, Lets, Loads, Mends, Renewals, Retires, Squashes, Stale}
 
--- How many there are
+-- The number of totals
 abbrev pub total_count : ℕ
 total_count = 10
 
--- Which of them a total is, from 0 on
+-- The position of a total, from 0 on
 abbrev pub position_of : Total → ℕ
 position_of Lets = 0
 position_of Claims = 1
@@ -21,7 +21,7 @@ position_of Mends = 7
 position_of Hints = 8
 position_of Renewals = 9
 
--- What a tally says of it
+-- The number that a tally has for a total
 abbrev pub tallied : Tally → Total → ℕ
 tallied t Lets = t.lets
 tallied t Claims = t.claims

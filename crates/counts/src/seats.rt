@@ -1,9 +1,9 @@
-//! Seats.
+//! The seats of those who count: rights to add to totals.
 use crate::shares::Known;
 use atomic_table::Seat;
 use std::marker::Model;
 
-/// The right to add to each total. It has no bytes.
+/// The right to add to each total, without bytes.
 #[derive(Drop)]
 pub struct CountSeat {
     pub(crate) seat: Seat<(), Known>,
@@ -23,7 +23,7 @@ impl Model for CountSeat {
     ghost invariant = { λ s. HasParts s.seat.me };
 }
 
-/// The right to add to each total but the retirements and the renewals. It has no bytes.
+/// The right to add to each total but the retirements and the renewals, without bytes.
 #[derive(Drop)]
 pub struct WorkerSeat {
     pub(crate) seat: Seat<(), Known>,

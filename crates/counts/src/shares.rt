@@ -1,10 +1,10 @@
-//! What a seat has added to the totals, holds of them and has seen, the rule that ties it to the words,
-//! and what each step does to it.
+//! A seat's shares of the totals and the additions that it has seen, the rule that ties both to the words,
+//! and the steps on the words.
 use atomic_table::{Join, Play, Split, TableRule};
 use std::collections::LinkedList;
 
-/// What a seat has added to one total, and the part of that total that it holds: so many of the parts
-/// that there are when the whole is halved so often. Shares are in the proof alone.
+/// A seat's share of one total: how much it has added, and the part of that total that it holds, as so many of the
+/// parts that there are when the whole is halved so often. Shares are in the proof alone.
 pub struct Share {
     pub added: u64,
     pub parts: u64,
@@ -22,8 +22,8 @@ pub struct Addition {
     pub k: u64,
 }
 
-/// What a seat knows: its shares, and the additions of all seats that it has seen, the last one first.
-/// This is in the proof alone.
+/// The knowledge of a seat, in the proof alone: its shares, and the additions of all seats that it has seen, the last
+/// one first.
 pub struct Known {
     pub shares: Shares,
     pub seen: LinkedList<Addition>,
@@ -60,7 +60,7 @@ impl Play<(), Known> for Look {
     ghost then = { Looks };
 }
 
-/// Both halves add to each total.
+/// A split in which both halves add to each total.
 pub(crate) struct Halving;
 
 impl Split<Known> for Halving {
@@ -72,7 +72,7 @@ impl Split<Known> for Halving {
     ghost right = { λ v. with_shares second_half v };
 }
 
-/// The first half keeps all of the retirements and of the renewals.
+/// A split in which the first half keeps all of the retirements and of the renewals.
 pub(crate) struct Hiring;
 
 impl Split<Known> for Hiring {
@@ -84,7 +84,7 @@ impl Split<Known> for Hiring {
     ghost right = { λ v. with_shares without_kept v };
 }
 
-/// One has what two had.
+/// A joined seat has the shares of both.
 pub(crate) struct Joining;
 
 impl Join<Known> for Joining {

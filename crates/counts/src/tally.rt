@@ -1,8 +1,8 @@
-//! What is counted.
+//! The totals of a run: lets, claims, and all else that is counted.
 ghost use Rattle.std.specs.Prelude.{◌≡◌, ◌*◌, ◌<◌};
 ghost use Rattle.counts.specs.Totals.{position_of, total_count};
 
-/// What the threads of a run did, all together.
+/// How often the threads of a run did each thing that is counted, all together.
 #[derive(Clone, Copy, Debug, PartialEq, Eq)]
 pub struct Tally {
     pub lets: u64,
@@ -35,7 +35,7 @@ pub enum Total {
 }
 
 impl Total {
-    // Its word: each total has a line of the cache to itself.
+    // The word of the total: each total has a line of the cache to itself.
     pub(crate) fn word(self) -> usize
         ensures value { result ≡ 8 * position_of self }
         ensures inside { result < 8 * total_count }

@@ -45,8 +45,8 @@ impl Counts {
         Ok((Counts { table }, CountSeat { seat }))
     }
 
-    /// Two seats, each with half of the parts. The first has what this one has added, and the second
-    /// has added nothing. Both have seen what this one has.
+    /// Splits a seat into two, each with half of its parts. The first keeps the amounts that were added, and the
+    /// second has added nothing. Both have seen as much as this seat.
     pub fn split(&self, mut seat: CountSeat) -> (CountSeat, CountSeat)
         requires seat { seat.of ≡ self.now }
         ensures first { result.0 ≡ record {
@@ -64,7 +64,7 @@ impl Counts {
         (seat, CountSeat { seat: second })
     }
 
-    /// One seat with the shares and the parts of two, which has seen what either has.
+    /// Joins two seats to one with the shares and the parts of both, which has seen all that either has.
     pub fn join(&self, mut seat: CountSeat, other: CountSeat) -> CountSeat
         requires seat { seat.of ≡ self.now }
         requires other { other.of ≡ self.now }
@@ -91,7 +91,7 @@ impl Counts {
         self.raise(&mut seat.seat, total, k);
     }
 
-    /// Each total, at a moment of its own within the call: what was added to it until then, by all seats.
+    /// Reads each total, at a moment of its own within the call: the sum of what all seats have added until then.
     pub fn read(&self, seat: &mut CountSeat) -> Tally
         requires seat { seat.old.of ≡ self.now }
         ensures of { seat.new.of ≡ self.now }
@@ -104,7 +104,7 @@ impl Counts {
         self.all(&mut seat.seat)
     }
 
-    /// A seat of a worker, which has added nothing. The first has what this one has added, keeps all of
+    /// Splits off a worker's seat, which has added nothing. The first seat keeps the amounts that were added, all of
     /// its part of the retirements and of the renewals, and half of its other parts.
     pub fn split_worker(&self, mut seat: CountSeat) -> (CountSeat, WorkerSeat)
         requires seat { seat.of ≡ self.now }
@@ -123,7 +123,7 @@ impl Counts {
         (seat, WorkerSeat { seat: second })
     }
 
-    /// The seats of two workers, as `split` gives them.
+    /// Splits a worker's seat into two, as `split` does.
     pub fn split_workers(&self, mut seat: WorkerSeat) -> (WorkerSeat, WorkerSeat)
         requires seat { seat.of ≡ self.now }
         ensures first { result.0 ≡ record {

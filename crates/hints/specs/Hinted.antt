@@ -1,4 +1,4 @@
--- What a queue of hints holds, and what each thread has put and taken, offered and asked for.
+-- The hints in a queue, and those that each thread has put and taken, offered and asked for.
 use Rattle.std.specs.Prelude.{◌≡◌, ℕ, ◌+◌, ◌%◌, ◌^◌, ◌<◌, ◌≤◌, ◌==◌, List, [], ◌∷◌, ◌++◌, length, map, All, if◌then◌else◌}
 use mathlib.Core.Option.{some}
 use lib.ListN.{get_elem?}
@@ -22,7 +22,7 @@ pub record TheHinter : Type 0 where
 abbrev pub IsEndOf : TheHints → TheHinter → Type 0
 IsEndOf hints hinter = hinter.of ≡ hints.id
 
--- What was put and what was taken, the last one last
+-- The hints that a thread has put and those that it has taken, the last one last
 abbrev pub hand : List ℕ → List ℕ → Hand
 hand put taken = record { put = put; taken = taken }
 
@@ -40,15 +40,15 @@ pub record HasAsked (old new : TheHinter) : Type 0 where
   pub once : new.asked ≡ (old.asked + 1) % 2 ^ 64
   pub offered : new.offered ≡ old.offered
 
--- One more put
+-- One hint more was put
 abbrev pub putting : ℕ → Hand → Hand
 putting x v = hand (v.put ++ x ∷ []) v.taken
 
--- One more taken
+-- One hint more was taken
 abbrev pub taking : ℕ → Hand → Hand
 taking x v = hand v.put (v.taken ++ x ∷ [])
 
--- A hint, and who has moved it
+-- A hint that was moved, and by which thread
 pub record Move : Type 0 where
   pub by : ℕ
   pub hint : ℕ
@@ -57,19 +57,19 @@ pub record Move : Type 0 where
 abbrev pub hints_of : List Move → List ℕ
 hints_of moves = map (λ m. m.hint) moves
 
--- Those that this thread has moved
+-- The hints that this thread has moved
 abbrev pub by_thread : ℕ → List Move → List ℕ
 by_thread thread [] = []
 by_thread thread (m ∷ ms) =
     if m.by == thread then m.hint ∷ by_thread thread ms else by_thread thread ms
 
--- What this thread has put and taken, of all puts and all takes
+-- A thread has put and taken its own, of all puts and all takes
 pub record ThreadKnows (puts takes : List Move) (thread : ℕ) (v : Hand) : Type 0 where
   pub put : v.put ≡ by_thread thread puts
   pub taken : v.taken ≡ by_thread thread takes
 
--- All puts in one order, and all takes: what was put is what was taken, and behind that what the queue
--- holds, each a station; and each thread has put and taken its own
+-- All puts in one order are all takes, and behind these the hints that the queue holds, each of which is a station;
+-- and each thread has put and taken its own
 pub record Hinted (ring : ℕ) (items : List ℕ) (views : List Hand) : Type 0 where
   pub puts : List Move
   pub takes : List Move

@@ -1,4 +1,4 @@
-//! What a thread has put and taken, the rule that ties it to the queue, and what each step does to it.
+//! The hints that a thread has put and taken, the rule that ties them to the queue, and the steps on the queue.
 use crossbeam_queue::protocol::{Lesson, Outcome, Protocol};
 use std::collections::LinkedList;
 use std::marker::{Brand, PhantomData};
@@ -14,13 +14,13 @@ impl Ring for Brand {
     ghost ring = { 0 };
 }
 
-/// What a thread has put and taken, in the proof alone.
+/// The hints that a thread has put and taken, in the proof alone.
 pub struct Hand {
     pub put: LinkedList<u32>,
     pub taken: LinkedList<u32>,
 }
 
-/// The rule: each hint is a station, what is taken was put, each once, and in that order.
+/// The rule: each hint is a station, and hints are taken in the order in which they were put, each once.
 pub struct Below<J> {
     of: PhantomData<J>,
 }

@@ -4,7 +4,7 @@ use crossbeam_queue::Pass;
 use std::marker::Model;
 
 /// A thread's end of a queue, and how often it has offered a hint and asked for one. Only `Hints::push` and
-/// `Hints::pop` count, so that who has offered or asked so often has called them so often.
+/// `Hints::pop` count, so that a thread has called them as often as it has offered and asked.
 #[derive(Drop)]
 pub struct Hinter {
     pub(crate) pass: Pass<u32, Hand>,

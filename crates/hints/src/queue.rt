@@ -41,7 +41,7 @@ impl<J: Ring> Hints<J> {
         Ok(Hints { queue, ring })
     }
 
-    /// A new thread's end: it has put and taken nothing.
+    /// A new thread's end of the queue, which has put and taken nothing.
     pub fn hinter(&self) -> Hinter
         ensures { result ≡ fresh self.now }
     {
@@ -67,8 +67,9 @@ impl<J: Ring> Hints<J> {
             .is_ok()
     }
 
-    /// Takes the oldest hint, if there is one. It looks first where that would stand, and then whether there is none: so
-    /// it reads no word that those who put hints write, but the oldest hint's own. At an empty queue it only looks.
+    /// Takes the oldest hint, if there is one. The call looks first where that would stand, and then whether there is
+    /// none: so it reads no word that those who put hints write, but the oldest hint's own. At an empty queue the
+    /// call only looks.
     pub fn pop<R: Wait>(&self, wait: &R, hinter: &mut Hinter) -> Option<u32>
         requires of { IsEndOf self.now hinter.old }
         ensures of { IsEndOf self.now hinter.new }

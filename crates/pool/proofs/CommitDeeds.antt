@@ -1,4 +1,4 @@
--- What the back has done, by what its calls answer.
+-- The deeds of the back, by the answers of its calls.
 use Rattle.std.proofs.Common.{◌≡◌, ℕ, ◌+◌, List, [], ◌∷◌, refl, ap, arith}
 use Rattle.std.specs.List.{AllByRecursion}
 use Rattle.std.proofs.lemmas.List.Sums.{sum_by-append, sum_by-cons}
@@ -19,12 +19,12 @@ use Rattle.station.specs.Seats.{TheCore}
 use Rattle.workers.specs.Deeds.{deeds, done_in}
 use Rattle.workers.proofs.Deeds.{deeds_more, ones, walk_done}
 
--- the loads of a history, and its renewals: none more
+-- a history with no load and no renewal more
 pub record HasKept (by : ℕ) (old new : List Entry) : Type 0 where
   pub loads : deeds Loads by new ≡ deeds Loads by old
   pub times : renewals new ≡ renewals old
 
--- one load more, and no renewal
+-- a history with one load more, and no renewal
 pub record HasOneLoad (by : ℕ) (old new : List Entry) : Type 0 where
   pub loads : deeds Loads by new ≡ deeds Loads by old + 1
   pub times : renewals new ≡ renewals old
@@ -56,7 +56,8 @@ nothing_done P C by old new w =
     record { loads = omega (arith, more, late); times = w.adds.one_table }
 
 -- a refresh that found no load
-pub not_loaded : (core : TheCore) (by : ℕ) (old new : List Entry) (answer : Refresh) → RefreshAnswers core by old new answer → ((s t v : ℕ) → answer ≡ Loaded s t v → ⊥) → HasKept by old new
+pub not_loaded : (core : TheCore) (by : ℕ) (old new : List Entry) (answer : Refresh) → RefreshAnswers core by old new answer
+    → ((s t v : ℕ) → answer ≡ Loaded s t v → ⊥) → HasKept by old new
 not_loaded core by old new (Loaded s t v) w other = absurd (other s t v refl)
 not_loaded core by old new (Blocked load store) w other = nothing_done core.program core.sizes by old new w.nothing
 not_loaded core by old new Idle w other = nothing_done core.program core.sizes by old new w.nothing

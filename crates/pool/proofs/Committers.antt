@@ -24,7 +24,7 @@ module _ (counts : TableId) (old new : TheBack) (state : back_state new ≡ back
   same_count : (back_state new).count ≡ (back_state old).count
   same_count = ap (λ (s : State). s.count) state
 
-  -- who has seen more, and loaded nothing, has counted as much
+  -- a back that has seen more, and loaded nothing, has counted as much
   pub counted_kept : (count : Counter) → HasCounted counts old count → HasKept old.by old.seen new.seen → HasCounted counts new count
   counted_kept count c kept = record {
     of = c.of;
@@ -35,8 +35,9 @@ module _ (counts : TableId) (old new : TheBack) (state : back_state new ≡ back
     renewals = c.renewals ∙ sym kept.times;
   }
 
-  -- who has loaded has counted one load more
-  pub counted_load : (count then : Counter) → HasCounted counts old count → HasOneLoad old.by old.seen new.seen → then.of ≡ counts → then.shares ≡ added_to Loads 1 count.shares → HasCounted counts new then
+  -- a back that has loaded has counted one load more
+  pub counted_load : (count then : Counter) → HasCounted counts old count → HasOneLoad old.by old.seen new.seen
+      → then.of ≡ counts → then.shares ≡ added_to Loads 1 count.shares → HasCounted counts new then
   counted_load count then c one of shares =
       let loads : (share_of Loads then.shares).added ≡ (share_of Loads count.shares).added + 1 = ap (λ v. (share_of Loads v).added) shares in
       let moved : deeds Loads new.by new.seen ≡ deeds Loads old.by new.seen = ap (λ n. deeds Loads n new.seen) by in
@@ -68,8 +69,9 @@ counted_renewal counts old new count then state was_by is_by c one of shares =
       renewals = omega (arith, times, was, now);
     }
 
--- the same turns keep to the limit where as much is committed, and the program has ended where it had
-pub keeps_same : (limit : ℕ) (old new : TheBack) (times : ℕ) (turns : TheTurns) → back_state new ≡ back_state old → new.ended ≡ old.ended → KeepsLimit limit old times turns → KeepsLimit limit new times turns
+-- the turns keep to the limit where as much is committed, and the program has ended where it had
+pub keeps_same : (limit : ℕ) (old new : TheBack) (times : ℕ) (turns : TheTurns)
+    → back_state new ≡ back_state old → new.ended ≡ old.ended → KeepsLimit limit old times turns → KeepsLimit limit new times turns
 keeps_same limit old new times turns state ended k =
     let count : (back_state new).count ≡ (back_state old).count = ap (λ (s : State). s.count) state in
     record {
@@ -81,18 +83,19 @@ keeps_same limit old new times turns state ended k =
     }
 
 module _ (counts : TableId) (config : Settings) (old new : TheBack) (turns : TheTurns) (times : ℕ) (last : Option TheTerm) (count then : Counter) (limit : ℕ) where
-  still_because : (over : Result Why Refusal) → back_state new ≡ back_state old → new.ended ≡ old.ended → IfOk over (Because limit old turns.left) → IfOk over (Because limit new turns.left)
+  still_because : (over : Result Why Refusal) → back_state new ≡ back_state old → new.ended ≡ old.ended
+      → IfOk over (Because limit old turns.left) → IfOk over (Because limit new turns.left)
   still_because (Ok AtEnd) state ended b = λ none. b (sym ended ∙ none)
   still_because (Ok AtLimit) state ended b = ap (λ (s : State). s.count) state ∙ b
   still_because (Ok Spent) state ended b = b
   still_because (Err refusal) state ended b = tt
 
-  still_tells : (over : Result Why Refusal) → back_state new ≡ back_state old → IfOk over (λ (why : Why). last ≡ Some (configured_term config (back_state old).count times))
+  still_recorded : (over : Result Why Refusal) → back_state new ≡ back_state old → IfOk over (λ (why : Why). last ≡ Some (configured_term config (back_state old).count times))
       → IfOk over (λ (why : Why). last ≡ Some (configured_term config (back_state new).count times))
-  still_tells (Ok why) state t = t ∙ ap (λ (s : State). Some (configured_term config s.count times)) (sym state)
-  still_tells (Err refusal) state t = tt
+  still_recorded (Ok why) state t = t ∙ ap (λ (s : State). Some (configured_term config s.count times)) (sym state)
+  still_recorded (Err refusal) state t = tt
 
-  -- one that has seen more, and committed as much, is as it was
+  -- a commit thread that has seen more, and committed as much, stays as it was
   pub stays : (over : Result Why Refusal) → IsCommitter counts config (committer_of old turns times over last) count limit → back_state new ≡ back_state old → new.ended ≡ old.ended
       → HasCounted counts new then → renewals new.seen ≡ renewals old.seen → IsCommitter counts config (committer_of new turns times over last) then limit
   stays over c state ended counted same = record {
@@ -102,11 +105,11 @@ module _ (counts : TableId) (config : Settings) (old new : TheBack) (turns : The
     keeps = keeps_same limit old new times turns state ended c.keeps;
     turns_are = c.turns_are;
     because = still_because over state ended c.because;
-    tells = still_tells over state c.tells;
+    recorded = still_recorded over state c.recorded;
     first = c.first;
   }
 
-  -- and one whose core was renewed waits for the threads of another term
+  -- a commit thread whose core was renewed waits for the threads of another term
   pub renews : (over : Result Why Refusal) → IsCommitter counts config (committer_of old turns times over last) count limit → back_state new ≡ back_state old → new.ended ≡ None
       → HasCounted counts new then → renewals new.seen ≡ renewals old.seen + 1 → times + turns.left < turns.all → last ≢ None
       → IsCommitter counts config (committer_of new turns (times + 1) (Err Thread) last) then limit
@@ -127,6 +130,6 @@ module _ (counts : TableId) (config : Settings) (old new : TheBack) (turns : The
         };
         turns_are = c.turns_are;
         because = tt;
-        tells = tt;
+        recorded = tt;
         first = λ thread none. absurd (ended none);
       }

@@ -1,5 +1,6 @@
--- What the front has done, by what its calls answer.
-use Rattle.std.proofs.Common.{◌≡◌, ℕ, ◌+◌, ◌<◌, ◌≤◌, ◌%◌, suc, Bool, true, false, List, [], ◌∷◌, ◌++◌, map, length, Some, ◌==◌, if◌then◌else◌, ◌∙◌, ⊎_elim, refl, ap, arith}
+-- The deeds of the front, by the answers of its calls.
+use Rattle.std.proofs.Common.{◌≡◌, ℕ, ◌+◌, ◌<◌, ◌≤◌, ◌%◌, suc, Bool, true, false, List, [], ◌∷◌, ◌++◌}
+use Rattle.std.proofs.Common.{map, length, Some, ◌==◌, if◌then◌else◌, ◌∙◌, ⊎_elim, refl, ap, arith}
 use Rattle.std.proofs.lemmas.List.Sums.{sum_by-append, sum_by-cons}
 use Rattle.counts.specs.declared.tally.Total.{Total}
 use Rattle.counts.specs.declared.tally.Total.TheVariants.{Lets, Mends, Squashes}

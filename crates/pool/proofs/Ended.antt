@@ -1,4 +1,4 @@
--- What is told of a run at its end.
+-- The record of a run at its end.
 use Rattle.std.proofs.Common.{◌≡◌, ◌≢◌, ◌⊎◌, ℕ, ◌+◌, ◌<◌, ◌≤◌, None, Option, Some, Ok, inl, inr, refl, sym, ap, subst, ◌∙◌}
 use Rattle.atomic_table.specs.Seated.{TableId}
 use Rattle.back.specs.Backs.{TheBack, back_state}
@@ -22,8 +22,8 @@ module _ (P : Program) (counts : TableId) (config : Settings) (back : TheBack) (
     (c : IsCommitter counts config (committer_of back turns times (Ok why) last) count limit)
     (end : End) (tally : Tally) (in_order : EndIsInOrder P end) (n : end.n ≡ (back_state back).count)
     (retires : tally.retires ≡ end.n) (renewals : tally.renewals ≡ times) where
-  told : last ≡ Some (configured_term config end.n tally.renewals)
-  told = c.tells ∙ (λ i. Some (configured_term config (sym n i) (sym renewals i)))
+  recorded : last ≡ Some (configured_term config end.n tally.renewals)
+  recorded = c.recorded ∙ (λ i. Some (configured_term config (sym n i) (sym renewals i)))
 
   each : end.n + turns.left ≤ turns.all
   each = subst (λ m. m + turns.left ≤ turns.all) (sym n) c.keeps.each_turn
@@ -35,8 +35,8 @@ module _ (P : Program) (counts : TableId) (config : Settings) (back : TheBack) (
     right = (record { in_order = in_order; retires = retires }, subst (λ o. Rattle.run_ends.specs.Runs.IsStopEnding o) (sym outcome) tt);
     within = subst (λ m. m < config.limit) (sym n) (subst (λ l. (back_state back).count < l) c.limit_is (c.keeps.below over));
     all = c.turns_are;
-    left = each;
-    carried = told;
+    turns_left = each;
+    carried = recorded;
     limit_is = tt;
   }
 
@@ -52,8 +52,8 @@ module _ (P : Program) (counts : TableId) (config : Settings) (back : TheBack) (
     right = (record { in_order = in_order; retires = retires }, outcome);
     within = subst (λ m. m ≤ config.limit) (sym n) (subst (λ l. (back_state back).count ≤ l) c.limit_is c.keeps.within);
     all = c.turns_are;
-    left = each;
-    carried = told;
+    turns_left = each;
+    carried = recorded;
     limit_is = limited why going c.because;
   }
 
@@ -63,7 +63,7 @@ has_stopped e code is none =
     let both : Limit ≡ ByStop code = sym (ap ending_of none) ∙ is in
     cc
 
--- and one that has not has not
+-- a back that has ended without a stop has not stopped
 pub has_not_stopped : (e : Option Stop) → ending_of e ≡ Limit → e ≡ None
 has_not_stopped (Some code) is = absurd (cc)
 has_not_stopped None is = refl

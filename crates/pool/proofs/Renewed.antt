@@ -1,4 +1,4 @@
--- What a renewal adds to the history that the back has seen: itself, and nothing of the back's.
+-- A renewal in the history that the back has seen: one entry of its own, and no deed of the back.
 use Rattle.std.proofs.Common.{◌≡◌, ◌+◌, suc, List, ◌∷◌, ◌∙◌, ap, arith}
 use Rattle.counts.specs.declared.tally.Total.TheVariants.{Loads}
 use Rattle.inorder.specs.declared.history.Entry.{Entry}

@@ -1,4 +1,4 @@
--- What goes to other threads.
+-- The values that go to other threads.
 use Rattle.std.proofs.Common.{rules}
 use denote.Param.Send.{IsSend, enum_send, recorded_send, sendable, view_send}
 use denote.Param.SendFields.{as_row_send, declared_send}

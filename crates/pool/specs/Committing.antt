@@ -1,4 +1,4 @@
--- What contracts see of the commit thread.
+-- The commit thread, as contracts see it.
 use Rattle.std.specs.Prelude.{◌≡◌, ◌≢◌, ◌+◌, ◌≤◌, ◌<◌, ◌^◌, ℕ, Bool, true, false, None, Option, Some, Err, IfOk, Result}
 use Rattle.atomic_table.specs.Seated.{TableId}
 use Rattle.back.specs.Backs.{TheBack, back_state}
@@ -18,7 +18,8 @@ use Rattle.pool.specs.declared.commit.Why.{Why}
 use Rattle.pool.specs.declared.commit.Why.TheVariants.{AtEnd, AtLimit, Spent}
 use Rattle.pool.specs.Records.{TheTerm, configured_term}
 
--- Its back, its turns, how often its core was renewed, why it commits no more, and the last term that has come to an end
+-- The commit thread: its back, its turns, how often its core was renewed, why it commits no more, and the last term that
+-- has come to an end
 pub record TheCommitter : Type 0 where
   pub back : TheBack
   pub turns : TheTurns
@@ -42,12 +43,12 @@ pub record HasCounted (counts : TableId) (back : TheBack) (count : Counter) : Ty
   pub renewals : (share_of Renewals count.shares).added ≡ renewals_in back.seen
 
 -- The reason holds: the program has ended, the limit is reached, or no turn is left
-abbrev pub Because : (limit : ℕ) → TheBack → (left : ℕ) → Why → Type 0
-Because limit back left AtEnd = back.ended ≢ None
-Because limit back left AtLimit = (back_state back).count ≡ limit
-Because limit back left Spent = left ≡ 0
+abbrev pub Because : (limit : ℕ) → TheBack → (turns_left : ℕ) → Why → Type 0
+Because limit back turns_left AtEnd = back.ended ≢ None
+Because limit back turns_left AtLimit = (back_state back).count ≡ limit
+Because limit back turns_left Spent = turns_left ≡ 0
 
--- It took a turn since its core was last renewed
+-- The commit thread took a turn since its core was last renewed
 abbrev pub HasWorked : TheCommitter → Type 0
 HasWorked c = c.renewals + (c.turns).left < (c.turns).all
 
@@ -63,8 +64,8 @@ pub record MayRenew (c : TheCommitter) : Type 0 where
   pub worked : HasWorked c
   pub ended : c.last ≢ None
 
--- It has not gone past the limit, and where it has ended it has not come to it; each instruction took a turn, and so
--- did each renewal
+-- The back has not gone past the limit, and where it has ended has not come to the limit; each instruction took a turn,
+-- and so did each renewal
 pub record KeepsLimit (limit : ℕ) (back : TheBack) (times : ℕ) (turns : TheTurns) : Type 0 where
   pub within : (back_state back).count ≤ limit
   pub below : back.ended ≢ None → (back_state back).count < limit
@@ -72,8 +73,8 @@ pub record KeepsLimit (limit : ℕ) (back : TheBack) (times : ℕ) (turns : TheT
   pub each_term : times + turns.left ≤ turns.all
   pub fits : turns.all < 2 ^ 32
 
--- The commit thread of a run with these totals, configured so: what it has counted and kept. Where it is over the
--- reason holds, and the last term tells so; where a thread is wanting in its first term it has taken no turn
+-- The commit thread of a run with these totals, configured so, and all that it has counted and kept. Where the run is
+-- over the reason holds, and the last term is recorded; where a thread is wanting in the first term no turn was taken
 pub record IsCommitter (counts : TableId) (config : Settings) (c : TheCommitter) (count : Counter)
     (limit : ℕ) : Type 0 where
   pub counted : HasCounted counts c.back count
@@ -82,11 +83,11 @@ pub record IsCommitter (counts : TableId) (config : Settings) (c : TheCommitter)
   pub keeps : KeepsLimit limit c.back c.renewals c.turns
   pub turns_are : (c.turns).all ≡ config.turns
   pub because : IfOk c.over (Because limit c.back (c.turns).left)
-  pub tells : IfOk c.over
+  pub recorded : IfOk c.over
       (λ why. c.last ≡ Some (configured_term config (back_state c.back).count c.renewals))
   pub first : c.over ≡ Err Thread → c.last ≡ None → (c.turns).left ≡ (c.turns).all
 
--- Where a load got its value, whom that woke is hinted, and else nobody is
+-- Where a load got its value, the stations that woke are hinted, and else none is
 abbrev pub HintsLoaded : (ring woken : ℕ) → (loaded : Bool) → TheHinter → TheHinter → Type 0
 HintsLoaded ring woken true old new = HasHinted woken ring old new
 HintsLoaded ring woken false old new = new ≡ old

@@ -1,4 +1,4 @@
--- What the dispatch thread hints.
+-- The hints of the dispatch thread.
 use Rattle.std.specs.Prelude.{◌≡◌, ℕ, List}
 use Rattle.front.specs.Turns.{LetsOut}
 use Rattle.hints.specs.Hinted.{TheHinter}
@@ -17,7 +17,7 @@ pub record HasHintedLet (core : TheCore) (seen_old seen_new : List Entry) (old n
   pub lets : LetsOut core.program core.sizes seen_old seen_new station tag pc predicted
   pub hinted : HasHintedOne station old new
 
--- The station of what was let is hinted, and where nothing was let none is
+-- The station of an instruction that was let is hinted, and without one none is
 abbrev pub HintsLet : TheCore → (seen_old seen_new : List Entry) → Stepped → TheHinter → TheHinter → Type 0
 HintsLet core seen_old seen_new Worked old new = HasHintedLet core seen_old seen_new old new
 HintsLet core seen_old seen_new _ old new = new ≡ old

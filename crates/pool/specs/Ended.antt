@@ -4,13 +4,13 @@ use Rattle.instructions.specs.Programs.{Program}
 use Rattle.instructions.specs.Settings.{Settings}
 use Rattle.run_ends.specs.Runs.{IsWithinLimit, RunIsRight}
 use Rattle.pool.specs.declared.answer.RunInTurns.{RunInTurns}
-use Rattle.pool.specs.Runs.{IsCarriedOut, IsLimit, LeavesTurns}
+use Rattle.pool.specs.Runs.{HasTurnsLeft, IsCarriedOut, IsLimit}
 
--- All that is said of a run of this program that is configured so
+-- All that holds of a run of this program that is configured so
 pub record HasRun (P : Program) (config : Settings) (r : RunInTurns) : Type 0 where
   pub right : RunIsRight P r.run
   pub within : IsWithinLimit config.limit r.run
   pub all : ((r.ran).turns).all ≡ config.turns
-  pub left : LeavesTurns r.ran r.run
+  pub turns_left : HasTurnsLeft r.ran r.run
   pub carried : IsCarriedOut config r.ran r.run
   pub limit_is : IsLimit config.limit r.ran r.run

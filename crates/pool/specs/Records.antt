@@ -1,4 +1,4 @@
--- What a run tells of itself: its last term, and the turns of its commit thread.
+-- The record of a run: its last term, and the turns of its commit thread.
 use Rattle.std.specs.Prelude.{ℕ, Option}
 use Rattle.inorder.specs.Unit.{Sizes}
 use Rattle.instructions.specs.Settings.{Settings}

@@ -1,4 +1,4 @@
--- What is told of a run beside its answer.
+-- The record of a run beside its answer.
 use Rattle.std.specs.Prelude.{⊤, ◌≡◌, ◌+◌, ◌≤◌, ◌⊎◌, ℕ, None, Some}
 use Rattle.instructions.specs.Settings.{Settings}
 use Rattle.run_ends.specs.declared.answer.Refusal.TheVariants.{Memory, Thread}
@@ -8,14 +8,14 @@ use Rattle.pool.specs.Records.{TheRan, configured_term}
 
 -- Each instruction took the commit thread a turn, and it has the others left. Without all its threads a run takes none,
 -- unless a term of it has come to an end
-abbrev pub LeavesTurns : TheRan → Run → Type 0
-LeavesTurns ran (Ended end tally) = end.n + (ran.turns).left ≤ (ran.turns).all
-LeavesTurns ran (LimitReached end tally) = end.n + (ran.turns).left ≤ (ran.turns).all
-LeavesTurns ran (Refused Memory) = ⊤
-LeavesTurns ran (Refused Thread) = ran.last ≡ None → (ran.turns).left ≡ (ran.turns).all
+abbrev pub HasTurnsLeft : TheRan → Run → Type 0
+HasTurnsLeft ran (Ended end tally) = end.n + (ran.turns).left ≤ (ran.turns).all
+HasTurnsLeft ran (LimitReached end tally) = end.n + (ran.turns).left ≤ (ran.turns).all
+HasTurnsLeft ran (Refused Memory) = ⊤
+HasTurnsLeft ran (Refused Thread) = ran.last ≡ None → (ran.turns).left ≡ (ran.turns).all
 
 -- The last term was at a core and with threads as they are configured, where as many instructions were committed as are
--- told, and the core had been renewed as often as the tally tells
+-- answered, and the core had been renewed as often as the tally says
 abbrev pub IsCarriedOut : Settings → TheRan → Run → Type 0
 IsCarriedOut config ran (Ended end tally) =
     ran.last ≡ Some (configured_term config end.n tally.renewals)
@@ -23,7 +23,7 @@ IsCarriedOut config ran (LimitReached end tally) =
     ran.last ≡ Some (configured_term config end.n tally.renewals)
 IsCarriedOut config ran (Refused why) = ⊤
 
--- The limit is told only where so many instructions were run, or no turn was left
+-- The limit is answered only where so many instructions were run, or no turn was left
 abbrev pub IsLimit : (limit : ℕ) → TheRan → Run → Type 0
 IsLimit limit ran (LimitReached end tally) = (end.n ≡ limit) ⊎ ((ran.turns).left ≡ 0)
 IsLimit limit ran _ = ⊤

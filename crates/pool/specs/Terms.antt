@@ -1,4 +1,4 @@
--- What a term of a run begins with, and how it ends.
+-- A term of a run: how it begins, and how it ends.
 use Rattle.std.specs.Prelude.{◌≡◌, List, Err}
 use Rattle.atomic_table.specs.Seated.{TableId}
 use Rattle.counts.specs.Seats.{Counter}
@@ -17,10 +17,10 @@ use Rattle.pool.specs.declared.dispatch.Dispatcher.{Dispatcher}
 use Rattle.pool.specs.declared.terms.Term.{Term}
 use Rattle.pool.specs.Committing.{MayRenew, TheCommitter}
 
--- The seat is of this core, and the front enters with it
-pub record Enters (core : TheCore) (left : TheCore) (seen : List Entry) (seat : Caller) : Type 0 where
+-- The seat is of this core, and a front that has departed from another enters with it
+pub record Enters (core : TheCore) (departed : TheCore) (seen : List Entry) (seat : Caller) : Type 0 where
   pub core_is : seat.core ≡ core
-  pub may : FrontMayEnter left seen seat
+  pub may : FrontMayEnter departed seen seat
 
 -- The front begins at this core: with a seat that has let nothing, or behind a renewal
 abbrev pub Begins : {S : Type 0} → TheCore → Begin S → Caller → Type 0
@@ -32,7 +32,7 @@ pub record MayCommit (core : TheCore) (committer : TheCommitter) : Type 0 where
   pub back_is : committer.back.core ≡ core
   pub begun : committer.over ≡ Err Thread
 
--- What the threads of a term own is at this core, and they add to these totals
+-- The seats that the threads of a term own are at this core, and add to these totals
 pub record AreAt {S : Type 0} (core : TheCore) (counts : TableId) (dispatcher : Dispatcher S)
     (unit : Caller) (count : Counter) : Type 0 where
   pub begins : Begins core dispatcher.begin dispatcher.seat
@@ -48,24 +48,24 @@ pub record MayBegin {S : Type 0} (counts : TableId) (config : Settings) (committ
   pub owned : AreAt term.core counts term.dispatcher term.unit term.count
   pub commits : MayCommit term.core committer
 
--- The front has left this core, with a seat that has seen that nobody is live
-pub record HasLeft {S : Type 0} (core : TheCore) (seat : Caller) (still : TheStillFront S) : Type 0 where
+-- The front has departed from this core, with a seat that has seen that nobody is live
+pub record HasDeparted {S : Type 0} (core : TheCore) (seat : Caller) (still : TheStillFront S) : Type 0 where
   pub core_is : seat.core ≡ core
   pub nobody : HasNobody (unit_of core.program core.sizes seat.seen)
   pub still_core : still.core ≡ core
   pub still_seen : still.seen ≡ seat.seen
 
--- The front begins again where it has left this core
+-- The front begins again behind its departure from this core
 abbrev pub BeginsAgain : {S : Type 0} → TheCore → Caller → Begin S → Type 0
 BeginsAgain core seat (Fresh predictor) = ⊥
-BeginsAgain core seat (Again still) = HasLeft core seat still
+BeginsAgain core seat (Again still) = HasDeparted core seat still
 
--- What a dispatch thread gives back: its front has left this core, and it adds to these totals
+-- A dispatch thread gives this back: its front has departed from this core, and its count adds to these totals
 pub record IsGivenBack {S : Type 0} (core : TheCore) (counts : TableId) (dispatcher : Dispatcher S) : Type 0 where
-  pub left : BeginsAgain core dispatcher.seat dispatcher.begin
+  pub departed : BeginsAgain core dispatcher.seat dispatcher.begin
   pub count_is : dispatcher.count.of ≡ counts
 
--- What the threads of a term give back is at this core, and so is the commit side, which may renew it
+-- The threads of a term give this back, of this core, and the commit side is there, which may renew the core
 pub record IsReturned {S : Type 0} (core : TheCore) (counts : TableId) (dispatcher : Dispatcher S)
     (unit : Caller) (committer : TheCommitter) : Type 0 where
   pub given : IsGivenBack core counts dispatcher

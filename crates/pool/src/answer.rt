@@ -1,4 +1,4 @@
-//! What a run answers that tells how it was carried out.
+//! The answer of a run that says how it was carried out.
 ghost use Rattle.std.specs.Prelude.{◌≡◌};
 
 use crate::ran::Ran;

@@ -1,4 +1,4 @@
-//! What the commit thread does.
+//! The commit thread.
 ghost use Rattle.std.specs.Prelude.{◌≡◌};
 ghost use Rattle.back.specs.Backs.{back_state};
 ghost use Rattle.workers.specs.Deeds.{deeds};
@@ -24,18 +24,19 @@ pub(crate) enum Why {
     AtEnd,
     /// The limit of instructions is reached.
     AtLimit,
-    /// It has no turn left.
+    /// The commit thread has no turn left.
     Spent,
 }
 
-/// The commit side, with the seat that it counts with.
+/// The commit side of a run: the back, the seat that it counts with, its turns, and how the run has ended.
 pub(crate) struct Committer<J: Naming, K: Bounds + Ring> {
     back: Back<J>,
     count: CountSeat,
     limit: u32,
     turns: Turns,
     renewals: u32,
-    // why it commits no more; in each term a thread is wanting until it has begun, and then memory until it is over
+    // why the commit thread commits no more; in each term a thread is wanting until it has begun, and then memory until
+    // the term is over
     over: Result<Why, Refusal>,
     last_term: Option<TermRecord>,
     bounds: PhantomData<K>,
@@ -80,8 +81,8 @@ impl<J: Naming, K: Bounds + Ring> Committer<J, K> {
         }
     }
 
-    /// How the run ended, where all other threads have ended. It is refused where not all of them
-    /// could be started.
+    /// How the run ended, where all other threads have ended. A run of which not all threads could be started is
+    /// refused.
     pub(crate) fn end<R: Wait>(self, wait: &R, state: &RunState<K>) -> RunInTurns
         ensures run { HasRun J.program K.config result }
         ensures refused { IfErr self.over (λ refusal. result.run ≡ Run.Refused refusal) }

@@ -1,4 +1,4 @@
-//! What the dispatch thread does.
+//! The dispatch thread.
 ghost use Rattle.std.specs.Prelude.{◌≡◌, IfSome, true};
 ghost use Rattle.hints.specs.Hinted.{IsEndOf};
 ghost use Rattle.pool.specs.Dispatching.{HintsLet};
@@ -15,10 +15,10 @@ use station::{Core, FrontSeat};
 use std::sync::Wait;
 use workers::{Backoff, Bounds, Gathered, TermShared, Turns};
 
-// After so many fruitless turns it lets another thread run.
+// After so many fruitless turns the dispatch thread lets another thread run.
 const PATIENCE: u32 = 4;
 
-// What a turn came to.
+// How a turn has ended.
 #[derive(Clone, Copy)]
 enum Stepped {
     Worked,
@@ -27,7 +27,7 @@ enum Stepped {
     Ended,
 }
 
-// Lets the next instruction, and hints its station. Where the tags of the station are spent it looks whether
+// Lets the next instruction, and hints its station. Where the tags of the station are spent, the front looks whether
 // anybody is live.
 fn let_next<K: Bounds + Ring, P: Predictor + Drop, G, R: Wait>(
     shared: &TermShared<'_, K, G, R>,
@@ -61,8 +61,8 @@ fn let_next<K: Bounds + Ring, P: Predictor + Drop, G, R: Wait>(
     }
 }
 
-// One recovery, and one let where there is no miss.
-fn step<K: Bounds + Ring, P: Predictor + Drop, G, R: Wait>(
+// Recovers from a miss, and lets the next instruction where there is none.
+fn recover_or_let<K: Bounds + Ring, P: Predictor + Drop, G, R: Wait>(
     shared: &TermShared<'_, K, G, R>,
     front: &mut Front<P>,
     count: &mut Gathered,
@@ -88,13 +88,13 @@ fn step<K: Bounds + Ring, P: Predictor + Drop, G, R: Wait>(
 /// How the front of a term begins.
 #[derive(Drop)]
 pub(crate) enum Begin<P: Predictor + Drop> {
-    /// With a predictor, at the start of the program.
+    /// The front begins with a predictor, at the start of the program.
     Fresh(P),
-    /// Where it was before the core was renewed.
+    /// The front goes on from where it was before the core was renewed.
     Again(FrontStill<P>),
 }
 
-/// What the dispatch thread owns, and gives back where the core is to be renewed: the front's seat, its beginning,
+/// All that the dispatch thread owns, and gives back where the core is to be renewed: the front's seat, its beginning,
 /// the seat that it counts with, and its turns.
 #[derive(Drop)]
 pub(crate) struct Dispatcher<P: Predictor + Drop> {
@@ -104,7 +104,7 @@ pub(crate) struct Dispatcher<P: Predictor + Drop> {
     pub turns: Turns,
 }
 
-// The front at the core of a term.
+// Begins the front at the core of a term.
 fn enter<'x, P: Predictor + Drop>(core: &'x Core, seat: FrontSeat, begin: Begin<P>) -> Front<'x, P>
     requires begins { Begins core.now begin seat }
     ensures core { result.core ≡ core.now }
@@ -115,7 +115,7 @@ fn enter<'x, P: Predictor + Drop>(core: &'x Core, seat: FrontSeat, begin: Begin<
     }
 }
 
-// The turns of a term. True where the tags of a station are spent and nobody is live, with which they end.
+// Takes the turns of a term. True where the tags of a station are spent and nobody is live, with which the term ends.
 fn take_turns<K: Bounds + Ring, P: Predictor + Drop, G, R: Wait>(
     shared: &TermShared<'_, K, G, R>,
     front: &mut Front<P>,
@@ -134,7 +134,7 @@ fn take_turns<K: Bounds + Ring, P: Predictor + Drop, G, R: Wait>(
     let mut hinter = shared.state.hints.hinter();
     let mut backoff = Backoff::after(PATIENCE);
     while turns.take() {
-        match step(shared, front, count, &mut hinter) {
+        match recover_or_let(shared, front, count, &mut hinter) {
             Stepped::Worked => backoff.reset(),
             Stepped::Idle => backoff.snooze(),
             Stepped::Ended => return true,
@@ -146,8 +146,8 @@ fn take_turns<K: Bounds + Ring, P: Predictor + Drop, G, R: Wait>(
     false
 }
 
-/// Lets instructions out, and recovers from misses. Where the tags of a station are spent and nobody is live, the
-/// term is over, and the front leaves the core. It has taken a turn at least.
+/// Lets instructions out, and recovers from misses. Where the tags of a station are spent and nobody is live, the term
+/// is over, and the front leaves the core, behind one turn at least.
 pub(crate) fn dispatch<K: Bounds + Ring, P: Predictor + Drop, G, R: Wait>(
     shared: &TermShared<'_, K, G, R>,
     dispatcher: Dispatcher<P>,

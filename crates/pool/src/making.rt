@@ -1,4 +1,4 @@
-//! What a run is made of, before a thread has begun.
+//! Makes a run, before a thread has begun.
 ghost use Rattle.std.specs.Prelude.{◌≡◌, [], IfOk};
 ghost use Rattle.counts.specs.Shares.{all_parts};
 ghost use Rattle.pool.specs.Terms.{MayBegin};
@@ -15,7 +15,7 @@ use station::Core;
 use std::alloc::Global;
 use workers::{Bounds, RunState, Turns};
 
-/// What all terms of a run share: how its threads wait, where it allocates, the program, how it is to run, and its gate.
+/// All that the terms of a run share: how its threads wait, where it allocates, the program, how it is to run, and its gate.
 #[derive(Drop)]
 pub(crate) struct RunShared<'x, G, R> {
     pub wait: &'x R,
@@ -25,7 +25,7 @@ pub(crate) struct RunShared<'x, G, R> {
     pub gate: &'x G,
 }
 
-/// The state of a run before its first term, with hints for its ring.
+/// Makes the state of a run before its first term, with hints for its ring.
 pub(crate) fn make_state<K: Bounds + Ring>(
     alloc: Global,
     config: &Config,
@@ -39,7 +39,7 @@ pub(crate) fn make_state<K: Bounds + Ring>(
     RunState::new(alloc, counts, hints, config.units(), config.turns())
 }
 
-/// The commit side of a run, its first term, and its first snapper.
+/// Makes the commit side of a run, its first term, and its first snapper.
 pub(crate) fn make<J: Naming, K: Bounds + Ring, P: Predictor + Drop, G, R>(
     run: &RunShared<'_, G, R>,
     state: &RunState<K>,

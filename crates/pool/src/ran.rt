@@ -1,5 +1,5 @@
-//! What a run tells of itself beside how it ended: on which core it ran, with which threads, and what
-//! its commit thread has left of its turns.
+//! The record of a run beside how it ended: on which core it ran, with which threads, and how many turns its commit
+//! thread has left.
 ghost use Rattle.std.specs.Prelude.{◌≡◌};
 ghost use Rattle.back.specs.Backs.{back_state};
 ghost use Rattle.inorder.specs.History.{renewals as renewals_in};
@@ -65,21 +65,21 @@ impl TermRecord {
         }
     }
 
-    /// How many unit threads it had.
+    /// How many unit threads the term had.
     pub fn units(&self) -> u32
         ensures { result ≡ self.now.units }
     {
         self.units
     }
 
-    /// How many places it had, each with a thread or without a snapper.
+    /// How many places the term had, each with a thread or without a snapper.
     pub fn places(&self) -> u32
         ensures { result ≡ self.now.places }
     {
         self.places
     }
 
-    /// How many instructions were committed by its end.
+    /// How many instructions were committed by the end of the term.
     pub fn n(&self) -> u64
         ensures { result ≡ self.now.n }
     {

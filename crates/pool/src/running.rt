@@ -2,7 +2,7 @@
 ghost use Rattle.std.specs.Prelude.{◌≡◌, [], IfOk};
 ghost use Rattle.counts.specs.Shares.{all_parts};
 ghost use Rattle.pool.specs.Ended.{HasRun};
-ghost use Rattle.pool.specs.Runs.{IsCarriedOut, IsLimit, LeavesTurns};
+ghost use Rattle.pool.specs.Runs.{HasTurnsLeft, IsCarriedOut, IsLimit};
 ghost use Rattle.pool.specs.Terms.{MayBegin};
 ghost use Rattle.run_ends.specs.Runs.{RunIsRight, IsWithinLimit, TakesTurns};
 
@@ -85,7 +85,7 @@ fn run_named<
     Ok(committer.end(run.wait, &state))
 }
 
-// What is answered where memory is wanting before a thread has begun.
+// The answer of a run for which memory is wanting before a thread has begun.
 fn wants_memory(config: &Config) -> RunInTurns
     ensures run { result.run ≡ Run.Refused Refusal.Memory }
     ensures turns { ((result.ran).turns).all ≡ config.now.turns }
@@ -95,8 +95,8 @@ fn wants_memory(config: &Config) -> RunInTurns
 }
 
 /// Runs a program on as many unit threads as the configuration says, beside one that dispatches, one
-/// that commits (the caller's own) and those that take snapshots. All have ended when it returns. What
-/// the run tells beside its end says on which core and with how many threads that was, and whether a
+/// that commits (the caller's own) and those that take snapshots. All have ended when the call returns.
+/// The record beside the end says on which core and with how many threads the run was, and whether a
 /// limit was the limit of instructions.
 pub fn run_in_turns<'x, P: Predictor + Drop + Send, G: Gate + Sync, R: Threads + Wait + Sync>(
     wait: &'x R,
@@ -109,7 +109,7 @@ pub fn run_in_turns<'x, P: Predictor + Drop + Send, G: Gate + Sync, R: Threads +
     ensures right { RunIsRight program.now result.run }
     ensures within { IsWithinLimit config.now.limit result.run }
     ensures all { ((result.ran).turns).all ≡ config.now.turns }
-    ensures left { LeavesTurns result.ran result.run }
+    ensures turns_left { HasTurnsLeft result.ran result.run }
     ensures carried { IsCarriedOut config.now result.ran result.run }
     ensures limit { IsLimit config.now.limit result.ran result.run }
 {
@@ -129,7 +129,7 @@ pub fn run_in_turns<'x, P: Predictor + Drop + Send, G: Gate + Sync, R: Threads +
     }
 }
 
-/// Runs a program as `run_in_turns` does, and tells only how the run ended.
+/// Runs a program as `run_in_turns` does, and answers only how the run ended.
 pub fn run<'x, P: Predictor + Drop + Send, G: Gate + Sync, R: Threads + Wait + Sync>(
     wait: &'x R,
     alloc: Global,

@@ -9,7 +9,7 @@ use std::sync::Wait;
 use std::thread::Scope;
 use workers::{Bounds, Gate, RunState};
 
-/// How many places of a run have a thread, or no snapper. `start_snappers` alone tells it.
+/// How many places of a run have a thread, or no snapper. `start_snappers` alone counts them.
 #[derive(Drop)]
 pub(crate) struct Places {
     number: u32,
@@ -26,7 +26,7 @@ impl Model for Places {
 impl Places {
     ghost use Rattle.std.specs.Prelude.{◌≡◌};
 
-    /// How many there are.
+    /// How many places there are.
     pub(crate) fn number(&self) -> u32
         ensures { result ≡ self.now }
     {
@@ -34,7 +34,7 @@ impl Places {
     }
 }
 
-// Starts the thread of a place. False where it can not be started.
+// Starts the thread of a place. False where the thread can not be started.
 fn start_snapper<
     's,
     E: 's,
@@ -55,7 +55,7 @@ fn start_snapper<
         .is_ok()
 }
 
-/// Starts the snapshot threads of so many places. One that gives no snapper has none.
+/// Starts the snapshot threads of so many places. A place that gives no snapper has no thread.
 pub(crate) fn start_snappers<
     's,
     E: 's,

@@ -1,4 +1,4 @@
-//! Starts the thread that dispatches.
+//! Starts the dispatch thread.
 ghost use Rattle.std.specs.Prelude.{◌≡◌, IfSome};
 ghost use Rattle.pool.specs.Terms.{Begins, IsGivenBack};
 ghost use Rattle.workers.specs.Turns.{IsTakenFrom};
@@ -13,7 +13,7 @@ use std::sync::Wait;
 use std::thread::{Promise, PromisedHandle, Scope};
 use workers::{Bounds, TermShared, Turns};
 
-/// What the dispatch thread gives back is of this core and adds to these totals, and some of these turns are taken.
+/// The promise of a dispatch thread: its seats are of this core and these totals, and some of these turns are taken.
 #[derive(Drop)]
 pub(crate) struct GivesBack(Snapshot<Core>, Snapshot<Counts>, Snapshot<Turns>);
 
@@ -26,7 +26,7 @@ impl<P: Predictor + Drop> Promise<Option<Dispatcher<P>>> for GivesBack {
         IsGivenBack p.0.value p.1.value next × IsTakenFrom p.2.value next.turns) };
 }
 
-/// A dispatch thread, which gives back what it owns where the core is to be renewed.
+/// A dispatch thread, which gives back all that it owns where the core is to be renewed.
 pub(crate) type Dispatching<P> = PromisedHandle<Option<Dispatcher<P>>, GivesBack>;
 
 /// Starts the thread that dispatches.

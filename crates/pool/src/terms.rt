@@ -19,8 +19,8 @@ use std::thread;
 use std::thread::Threads;
 use workers::{Bounds, Gate, RunState, TermShared, start_units, units_at_once};
 
-/// What a term begins with: the core, what the dispatch thread owns, and the seats from which those of the units are
-/// cut, of the core and to count with.
+/// A term before its threads have begun, or after they have ended: the core, the things that the dispatch thread owns,
+/// and the seats from which those of the units are cut, of the core and to count with.
 #[derive(Drop)]
 pub(crate) struct Term<P: Predictor + Drop> {
     pub core: Core,
@@ -29,8 +29,8 @@ pub(crate) struct Term<P: Predictor + Drop> {
     pub count: WorkerSeat,
 }
 
-// Starts the threads of a term, commits, and returns when each thread has ended. Where the core is to be renewed, what
-// the dispatch thread owns comes back, and the seat from which those of the units were cut.
+// Starts the threads of a term, commits, and returns when each thread has ended. Where the core is to be renewed, the
+// things that the dispatch thread owns come back, and the seat from which those of the units were cut.
 fn commit_in_threads<
     'x,
     'c,
@@ -74,7 +74,7 @@ fn commit_in_threads<
                 shared.state.end_run();
                 return (committer, None);
             };
-            if !committer.run(shared, &units, places) {
+            if !committer.commit_term(shared, &units, places) {
                 shared.state.end_run();
                 return (committer, None);
             }
@@ -87,7 +87,7 @@ fn commit_in_threads<
     )
 }
 
-// One term, and the next one where the core was renewed.
+// Runs one term, and answers the next one where the core was renewed.
 fn run_term<
     'c,
     J: Naming,
@@ -138,7 +138,7 @@ fn run_term<
     (committer, next)
 }
 
-/// Terms, until the run is over.
+/// Runs one term after another, until the run is over.
 pub(crate) fn run_terms<
     J: Naming,
     K: Bounds + Ring + Send + Sync,

@@ -1,4 +1,4 @@
-//! What a snapshot thread does.
+//! A snapshot thread.
 ghost use Rattle.snapshots.specs.Snapshots.{IsSnapshotOf};
 
 use hints::Ring;

@@ -1,4 +1,4 @@
--- The configuration of a run, and what stands for totals and a configuration where no run is meant.
+-- The configuration of a run, and stand-ins for totals and a configuration where no run is meant.
 use Rattle.std.specs.Prelude.{[]}
 use Rattle.atomic_table.specs.Seated.{TableId}
 use Rattle.inorder.specs.Unit.{Sizes}

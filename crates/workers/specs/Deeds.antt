@@ -1,4 +1,4 @@
--- What a caller has done, by its own entries in what it has seen, and that its thread has counted just that.
+-- The deeds of a caller, by its own entries in the history that it has seen, and that its thread has counted just these.
 use Rattle.std.specs.Prelude.{◌≡◌, ℕ, ◌+◌, ◌%◌, ◌^◌, false, ◌==◌, if◌then◌else◌, List, Option, Some, None, sum_by}
 use Rattle.counts.specs.declared.tally.Total.{Total}
 use Rattle.counts.specs.declared.tally.Total.TheVariants.{Claims, Finishes, Hints, Lets, Loads, Mends, Squashes, Stale}
@@ -55,16 +55,16 @@ total_of (Does step) = total_of_step step
 total_of (Refuses refusal) = total_of_refusal refusal
 total_of (Marks mark) = None
 
--- How many that is of this total
+-- One where this is the total, and else none
 abbrev pub one_of : Total → Option Total → ℕ
 one_of total None = 0
 one_of total (Some other) = if position_of total == position_of other then 1 else 0
 
--- How many of a total these events are
+-- How many of these events add to a total
 abbrev pub done_in : Total → List Event → ℕ
 done_in total events = sum_by (λ e. one_of total (total_of e)) events
 
--- How many of a total a caller's own entries are
+-- How many of a caller's own entries add to a total
 abbrev pub deeds : Total → ℕ → List Entry → ℕ
 deeds total by seen = sum_by (λ e. one_of total (total_of e.event)) (own by seen)
 
@@ -72,32 +72,32 @@ deeds total by seen = sum_by (λ e. one_of total (total_of e.event)) (own by see
 abbrev pub HasDone : ℕ → List Entry → List Entry → Option Total → Type 0
 HasDone by old new one = (total : Total) → deeds total by new ≡ one_of total one + deeds total by old
 
--- A caller has finished each tenant that it has claimed, or was told that it was squashed
+-- A caller has finished each tenant that it has claimed, or learnt that the tenant was squashed
 abbrev pub HasFinishedAll : ℕ → List Entry → List Entry → Type 0
 HasFinishedAll by old new =
     deeds Claims by new + (deeds Finishes by old + deeds Stale by old) ≡
     deeds Finishes by new + deeds Stale by new + deeds Claims by old
 
--- What a claim is counted as
+-- The total to which a claim adds one, by its answer
 abbrev pub total_of_claim : ClaimAnswer → Option Total
 total_of_claim (Job j) = Some Claims
 total_of_claim IsNotOpen = None
 total_of_claim (Waits tag k) = None
 total_of_claim (HasMoved tag) = None
 
--- What a finish is counted as
+-- The total to which a finish adds one, by its answer
 abbrev pub total_of_finish : FinishAnswer → Option Total
 total_of_finish Finished = Some Finishes
 total_of_finish CameTooLate = Some Stale
 
--- A total of what is told in a history: all but the hints, of which none has an entry
-abbrev pub IsTold : Total → Type 0
-IsTold total = (position_of total == position_of Hints) ≡ false
+-- A total whose deeds have entries in a history: each but the hints
+abbrev pub HasEntries : Total → Type 0
+HasEntries total = (position_of total == position_of Hints) ≡ false
 
 -- Between two moments as much was counted of each of these totals as the caller has done, modulo 2^64
 abbrev pub CountsDeeds : ℕ → List Entry → List Entry → Gathered → Gathered → Type 0
 CountsDeeds by old new before after =
-    (total : Total) → IsTold total →
+    (total : Total) → HasEntries total →
     (counted_of before total + deeds total by new) % 2 ^ 64 ≡ (counted_of after total + deeds total by old) % 2 ^ 64
 
 -- Between two moments as much was counted as the front has done
@@ -107,6 +107,6 @@ CountsFrontDeeds old new before after = CountsDeeds front old new before after
 -- Between two moments a worker's seat has added as much to each of these totals as its caller has done, modulo 2^64
 pub record HasAddedDeeds (old new : Worker) : Type 0 where
   pub by_is : new.seat.by ≡ old.seat.by
-  pub added : (total : Total) → IsTold total →
+  pub added : (total : Total) → HasEntries total →
       ((share_of total old.count.shares).added + deeds total old.seat.by new.seat.seen) % 2 ^ 64 ≡
       ((share_of total new.count.shares).added + deeds total old.seat.by old.seat.seen) % 2 ^ 64

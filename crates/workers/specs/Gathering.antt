@@ -1,4 +1,4 @@
--- What a thread has counted: what it has added to the totals, and what it has gathered since.
+-- The counts of a thread: how much it has added to the totals, and how much it has gathered since.
 use Rattle.std.specs.Prelude.{◌≡◌, ℕ, ◌+◌, ◌%◌, ◌^◌, ◌==◌, if◌then◌else◌}
 use Rattle.counts.specs.declared.tally.Total.{Total}
 use Rattle.counts.specs.declared.tally.Total.TheVariants.{Claims, Finishes, Hints, Lets, Loads, Mends, Renewals, Retires, Squashes, Stale}
@@ -9,7 +9,7 @@ use Rattle.workers.specs.declared.gathered.Gathered.{Gathered}
 use Rattle.workers.specs.declared.search.Candidate.{Candidate}
 use Rattle.workers.specs.declared.search.Candidate.TheVariants.{Hinted, Next}
 
--- What is gathered of a total
+-- The amount of a total that is gathered
 abbrev pub gathered_of : Gathered → Total → ℕ
 gathered_of g Lets = g.lets
 gathered_of g Claims = g.claims
@@ -22,7 +22,7 @@ gathered_of g Mends = g.mends
 gathered_of g Hints = g.hints
 gathered_of g Renewals = 0
 
--- What was counted of a total
+-- The amount of a total that was counted
 abbrev pub counted_of : Gathered → Total → ℕ
 counted_of g t = ((share_of t g.seat.shares).added + gathered_of g t) % 2 ^ 64
 
@@ -42,15 +42,15 @@ CountsNoMore old new = (t : Total) → counted_of new t ≡ counted_of old t
 abbrev pub HasGatheredNothing : Gathered → Type 0
 HasGatheredNothing g = (t : Total) → gathered_of g t ≡ 0
 
--- All that was counted is what this seat has added to the totals
+-- This seat has added all that was counted to the totals
 abbrev pub IsAllAddedBy : Gathered → Counter → Type 0
 IsAllAddedBy g seat = (t : Total) → (share_of t seat.shares).added % 2 ^ 64 ≡ counted_of g t
 
--- How many of a total the claim of a job is that was found so
+-- The amount that the claim of a job adds to a total, by how the job was found
 abbrev pub claim_of : Candidate → Total → ℕ
 claim_of (Hinted station) t = only_of Claims 1 t + only_of Hints 1 t
 claim_of (Next station) t = only_of Claims 1 t
 
--- The claim of a job was counted, and whether its station came as a hint
+-- The claim of a job was counted, and the hint where its station came as one
 abbrev pub CountsClaim : Candidate → Gathered → Gathered → Type 0
 CountsClaim candidate old new = (t : Total) → counted_of new t ≡ (counted_of old t + claim_of candidate t) % 2 ^ 64

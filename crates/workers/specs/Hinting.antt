@@ -1,4 +1,4 @@
--- What is hinted to the units, and where a unit looks for work.
+-- The stations that are hinted, and where a unit looks for work.
 use Rattle.std.specs.Prelude.{⊤, ◌≡◌, ◌⊎◌, ℕ, zero, suc, ◌+◌, ◌<◌, ◌≤◌, ◌%◌, ◌^◌, List, [], ◌∷◌, ◌++◌, All}
 use Rattle.std.specs.Int.{bit_at}
 use Rattle.hints.specs.Hinted.{HasOffered, IsEndOf, TheHinter, TheHints, hand, putting, taking}
@@ -37,7 +37,7 @@ pub record HasHintedOne (station : ℕ) (old new : TheHinter) : Type 0 where
   pub put : (new.hand ≡ putting station old.hand) ⊎ (new.hand ≡ old.hand)
   pub offered : HasOffered old new
 
--- A unit that has finished a job hints whom its result woke; one that came too late hints nobody
+-- A unit that has finished a job hints the stations that its result woke; one that came too late hints none
 abbrev pub HintsWoken : (ring woken : ℕ) → Finish → TheHinter → TheHinter → Type 0
 HintsWoken ring woken Finished old new = HasHinted woken ring old new
 HintsWoken ring woken Stale old new = new ≡ old
@@ -47,7 +47,7 @@ abbrev pub candidate_station : Candidate → ℕ
 candidate_station (Hinted station) = station
 candidate_station (Next station) = station
 
--- A hint that was taken; or no hint was taken, and it is the next station in ring order
+-- The search found a hint; or there was none, and it found the next station in ring order
 abbrev pub LooksAt : (ring : ℕ) → Search → Search → Candidate → Type 0
 LooksAt ring old new (Hinted station) =
     (new.hinter.hand ≡ taking station old.hinter.hand) × (new.next ≡ old.next)

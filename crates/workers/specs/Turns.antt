@@ -1,21 +1,21 @@
 -- The turns of a thread.
 use Rattle.std.specs.Prelude.{◌≡◌, ℕ, ◌<◌, ◌≤◌}
 
--- How many it has in all, and how many of these are left
+-- The turns of a thread: how many in all, and how many of these are left
 pub record TheTurns : Type 0 where
   pub all : ℕ
   pub left : ℕ
 
--- All of them, of which none is taken
+-- So many turns, of which none is taken
 abbrev pub untaken : ℕ → TheTurns
 untaken all = record { all = all; left = all }
 
--- Some of them were taken, or none, and none was given back
+-- Some turns were taken, or none, and none was given back
 pub record AreTaken (old new : TheTurns) : Type 0 where
   pub all : new.all ≡ old.all
   pub left : new.left ≤ old.left
 
--- At least one of them was taken
+-- At least one turn was taken
 pub record IsTakenFrom (old new : TheTurns) : Type 0 where
   pub all : new.all ≡ old.all
   pub left : new.left < old.left

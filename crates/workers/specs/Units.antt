@@ -1,4 +1,4 @@
--- What is true of a unit at work, and what its turns do to it.
+-- A unit at work, and how it stops.
 use Rattle.std.specs.Prelude.{⊤, ◌≡◌}
 use Rattle.atomic_table.specs.Seated.{TableId}
 use Rattle.hints.specs.Hinted.{TheHints}
@@ -21,7 +21,7 @@ abbrev pub HasStopped : TheTurns → Stopped → Type 0
 HasStopped turns (Over over) = ⊤
 HasStopped turns (Spent none other) = turns.left ≡ 0
 
--- Between two moments the unit has counted just what it did: what is gathered and not added yet is in that
+-- Between two moments the unit has counted just its deeds, with those that are gathered and not added yet
 pub record HasCountedDeeds (old new : Unit) : Type 0 where
   pub by_is : new.seat.by ≡ old.seat.by
   pub deeds : CountsDeeds old.seat.by old.seat.seen new.seat.seen old.count new.count

@@ -1,4 +1,4 @@
-//! How a thread backs off that finds nothing to do.
+//! The backoff of a thread that finds nothing to do.
 use std::thread::yield_now;
 
 /// Lets another thread run each time that so many turns in a row were fruitless.
@@ -17,12 +17,12 @@ impl Backoff {
         }
     }
 
-    /// A turn was not fruitless.
+    /// Begins again: a turn was not fruitless.
     pub fn reset(&mut self) {
         self.turns_left = self.after;
     }
 
-    /// A turn was fruitless.
+    /// Counts a fruitless turn, and lets another thread run where there were enough of them.
     pub fn snooze(&mut self) {
         if self.turns_left == 0 {
             yield_now();

@@ -1,7 +1,7 @@
-//! What is fixed for one run.
+//! The totals and the configuration of one run, as contracts name them.
 use std::marker::Brand;
 
-/// What is fixed for one run, in the proof alone: its totals, and how it is configured.
+/// The bounds of one run, in the proof alone: its totals, and how it is configured.
 pub trait Bounds {
     ghost use Rattle.atomic_table.specs.Seated.{TableId};
     ghost use Rattle.instructions.specs.Settings.{Settings};

@@ -1,4 +1,4 @@
-//! What a unit thread does.
+//! The work of a unit thread.
 ghost use Rattle.std.specs.Prelude.{◌≡◌, ◌<◌, ◌≤◌, ◌^◌, IfNone};
 ghost use Rattle.inorder.specs.History.{IsLegal};
 ghost use Rattle.station.specs.Claiming.{ClaimAnswers, Holds};
@@ -21,7 +21,7 @@ use station::{Claim, Core, Finish, Job, UnitSeat, a_job_is_of_the_program};
 use std::sync::Wait;
 use std::thread::yield_now;
 
-// Claims at the station where it looks.
+// Claims at the station of a candidate.
 fn claim(core: &Core, seat: &mut UnitSeat, candidate: Candidate) -> Claim
     requires core { seat.old.core ≡ core.now }
     requires station { candidate_station candidate < core.now.sizes.ring }
@@ -47,7 +47,7 @@ fn compute(core: &Core, seat: &mut UnitSeat, job: Job) -> Finish
     core.finish(seat, job, result)
 }
 
-// Nobody but the unit is told to the gate, and its job's station.
+// Asks the gate about no other unit, and no other station than that of its job.
 fn is_held<G: Gate>(gate: &G, unit: &Unit, job: &Job, number: u32, station: u32) -> bool
     requires number { number ≡ unit.now.number }
     requires station { station ≡ job.now.station }
@@ -55,7 +55,7 @@ fn is_held<G: Gate>(gate: &G, unit: &Unit, job: &Job, number: u32, station: u32)
     gate.held(number, station)
 }
 
-// Waits while the gate holds the unit that has this job, and it has turns left, of which each question takes one.
+// Waits while the gate holds the unit that has this job, and the unit has turns left, of which each question takes one.
 // Another unit is active meanwhile.
 fn wait_at<K: Bounds + Ring, G: Gate, R>(
     shared: &TermShared<'_, K, G, R>,
@@ -82,7 +82,7 @@ fn wait_at<K: Bounds + Ring, G: Gate, R>(
     other
 }
 
-// Finishes a job, counts that, and hints whom its result woke.
+// Finishes a job, counts the finish, and hints the stations that its result woke.
 fn finish<K: Bounds + Ring, G, R: Wait>(
     shared: &TermShared<'_, K, G, R>,
     unit: &mut Unit,
@@ -119,9 +119,9 @@ fn finish<K: Bounds + Ring, G, R: Wait>(
     Finish::Finished
 }
 
-// One turn, and as many more as the gate holds the unit: claims one station, and finishes the job that it gets.
-// Without one it backs off. Another unit is active where it was held.
-fn turn<K: Bounds + Ring, G: Gate, R: Wait>(
+// Claims at one station and finishes the job that is there, or backs off without a job. Takes a turn for each time that
+// the gate holds the unit, and another unit is active then.
+fn claim_and_finish<K: Bounds + Ring, G: Gate, R: Wait>(
     shared: &TermShared<'_, K, G, R>,
     unit: &mut Unit,
     turns: &mut UnitTurns<K>,
@@ -161,7 +161,7 @@ pub(crate) enum Stopped {
     Spent(NoneLeft, Activated),
 }
 
-// Turns, until none is left, which activates another unit, or the term is over.
+// Takes turns until the term is over or none is left, which activates another unit.
 fn take_turns<K: Bounds + Ring, G: Gate, R: Wait>(
     shared: &TermShared<'_, K, G, R>,
     unit: &mut Unit,
@@ -183,11 +183,11 @@ fn take_turns<K: Bounds + Ring, G: Gate, R: Wait>(
         if let Err(none) = turns.take() {
             return Stopped::Spent(none, shared.state.activate());
         }
-        let _other = turn(shared, unit, turns);
+        let _other = claim_and_finish(shared, unit, turns);
     }
 }
 
-// The unit works with its turns. What it has done is then in the totals.
+// Works with the turns of the unit. All that it has done is in the totals then.
 fn work_with<K: Bounds + Ring, G: Gate, R: Wait>(
     shared: &TermShared<'_, K, G, R>,
     worker: Worker,
@@ -205,8 +205,8 @@ fn work_with<K: Bounds + Ring, G: Gate, R: Wait>(
     (unit.stop(shared), stopped)
 }
 
-/// Looks for work at the stations that are hinted, and without a hint in ring order, one a turn, and finishes what
-/// it has claimed. The unit waits until it is active.
+/// Waits until the unit is active, looks for work at the stations that are hinted, and without a hint in ring order, one
+/// a turn, and finishes each job that it has claimed.
 pub(crate) fn work<K: Bounds + Ring, G: Gate, R: Wait>(
     shared: &TermShared<'_, K, G, R>,
     worker: Worker,

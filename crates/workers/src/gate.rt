@@ -1,4 +1,4 @@
-//! What a run tells its watcher, and what it asks.
+//! The watcher of a run: it may hold units, and is given snapshots and tallies.
 ghost use Rattle.std.specs.Prelude.{◌≡◌, false};
 
 use counts::Tally;
@@ -6,18 +6,18 @@ use snapshots::Snap;
 
 /// Watches a run from all its threads. Units and places are numbered from 1.
 pub trait Gate {
-    /// Asked between a unit's claim and its finish, again and again while it answers true and the
-    /// unit has turns left.
+    /// Whether the unit is held. Asked between its claim and its finish, again and again while that is
+    /// true and the unit has turns left.
     fn held(&self, unit: u32, station: u32) -> bool;
 
-    /// Told each snapshot that is taken.
+    /// Called with each snapshot that is taken.
     fn seen(&self, place: u32, snap: &Snap);
 
-    /// Told the tally each time that the commit thread shows: its retirements are the n that it shows.
+    /// Called with the tally each time that the commit thread shows a snapshot, whose n is the number of retirements.
     fn counted(&self, tally: &Tally);
 }
 
-/// Holds nobody, and looks at nothing.
+/// The gate that holds no unit, and looks at nothing.
 #[derive(Drop)]
 pub struct Open;
 

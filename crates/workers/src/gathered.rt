@@ -1,5 +1,5 @@
-//! What a thread counts: it is gathered, and added to the totals now and then, since each addition is
-//! a step on words that all threads share.
+//! The counts of one thread, gathered and added to the totals now and then, since each addition is a step on words
+//! that all threads share.
 ghost use Rattle.std.specs.Prelude.{◌≡◌, false};
 ghost use Rattle.counts.specs.Shares.{is_kept};
 ghost use Rattle.counts.specs.Totals.{position_of};
@@ -10,7 +10,7 @@ use counts::{Counts, Total, WorkerSeat};
 // A thread adds each time that it has counted so often.
 const ADDED_EACH: u32 = 64;
 
-/// A seat to count with, and what was counted since that last added to the totals. `end` alone takes it apart, so
+/// A seat to count with, and how much was counted since it last added to the totals. `end` alone takes it apart, so
 /// that nothing that was counted is lost.
 pub struct Gathered {
     seat: WorkerSeat,
@@ -21,7 +21,7 @@ pub struct Gathered {
     squashes: u64,
     mends: u64,
     hints: u64,
-    // so often it may count until it adds
+    // how often the thread may count until it adds
     until_added: u32,
 }
 
@@ -59,7 +59,7 @@ impl Gathered {
         }
     }
 
-    // Gathers so many of a total, or adds them if it is not one of those that are gathered.
+    // Gathers so many of a total, or adds them to a total that is not gathered.
     fn gather(&mut self, counts: &Counts, total: Total, k: u64)
         requires seat { self.old.seat.of ≡ counts.now }
         requires other { is_kept (position_of total) ≡ false }
@@ -80,7 +80,7 @@ impl Gathered {
         }
     }
 
-    /// Adds what is left to the totals, and gives the seat back.
+    /// Adds all that is gathered to the totals, and gives the seat back.
     pub fn end(mut self, counts: &Counts) -> WorkerSeat
         requires { self.seat.of ≡ counts.now }
         ensures of { result.of ≡ counts.now }
@@ -101,7 +101,7 @@ impl Gathered {
         seat
     }
 
-    // Adds what was gathered to the totals.
+    // Adds all that was gathered to the totals.
     fn add(&mut self, counts: &Counts)
         requires { self.old.seat.of ≡ counts.now }
         ensures of { self.new.seat.of ≡ counts.now }
@@ -118,7 +118,7 @@ impl Gathered {
         self.begin_again();
     }
 
-    // All that was gathered is added.
+    // Begins to gather again, where all that was gathered is added.
     fn begin_again(&mut self)
         ensures seat { self.new.seat ≡ self.old.seat }
         ensures nothing { HasGatheredNothing self.new }

@@ -1,4 +1,4 @@
-//! Tells units of stations at which there may be work.
+//! Hints stations at which units may find work.
 ghost use Rattle.std.specs.Int.{bit_at};
 ghost use Rattle.std.specs.Prelude.{◌≡◌, ◌<◌, ◌≤◌, IsFalse, IsTrue};
 ghost use Rattle.hints.specs.Hinted.{IsEndOf};

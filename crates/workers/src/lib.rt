@@ -1,4 +1,4 @@
-//! What the threads of a run share, and what its unit threads do: each looks for work where it is
+//! The state that the threads of a run share, and its unit threads: each looks for work where it is
 //! hinted, claims, waits at the gate, computes and finishes.
 #![tactic(auto)]
 

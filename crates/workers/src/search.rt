@@ -16,7 +16,7 @@ pub(crate) enum Candidate {
 }
 
 impl Candidate {
-    /// The station.
+    /// The station of the candidate.
     pub(crate) fn station(self) -> usize
         ensures { result ≡ candidate_station self }
     {
@@ -46,7 +46,7 @@ impl Search {
         }
     }
 
-    /// The oldest hint, or the next station in ring order where there is none.
+    /// Takes the oldest hint, or the next station in ring order where there is none.
     pub(crate) fn next<K: Ring, R: Wait>(
         &mut self,
         wait: &R,

@@ -1,4 +1,4 @@
-//! What the threads of one term share.
+//! The things that the threads of one term share.
 ghost use Rattle.std.specs.Prelude.{◌≡◌};
 ghost use Rattle.workers.specs.Configured.{configured_sizes};
 
@@ -7,8 +7,8 @@ use crate::state::RunState;
 use hints::Ring;
 use station::Core;
 
-/// What the threads of one term share: how they wait, the state of the run, the core at which they work, and the gate.
-/// The core has the sizes that the run is to have.
+/// All that the threads of one term share: how they wait, the state of the run, the core at which they work, and the
+/// gate. The core has the sizes that the run is to have.
 #[derive(Drop)]
 pub struct TermShared<'x, K: Bounds + Ring, G, R> {
     pub wait: &'x R,

@@ -5,8 +5,8 @@ use crate::compute::Stopped;
 use std::marker::Model;
 use std::thread::JoinHandle;
 
-/// How many unit threads of a term were started. `start_units` alone tells it, and each of them has a handle: its
-/// thread takes turns until none is left or the term is over.
+/// How many unit threads of a term were started. `start_units` alone counts them, each by its handle: the thread takes
+/// turns until none is left or the term is over.
 #[derive(Drop)]
 pub struct StartedUnits {
     number: u32,
@@ -21,14 +21,14 @@ impl Model for StartedUnits {
 }
 
 impl StartedUnits {
-    /// None.
+    /// No thread.
     pub(crate) fn none() -> StartedUnits
         ensures { result ≡ 0 }
     {
         StartedUnits { number: 0 }
     }
 
-    /// One more, which has this handle.
+    /// Counts one thread more, by its handle.
     pub(crate) fn add(&mut self, _thread: &JoinHandle<Stopped>)
         requires { self.old < 64 }
         ensures { self.new ≡ self.old + 1 }
@@ -36,7 +36,7 @@ impl StartedUnits {
         self.number += 1;
     }
 
-    /// How many there are.
+    /// How many threads there are.
     pub fn number(&self) -> u32
         ensures { result ≡ self.now }
     {

@@ -16,7 +16,7 @@ use std::thread::{Scope, Threads, available_parallelism};
 // The most units that a run has.
 const MOST_UNITS: u64 = 64;
 
-/// So many units are active at once, beside the threads that dispatch and commit: what the machine runs, but one at
+/// How many units are active at once, beside the threads that dispatch and commit: what the machine runs, but one at
 /// least, and all of them where it does not say how many processors it has.
 pub fn units_at_once<R: Threads>(rt: &R) -> u64
     ensures least { 1 ≤ result }
@@ -66,7 +66,8 @@ fn start_unit<
     true
 }
 
-/// Starts the unit threads of a term. Each has seen what the first seat has. The seat that is left has claimed nothing.
+/// Starts the unit threads of a term. Each has seen all that the first seat has. The seat that remains has claimed
+/// nothing.
 pub fn start_units<
     's,
     E: 's,

@@ -1,4 +1,4 @@
-//! What the threads of one run share.
+//! The state that the threads of one run share.
 ghost use Rattle.std.specs.Prelude.{◌≡◌, ◌≤◌, IfOk, length};
 
 use crate::bounds::Bounds;
@@ -12,7 +12,7 @@ use std::sync::atomic::Ordering::{Acquire, Release};
 use std::sync::atomic::{AtomicBool, AtomicU64};
 use std::sync::{Mutex, Wait};
 
-/// The turns of a unit: as many as each thread of its run has. They are made with the state of the run, and taken one by
+/// The turns of a unit: as many as each thread of its run has. All are made with the state of the run, and taken one by
 /// one.
 #[derive(Drop)]
 pub struct UnitTurns<K: Bounds> {
@@ -45,7 +45,7 @@ impl<K: Bounds> UnitTurns<K> {
         }
     }
 
-    /// Takes one, if one is left.
+    /// Takes a turn, if one is left.
     pub(crate) fn take(&mut self) -> Result<(), NoneLeft>
         ensures all { self.new.all ≡ self.old.all }
         ensures one { IfOk result (λ _. self.new.left + 1 ≡ self.old.left) }
@@ -59,19 +59,19 @@ impl<K: Bounds> UnitTurns<K> {
     }
 }
 
-/// A unit has no turn left: `UnitTurns::take` alone makes it.
+/// Shows that a unit has no turn left: `UnitTurns::take` alone makes one.
 #[derive(Drop)]
 pub struct NoneLeft(());
 
-/// One unit more is to work: `RunState::activate` alone makes it.
+/// Shows that one unit more is active: `RunState::activate` alone makes one.
 #[derive(Drop)]
 pub struct Activated(());
 
-/// The threads of a term are to end: `RunState::over` alone makes it.
+/// Shows that the threads of a term are to end: `RunState::over` alone makes one.
 #[derive(Drop)]
 pub struct TermOver(());
 
-/// What outlives a renewal of the core: the totals, the hints, the turns of each unit, and whether threads are to end.
+/// The state of a run, which outlives a renewal of the core: the totals, the hints, the turns of each unit, and whether threads are to end.
 #[derive(Drop)]
 pub struct RunState<K: Bounds + Ring> {
     pub counts: Counts,
@@ -87,7 +87,7 @@ pub struct RunState<K: Bounds + Ring> {
     active: AtomicU64,
     // so many are active at once at the most, where there is work for them
     most_active: AtomicU64,
-    // each unit's own, which its threads take one term after another
+    // the turns of each unit, which its threads take one term after another
     unit_turns: Vec<Mutex<UnitTurns<K>>>,
     pub ghost counts_are: { counts ≡ K.counts },
     pub ghost ring: { hints.ring ≡ (K.config).ring },
@@ -97,7 +97,7 @@ pub struct RunState<K: Bounds + Ring> {
     ghost each: { length unit_turns.items ≡ units },
 }
 
-// So many units, none of which has taken a turn.
+// The turns of so many units, none of which has taken one.
 fn unit_turns<K: Bounds>(
     alloc: Global,
     units: u32,
@@ -159,7 +159,7 @@ impl<K: Bounds + Ring> RunState<K> {
         let _activated = self.activate();
     }
 
-    /// The core is to be renewed.
+    /// Whether the core is to be renewed.
     pub fn has_term_ended(&self) -> bool {
         self.term_ended.load(Acquire)
     }
@@ -171,7 +171,7 @@ impl<K: Bounds + Ring> RunState<K> {
         let _activated = self.activate();
     }
 
-    /// All threads are to end.
+    /// Whether all threads are to end.
     pub fn has_run_ended(&self) -> bool {
         self.run_ended.load(Acquire)
     }
@@ -185,7 +185,7 @@ impl<K: Bounds + Ring> RunState<K> {
         }
     }
 
-    /// The turns of a unit. They stay here from term to term, and its thread takes them where they are.
+    /// The turns of a unit, which stay here from term to term: its thread takes them where they are.
     pub(crate) fn turns_of(&self, unit: u32) -> &Mutex<UnitTurns<K>>
         requires first { 1 ≤ unit }
         requires last { unit ≤ self.now.units }
@@ -193,7 +193,7 @@ impl<K: Bounds + Ring> RunState<K> {
         &self.unit_turns[unit as usize - 1]
     }
 
-    /// Wakes those that wait for something new to see.
+    /// Wakes the threads that wait for something new to see.
     pub fn wake_watchers(&self) {
         self.news.fetch_add(1, Release);
         self.news.wake_all();
@@ -204,7 +204,7 @@ impl<K: Bounds + Ring> RunState<K> {
         self.news.load(Acquire)
     }
 
-    /// Waits until there is more that is new than this. It may also return for no reason.
+    /// Waits until there is more that is new than this. The call may also return for no reason.
     pub fn wait_for_news<R: Wait>(&self, wait: &R, news: u64) {
         self.news.park(wait, (news & 0xffff_ffff) as u32);
     }

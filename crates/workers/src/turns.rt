@@ -31,7 +31,7 @@ impl Turns {
         Turns { all, taken: 0 }
     }
 
-    /// Takes one. False where none is left.
+    /// Takes a turn. False where none is left.
     pub fn take(&mut self) -> bool
         ensures all { self.new.all ≡ self.old.all }
         ensures one { result ≡ true → self.new.left + 1 ≡ self.old.left }
@@ -44,7 +44,7 @@ impl Turns {
         true
     }
 
-    /// How many are left.
+    /// How many turns are left.
     pub fn left(&self) -> u32
         ensures { result ≡ self.now.left }
     {

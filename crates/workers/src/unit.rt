@@ -12,7 +12,8 @@ use counts::{Total, WorkerSeat};
 use hints::Ring;
 use station::UnitSeat;
 
-/// What a unit thread owns: its number from 1 on, its seat, and the one that it counts with.
+/// A unit before and after its work, as its thread owns it: the number from 1 on, its seat, and the one that it counts
+/// with.
 #[derive(Drop)]
 pub struct Worker {
     pub(crate) number: u32,
@@ -20,8 +21,8 @@ pub struct Worker {
     pub(crate) count: WorkerSeat,
 }
 
-/// A unit at work: its number, its seat, what it has counted, where it looks for work, how it backs off, and how often
-/// it has found work since it last looked in vain without a hint.
+/// A unit at work: its number, its seat, its counts, where it looks for work, how it backs off, and how often it has
+/// found work since it last looked in vain without a hint.
 pub struct Unit {
     pub(crate) number: u32,
     pub(crate) seat: UnitSeat,
@@ -82,7 +83,7 @@ impl Unit {
         }
     }
 
-    /// The unit has looked in vain.
+    /// Backs off, where the unit has looked in vain.
     pub(crate) fn back_off(&mut self, candidate: Candidate)
         ensures seat { self.new.seat ≡ self.old.seat }
         ensures count { self.new.count ≡ self.old.count }

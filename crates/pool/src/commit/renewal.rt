@@ -1,4 +1,4 @@
-//! Renewal of the core, where the back leaves it.
+//! Renewal of the core: the back leaves the old one and enters another.
 ghost use Rattle.std.specs.Prelude.{◌≡◌, Err, IfNone, IfSome};
 ghost use Rattle.inorder.specs.History.{unit_of};
 ghost use Rattle.pool.specs.Committing.{MayRenew};
@@ -21,7 +21,8 @@ use std::alloc::Global;
 use workers::{Bounds, RunState};
 
 impl<J: Naming, K: Bounds + Ring> Committer<J, K> {
-    // The commit side with another core, by value.
+    // Renews the core of a commit side that is owned. Without memory core and seats are lost, and the back is at the old
+    // core again.
     fn renewed(
         self,
         parts: (Global, &RunState<K>, Core, FrontSeat, UnitSeat),

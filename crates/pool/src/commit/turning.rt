@@ -1,4 +1,4 @@
-//! The turns of the commit thread.
+//! The turns of the commit thread: in each one commit and one refresh.
 ghost use Rattle.std.specs.Prelude.{◌≡◌, ◌≢◌, ◌+◌, ◌<◌, ◌≤◌, Err, IfOk, None, true};
 ghost use Rattle.back.specs.Backs.{IsSameBack, back_state};
 ghost use Rattle.counts.specs.Reads.{WasTotal};
@@ -20,13 +20,13 @@ use std::snapshot::Snapshot;
 use std::sync::Wait;
 use workers::{Backoff, Bounds, Gate, StartedUnits, TermShared, hint_each};
 
-// The commit thread shows each so many instructions.
+// How many instructions the commit thread commits until it shows again.
 const SHOWN_EACH: u64 = 64;
 
-// After so many fruitless turns it lets another thread run.
+// After so many fruitless turns the commit thread lets another thread run.
 const PATIENCE: u32 = 4;
 
-// The gate is told the retirements that are shown, and of each total what that was at a moment since `before`.
+// Nothing but the retirements that are shown is passed to the gate, and each total as it was at a moment since `before`.
 fn pass_tally<G: Gate>(
     gate: &G,
     shown: &Mark,
@@ -42,7 +42,7 @@ fn pass_tally<G: Gate>(
     gate.counted(tally);
 }
 
-// What a turn came to.
+// How a turn has ended.
 #[derive(Clone, Copy)]
 enum Turned {
     Worked,
@@ -51,7 +51,7 @@ enum Turned {
 }
 
 impl<J: Naming, K: Bounds + Ring> Committer<J, K> {
-    // Shows the state, and passes what was counted until then to the gate.
+    // Shows the state, and passes the tally until then to the gate.
     fn show<G: Gate, R: Wait>(&mut self, shared: &TermShared<'_, K, G, R>) -> Result<(), Memory>
         ensures back { IsSameBack self.old.back (record self.new.back
             { shown = self.old.back.shown }) }
@@ -67,7 +67,7 @@ impl<J: Naming, K: Bounds + Ring> Committer<J, K> {
         Ok(())
     }
 
-    // One refresh. Hints whom a load woke. False where nothing was loaded.
+    // Refreshes once, and hints the stations that a load woke. False where nothing was loaded.
     fn refresh<G, R: Wait>(&mut self, shared: &TermShared<'_, K, G, R>, hinter: &mut Hinter) -> bool
         requires core { self.old.back.core ≡ shared.now.core.now }
         requires hinter { IsEndOf shared.now.state.now.hints hinter.old }
@@ -96,8 +96,8 @@ impl<J: Naming, K: Bounds + Ring> Committer<J, K> {
         true
     }
 
-    // One commit and one refresh. A refused snapshot is want of memory.
-    fn turn<G: Gate, R: Wait>(
+    // Commits and refreshes once. A refused snapshot is want of memory.
+    fn commit_and_refresh<G: Gate, R: Wait>(
         &mut self,
         shared: &TermShared<'_, K, G, R>,
         hinter: &mut Hinter,
@@ -140,9 +140,9 @@ impl<J: Naming, K: Bounds + Ring> Committer<J, K> {
         Ok(turned)
     }
 
-    // Commits until the program has ended, the limit is reached or no turn is left, and then says which. It says
-    // nothing where the core is to be renewed.
-    fn turns<G: Gate, R: Wait>(
+    // Takes turns until the program has ended, the limit is reached or no turn is left, and then answers which. No reason
+    // is answered where the core is to be renewed.
+    fn take_turns<G: Gate, R: Wait>(
         &mut self,
         shared: &TermShared<'_, K, G, R>,
     ) -> Result<Option<Why>, Memory>
@@ -155,7 +155,7 @@ impl<J: Naming, K: Bounds + Ring> Committer<J, K> {
         let mut hinter = shared.state.hints.hinter();
         let mut backoff = Backoff::after(PATIENCE);
         while self.turns.take() {
-            match self.turn(shared, &mut hinter)? {
+            match self.commit_and_refresh(shared, &mut hinter)? {
                 Turned::Worked => backoff.reset(),
                 Turned::Idle if shared.state.has_term_ended() => return Ok(None),
                 Turned::Idle => backoff.snooze(),
@@ -165,9 +165,9 @@ impl<J: Naming, K: Bounds + Ring> Committer<J, K> {
         Ok(Some(Why::Spent))
     }
 
-    /// Commits until there is no more to commit. Where the run is over it shows the last state, and keeps why it is
-    /// over. True where it is not, and the core is to be renewed.
-    pub(crate) fn run<G: Gate, R: Wait>(
+    /// Commits in one term. Where the run is over, the last state is shown, and the reason is kept. True where the run is
+    /// not over, and the core is to be renewed.
+    pub(crate) fn commit_term<G: Gate, R: Wait>(
         &mut self,
         shared: &TermShared<'_, K, G, R>,
         units: &StartedUnits,
@@ -182,7 +182,7 @@ impl<J: Naming, K: Bounds + Ring> Committer<J, K> {
         ensures goes_on { result ≡ true → MayRenew self.new }
     {
         self.over = Err(Refusal::Memory);
-        let Ok(reason) = self.turns(shared) else {
+        let Ok(reason) = self.take_turns(shared) else {
             return false;
         };
         if reason.is_some() && self.show(shared).is_err() {

@@ -1,9 +1,9 @@
 use Rattle.std.proofs.Common.{arith}
 use Rattle.pool.proofs.DispatchDeeds.{mended_done}
-use Rattle.pool.proofs.dispatch.step.Goals as goal
+use Rattle.pool.proofs.dispatch.recover_or_let.Goals as goal
 
 pub returns-in-Mended-clause-counted : goal.returns-in-Mended-clause-counted
-returns-in-Mended-clause-counted g c = λ total told.
+returns-in-Mended-clause-counted g c = λ total has.
     let squashes = c.count-in-Mended.ensures.counted total in
     let mend = c.count.ensures.counted total in
     let done = mended_done _ _ _ _ _ _ c.in-Mended.ensures.reply total in
