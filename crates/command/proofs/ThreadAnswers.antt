@@ -20,7 +20,7 @@ use Rattle.run_ends.specs.declared.answer.Run.TheVariants as run
 use Rattle.run_ends.specs.Runs.{IsAfter, IsStopEnding, IsWithinLimit, RunIsRight}
 use Rattle.pool.specs.Ended.{HasRun}
 use Rattle.pool.specs.Records.{TheRan, configured_term}
-use Rattle.pool.specs.Runs.{IsCarriedOut, IsLimit, LeavesTurns}
+use Rattle.pool.specs.Runs.{HasTurnsLeft, IsCarriedOut, IsLimit}
 use Rattle.pool.specs.declared.answer.RunInTurns.{RunInTurns}
 use Rattle.command_line.specs.declared.request.Asked.{Asked}
 use Rattle.without_threads.specs.declared.went.Line.TheVariants.{Tally}
@@ -79,7 +79,7 @@ carried_out config end totals ran retires all left last spent = record {
 }
 
 run_known : (config : Settings) (P : Program) (r : Run) (ran : TheRan) (e : Ended) → RunIsRight P r → IsWithinLimit config.limit r
-    → (ran.turns).all ≡ config.turns → LeavesTurns ran r → IsCarriedOut config ran r → IsLimit config.limit ran r
+    → (ran.turns).all ≡ config.turns → HasTurnsLeft ran r → IsCarriedOut config ran r → IsLimit config.limit ran r
     → ended_of r ran ≡ Some e → IsKnown config P e
 run_known config P (run.Ended end totals) ran e right within all left carried limit is =
     let same : ◌≡◌ {A = Ended} (record { end = end; tally = totals; ran = ran }) e = cc in
@@ -109,7 +109,7 @@ run_known config P (run.Refused why) ran e right within all left carried limit i
 known : (config : Settings) (P : Program) (r : RunInTurns) (e : Ended) → HasRun P config r → ended_of r.run r.ran ≡ Some e
     → IsKnown config P e
 known config P r e has is =
-    run_known config P r.run r.ran e has.right has.within has.all has.left has.carried has.limit_is is
+    run_known config P r.run r.ran e has.right has.within has.all has.turns_left has.carried has.limit_is is
 
 -- the report of that end
 thread_reports : (asked : Asked) (P : Program) (e : Ended) → asked.alone ≡ false → IsKnown asked.config P e
