@@ -1,4 +1,4 @@
--- The words for how a run ended.
+-- The words of stops and endings.
 use Rattle.std.specs.Prelude.{ℕ, List, ◌++◌, codes}
 use Rattle.instructions.specs.declared.stop.Stop.{Stop}
 use Rattle.instructions.specs.declared.stop.Stop.TheVariants.{Break, Overflow, Unaligned, OutOfRange, BadPc}
@@ -13,7 +13,7 @@ stop_word Unaligned = codes "unaligned"
 stop_word OutOfRange = codes "range"
 stop_word BadPc = codes "badpc"
 
--- how a run ended
+-- the words for how a run ended
 abbrev pub ending_words : Ending → List ℕ
 ending_words (ByStop c) = codes "stop " ++ stop_word c
 ending_words Limit = codes "limit"

@@ -1,4 +1,4 @@
--- What an instruction reads, writes and names.
+-- The registers that an instruction reads and writes, its kind, and the pc after it.
 use Rattle.std.specs.Prelude.{ℕ, ◌+◌, ◌%◌, ◌^◌, Bool, true, false, ◌==◌, if◌then◌else◌, ◌&&◌, nat_lt, List, [], ◌∷◌, Option, Some, None}
 use Rattle.instructions.specs.declared.op.Op.{Op}
 use Rattle.instructions.specs.declared.op.Op.TheVariants.{Addu, Subu, Add, Sub, And, Or, Xor, Nor, Slt, Sltu, Sll, Srl, Sra, Sllv, Srlv, Srav}
@@ -17,11 +17,11 @@ abbrev pub instr_with : Op → (target first second number : ℕ) → Instr
 instr_with op target first second number =
     record { op = op; target = target; first = first; second = second; number = number }
 
--- the address behind the instruction at pc
+-- the address after the instruction at pc
 abbrev pub pc_plus_4 : ℕ → ℕ
 pc_plus_4 pc = (pc + 4) % 2 ^ 32
 
--- all operations
+-- the operations, in the order of their table
 abbrev pub operations : List Op
 operations =
     Addu ∷ Subu ∷ Add ∷ Sub ∷ And ∷ Or ∷ Xor ∷ Nor ∷ Slt ∷ Sltu ∷ Sll ∷ Srl ∷ Sra ∷ Sllv ∷ Srlv ∷ Srav
@@ -51,13 +51,13 @@ kind Jal = Links
 kind Jalr = Links
 kind _ = Computes
 
--- a load or store
+-- whether operations of a kind are loads or stores
 abbrev pub is_access : Kind → Bool
 is_access Loads = true
 is_access Stores = true
 is_access _ = false
 
--- the bytes that a load or store reaches
+-- the number of bytes that a load or store accesses
 abbrev pub width : Op → ℕ
 width Lb = 1
 width Lbu = 1
@@ -67,7 +67,7 @@ width Lhu = 2
 width Sh = 2
 width _ = 4
 
--- the operation is a conditional branch
+-- whether an operation is a conditional branch
 abbrev pub is_branch : Op → Bool
 is_branch Beq = true
 is_branch Bne = true
@@ -77,7 +77,7 @@ is_branch Bltz = true
 is_branch Bgez = true
 is_branch _ = false
 
--- the operation makes two values, one for LO and one for HI
+-- whether an operation makes two values, one for LO and one for HI
 abbrev pub is_pair : Op → Bool
 is_pair Mult = true
 is_pair Multu = true
@@ -85,16 +85,16 @@ is_pair Div = true
 is_pair Divu = true
 is_pair _ = false
 
--- the half that writes LO
+-- whether a half is the one that writes LO
 abbrev pub is_low : Half → Bool
 is_low Low = true
 is_low High = false
 
--- the first of two halves
+-- whether a half is the first of two
 abbrev pub is_first_half : Op → Half → Bool
 is_first_half op half = is_pair op && is_low half
 
--- the operation has a source 1
+-- whether an operation has a source 1
 abbrev pub reads_first : Op → Bool
 reads_first Lui = false
 reads_first J = false
@@ -102,7 +102,7 @@ reads_first Jal = false
 reads_first Break = false
 reads_first _ = true
 
--- the operation has a source 2
+-- whether an operation has a source 2
 abbrev pub reads_second : Op → Bool
 reads_second Addu = true
 reads_second Subu = true
@@ -128,19 +128,19 @@ reads_second Beq = true
 reads_second Bne = true
 reads_second _ = false
 
--- operations of this kind write a register
+-- whether operations of a kind write a register
 abbrev pub kind_writes : Kind → Bool
 kind_writes Jumps = false
 kind_writes Stores = false
 kind_writes _ = true
 
--- the operation writes a register
+-- whether an operation writes a register
 abbrev pub writes : Op → Bool
 writes Break = false
 writes op = kind_writes (kind op)
 
--- the register that is read where register r is named: a multiplication or division reads no other
--- than a general one
+-- the register that is read where an instruction names register r: a multiplication or division reads general
+-- registers alone
 abbrev pub read_by : Bool → ℕ → ℕ
 read_by true r = if nat_lt r general_count then r else 0
 read_by false r = r
@@ -165,7 +165,7 @@ abbrev pub pair_target : Half → ℕ
 pair_target Low = lo
 pair_target High = hi
 
--- the register of a half, where it writes one: the named one, or that of its half of a pair
+-- the register of a half, where it writes one: that of the half of a pair, else the one that is named
 abbrev pub target_by : Bool → Half → ℕ → ℕ
 target_by true half r = pair_target half
 target_by false half r = r
@@ -189,7 +189,7 @@ destination_by _ r = r
 abbrev pub destination : Instr → Half → ℕ
 destination i half = destination_by (kind i.op) (target_of i half)
 
--- the pc behind the instruction at pc, or none where a predictor is asked for it
+-- the pc after the instruction at pc, or none where a predictor is asked for it
 abbrev pub fixed_next_by : Op → ℕ → ℕ → Option ℕ
 fixed_next_by J pc to = Some to
 fixed_next_by Jal pc to = Some to
@@ -197,12 +197,12 @@ fixed_next_by Jr pc to = None
 fixed_next_by Jalr pc to = None
 fixed_next_by op pc to = if is_branch op then None else Some (pc_plus_4 pc)
 
--- the pc behind a half, or none where a predictor is asked for it: behind the first of two halves
--- comes the second, at the same pc
+-- the pc after a half, or none where a predictor is asked for it: the second of two halves follows the first at the
+-- same pc
 abbrev pub fixed_next_if : Bool → Instr → ℕ → Option ℕ
 fixed_next_if true i pc = Some pc
 fixed_next_if false i pc = fixed_next_by i.op pc i.number
 
--- the pc behind a half of an instruction, or none where a predictor is asked for it
+-- the pc after a half of an instruction, or none where a predictor is asked for it
 abbrev pub fixed_next : Instr → Half → ℕ → Option ℕ
 fixed_next i half pc = fixed_next_if (is_first_half i.op half) i pc

@@ -1,5 +1,6 @@
 pub mod Registers
 pub mod Instruction
+pub mod Targets
 pub mod Products
 pub mod Operations
 pub mod Programs

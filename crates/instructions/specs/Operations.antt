@@ -1,4 +1,4 @@
--- What each operation comes to: MIPS I's integer operations, without delay slots.
+-- The outcome of each operation: MIPS I's integer operations, without delay slots.
 use Rattle.std.specs.Prelude.{ℕ, ℤ, pos, negsuc, ◌+◌, ◌-◌, ◌*◌, ◌/◌, ◌%◌, ◌^◌, ◌<◌, ◌≤◌, ◌+ℤ◌, ◌-ℤ◌, Bool, true, false, not, ◌&&◌, ⊤, ◌==◌, nat_lt, nat_le, int_lt, int_le, if◌then◌else◌, bit_and, bit_or, bit_xor, Result, Ok, Err}
 use Rattle.std.specs.Int.{Width, w8, w16, w32, cast_signed, cast_unsigned, int_div_euclid}
 use Rattle.instructions.specs.declared.op.Op.{Op}
@@ -23,7 +23,7 @@ code_of Unaligned = 2
 code_of OutOfRange = 3
 code_of BadPc = 4
 
--- a number of 32 bits
+-- whether a number has 32 bits
 abbrev pub IsWord : ℕ → Type 0
 IsWord n = n < 2 ^ 32
 
@@ -31,7 +31,7 @@ IsWord n = n < 2 ^ 32
 abbrev pub signed : ℕ → ℤ
 signed a = cast_signed w32 a
 
--- a whole number is from -2^31 to 2^31 - 1
+-- whether a whole number is from -2^31 to 2^31 - 1
 abbrev pub fits_word : ℤ → Bool
 fits_word z = int_le (negsuc (2 ^ 31 - 1)) z && int_lt z (pos (2 ^ 31))
 
@@ -64,12 +64,11 @@ flag false = Ok 0
 abbrev pub shifted_left : ℕ → ℕ → ℕ
 shifted_left a n = (a * 2 ^ n) % 2 ^ 32
 
--- the sign bit comes in: the signed number divided by a power of two, rounded down
+-- a word shifted to the right by n bits with its sign: the signed number divided by 2^n, rounded down
 abbrev pub shifted_signed : ℕ → ℕ → ℕ
 shifted_signed a n = cast_unsigned w32 (int_div_euclid (signed a) (pos (2 ^ n)))
 
--- what a half of a computing operation comes to: its value, or a stop. Others have no row of their
--- own
+-- the result of a half of a computing operation: its value, or a stop; other operations have no row of their own
 unfoldable pub computed_by : Op → Half → ℕ → ℕ → ℕ → Result ℕ Stop
 computed_by Addu half a b i = Ok (sum a b)
 computed_by Subu half a b i = Ok (difference a b)
@@ -105,11 +104,11 @@ computed_by Xori half a b i = Ok (bit_xor a i)
 computed_by Lui half a b i = Ok (shifted_left i 16)
 computed_by _ half a b i = Err BreakStop
 
--- where a branch at pc goes on
+-- the pc after a branch at pc, by whether it is taken
 abbrev pub taken_if : Bool → ℕ → ℕ → ℕ
 taken_if taken pc to = if taken then to else pc_plus_4 pc
 
--- where a branch or jump at pc goes on
+-- the pc after a branch or jump at pc
 unfoldable pub jump_target : Op → ℕ → ℕ → ℕ → ℕ → ℕ
 jump_target Beq pc a b to = taken_if (a == b) pc to
 jump_target Bne pc a b to = taken_if (not (a == b)) pc to
@@ -121,7 +120,7 @@ jump_target Jr pc a b to = a
 jump_target Jalr pc a b to = a
 jump_target _ pc a b to = to
 
--- an access of w bytes at an address, to a memory of this size
+-- the result of an access of w bytes at an address, to a memory of this size
 unfoldable pub checked_address : ℕ → ℕ → ℕ → Result ℕ Stop
 checked_address w at size =
     if at % w == 0 then (if nat_le (at + w) size then Ok at else Err OutOfRange) else Err Unaligned
@@ -144,8 +143,7 @@ outcome_by Links i half pc a b size = Next (jump_target i.op pc a b i.number)
 outcome_by Loads i half pc a b size = as_address (checked_address (width i.op) (sum a i.number) size)
 outcome_by Stores i half pc a b size = as_address (checked_address (width i.op) (sum a i.number) size)
 
--- what a half of an instruction at pc comes to, where its sources are a and b and data memory has
--- this size
+-- the outcome of a half of an instruction at pc, where its sources are a and b and data memory has this size
 abbrev pub outcome_of : Instr → Half → ℕ → ℕ → ℕ → ℕ → Outcome
 outcome_of i half pc a b size = outcome_by (kind i.op) i half pc a b size
 
@@ -159,7 +157,7 @@ abbrev pub outcome_if : Bool → Instr → ℕ → ℕ → ℕ → ℕ → Outco
 outcome_if true i pc a b size = paired (outcome_of i Low pc a b size) (outcome_of i High pc a b size)
 outcome_if false i pc a b size = outcome_of i Low pc a b size
 
--- what an instruction at pc comes to, where its sources are a and b and data memory has this size
+-- the outcome of an instruction at pc, where its sources are a and b and data memory has this size
 abbrev pub outcome : Instr → ℕ → ℕ → ℕ → ℕ → Outcome
 outcome i pc a b size = outcome_if (is_pair i.op) i pc a b size
 
@@ -173,7 +171,7 @@ loaded Lb raw = extended w8 (raw % 2 ^ 8)
 loaded Lh raw = extended w16 (raw % 2 ^ 16)
 loaded _ raw = raw
 
--- an address is that of an access of w bytes inside the memory
+-- whether an access of w bytes at an address is inside the memory
 abbrev pub AddressIsInside : Outcome → ℕ → ℕ → Type 0
 AddressIsInside (Address at) w size = at + w ≤ size
 AddressIsInside _ w size = ⊤

@@ -22,7 +22,7 @@ signed_product a b = cast_unsigned w64 (a *ℤ b)
 abbrev pub quotient : ℕ → ℕ → ℕ
 quotient a b = if b == 0 then 0 else a / b
 
--- what is left of the dividend; all of it where the divisor is 0
+-- the remainder; the dividend where the divisor is 0
 abbrev pub remainder : ℕ → ℕ → ℕ
 remainder a b = if b == 0 then a else a % b
 
@@ -30,7 +30,8 @@ remainder a b = if b == 0 then a else a % b
 abbrev pub signed_quotient : ℤ → ℤ → ℕ
 signed_quotient a b = if int_eq b (pos 0) then 0 else cast_unsigned w32 (int_div a b)
 
--- the dividend less that quotient times the divisor, as a word: it has the sign of the dividend
+-- the remainder of two whole numbers, as a word: the dividend less the quotient times the divisor, with the sign of the
+-- dividend
 abbrev pub signed_remainder : ℤ → ℤ → ℕ
 signed_remainder a b =
     if int_eq b (pos 0) then cast_unsigned w32 a else cast_unsigned w32 (int_rem a b)

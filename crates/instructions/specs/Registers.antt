@@ -1,11 +1,11 @@
 -- The registers.
 use Rattle.std.specs.Prelude.{ℕ}
 
--- the general ones, which a listing can name
+-- the number of general registers, which a listing can name
 abbrev pub general_count : ℕ
 general_count = 32
 
--- LO and HI, which multiplications and divisions write
+-- LO: the low word of a product, or the quotient of a division
 abbrev pub lo : ℕ
 lo = 32
 
@@ -13,6 +13,6 @@ lo = 32
 abbrev pub hi : ℕ
 hi = 33
 
--- how many there are
+-- the number of registers
 abbrev pub register_count : ℕ
 register_count = 34

@@ -3,7 +3,7 @@ use Rattle.std.specs.Prelude.{◌≡◌, ℕ, ◌-◌, ◌^◌, Bool, ◌&&◌, 
 use Rattle.instructions.specs.declared.config.BadConfig.{BadConfig}
 use Rattle.instructions.specs.declared.config.BadConfig.TheVariants.{Ring, Queue, Units, Places, Tag, Limit, Turns}
 
--- what a configuration fixes
+-- a configuration
 pub record Settings : Type 0 where
   pub ring : ℕ
   pub queue : ℕ
@@ -13,15 +13,15 @@ pub record Settings : Type 0 where
   pub limit : ℕ
   pub turns : ℕ
 
--- a number of stations that the ring can have
+-- whether the ring can have this number of stations
 abbrev pub is_ring : ℕ → Bool
 is_ring n = n == 2 || n == 4 || n == 8 || n == 16 || n == 32
 
--- a number from the least to the most
+-- whether a number is from the least to the most
 abbrev pub is_from_to : ℕ → ℕ → ℕ → Bool
 is_from_to least most n = nat_le least n && nat_le n most
 
--- the first of the arguments, in their order, that is out of its range
+-- the first argument, in their order, that is out of its range
 abbrev pub first_bad : (ring queue units places first_tag limit turns : ℕ) → Option BadConfig
 first_bad ring queue units places first_tag limit turns =
     if is_ring ring then
@@ -34,7 +34,7 @@ first_bad ring queue units places first_tag limit turns =
     else Some Turns else Some Limit else Some Tag else Some Places else Some Units
     else Some Queue else Some Ring
 
--- each of the arguments is in its range
+-- whether each argument is in its range
 abbrev pub IsValid : (ring queue units places first_tag limit turns : ℕ) → Type 0
 IsValid ring queue units places first_tag limit turns =
     first_bad ring queue units places first_tag limit turns ≡ None

@@ -1,4 +1,4 @@
-//! Configurations.
+//! The configuration of a core and its run.
 ghost use Rattle.std.specs.Prelude.{◌≡◌, ◌≤◌, ◌<◌, ◌^◌, ◌-◌, None, Some, IfOk, IfErr};
 ghost use Rattle.instructions.specs.Settings.{Settings, IsValid, first_bad, is_ring};
 
@@ -129,7 +129,7 @@ impl Config {
         })
     }
 
-    /// How many reservation stations the ring has.
+    /// The number of reservation stations in the ring.
     pub fn ring(&self) -> u32
         ensures value { result ≡ self.now.ring }
         ensures least { 2 ≤ result }
@@ -138,7 +138,7 @@ impl Config {
         self.ring
     }
 
-    /// How many loads and stores are in flight at most.
+    /// The most loads and stores in flight.
     pub fn queue(&self) -> u32
         ensures value { result ≡ self.now.queue }
         ensures least { 2 ≤ result }
@@ -147,7 +147,7 @@ impl Config {
         self.queue
     }
 
-    /// How many unit seats there are.
+    /// The number of unit seats.
     pub fn units(&self) -> u32
         ensures value { result ≡ self.now.units }
         ensures least { 1 ≤ result }
@@ -156,7 +156,7 @@ impl Config {
         self.units
     }
 
-    /// How many snapshot places there are.
+    /// The number of snapshot places.
     pub fn places(&self) -> u32
         ensures value { result ≡ self.now.places }
         ensures least { 1 ≤ result }
@@ -174,14 +174,14 @@ impl Config {
         self.first_tag
     }
 
-    /// How many instructions a run has at most.
+    /// The most instructions of a run.
     pub fn limit(&self) -> u32
         ensures { result ≡ self.now.limit }
     {
         self.limit
     }
 
-    /// How many turns each thread has.
+    /// The number of turns of each thread.
     pub fn turns(&self) -> u32
         ensures value { result ≡ self.now.turns }
         ensures least { 1 ≤ result }

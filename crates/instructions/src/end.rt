@@ -12,7 +12,7 @@ pub enum Ending {
     Limit,
 }
 
-/// As a report has it.
+/// The words of an ending, as a report has them.
 impl fmt::Display for Ending {
     ghost output = { λ ending. Some (ending_words ending) };
 
@@ -24,10 +24,10 @@ impl fmt::Display for Ending {
     }
 }
 
-/// The end of a run: the number of instructions that it ran, and the state behind them.
+/// The end of a run: the number of instructions that it ran, and the state after them.
 #[derive(Drop)]
 pub struct End {
-    /// How many instructions were run; a stop is not counted.
+    /// The number of instructions that were run, without the one that stops.
     pub n: u64,
     /// The address at which the next instruction would run, or of the one that stops.
     pub pc: u32,

@@ -1,18 +1,18 @@
-//! What a predictor is told, and asked.
+//! How a predictor is trained and asked.
 ghost use Rattle.std.specs.Prelude.{◌≡◌};
 ghost use Rattle.instructions.specs.Guesses.{Guesses, IsTold};
 
 use crate::{Half, Instr, Predictor};
 
-/// An instruction that has left, as a predictor is told of it: the one at `pc`, about which the
-/// predictor was asked, has gone on at `next`.
+/// An instruction that has left its station and trains the predictor: the one at `pc`, about which the predictor was
+/// asked, has gone on at `next`.
 #[derive(Clone, Copy)]
 pub struct Leaver {
     pub pc: u32,
     pub next: u32,
 }
 
-/// Tells a predictor of who has left, if there is one.
+/// Trains a predictor with an instruction that has left, if there is one.
 pub fn tell<P: Predictor>(predictor: &mut P, left: Option<Leaver>)
     ensures { IsTold P.Learns left predictor.old predictor.new }
 {
@@ -21,7 +21,8 @@ pub fn tell<P: Predictor>(predictor: &mut P, left: Option<Leaver>)
     }
 }
 
-/// Tells a predictor of who has left, and asks it where the next instruction goes on, unless that is fixed.
+/// Trains a predictor with an instruction that has left, and asks it for the pc after the next instruction, unless that
+/// is fixed.
 pub fn guess<P: Predictor>(
     predictor: &mut P,
     left: Option<Leaver>,

@@ -1,11 +1,11 @@
-//! Instructions.
+//! An instruction, and the registers that it reads and writes.
 ghost use Rattle.std.specs.Prelude.{◌≡◌, IsTrue, true};
 ghost use Rattle.instructions.specs.Instruction.{source as source_of, written as written_of, fixed_next as fixed_next_of, destination as destination_of, is_pair as is_pair_of, is_first_half as first_half, first_of, second_of, target_of, pair_target as pair_target_of, read_by, instr_with};
 
 use crate::{Half, Kind, Op, Reg, pc_plus_4};
 
 /// An instruction: its operation, and the registers and the number that it names. Register 0 stands
-/// where the operation has no register. What it reads and writes is told by its calls.
+/// where the operation has no register.
 #[derive(Clone, Copy, Debug, PartialEq, Eq)]
 pub struct Instr {
     pub op: Op,
@@ -19,8 +19,8 @@ pub struct Instr {
     pub number: u32,
 }
 
-// the register that is read where this one is named: a multiplication or division reads no other
-// than a general one
+// The register that is read where an instruction names this one: a multiplication or division reads general registers
+// alone.
 #[inline(always)]
 fn read_register(op: Op, named: Reg) -> Reg
     ensures { result ≡ read_by (is_pair_of op) named }
@@ -32,8 +32,8 @@ fn read_register(op: Op, named: Reg) -> Reg
     }
 }
 
-// the register that a multiplication or division reads where this one is named; apart from the way that
-// nearly every instruction takes
+// The register that a multiplication or division reads where it names this one: a function of its own, since nearly
+// every instruction takes the other way.
 #[cold]
 #[inline(never)]
 fn read_by_pair(named: Reg) -> Reg
@@ -46,7 +46,7 @@ fn read_by_pair(named: Reg) -> Reg
     }
 }
 
-// a comparison of its own, since it is one of 51 by 51 cases
+// Whether two operations are equal: a comparison of its own, since it has 51 by 51 cases.
 fn same_op(one: Op, other: Op) -> bool
     ensures yes { IsTrue result → one ≡ other }
     ensures no { one ≡ other → IsTrue result }
@@ -54,7 +54,7 @@ fn same_op(one: Op, other: Op) -> bool
     one == other
 }
 
-// the register that a half of a multiplication or division writes
+// The register that a half of a multiplication or division writes.
 #[cold]
 #[inline(never)]
 fn pair_target(half: Half) -> Reg
@@ -81,7 +81,7 @@ impl Instr {
         }
     }
 
-    /// They are one instruction.
+    /// Whether two instructions are equal.
     pub fn is_same(&self, other: &Instr) -> bool
         ensures yes { IsTrue result → self.now ≡ other.now }
         ensures no { self.now ≡ other.now → IsTrue result }
@@ -125,7 +125,7 @@ impl Instr {
         read_register(self.op, self.second)
     }
 
-    /// The half is the first of two: the second comes behind it, at the same pc.
+    /// Whether a half is the first of two: the second follows at the same pc.
     pub fn is_first_half(&self, half: Half) -> bool
         ensures { result ≡ first_half self.now.op half }
     {
@@ -142,7 +142,7 @@ impl Instr {
         }
     }
 
-    // the register of a half, where it writes one
+    // The register of a half, where it writes one.
     fn target(&self, half: Half) -> Reg
         ensures { result ≡ target_of self.now half }
     {
@@ -171,8 +171,8 @@ impl Instr {
         self.number
     }
 
-    /// The pc behind a half where that needs no prediction; None for a conditional branch, `jr` and
-    /// `jalr`. Behind the first of two halves it is the same pc.
+    /// The pc after a half where that needs no prediction; None for a conditional branch, `jr` and `jalr`. The second of
+    /// two halves follows the first at the same pc.
     pub fn fixed_next(&self, half: Half, pc: u32) -> Option<u32>
         ensures { result ≡ fixed_next_of self.now half pc }
     {

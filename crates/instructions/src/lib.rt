@@ -1,5 +1,5 @@
-//! The integer operations of MIPS I without delay slots: what they are, what each comes to, and the
-//! programs, configurations and predictors that every machine here shares.
+//! The integer operations of MIPS I without delay slots and the outcome of each, and the programs, configurations and
+//! predictors that every machine here shares.
 #![tactic(auto)]
 
 mod config;

@@ -1,9 +1,9 @@
-//! Operations.
+//! The operations, and what each reads, writes and does.
 ghost use Rattle.std.specs.Prelude.{◌≡◌, ◌<◌, ◌≤◌};
+ghost use Rattle.instructions.specs.Targets.{names_target as names_target_of};
 ghost use Rattle.instructions.specs.Instruction.{operations, kind as kind_of, width as width_of, is_access as is_access_of, is_branch as is_branch_of, is_pair as is_pair_of, reads_first as reads_first_of, reads_second as reads_second_of, writes as writes_of};
 
-/// An operation, one for each row of the table of MIPS I integer operations. `nop` is `Sll` of
-/// zeros.
+/// An operation of the table of MIPS I integer operations. `nop` is `Sll` of zeros.
 #[derive(Clone, Copy, Debug, PartialEq, Eq)]
 pub enum Op {
     Addu,
@@ -72,9 +72,9 @@ pub enum Half {
 pub enum Kind {
     /// Computes a value from its sources, or stops.
     Computes,
-    /// Only says where to go on.
+    /// Sets the pc and writes no register.
     Jumps,
-    /// Says where to go on, and writes the address behind it.
+    /// Sets the pc, and writes the address after the instruction into a register.
     Links,
     /// Reads memory into a register.
     Loads,
@@ -158,14 +158,14 @@ impl Op {
         }
     }
 
-    /// The operation is a load or store.
+    /// Whether the operation is a load or a store.
     pub fn is_access(self) -> bool
         ensures { result ≡ is_access_of (kind_of self) }
     {
         matches!(self.kind(), Kind::Loads | Kind::Stores)
     }
 
-    /// How many bytes a load or store reaches: 1, 2 or 4.
+    /// The number of bytes that a load or store accesses: 1, 2 or 4.
     pub fn width(self) -> u32
         ensures value { result ≡ width_of self }
         ensures positive { 0 < result }
@@ -178,7 +178,7 @@ impl Op {
         }
     }
 
-    /// The operation is a conditional branch.
+    /// Whether the operation is a conditional branch.
     pub fn is_branch(self) -> bool
         ensures { result ≡ is_branch_of self }
     {
@@ -188,19 +188,28 @@ impl Op {
         )
     }
 
-    /// The operation makes two values, one for LO and one for HI.
+    /// Whether the operation makes two values, one for LO and one for HI.
     pub fn is_pair(self) -> bool
         ensures { result ≡ is_pair_of self }
     {
         matches!(self, Op::Mult | Op::Multu | Op::Div | Op::Divu)
     }
 
+    /// Whether the number of an instruction with this operation is the address of its target.
+    pub fn names_target(self) -> bool
+        ensures { result ≡ names_target_of self }
+    {
+        self.is_branch() || matches!(self, Op::J | Op::Jal)
+    }
+
+    // Whether the operation has a source 1.
     pub(crate) fn reads_first(self) -> bool
         ensures { result ≡ reads_first_of self }
     {
         !matches!(self, Op::Lui | Op::J | Op::Jal | Op::Break)
     }
 
+    // Whether the operation has a source 2.
     pub(crate) fn reads_second(self) -> bool
         ensures { result ≡ reads_second_of self }
     {
@@ -213,6 +222,7 @@ impl Op {
         }
     }
 
+    // Whether the operation writes a register.
     pub(crate) fn writes(self) -> bool
         ensures { result ≡ writes_of self }
     {

@@ -10,22 +10,22 @@ use crate::{Instr, pc_plus_4};
 /// how that turned out. Its answers may be any numbers: a wrong one is a misprediction, which costs
 /// time and changes no result.
 pub trait Predictor {
-    /// What an answer to `predict` is, and what the call makes of the predictor.
+    /// The relation between the answer of `predict` and the predictor before and after the call.
     ghost Predicts: { Self → ℕ → Instruction → ℕ → Self → Type 0 };
 
-    /// What `told` makes of the predictor.
+    /// The relation between the predictor before and after `told`.
     ghost Learns: { Self → ℕ → ℕ → Self → Type 0 };
 
-    /// The pc behind the instruction at `pc`.
+    /// A guess of the pc after the instruction at `pc`.
     fn predict(&mut self, pc: u32, instr: &Instr) -> u32
         ensures { Predicts self.old pc instr.now result self.new };
 
-    /// The instruction at `pc`, which was predicted, has gone on at `next`.
+    /// Trains the predictor: the instruction at `pc`, which was predicted, has gone on at `next`.
     fn told(&mut self, pc: u32, next: u32)
         ensures { Learns self.old pc next self.new };
 }
 
-/// Nothing is taken.
+/// Predicts that no branch is taken.
 #[derive(Clone, Copy, Drop)]
 pub struct NotTaken;
 
@@ -41,7 +41,7 @@ impl Predictor for NotTaken {
     fn told(&mut self, _pc: u32, _next: u32) {}
 }
 
-/// Each conditional branch is taken; `jr` and `jalr` go on behind themselves.
+/// Predicts that each conditional branch is taken, and that `jr` and `jalr` go on at the next instruction.
 #[derive(Clone, Copy, Drop)]
 pub struct Taken;
 
@@ -62,8 +62,8 @@ impl Predictor for Taken {
 }
 
 /// SimpleScalar's bimodal predictor: 2,048 two-bit counters, found by the low bits of the pc. A
-/// conditional branch is taken where its counter is 2 or 3; `jr` and `jalr` go on behind
-/// themselves.
+/// conditional branch is taken where its counter is 2 or 3; `jr` and `jalr` go on at the next
+/// instruction.
 #[derive(Clone, Copy, Drop)]
 pub struct Bimod {
     counters: [u8; 2048],
@@ -106,7 +106,7 @@ impl Predictor for Bimod {
     }
 }
 
-// the number of the counter of a pc
+// The number of the counter of a pc.
 fn place(pc: u32) -> usize
     ensures value { result ≡ counter_at pc }
     ensures small { result < 2048 }

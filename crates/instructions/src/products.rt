@@ -39,7 +39,7 @@ fn remainder(a: u32, b: u32) -> u32
     if b == 0 { a } else { a % b }
 }
 
-// the quotient cut towards zero
+// The quotient, cut towards zero.
 fn signed_quotient(a: i32, b: i32) -> u32
     ensures { result ≡ signed_quotient_of a b }
 {
@@ -50,7 +50,7 @@ fn signed_quotient(a: i32, b: i32) -> u32
     }
 }
 
-// the remainder with the sign of the dividend
+// The remainder, with the sign of the dividend.
 fn signed_remainder(a: i32, b: i32) -> u32
     ensures { result ≡ signed_remainder_of a b }
 {

@@ -1,4 +1,4 @@
-//! Programs.
+//! A program: instructions, and the bytes with which data memory starts.
 ghost use Rattle.std.specs.Prelude.{◌≡◌, ◌<◌, ◌≤◌, ◌%◌, ◌↔◌, IfOk, IsTrue, length, slice_index};
 ghost use Rattle.instructions.specs.Programs.{Program as Text, instr_at, instr_of};
 
@@ -6,7 +6,7 @@ use crate::{Instr, Memory};
 use std::alloc::Global;
 use std::marker::Model;
 
-/// The instructions of a listing, and the bytes that its data memory starts with. Instruction i
+/// The instructions of a listing, and the bytes with which its data memory starts. Instruction i
 /// stands at address 0x00400000 + 4i; data memory is the bytes from 0 on, apart from the text.
 #[derive(Drop)]
 pub struct Program {
@@ -30,11 +30,11 @@ impl Program {
     /// The most bytes that data memory can have.
     pub const MOST_BYTES: usize = 65_536;
 
-    /// Where the text begins.
+    /// The address at which the text begins.
     pub const START: u32 = 0x0040_0000;
 
-    /// A program can have so many instructions, and data memory so many bytes: at most 16,384 and
-    /// 65,536, and the bytes are whole words.
+    /// Whether a program can have so many instructions, and data memory so many bytes: at most 16,384 and 65,536, and
+    /// the bytes are whole words.
     pub fn fits(instructions: usize, bytes: usize) -> bool
         ensures { IsTrue result ↔ (instructions ≤ 16384) × ((bytes ≤ 65536) × (bytes % 4 ≡ 0)) }
     {
@@ -61,7 +61,7 @@ impl Program {
         Ok(Program { code, bytes })
     }
 
-    /// How many instructions there are, at most 16,384.
+    /// The number of instructions, at most 16,384.
     pub fn len(&self) -> usize
         ensures value { result ≡ length self.now.code }
         ensures small { result ≤ 16384 }
@@ -69,7 +69,7 @@ impl Program {
         self.code.len()
     }
 
-    /// There is no instruction.
+    /// Whether there is no instruction.
     pub fn is_empty(&self) -> bool
         ensures { IsTrue result ↔ (length self.now.code ≡ 0) }
     {
@@ -84,7 +84,7 @@ impl Program {
         &self.code[i]
     }
 
-    /// The instruction at an address, if it is that of one.
+    /// The instruction at an address, if there is one.
     #[tactic(auto, unfolding(crate::specs::Programs::instr_at))]
     pub fn fetch(&self, pc: u32) -> Option<Instr>
         ensures { result ≡ instr_at self.now pc }
@@ -97,7 +97,7 @@ impl Program {
         }
     }
 
-    /// How many bytes data memory has: a multiple of 4, at most 65,536.
+    /// The size of data memory in bytes: a multiple of 4, at most 65,536.
     pub fn size(&self) -> u32
         ensures value { result ≡ length self.now.bytes }
         ensures small { result ≤ 65536 }
@@ -106,7 +106,7 @@ impl Program {
         self.bytes.len() as u32
     }
 
-    /// The bytes that data memory starts with.
+    /// The bytes with which data memory starts.
     pub fn bytes(&self) -> &[u8]
         ensures value { result.now ≡ self.now.bytes }
         ensures small { length self.now.bytes ≤ 65536 }
@@ -115,7 +115,7 @@ impl Program {
         self.bytes.as_slice()
     }
 
-    /// The byte at `at` of the start memory.
+    /// The byte at `at` of the memory at the start.
     pub fn byte(&self, at: usize) -> u8
         requires { at < length self.now.bytes }
         ensures { result ≡ slice_index self.now.bytes at }

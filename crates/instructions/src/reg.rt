@@ -1,4 +1,4 @@
-//! Registers.
+//! The number of a register.
 ghost use Rattle.std.specs.Prelude.{◌≡◌, ℕ, ◌<◌, ◌↔◌, IsSome, IfSome};
 ghost use Rattle.instructions.specs.Registers.{general_count, register_count};
 
@@ -22,7 +22,7 @@ impl Model for Reg {
 }
 
 impl Reg {
-    /// How many registers there are.
+    /// The number of registers.
     pub const COUNT: usize = 34;
 
     /// Register 0, which always reads 0.

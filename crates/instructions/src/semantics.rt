@@ -1,4 +1,4 @@
-//! What each operation comes to.
+//! The outcome of each operation.
 ghost use Rattle.std.specs.Prelude.{◌≡◌, ℕ, ◌<◌, ◌≤◌, ◌+◌, true, Ok, IfOk};
 ghost use Rattle.instructions.specs.declared.op.Half.TheVariants.{Low, High};
 ghost use Rattle.instructions.specs.declared.op.Kind.TheVariants.{Computes};
@@ -9,7 +9,7 @@ ghost use Rattle.instructions.specs.Operations.{signed, fitted, flag as flag_of,
 use crate::products::{divided, product, signed_divided, signed_product};
 use crate::{Half, Instr, Kind, Op, Outcome, Stop};
 
-/// The address behind the instruction at `pc`.
+/// The address after the instruction at `pc`.
 pub fn pc_plus_4(pc: u32) -> u32
     ensures { result ≡ pc_plus_4_of pc }
 {

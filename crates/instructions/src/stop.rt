@@ -1,5 +1,5 @@
-//! What an instruction comes to, and why a program stops.
-ghost use Rattle.std.specs.Prelude.{◌≡◌, Some};
+//! The outcomes of an instruction, and the stops of a program.
+ghost use Rattle.std.specs.Prelude.{◌≡◌, ◌<◌, Some};
 ghost use Rattle.instructions.specs.Endings.{stop_word};
 ghost use Rattle.instructions.specs.Operations.{code_of};
 
@@ -33,6 +33,20 @@ impl Stop {
             Stop::BadPc => 4,
         }
     }
+
+    /// The stop with a number.
+    pub fn of_code(code: u32) -> Stop
+        requires { code < 5 }
+        ensures { code_of result ≡ code }
+    {
+        match code {
+            0 => Stop::Break,
+            1 => Stop::Overflow,
+            2 => Stop::Unaligned,
+            3 => Stop::OutOfRange,
+            _ => Stop::BadPc,
+        }
+    }
 }
 
 /// The word of the stop, as a report has it.
@@ -55,7 +69,7 @@ impl fmt::Display for Stop {
 pub enum Outcome {
     /// The value for its register.
     Value(u32),
-    /// The pc at which a branch or jump goes on.
+    /// The pc after a branch or jump.
     Next(u32),
     /// The address of a load or store, aligned and inside data memory.
     Address(u32),

@@ -35,11 +35,11 @@ found es name = lookup (λ k. bytes_eq k name) (map pair es)
 
 -- ---- buckets
 
--- in how many buckets, one behind the other, a name may be noted
+-- the number of buckets, one after the other, in which a name may be noted
 abbrev pub bucket_run : ℕ
 bucket_run = 16
 
--- bucket k has an entry: its tag is not 0
+-- whether bucket k has an entry: its tag is not 0
 abbrev pub IsTaken : List ℕ → ℕ → Type 0
 IsTaken tags k = slice_index tags k ≢ 0
 
@@ -72,7 +72,7 @@ pub record IsNoted (tags numbers : List ℕ) (name : List ℕ) (i : ℕ) : Type 
   pub tag : slice_index tags at ≡ hash_tag (hash_of name)
   pub number : slice_index numbers at ≡ i
 
--- the buckets of a name are taken, and its order tells that entry i has it
+-- the buckets of a name are taken, and entry i is found by the order of its name
 pub record IsCrowded (tags : List ℕ) (crowded : BTreeMap (Bor (List ℕ)) ℕ) (name : List ℕ) (i : ℕ)
     : Type 0 where
   pub full : AreTaken tags name (first_for tags name + bucket_run)
@@ -91,7 +91,7 @@ pub record IsIndex (es : List Entry) (tags numbers : List ℕ)
       → IsNoted tags numbers (name_at es i) i ⊎ IsCrowded tags crowded (name_at es i) i
   pub single : (i : ℕ) → i < length es → found es (name_at es i) ≡ Some (label_entry es i).address
 
--- what is told of a name
+-- the place of a name: its entry, or a bucket that is free for one, or none
 abbrev pub IsNamePlace : List Entry → List ℕ → BTreeMap (Bor (List ℕ)) ℕ → List ℕ → Place → Type 0
 IsNamePlace es tags crowded name (Known i) =
     (i < length es) × (found es name ≡ Some (label_entry es i).address)

@@ -28,32 +28,32 @@ first_kind (f ∷ fs) = if f.1 then Some f.0 else first_kind fs
 
 -- ---- one operand
 
--- `$`, and a number or a name
+-- the faults of a register: `$`, and a number or a name
 abbrev pub register_faults : List ℕ → List Fault
 register_faults text =
     (BadOperands, not (first_is 36 text))
     ∷ (BadRegister, is_none (existing (register_number (drop 1 text))))
     ∷ []
 
--- a number, at most `below` behind a minus, and at most `above` without one
+-- the faults of a number, at most `below` after a minus, and at most `above` without one
 abbrev pub number_faults : ℕ → ℕ → List ℕ → List Fault
 number_faults below above text =
     (BadOperands, not (begins_number text)) ∷ (BadNumber, is_none (number_in below above text)) ∷ []
 
--- a label
+-- the faults of a label
 abbrev pub label_faults : List ℕ → List Fault
 label_faults text = (BadOperands, not (is_name text)) ∷ []
 
--- an offset, which may be left out
+-- the faults of an offset, which may be left out
 abbrev pub offset_faults : List ℕ → List Fault
 offset_faults text = if length text == 0 then [] else number_faults 32768 32767 text
 
--- an offset and a register in parentheses, if they are there
+-- the faults of an offset and a register in parentheses, if they are there
 abbrev pub address_faults : Option (List ℕ × List ℕ) → List Fault
 address_faults None = (BadOperands, true) ∷ []
 address_faults (Some parts) = offset_faults parts.0 ++ register_faults parts.1
 
--- an operand, by what is due there
+-- the faults of an operand, by its kind
 abbrev pub operand_faults : Slot → List ℕ → List Fault
 operand_faults Into text = register_faults text
 operand_faults First text = register_faults text
@@ -66,53 +66,53 @@ operand_faults Offset text = address_faults (parenthesized text)
 
 -- ---- a statement
 
--- operands, from the left
+-- the faults of operands, from the left
 abbrev pub operands_faults : List Slot → List (List ℕ) → List Fault
 operands_faults [] texts = []
 operands_faults (s ∷ ss) [] = []
 operands_faults (s ∷ ss) (t ∷ ts) = operand_faults s t ++ operands_faults ss ts
 
--- what the operands of a form are, if there is one
+-- the kinds of the operands of a form, if there is one
 abbrev pub slots_if : Option Form → List Slot
 slots_if None = []
 slots_if (Some form) = slots form.operands
 
--- an instruction: its word, how many operands it has, and then the operands
+-- the faults of an instruction: its word, the number of its operands, and then the operands
 abbrev pub instruction_faults : List ℕ → List (List ℕ) → List Fault
 instruction_faults word parts =
     (UnknownOp, not (is_operation word))
     ∷ (BadOperands, is_none (form_with word (length parts)))
     ∷ operands_faults (slots_if (form_with word (length parts))) parts
 
--- a number is there, and it is a multiple of 4
+-- whether a number is there and is a multiple of 4
 abbrev pub is_size : Option ℕ → Bool
 is_size None = false
 is_size (Some n) = n % 4 == 0
 
--- how many bytes `.space` adds
+-- the faults of the number of bytes that `.space` adds
 abbrev pub size_faults : List ℕ → List Fault
 size_faults text =
     (BadOperands, not (begins_number text))
     ∷ (BadNumber, not (is_size (number_in 0 65536 text)))
     ∷ []
 
--- `.space`, which has one operand
+-- the faults of `.space`, which has one operand
 abbrev pub space_faults : List (List ℕ) → List Fault
 space_faults parts = (BadOperands, not (length parts == 1)) ∷ flat_map size_faults parts
 
--- `.word`, which has one operand or more
+-- the faults of `.word`, which has one operand or more
 abbrev pub words_faults : List (List ℕ) → List Fault
 words_faults parts =
     (BadOperands, length parts == 0) ∷ flat_map (number_faults 2147483648 4294967295) parts
 
--- a directive or an instruction, by its word
+-- the faults of a directive or an instruction, by its word
 abbrev pub faults_with : List ℕ → List (List ℕ) → List Fault
 faults_with word parts =
     if is_word (codes ".space") word then space_faults parts
     else (if is_word (codes ".word") word then words_faults parts
     else instruction_faults word parts)
 
--- a statement; an empty one has none
+-- the faults of a statement; an empty one has none
 unfoldable pub statement_faults : List ℕ → List Fault
 statement_faults text =
     if length text == 0 then []
@@ -120,11 +120,11 @@ statement_faults text =
 
 -- ---- a line
 
--- lines have too many instructions, or too many bytes of data
+-- whether lines have too many instructions, or too many bytes of data
 abbrev pub are_too_long : Lines → Bool
 are_too_long ls = nat_lt 16384 (instruction_count ls) || nat_lt 65536 (length (memory ls))
 
--- a line, behind the lines before it
+-- the faults of a line, after the lines before it
 abbrev pub line_faults : Lines → List ℕ → List Fault
 line_faults before line =
     (NotAscii, not (is_plain_text (before_comment line)))
@@ -132,12 +132,12 @@ line_faults before line =
     ∷ (statement_faults (statement_of (before_comment line))
     ++ (TooLong, are_too_long (before ++ line ∷ [])) ∷ [])
 
--- a line, if it is there
+-- the faults of a line, if it is there
 abbrev pub faults_if : Lines → Option (List ℕ) → List Fault
 faults_if before None = []
 faults_if before (Some line) = line_faults before line
 
--- line n, counted from 1
+-- the faults of line n, counted from 1
 abbrev pub faults_of_line : Lines → ℕ → List Fault
 faults_of_line ls zero = []
 faults_of_line ls (suc n) = faults_if (take n ls) (slice_get ls n)

@@ -1,4 +1,4 @@
--- The forms of the operations: a word, and what its operands are, from the left.
+-- The forms of the operations: a word, and the kinds of its operands from the left.
 use Rattle.std.specs.Prelude.{ℕ, ◌==◌, ◌&&◌, Bool, List, [], ◌∷◌, ◌++◌, length, map, Option, Result, Err, ok_or, if◌then◌else◌, codes}
 use Rattle.std.specs.List.{list_any, find}
 use Rattle.std.specs.Str.{str_eq_ignore_ascii_case}
@@ -18,7 +18,7 @@ use Rattle.isa.specs.declared.listing.form.Form.{Form as Row}
 
 -- ---- operands
 
--- their kinds, from the left
+-- the kinds of operands, from the left
 abbrev pub slots : Operands → List Slot
 slots RdRsRt = slot.Into ∷ slot.First ∷ slot.Second ∷ []
 slots RdRtRs = slot.Into ∷ slot.First ∷ slot.Second ∷ []
@@ -37,7 +37,7 @@ slots RsLabel = slot.First ∷ slot.Label ∷ []
 slots Label = slot.Label ∷ []
 slots Nothing = []
 
--- what stands behind the word where a form is told
+-- the operands as a form shows them after its word
 abbrev pub operands_text : Operands → List ℕ
 operands_text RdRsRt = codes "rd,rs,rt"
 operands_text RdRtRs = codes "rd,rt,rs"
@@ -143,19 +143,19 @@ only_read = form_by Jalr (codes "jalr", Rs) ∷ form_by Sll (codes "nop", Nothin
 abbrev pub forms : List Form
 forms = map form_as_written operations ++ only_read
 
--- a form as it is told
+-- the text of a form
 abbrev pub form_text : Form → List ℕ
 form_text form = form.word ++ 32 ∷ operands_text form.operands
 
--- a form has this word, in letters of either case
+-- whether a form has this word, in letters of either case
 abbrev pub has_word : List ℕ → Form → Bool
 has_word word form = str_eq_ignore_ascii_case form.word word
 
--- a form has this word, and this number of operands
+-- whether a form has this word and this number of operands
 abbrev pub has_word_and_count : List ℕ → ℕ → Form → Bool
 has_word_and_count word n form = has_word word form && (length (slots form.operands) == n)
 
--- whether a form has the word
+-- whether some form has the word
 unfoldable pub is_operation : List ℕ → Bool
 is_operation word = list_any (has_word word) forms
 
@@ -163,7 +163,7 @@ is_operation word = list_any (has_word word) forms
 unfoldable pub form_with : List ℕ → ℕ → Option Form
 form_with word n = find (has_word_and_count word n) forms
 
--- the form of a word with n operands, or what is wrong with them
+-- the form of a word with n operands, or the fault
 abbrev pub form_of : List ℕ → ℕ → Result Form FaultKind
 form_of word n = if is_operation word then ok_or (form_with word n) BadOperands else Err UnknownOp
 

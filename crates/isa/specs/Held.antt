@@ -1,4 +1,4 @@
--- What the reader of a listing holds behind the lines that it has read.
+-- The state of the reader of a listing after the lines that it has read.
 use Rattle.std.specs.Prelude.{◌≡◌, ℕ, ◌++◌, List, [], ◌∷◌, length, Option, Some, None, Result, Ok}
 use Rattle.isa.specs.declared.listing.fault.FaultKind.{FaultKind}
 use Rattle.instructions.specs.declared.instr.Instr.{Instr}
@@ -32,7 +32,7 @@ pub record IsAdded (read : Result Line FaultKind) (code : List Parsed) (old new 
   pub grown : new ≡ old ++ bytes
   pub is : read ≡ Ok (record { code = code; bytes = bytes })
 
--- what is held behind the lines before
+-- the state after the lines that were read
 pub record IsRead (before : Lines) (labels : List (List ℕ × ℕ)) (code : List Instr)
     (ts : List Target) (bytes : List ℕ) : Type 0 where
   pub labels_are : labels ≡ table 0 before
@@ -40,8 +40,7 @@ pub record IsRead (before : Lines) (labels : List (List ℕ × ℕ)) (code : Lis
   pub code_is : rows code ts ≡ numbered 1 before
   pub bytes_are : bytes ≡ memory before
 
--- the first line of a text was read: it has no fault but for a label that stands twice, and this is
--- held behind it
+-- the first line of a text was read: it has no fault but for a label that stands twice, and this is the state after it
 pub record IsReadLine (before : Lines) (text : List ℕ) (rest : Option (List ℕ)) (n : ℕ)
     (old new : List Mark) (code : List Instr) (ts : List Target) (bytes : List ℕ) : Type 0 where
   pub line : List ℕ
@@ -57,7 +56,7 @@ pub record IsFaultLine (before : Lines) (text : List ℕ) (n : ℕ) (old new : L
   pub lines : lines_of text ≡ line ∷ others
   pub late : IsLateLine before line n old new (Some kind)
 
--- what is held of lines that have no fault but for a label that stands twice
+-- the state after all lines, where these have no fault but for a label that stands twice
 pub record LinesAreRead (ls : Lines) (held : List Mark) (code : List Instr) (ts : List Target)
     (bytes : List ℕ) : Type 0 where
   pub fault : or_other (double_line [] held) None ≡ first_fault ls

@@ -1,4 +1,4 @@
--- An instruction as a listing writes it, and that reading the text gives it back.
+-- An instruction as a listing has it, and the law that its text is read back.
 use Rattle.std.specs.Prelude.{◌≡◌, ℕ, zero, suc, ◌-◌, ◌≤◌, ◌<◌, ◌^◌, ◌⊎◌, ⊤, ◌==◌, ◌&&◌, Bool, false, List, [], ◌∷◌, ◌++◌, map, replicate, Option, Some, None, slice_get, if◌then◌else◌, codes}
 use Rattle.std.specs.Fmt.{decimal, signed_decimal}
 use Rattle.std.specs.List.{join_with_byte}
@@ -27,7 +27,7 @@ names =
     ∷ codes "s5" ∷ codes "s6" ∷ codes "s7" ∷ codes "t8" ∷ codes "t9" ∷ codes "k0" ∷ codes "k1"
     ∷ codes "gp" ∷ codes "sp" ∷ codes "fp" ∷ codes "ra" ∷ []
 
--- a name, or the number where there is none
+-- the name of a register, or its number where there is none
 abbrev pub name_or : ℕ → Option (List ℕ) → List ℕ
 name_or r None = decimal r
 name_or r (Some name) = name
@@ -63,22 +63,22 @@ operand_text naming Label i = label_text i.number
 operand_text naming Offset i =
     signed_text i.number ++ (codes "(" ++ (register_text naming i.first ++ codes ")"))
 
--- a word, and behind a blank its operands with commas between them
+-- a word, and after a blank its operands with commas between them
 abbrev pub with_operands_text : List ℕ → List (List ℕ) → List ℕ
 with_operands_text word [] = word
 with_operands_text word (p ∷ ps) = word ++ 32 ∷ join_with_byte 44 (p ∷ ps)
 
--- what stands before an operand: a blank before the first one, and a comma before each other
+-- the separator before an operand: a blank before the first one, and a comma before each other
 abbrev pub separator : ℕ → List ℕ
 separator zero = codes " "
 separator (suc at) = codes ","
 
--- operands, of which the first one is at this place, each behind its separator
+-- operands, of which the first one is at this place, each after its separator
 abbrev pub separated_text : ℕ → List (List ℕ) → List ℕ
 separated_text at [] = []
 separated_text at (p ∷ ps) = separator at ++ (p ++ separated_text (suc at) ps)
 
--- a shift of register 0 by nothing
+-- whether an instruction is a shift of register 0 by 0
 abbrev pub is_nop_by : Op → Instr → Bool
 is_nop_by Sll i = (i.target == 0) && ((i.first == 0) && (i.number == 0))
 is_nop_by op i = false
@@ -93,13 +93,13 @@ text_of naming i =
     if is_nop i then codes "nop"
     else with_operands_text (operation_word i.op) (map (λ s. operand_text naming s i) (slots_of i.op))
 
--- with registers by their numbers
+-- an instruction as a listing writes it, with registers by their numbers
 abbrev pub instr_text : Instr → List ℕ
 instr_text i = text_of Numbers i
 
 -- ---- what can be written
 
--- a number that 16 bits with a sign hold, as a word
+-- whether a word is a number that 16 bits with a sign hold
 abbrev pub IsSignedHalf : ℕ → Type 0
 IsSignedHalf n = (n ≤ 32767) ⊎ ((2 ^ 32 - 32768 ≤ n) × (n < 2 ^ 32))
 
@@ -119,7 +119,7 @@ abbrev pub AllFit : Instr → List Slot → Type 0
 AllFit i [] = ⊤
 AllFit i (s ∷ ss) = Fits i s × AllFit i ss
 
--- an instruction with what one operand says
+-- an instruction with the part that one operand says
 abbrev pub with_slot : Instr → Slot → Parsed → Parsed
 with_slot i Into p = with_target i.target p
 with_slot i First p = with_first_source i.first p
@@ -130,12 +130,12 @@ with_slot i U5 p = with_number i.number p
 with_slot i Label p = with_label (label_text i.number) p
 with_slot i Offset p = with_first_source i.first (with_number i.number p)
 
--- an instruction with what these operands say, from the left
+-- an instruction with the parts that these operands say, from the left
 abbrev pub with_slots : Instr → List Slot → Parsed → Parsed
 with_slots i [] p = p
 with_slots i (s ∷ ss) p = with_slots i ss (with_slot i s p)
 
--- what the word and the operands of an instruction say
+-- the parts of an instruction that its word and its operands say
 abbrev pub said_of : Instr → Parsed
 said_of i = with_slots i (slots_of i.op) (record { instr = bare i.op; label = None })
 
@@ -164,7 +164,7 @@ pub record Says (line : List ℕ) (i : Instr) : Type 0 where
   pub stands : ReadsAs parsed i
   pub bare_line : labels line ≡ []
 
--- The text of each instruction that a listing can write is read as that instruction, also behind
+-- The text of each instruction that a listing can write is read as that instruction, also after
 -- any number of blanks.
 abbrev pub TextIsReadBack : Type 0
 TextIsReadBack =

@@ -31,7 +31,7 @@ double_line held (m ∷ ms) =
     if is_some (lookup (λ k. bytes_eq k m.0.0) held) then Some m.1
     else double_line (held ++ m.0 ∷ []) ms
 
--- the fault of line n, or that of the lines behind it
+-- the fault of line n, or that of the lines after it
 abbrev pub fault_at : ℕ → Option FaultKind → Option (ℕ × FaultKind) → Option (ℕ × FaultKind)
 fault_at n (Some k) others = Some (n, k)
 fault_at n None others = others
@@ -42,7 +42,7 @@ or_other None other = other
 or_other (Some n) other = Some (n, DoubleLabel)
 
 -- Line n was read, whose fault other than a label that stands twice is f: its labels are added, and
--- they and f tell its fault.
+-- its fault follows from them and f.
 pub record IsLateLine (before : Lines) (line : List ℕ) (n : ℕ) (old new : List Mark)
     (f : Option FaultKind) : Type 0 where
   pub added : List Mark

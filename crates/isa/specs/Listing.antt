@@ -19,7 +19,7 @@ use Rattle.isa.specs.Statement.{Parsed, Line, statement}
 abbrev pub labels : List ℕ → List (List ℕ)
 labels line = labels_of (before_comment line)
 
--- what a line gives to the program, or its fault
+-- the part of the program that a line gives, or its fault
 abbrev pub read : List ℕ → Result Line FaultKind
 read line = statement (statement_of (before_comment line))
 
@@ -28,7 +28,7 @@ abbrev pub code_in : Result Line FaultKind → List Parsed
 code_in (Ok l) = l.code
 code_in (Err k) = []
 
--- the bytes of such a line
+-- the bytes of a line that has no fault
 abbrev pub bytes_in : Result Line FaultKind → List ℕ
 bytes_in (Ok l) = l.bytes
 bytes_in (Err k) = []
@@ -58,22 +58,22 @@ numbered n (l ∷ ls) = map (λ p. (n, p)) (code_in (read l)) ++ numbered (n + 1
 unfoldable pub memory : Lines → List ℕ
 memory ls = flat_map (λ l. bytes_in (read l)) ls
 
--- how many instructions lines have
+-- the number of instructions of lines
 abbrev pub instruction_count : Lines → ℕ
 instruction_count ls = length (numbered 1 ls)
 
 -- ---- the first fault
 
--- a name stands among these
+-- whether a name stands among these
 abbrev pub stands_in : List (List ℕ) → List ℕ → Bool
 stands_in names name = list_any (λ x. bytes_eq x name) names
 
--- a name stands among these twice
+-- whether a name stands among these twice
 abbrev pub stands_twice : List (List ℕ) → Bool
 stands_twice [] = false
 stands_twice (x ∷ xs) = stands_in xs x || stands_twice xs
 
--- one of these names stands among earlier ones, or twice among them
+-- whether one of these names stands among earlier ones, or twice among them
 abbrev pub is_double : List (List ℕ) → List (List ℕ) → Bool
 is_double earlier names = list_any (stands_in earlier) names || stands_twice names
 
@@ -81,14 +81,14 @@ is_double earlier names = list_any (stands_in earlier) names || stands_twice nam
 abbrev pub all_labels : Lines → List (List ℕ)
 all_labels ls = flat_map labels ls
 
--- the fault of a statement behind n instructions and m bytes of data
+-- the fault of a statement after n instructions and m bytes of data
 abbrev pub fault_of : ℕ → ℕ → Result Line FaultKind → Option FaultKind
 fault_of n m (Ok l) =
     if nat_lt 16384 (n + length l.code) || nat_lt 65536 (m + length l.bytes) then Some TooLong
     else None
 fault_of n m (Err k) = Some k
 
--- the first fault of a line, behind the lines before it
+-- the first fault of a line, after the lines before it
 unfoldable pub fault_in : Lines → List ℕ → Option FaultKind
 fault_in before line =
     if not (is_plain_text (before_comment line)) then Some NotAscii

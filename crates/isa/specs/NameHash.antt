@@ -1,4 +1,4 @@
--- The hash of a name, and the buckets that it tells.
+-- The hash of a name, and the buckets that are found by it.
 use Rattle.std.specs.Prelude.{ℕ, ◌+◌, ◌*◌, ◌/◌, ◌%◌, ◌^◌, List}
 use Rattle.std.specs.Hash.FoldHasher.{initial, write, finish}
 
@@ -10,6 +10,6 @@ hash_of name = finish (write initial name)
 abbrev pub start_of : ℕ → ℕ → ℕ
 start_of hash last = hash % 2 ^ 32 * last / 2 ^ 32
 
--- what a bucket has of a hash, a byte that is not 0
+-- the tag of a hash in a bucket, a byte that is not 0
 abbrev pub hash_tag : ℕ → ℕ
 hash_tag hash = hash / 2 ^ 32 % 255 + 1

@@ -1,5 +1,5 @@
 -- The labels that are needed, since an instruction may name them or another label may have the same
--- name: which they are is told by bits at the hash of a name.
+-- name: they are found by bits at the hash of a name.
 use Rattle.std.specs.Prelude.{◌≡◌, ℕ, ◌-◌, ◌/◌, ◌%◌, ◌^◌, ◌==◌, ◌<◌, ⊤, Bool, true, List, [], ◌∷◌, map, take, length, Option, Some, None, is_some, slice_index_or}
 use Rattle.std.specs.List.{filter}
 use Rattle.instructions.specs.declared.instr.Instr.{Instr}
@@ -12,11 +12,11 @@ use Rattle.isa.specs.Late.{mark, double_line}
 use Rattle.isa.specs.Listing.{resolved}
 use Rattle.isa.specs.Held.{name_of, rows}
 
--- the half of the hash of a name that tells its bits
+-- the half of the hash of a name by which its bits are found
 abbrev pub short_hash : List ℕ → ℕ
 short_hash name = hash_of name % 2 ^ 32
 
--- those of labels
+-- the halves of the hashes of labels
 abbrev pub hashes_of : List Entry → List ℕ
 hashes_of es = map (λ e. short_hash e.name.now) es
 
@@ -33,19 +33,19 @@ bits_for all name = bits_at all (short_hash name)
 abbrev pub bit_of : ℕ → ℕ
 bit_of hash = hash % 64
 
--- this name, or another one with its bit, was met
+-- whether this name, or another one with its bit, was met
 abbrev pub WasMet : List Bits → List ℕ → Type 0
 WasMet all name = (bits_for all name).met / 2 ^ bit_of (short_hash name) % 2 ≡ 1
 
--- a name with this hash, or with its bit, is needed
+-- whether a name with this hash, or with its bit, is needed
 abbrev pub is_needed_by : List Bits → ℕ → Bool
 is_needed_by all hash = (bits_at all hash).needed / 2 ^ bit_of hash % 2 == 1
 
--- this name, or another one with its bit, is needed
+-- whether this name, or another one with its bit, is needed
 abbrev pub is_needed : List Bits → List ℕ → Bool
 is_needed all name = is_needed_by all (short_hash name)
 
--- what was met and is needed stays so
+-- names that were met or are needed stay so
 pub record AreKept (old new : List Bits) : Type 0 where
   pub size : length new ≡ length old
   pub met : (name : List ℕ) → WasMet old name → WasMet new name

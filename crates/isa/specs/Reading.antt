@@ -1,10 +1,9 @@
--- Readings of a text: what it means, or what is wrong with it. In a chain of readings the first
--- fault decides.
+-- Readings of a text: its meaning, or its fault. In a chain of readings the first fault decides.
 use Rattle.std.specs.Prelude.{◌≡◌, ℕ, List, codes, Result, Ok, Err}
 use Rattle.isa.specs.declared.listing.fault.FaultKind.{FaultKind}
 use Rattle.isa.specs.declared.listing.fault.FaultKind.TheVariants.{NotAscii, UnknownOp, BadRegister, BadNumber, BadOperands, UnknownLabel, DoubleLabel, TooLong, Memory}
 
--- a function's answer, seen by view, is a reading
+-- the result of a function, seen by a view, is a reading
 abbrev pub Reads : {X Y : Type 0} → (X → Y) → Result X FaultKind → Result Y FaultKind → Type 0
 Reads view (Ok x) read = read ≡ Ok (view x)
 Reads view (Err e) read = read ≡ Err e

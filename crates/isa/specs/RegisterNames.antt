@@ -7,7 +7,7 @@ use Rattle.isa.specs.declared.listing.fault.FaultKind.{FaultKind}
 use Rattle.isa.specs.declared.listing.fault.FaultKind.TheVariants.{BadOperands, BadRegister}
 use Rattle.instructions.specs.Registers.{general_count}
 
--- the names, by the conventions of MIPS
+-- the names of registers, by the conventions of MIPS
 abbrev pub register_names : List (List ℕ × ℕ)
 register_names =
     (codes "zero", 0) ∷ (codes "at", 1) ∷ (codes "v0", 2) ∷ (codes "v1", 3)
@@ -20,22 +20,22 @@ register_names =
     ∷ (codes "gp", 28) ∷ (codes "sp", 29) ∷ (codes "fp", 30) ∷ (codes "s8", 30)
     ∷ (codes "ra", 31) ∷ []
 
--- the first of two that is there
+-- the first of two numbers that is there
 abbrev pub first_some : Option ℕ → Option ℕ → Option ℕ
 first_some None other = other
 first_some (Some n) other = Some n
 
--- 0 to 31 without leading zeros, or a name in lower case
+-- the number of a register: 0 to 31 without leading zeros, or a name in lower case
 unfoldable pub register_number : List ℕ → Option ℕ
 register_number text =
     first_some (decimal_in 31 text) (lookup (λ k. bytes_eq k text) register_names)
 
--- the register of a number, if it has one
+-- the register with a number, if there is one
 abbrev pub existing : Option ℕ → Option ℕ
 existing None = None
 existing (Some n) = if nat_lt n general_count then Some n else None
 
--- `$`, and a number or a name
+-- the register of an operand: `$`, and a number or a name
 unfoldable pub register : List ℕ → Result ℕ FaultKind
 register text =
     if first_is 36 text then ok_or (existing (register_number (drop 1 text))) BadRegister

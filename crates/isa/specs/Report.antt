@@ -8,7 +8,7 @@ use Rattle.instructions.specs.declared.end.End.{End}
 use Rattle.instructions.specs.Endings.{ending_words}
 use Rattle.instructions.specs.Registers.{lo, hi}
 
--- a digit below 16: 0 to 9, then a to f
+-- the hexadecimal digit of a number below 16: 0 to 9, then a to f
 abbrev pub hex_digit : ℕ → ℕ
 hex_digit d = if nat_lt d 10 then 48 + d else 87 + d
 
@@ -28,7 +28,7 @@ hexadecimal n = codes "0x" ++ hex8 n
 abbrev pub newline : List ℕ
 newline = 10 ∷ []
 
--- what a report calls register r
+-- the name of register r in a report
 abbrev pub register_name : ℕ → List ℕ
 register_name r =
     if r == lo then codes "lo" else if r == hi then codes "hi" else codes "r" ++ decimal r
@@ -64,7 +64,7 @@ head_lines ending count pc =
     ending_words ending
     ++ (codes "\ncount " ++ (decimal count ++ (codes "\npc " ++ (hexadecimal pc ++ newline))))
 
--- the report of a run: its ending, and the state behind it
+-- the report of a run: its ending, and the state after it
 abbrev pub report : Ending → (count pc : ℕ) → (registers memory : List ℕ) → List ℕ
 report ending count pc registers memory =
     head_lines ending count pc ++ (register_lines 0 registers ++ memory_lines 0 memory)

@@ -83,7 +83,7 @@ fill U5 text p = number 0 31 text >>= λ n. Ok (with_number n p)
 fill Label text p = label text >>= λ name. Ok (with_label name p)
 fill Offset text p = offset_and_register text >>= λ a. Ok (with_first_source a.1 (with_number a.0 p))
 
--- with all operands, from the left
+-- an instruction with all operands, from the left
 unfoldable pub filled : List Slot → List (List ℕ) → Parsed → Result Parsed FaultKind
 filled [] texts p = Ok p
 filled (s ∷ ss) [] p = Err BadOperands
@@ -110,13 +110,13 @@ words [] = Ok []
 words (t ∷ ts) =
     number 2147483648 4294967295 t >>= λ n. words ts >>= λ bytes. Ok (to_le_bytes w32 n ++ bytes)
 
--- one word or more
+-- the bytes of `.word`, which has one number or more
 abbrev pub data_words : List (List ℕ) → Result (List ℕ) FaultKind
 data_words parts = if length parts == 0 then Err BadOperands else words parts
 
 -- ---- statements
 
--- what a line gives to the program: at most one instruction, or bytes of data memory
+-- the part of the program that a line gives: at most one instruction, or bytes of data memory
 pub record Line : Type 0 where
   pub code : List Parsed
   pub bytes : List ℕ
@@ -129,11 +129,11 @@ gives_code p = Ok (record { code = p ∷ []; bytes = [] })
 abbrev pub gives_bytes : List ℕ → Result Line FaultKind
 gives_bytes bytes = Ok (record { code = []; bytes = bytes })
 
--- a text is this word, in letters of either case
+-- whether a text is this word, in letters of either case
 abbrev pub is_word : List ℕ → List ℕ → Bool
 is_word word text = str_eq_ignore_ascii_case word text
 
--- a directive as it is told, where the word is one of a directive
+-- the form of a directive, where the word is that of one
 unfoldable pub directive_text : List ℕ → Option (List ℕ)
 directive_text word =
     if is_word (codes ".space") word then Some (codes ".space n with n a multiple of 4 from 0 to 65536")
@@ -147,13 +147,13 @@ with_operands word parts =
     else (if is_word (codes ".word") word then data_words parts >>= gives_bytes
     else instruction word parts >>= gives_code)
 
--- what a statement gives; an empty one gives nothing
+-- the part of the program that a statement gives; an empty one gives nothing
 unfoldable pub statement : List ℕ → Result Line FaultKind
 statement text =
     if length text == 0 then gives_bytes []
     else with_operands (before_first is_blank text) (operands (after_first is_blank text))
 
--- ---- what the code holds
+-- ---- drafts in the code
 
 -- an instruction with its label, as the code holds it
 abbrev pub draft_view : Draft → Parsed

@@ -33,10 +33,10 @@ pub use slot::{Operands, Slot};
 use std::alloc::Global;
 use table::{Entry, Labels};
 
-/// How many bytes a listing has at most.
+/// The most bytes of a listing.
 const MOST_TEXT: usize = 4_194_304;
 
-/// The address of a label, where the instruction has one.
+/// The number of an instruction: the address of its label, where it has one.
 fn resolve<'a>(labels: &Labels<'a>, target: &Target<'a>, number: u32) -> Result<u32, TextFault>
     ensures ok { IfOk result (λ a.
         resolve_number labels.now target.now.line number (name_of target.now) ≡ Ok a) }
@@ -76,7 +76,7 @@ fn resolve_all<'a>(
     Ok(())
 }
 
-/// How many bytes of so few are colons. They are counted in a byte, many at a time.
+/// The number of colons among so few bytes that a byte counts them, many at a time.
 fn colons(bytes: &[u8]) -> u8
     requires { length bytes.now ≤ 255 }
     ensures { result ≤ length bytes.now }
@@ -88,7 +88,7 @@ fn colons(bytes: &[u8]) -> u8
     colons
 }
 
-/// How many labels to make room for: one for each colon, of which a comment may have any number.
+/// The number of labels for which room is made: one for each colon, of which a comment may have any number.
 fn most_labels(bytes: &[u8]) -> usize
     ensures { result ≤ length bytes.now / 4 }
 {
@@ -171,7 +171,7 @@ fn first_of<'a>(alloc: Global, entries: &[Entry<'a>], fault: TextFault) -> TextF
     }
 }
 
-// The program of a listing with what its instructions name, or its first fault.
+// The program of a listing with the targets of its instructions, or its first fault.
 fn read_all(alloc: Global, bytes: &[u8]) -> Result<(Program, Vec<Target<'_>>), TextFault>
     ensures ok { IfOk result (λ found. listing bytes.entry.now ≡ Ok found.0) }
     ensures lines { IfOk result (λ found.
@@ -208,7 +208,7 @@ pub fn parse(alloc: Global, bytes: &[u8]) -> Result<Program, TextFault>
     Ok(program)
 }
 
-/// What `parse` gives, and for each instruction the number of its line, counted from 1.
+/// The result of `parse`, and for each instruction the number of its line, counted from 1.
 pub fn parse_with_lines(alloc: Global, bytes: &[u8]) -> Result<(Program, Vec<u64>), TextFault>
     ensures ok { IfOk result (λ found. listing bytes.now ≡ Ok found.0) }
     ensures lines { IfOk result (λ found. found.1.items ≡ instruction_lines bytes.now) }

@@ -36,7 +36,7 @@ impl fmt::Display for RegisterName {
     }
 }
 
-// the lines of the registers that are not 0
+// Adds the lines of the registers that are not 0.
 fn push_registers(out: &mut String, registers: &[u32; 34]) -> Result<(), AllocError>
     ensures { OnOk result (string_bytes out.new
         ≡ string_bytes out.old ++ register_lines 0 registers.now) }
@@ -51,7 +51,7 @@ fn push_registers(out: &mut String, registers: &[u32; 34]) -> Result<(), AllocEr
     Ok(())
 }
 
-// the line of one word of four bytes, if it is not 0
+// Adds the line of one word of four bytes, if it is not 0.
 #[tactic(auto, using(crate::proofs::HexDigits::hex8_word))]
 fn push_word(out: &mut String, address: usize, word: &[u8]) -> Result<(), AllocError>
     requires { length word.now ≡ 4 }
@@ -67,7 +67,7 @@ fn push_word(out: &mut String, address: usize, word: &[u8]) -> Result<(), AllocE
     Ok(())
 }
 
-// the lines of the words of memory that are not 0
+// Adds the lines of the words of memory that are not 0.
 #[tactic(auto, using(crate::proofs::WordLines::memory_step, crate::proofs::WordLines::memory_end))]
 fn push_memory(out: &mut String, memory: &[u8]) -> Result<(), AllocError>
     ensures { OnOk result (string_bytes out.new
@@ -84,7 +84,7 @@ fn push_memory(out: &mut String, memory: &[u8]) -> Result<(), AllocError>
     Ok(())
 }
 
-/// The report of a run: how it ended, how many instructions it ran, the pc, and each register and
+/// The report of a run: its ending, the number of its instructions, the pc, and each register and
 /// each aligned word of data memory that is not 0. Numbers but the count are hexadecimal.
 pub fn report_text(alloc: Global, end: &End) -> Result<String, AllocError>
     ensures { IfOk result (λ text. string_bytes text ≡ report_of end.now) }

@@ -1,13 +1,13 @@
--- What is left of a text behind a cut.
+-- The text after a byte at which another text is cut.
 use Rattle.std.specs.Prelude.{ℕ, ◌==◌, List, [], ◌∷◌, Option, Some, None, if◌then◌else◌}
 use Rattle.std.specs.List.{slice_split}
 
--- The parts, between the bytes `at`, of what is left. Where nothing is left, there are none.
+-- The parts, between the bytes `at`, of a text that remains. Where none remains, there are no parts.
 abbrev pub parts_left : ℕ → Option (List ℕ) → List (List ℕ)
 parts_left at None = []
 parts_left at (Some text) = slice_split (λ b. b == at) text
 
--- what stands behind the first byte `at`, if there is one
+-- the text after the first byte `at`, if there is one
 abbrev pub after_byte : ℕ → List ℕ → Option (List ℕ)
 after_byte at [] = None
 after_byte at (b ∷ bs) = if b == at then Some bs else after_byte at bs

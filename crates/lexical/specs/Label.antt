@@ -25,7 +25,7 @@ labels_of code = labels_in (slice_split (λ b. b == 58) code)
 unfoldable pub statement_of : List ℕ → List ℕ
 statement_of code = statement_in (slice_split (λ b. b == 58) code)
 
--- the first line of a text is a label and nothing else
+-- the first line of a text is a label and nothing else, and the other lines are the text after it
 pub record IsLabelLine (text name after : List ℕ) : Type 0 where
   pub line : List ℕ
   pub code : List ℕ

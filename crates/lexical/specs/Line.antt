@@ -9,7 +9,7 @@ use Rattle.lexical.specs.Name.{is_plain_text}
 abbrev pub lines_of : List ℕ → List (List ℕ)
 lines_of bytes = map strip_carriage_return (slice_split (λ b. b == 10) bytes)
 
--- the lines of what is left
+-- the lines of a text that remains
 abbrev pub lines_left : Option (List ℕ) → List (List ℕ)
 lines_left None = []
 lines_left (Some text) = lines_of text
@@ -22,7 +22,7 @@ before_comment line = before_first (λ b. b == 35) line
 abbrev pub plain_code : List ℕ → Option (List ℕ)
 plain_code line = if is_plain_text (before_comment line) then Some (before_comment line) else None
 
--- the code of the first line of a text, and what is left behind that line
+-- the code of the first line of a text, and the text that remains after that line
 pub record IsFirstCode (text : List ℕ) (code rest : Option (List ℕ)) : Type 0 where
   pub line : List ℕ
   pub lines : lines_of text ≡ line ∷ lines_left rest

@@ -7,7 +7,7 @@ use Rattle.std.specs.Str.Parse.{digits_value}
 
 -- ---- digits
 
--- one digit or more
+-- the number of one digit or more in a radix
 unfoldable pub numeral : ℕ → List ℕ → Option ℕ
 numeral radix text =
     if (length text == 0) || not (list_all (λ c. is_digit c radix) text) then None
@@ -20,7 +20,7 @@ has_leading_zero text = nat_lt 1 (length text) && (slice_index text 0 == 48)
 unfoldable pub decimal : List ℕ → Option ℕ
 decimal text = if has_leading_zero text then None else numeral 10 text
 
--- `0x` or `0X`
+-- whether a text begins with `0x` or `0X`
 abbrev pub starts_hex : List ℕ → Bool
 starts_hex text =
     nat_lt 1 (length text)
@@ -36,17 +36,17 @@ capped n = min n 4294967296
 
 -- ---- numbers with a sign
 
--- the first byte is this one
+-- whether the first byte of a text is this one
 abbrev pub first_is : ℕ → List ℕ → Bool
 first_is b text = not (length text == 0) && (slice_index text 0 == b)
 
--- a digit, `+` or `-` is first
+-- whether the first byte of a text is a digit, `+` or `-`
 abbrev pub begins_number : List ℕ → Bool
 begins_number text =
     not (length text == 0)
     && ((slice_index text 0 == 43) || ((slice_index text 0 == 45) || is_ascii_digit (slice_index text 0)))
 
--- behind a `+` or a `-`
+-- a text without its `+` or `-`
 abbrev pub without_sign : List ℕ → List ℕ
 without_sign text = if first_is 43 text || first_is 45 text then drop 1 text else text
 

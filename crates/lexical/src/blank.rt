@@ -4,19 +4,21 @@ ghost use Rattle.std.specs.Prelude.{◌≡◌, ◌==◌, position};
 ghost use Rattle.std.specs.List.{before_first, after_first};
 ghost use Rattle.lexical.specs.Blank.{is_blank, trim, trim_start, trim_end};
 
-fn is_blank(b: u8) -> bool
+/// Whether a byte is a space or a tab.
+pub fn is_blank(b: u8) -> bool
     ensures { result ≡ is_blank b }
 {
     b == b' ' || b == b'\t'
 }
 
+// The place of the first blank of a text.
 fn find_blank(text: &[u8]) -> Option<usize>
     ensures { result ≡ position is_blank text.now }
 {
     text.iter().position(|b| is_blank(*b))
 }
 
-/// The text before the first blank, and the text behind it, which is empty where there is none.
+/// The text before the first blank, and the text after it, which is empty where there is none.
 #[tactic(auto, using(crate::proofs::Splits::position_none, crate::proofs::Splits::position_some))]
 pub fn cut_word(text: &[u8]) -> (&[u8], &[u8])
     ensures word { result.0.now ≡ before_first is_blank text.now }
@@ -32,6 +34,7 @@ pub fn cut_word(text: &[u8]) -> (&[u8], &[u8])
     }
 }
 
+// A text without the blanks at its front.
 fn trim_start(text: &[u8]) -> &[u8]
     ensures { result.now ≡ trim_start text.now }
 {
@@ -45,6 +48,7 @@ fn trim_start(text: &[u8]) -> &[u8]
     rest
 }
 
+// A text without the blanks at its end.
 fn trim_end(text: &[u8]) -> &[u8]
     ensures { result.now ≡ trim_end text.now }
 {
@@ -55,7 +59,7 @@ fn trim_end(text: &[u8]) -> &[u8]
     &text[..n]
 }
 
-/// The text without the blanks at its ends.
+/// A text without the blanks at its ends.
 pub fn trim(text: &[u8]) -> &[u8]
     ensures { result.now ≡ trim text.now }
 {

@@ -8,7 +8,7 @@ use crate::blank::trim;
 use crate::cuts::cut;
 use crate::name::{end_of_name, is_name};
 
-// A label at the very front, without a blank.
+// The label at the very front of a line without a blank, and the text after its colon.
 fn label_without_blanks(code: &[u8]) -> Option<(&[u8], &[u8])>
     ensures label { IfSome result (λ p. labels_of code.now ≡ p.0.now ∷ labels_of p.1.now) }
     ensures statement { IfSome result (λ p. statement_of code.now ≡ statement_of p.1.now) }
@@ -23,7 +23,7 @@ fn label_without_blanks(code: &[u8]) -> Option<(&[u8], &[u8])>
     Some((front, behind))
 }
 
-/// A first line that is a label and nothing else, and what stands behind its line feed.
+/// The label of a first line that has nothing else, and the text after its line feed.
 pub fn label_line(text: &[u8]) -> Option<(&[u8], &[u8])>
     ensures line { IfSome result (λ p. IsLabelLine text.now p.0.now p.1.now) }
     ensures shorter { IfSome result (λ p. length p.1.now < length text.now) }
@@ -42,7 +42,7 @@ pub fn label_line(text: &[u8]) -> Option<(&[u8], &[u8])>
     Some((label, behind))
 }
 
-// A label with blanks round it, or none.
+// The label at the front of a line, also with blanks round it, and the text after its colon.
 fn label_with_blanks(code: &[u8]) -> Option<(&[u8], &[u8])>
     ensures label { IfSome result (λ p. labels_of code.now ≡ p.0.now ∷ labels_of p.1.now) }
     ensures statement { IfSome result (λ p. statement_of code.now ≡ statement_of p.1.now) }
@@ -60,7 +60,7 @@ fn label_with_blanks(code: &[u8]) -> Option<(&[u8], &[u8])>
     }
 }
 
-/// The label at the front of a line, and the text behind its colon. Where no label stands there,
+/// The label at the front of a line, and the text after its colon. Where no label stands there,
 /// the whole text is the statement.
 pub fn next_label(code: &[u8]) -> Option<(&[u8], &[u8])>
     ensures label { IfSome result (λ p. labels_of code.now ≡ p.0.now ∷ labels_of p.1.now) }

@@ -8,6 +8,7 @@ ghost use Rattle.lexical.specs.Line.{lines_of, lines_left, before_comment, plain
 use crate::cuts::cut;
 use crate::name::{end_of_code, is_plain_text};
 
+// A line without a carriage return at its end.
 fn without_return(line: &[u8]) -> &[u8]
     ensures { result.now ≡ strip_carriage_return line.now }
 {
@@ -19,7 +20,7 @@ fn without_return(line: &[u8]) -> &[u8]
     }
 }
 
-/// The first line, without what ends it, and what stands behind its line feed, if it has one.
+/// The first line without its end, and the text after its line feed, if it has one.
 pub fn next_line(text: &[u8]) -> (&[u8], Option<&[u8]>)
     ensures lines { lines_of text.now
         ≡ result.0.now ∷ lines_left (option_map (λ r. r.now) result.1) }
@@ -29,7 +30,7 @@ pub fn next_line(text: &[u8]) -> (&[u8], Option<&[u8]>)
     (without_return(line), rest)
 }
 
-/// The text before the first `#`.
+/// The text before the first `#`, which begins a comment.
 pub fn before_comment(line: &[u8]) -> &[u8]
     ensures { result.now ≡ before_comment line.now }
 {
@@ -37,6 +38,7 @@ pub fn before_comment(line: &[u8]) -> &[u8]
     code
 }
 
+// The text of a line before its comment, where each byte may stand there.
 fn code_of(line: &[u8]) -> Option<&[u8]>
     ensures { option_map (λ t. t.now) result ≡ plain_code line.now }
 {
@@ -48,7 +50,7 @@ fn code_of(line: &[u8]) -> Option<&[u8]>
     }
 }
 
-// A first line that is all code, and what stands behind it.
+// A first line that has no comment and ends by a line feed alone, and the text after it.
 fn bare_code(text: &[u8]) -> Option<(&[u8], Option<&[u8]>)>
     ensures code { IfSome result (λ p. IsFirstCode text.now (Some p.0.now)
         (option_map (λ r. r.now) p.1)) }
@@ -65,7 +67,7 @@ fn bare_code(text: &[u8]) -> Option<(&[u8], Option<&[u8]>)>
     Some((code, Some(after)))
 }
 
-/// The code of the first line, before its comment, and the text behind its line feed, if it has one. No
+/// The code of the first line, before its comment, and the text after its line feed, if it has one. No
 /// code is given for a line with a byte that is neither a tab nor printable ASCII.
 pub fn next_code(text: &[u8]) -> (Option<&[u8]>, Option<&[u8]>)
     ensures code { IsFirstCode text.now (option_map (λ t. t.now) result.0)

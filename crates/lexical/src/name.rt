@@ -2,7 +2,7 @@
 
 ghost use Rattle.std.specs.Prelude.{◌≡◌, not, position};
 ghost use Rattle.std.specs.List.{list_all};
-ghost use Rattle.lexical.specs.Name.{goes_on_name, is_name, is_plain_text, is_code_byte};
+ghost use Rattle.lexical.specs.Name.{goes_on_name, is_name, is_plain, is_plain_text, is_code_byte};
 
 /// Each byte of a name stands at its own place, and a comma at each other place.
 static NAME_BYTES: [u8; 256] = *b"\
@@ -15,6 +15,7 @@ static NAME_BYTES: [u8; 256] = *b"\
     ,,,,,,,,,,,,,,,,,,,,,,,,,,,,,,,,\
     ,,,,,,,,,,,,,,,,,,,,,,,,,,,,,,,,";
 
+// Whether a name may have this byte.
 fn goes_on_name(b: u8) -> bool
     ensures { result ≡ goes_on_name b }
 {
@@ -27,26 +28,32 @@ fn all_go_on_name(text: &[u8]) -> bool
     text.iter().all(|b| goes_on_name(*b))
 }
 
-/// Where the first byte stands that no name has.
+/// The place of the first byte that no name has.
 pub fn end_of_name(text: &[u8]) -> Option<usize>
     ensures { result ≡ position (λ b. not (goes_on_name b)) text.now }
 {
     text.iter().position(|b| !goes_on_name(*b))
 }
 
-/// Whether the text is a name, as a label has one.
+/// Whether a text is the name of a label.
 pub fn is_name(text: &[u8]) -> bool
     ensures { result ≡ is_name text.now }
 {
     !text.is_empty() && !text[0].is_ascii_digit() && all_go_on_name(text)
 }
 
-/// Whether each byte may stand before a comment: a tab, or a printable ASCII byte.
+/// Whether a byte may stand before a comment: a tab, or a printable ASCII byte.
+pub fn is_plain(b: u8) -> bool
+    ensures { result ≡ is_plain b }
+{
+    b == b'\t' || (b >= 0x20 && b <= 0x7e)
+}
+
+/// Whether each byte of a text may stand before a comment.
 pub fn is_plain_text(text: &[u8]) -> bool
     ensures { result ≡ is_plain_text text.now }
 {
-    text.iter()
-        .all(|b| *b == b'\t' || (*b >= 0x20 && *b <= 0x7e))
+    text.iter().all(|b| is_plain(*b))
 }
 
 /// Each byte of code stands at its own place, and a `#`, which begins a comment, at each other place.
@@ -60,14 +67,14 @@ static CODE_BYTES: [u8; 256] = *b"\
     ################################\
     ################################";
 
-// A byte that may stand before a comment and begins none.
+// Whether a byte may stand before a comment and begins none.
 fn is_code_byte(b: u8) -> bool
     ensures { result ≡ is_code_byte b }
 {
     CODE_BYTES[b as usize] != b'#'
 }
 
-/// Where the first byte stands that begins a comment or may not stand before one.
+/// The place of the first byte that begins a comment or may not stand before one.
 pub fn end_of_code(text: &[u8]) -> Option<usize>
     ensures { result ≡ position (λ b. not (is_code_byte b)) text.now }
 {

@@ -8,6 +8,7 @@ ghost use Rattle.lexical.specs.Number.{begins_number, without_sign, at_most, num
 /// Above every number that is asked for. A magnitude that is greater is taken for this one.
 const CAP: u64 = 0x1_0000_0000;
 
+// The number of digits in a radix, or the cap for a greater one.
 #[tactic(auto, unfolding(crate::specs::Number::numeral))]
 fn numeral(digits: &[u8], radix: u32) -> Option<u64>
     requires low { 2 ≤ radix }
@@ -25,6 +26,7 @@ fn numeral(digits: &[u8], radix: u32) -> Option<u64>
     Some(value)
 }
 
+// Whether digits begin with a zero that is not alone.
 fn has_leading_zero(text: &[u8]) -> bool
     ensures { result ≡ has_leading_zero text.now }
 {
@@ -42,6 +44,7 @@ fn decimal(text: &[u8]) -> Option<u64>
     }
 }
 
+// Whether a text begins with `0x` or `0X`.
 fn starts_hex(text: &[u8]) -> bool
     ensures { result ≡ starts_hex text.now }
 {
@@ -60,13 +63,14 @@ fn magnitude(text: &[u8]) -> Option<u64>
     }
 }
 
-/// Whether the text begins with this byte.
+/// Whether a text begins with this byte.
 pub fn first_is(text: &[u8], b: u8) -> bool
     ensures { result ≡ first_is b text.now }
 {
     !text.is_empty() && text[0] == b
 }
 
+// A text without its sign.
 fn without_sign(text: &[u8]) -> &[u8]
     ensures { result.now ≡ without_sign text.now }
 {
@@ -78,6 +82,7 @@ fn without_sign(text: &[u8]) -> &[u8]
     }
 }
 
+// A magnitude that is not above a bound.
 fn at_most(most: u32, found: Option<u64>) -> Option<u32>
     ensures value { result ≡ at_most most found }
     ensures small { IfSome result (λ n. n ≤ most) }
@@ -88,7 +93,7 @@ fn at_most(most: u32, found: Option<u64>) -> Option<u32>
     }
 }
 
-/// Whether the text begins as a number does: by a digit, `+` or `-`.
+/// Whether a text begins as a number does: by a digit, `+` or `-`.
 pub fn begins_number(text: &[u8]) -> bool
     ensures { result ≡ begins_number text.now }
 {

@@ -7,7 +7,7 @@ ghost use Rattle.lexical.specs.Operand.{operands, operands_left, only, parenthes
 use crate::blank::trim;
 use crate::cuts::cut;
 
-/// The operand part behind a word, if there is one.
+/// The operand part after a word, if there is one.
 #[tactic(auto, unfolding(crate::specs::Operand::operands))]
 pub fn operand_part(text: &[u8]) -> Option<&[u8]>
     ensures { operands_left (option_map (λ t. t.now) result) ≡ operands text.now }
@@ -16,7 +16,7 @@ pub fn operand_part(text: &[u8]) -> Option<&[u8]>
     if part.is_empty() { None } else { Some(part) }
 }
 
-/// The first operand of an operand part, and what stands behind its comma, if it has one.
+/// The first operand of an operand part, and the text after its comma, if it has one.
 pub fn next_operand(part: &[u8]) -> (&[u8], Option<&[u8]>)
     ensures operands { operands_left (Some part.now)
         ≡ result.0.now ∷ operands_left (option_map (λ r. r.now) result.1) }
@@ -26,7 +26,7 @@ pub fn next_operand(part: &[u8]) -> (&[u8], Option<&[u8]>)
     (trim(operand), rest)
 }
 
-/// How many operands are left.
+/// The number of operands of an operand part.
 pub fn count_operands(part: Option<&[u8]>) -> usize
     ensures { result ≡ length (operands_left (option_map (λ t. t.now) part.entry)) }
 {
@@ -40,7 +40,7 @@ pub fn count_operands(part: Option<&[u8]>) -> usize
     n
 }
 
-/// The operand that is left, where there is only one.
+/// The operand of an operand part that has only one.
 pub fn only_operand(part: Option<&[u8]>) -> Option<&[u8]>
     ensures { option_map (λ t. t.now) result
         ≡ only (operands_left (option_map (λ t. t.now) part.entry)) }
@@ -52,6 +52,7 @@ pub fn only_operand(part: Option<&[u8]>) -> Option<&[u8]>
     }
 }
 
+// The text before a `)` at its end.
 fn before_close(text: &[u8]) -> Option<&[u8]>
     ensures { option_map (λ t. t.now) result ≡ before_close (Some text.now) }
 {
@@ -63,7 +64,7 @@ fn before_close(text: &[u8]) -> Option<&[u8]>
     }
 }
 
-/// Of an operand `a(b)` both parts, without the blanks at their ends.
+/// The two parts of an operand `a(b)`, without the blanks at their ends.
 #[tactic(auto, unfolding(crate::specs::Operand::parenthesized))]
 pub fn parenthesized(text: &[u8]) -> Option<(&[u8], &[u8])>
     ensures { option_map (λ p. (p.0.now, p.1.now)) result ≡ parenthesized text.now }

@@ -11,7 +11,7 @@ use super::form::same_word;
 use super::operand::number;
 use lexical::{count_operands, next_operand, only_operand};
 
-/// How many zero bytes `.space` adds: a multiple of 4, at most 65,536.
+/// The number of zero bytes that `.space` adds: a multiple of 4, at most 65,536.
 #[tactic(auto, unfolding(crate::specs::Statement::space))]
 pub fn space(part: Option<&[u8]>) -> Result<u32, FaultKind>
     ensures value { Reads (λ n. replicate n 0) result
@@ -63,8 +63,7 @@ pub fn add_words(memory: &mut Vec<u8>, part: Option<&[u8]>) -> Result<(), FaultK
     add_numbers(memory, part)
 }
 
-/// How a directive is written with its operands, where the word, in letters of either case, is one
-/// of a directive.
+/// The form of a directive with its operands, if the word, in letters of either case, is that of one.
 #[tactic(auto, unfolding(crate::specs::Statement::directive_text))]
 pub fn directive_text(word: &[u8]) -> Option<&'static str>
     ensures { option_map (λ t. t.now) result ≡ directive_text word.now }

@@ -1,4 +1,4 @@
-//! What is wrong with a listing.
+//! The faults of a listing.
 ghost use Rattle.std.specs.Prelude.{◌≡◌, ◌≢◌};
 ghost use Rattle.isa.specs.declared.listing.fault.FaultKind.TheVariants.{Memory};
 ghost use Rattle.isa.specs.Reading.{fault_code, fault_name};
@@ -81,8 +81,8 @@ impl<T: Drop> From<AllocFailed<T>> for FaultKind {
     }
 }
 
-/// Why a listing was refused, and the line that has the fault, counted from 1. A listing that is
-/// too long as a whole, and want of memory, have line 0.
+/// The fault for which a listing is refused, and its line, counted from 1. A listing that is too long as a whole, and want
+/// of memory, have line 0.
 #[derive(Clone, Copy, Debug, PartialEq, Eq, Error)]
 #[error("line {line}: {kind}")]
 pub struct TextFault {

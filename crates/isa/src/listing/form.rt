@@ -100,7 +100,7 @@ pub fn form_as_written(op: Op) -> Form
     FORMS[op as usize]
 }
 
-/// The words are the same but for the case of their letters.
+/// Whether two words are equal but for the case of their letters.
 pub fn same_word(a: &[u8], b: &[u8]) -> bool
     ensures { result ≡ str_eq_ignore_ascii_case a.now b.now }
 {
@@ -108,7 +108,7 @@ pub fn same_word(a: &[u8], b: &[u8]) -> bool
 }
 
 impl Form {
-    /// The form has this word, in letters of either case.
+    /// Whether the form has this word, in letters of either case.
     pub fn has_word(&self, word: &[u8]) -> bool
         ensures { result ≡ has_word word.now (form_view self.now) }
     {
@@ -116,8 +116,8 @@ impl Form {
     }
 }
 
-// The form with this word and count, or what is wrong: no form has the word, or none of its forms
-// has the count.
+// The form with this word and number of operands, or the fault: no form has the word, or none of its forms has so many
+// operands.
 fn find_in(table: &[Form], word: &[u8], count: usize) -> Result<Form, FaultKind>
     ensures { Reads form_view result (if list_any (has_word word.now) (map form_view table.now)
         then ok_or (find (has_word_and_count word.now count) (map form_view table.now)) BadOperands

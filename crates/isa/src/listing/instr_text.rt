@@ -1,4 +1,4 @@
-//! Instructions as a listing writes them.
+//! Instructions as a listing has them.
 ghost use Rattle.std.specs.Prelude.{◌≡◌, Some, slice_get, map};
 ghost use Rattle.std.specs.Option.{option_map};
 ghost use Rattle.isa.specs.InstrText.{TextIsReadBack, names, register_text, label_text, operand_text, separator, separated_text, text_of, is_nop as is_nop_of};
@@ -8,7 +8,7 @@ use super::slot::Slot;
 use instructions::{Instr, Op, Reg};
 use std::fmt;
 
-/// How the registers of an instruction are written.
+/// The way in which the registers of an instruction are written.
 #[derive(Clone, Copy, Debug, PartialEq, Eq)]
 pub enum Naming {
     /// By their numbers, as `$29`.
@@ -23,21 +23,21 @@ static NAMES: [&str; 32] = [
     "ra",
 ];
 
-// the entry of a table, where there is one
+// The entry of a table, if there is one.
 fn entry_of<'a>(table: &[&'a str], at: usize) -> Option<&'a str>
     ensures { option_map (λ t. t.now) result ≡ slice_get (map (λ e. e.now) table.now) at }
 {
     table.get(at).copied()
 }
 
-// the name of a general register
+// The name of a general register.
 fn name_of(register: Reg) -> Option<&'static str>
     ensures { option_map (λ t. t.now) result ≡ slice_get names register }
 {
     entry_of(NAMES.as_slice(), usize::from(register.number()))
 }
 
-// a register, by its number or its name
+// A register, by its number or its name.
 #[derive(Clone, Copy)]
 struct Register {
     naming: Naming,
@@ -72,7 +72,7 @@ impl fmt::Display for Label {
     }
 }
 
-// an operand of an instruction
+// An operand of an instruction.
 #[derive(Clone, Copy)]
 struct Operand {
     naming: Naming,
@@ -112,7 +112,7 @@ impl fmt::Display for Operand {
     }
 }
 
-// a shift of register 0 by nothing
+// Whether an instruction is a shift of register 0 by 0, which is `nop`.
 fn is_nop(instr: &Instr) -> bool
     ensures { result ≡ is_nop_of instr.now }
 {
@@ -140,14 +140,14 @@ impl InstrText {
     }
 }
 
-// what stands before an operand: a blank before the first one, and a comma before each other
+// The separator before an operand: a blank before the first one, and a comma before each other.
 fn separator(at: usize) -> &'static str
     ensures { result.now ≡ separator at }
 {
     if at == 0 { " " } else { "," }
 }
 
-// operands of an instruction, from the first one on
+// The operands of an instruction, from the first one on.
 #[derive(Clone, Copy)]
 struct OperandsText<'a> {
     text: InstrText,
@@ -189,8 +189,7 @@ impl fmt::Display for InstrText {
     }
 }
 
-/// The text of an instruction is read back as that instruction. It is a law: the function does
-/// nothing, and its contract is proved.
+/// The text of an instruction is read back as that instruction: a law, whose function does nothing.
 pub fn text_is_read_back()
     ensures { TextIsReadBack }
 {}

@@ -19,7 +19,7 @@ pub struct Draft<'a> {
     pub label: Option<&'a [u8]>,
 }
 
-/// An operation before its operands. `jal`, and `jalr` where it names none, write register 31; the
+/// The draft of an operation before its operands. `jal`, and `jalr` where it names none, write register 31; the
 /// moves from and to LO and HI read and write these.
 fn bare(op: Op) -> Instr
     ensures { result ≡ bare op }
@@ -45,7 +45,7 @@ fn bare(op: Op) -> Instr
 }
 
 impl<'a> Draft<'a> {
-    /// A draft of no meaning, to be filled.
+    /// A draft without a meaning of its own, which is to be filled.
     pub fn new() -> Draft<'a>
         ensures { draft_view result ≡ record { instr = bare Op.Break; label = None } }
     {
@@ -77,6 +77,7 @@ fn fill<'a>(draft: &mut Draft<'a>, slot: Slot, text: &'a [u8]) -> Result<(), Fau
     Ok(())
 }
 
+// Fills a draft with operands, from the left.
 fn fill_all<'a>(
     draft: &mut Draft<'a>,
     slots: &[Slot],

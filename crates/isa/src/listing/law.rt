@@ -1,4 +1,4 @@
-//! Which fault of a listing is named.
+//! The law of the fault that a listing is refused for.
 ghost use Rattle.std.specs.Prelude.{◌≡◌, ◌≢◌, ◌<◌, ◌≤◌, ℕ, List, Ok, Err, length};
 ghost use Rattle.lexical.specs.Line.{lines_of};
 ghost use Rattle.instructions.specs.Programs.{Program};
@@ -7,9 +7,9 @@ ghost use Rattle.isa.specs.declared.listing.fault.FaultKind.TheVariants.{TooLong
 ghost use Rattle.isa.specs.Listing.{listing};
 ghost use Rattle.isa.specs.Faults.{IsFirstFault, IsUnknownLabel, HasNoFault};
 
-/// Of a listing that is refused the first line with a fault is named, and of its faults the first
-/// of the table that holds. A label that no line has is named only where no line has a fault. A
-/// listing that is a program has neither.
+/// A listing is refused with the first line that has a fault, and of the faults of that line with the first one in the
+/// order of their table. A label that no line has is named only where no line has a fault. A listing that is a program
+/// has neither.
 pub fn the_first_fault_is_named()
     ensures whole { (bytes : List ℕ) → 4194304 < length bytes → listing bytes ≡ Err (0, TooLong) }
     ensures line { (bytes : List ℕ) (line : ℕ) (kind : FaultKind) →

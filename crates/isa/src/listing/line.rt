@@ -1,4 +1,4 @@
-//! One line behind the lines before it.
+//! One line after the lines before it.
 ghost use Rattle.std.specs.Prelude.{◌≡◌, ◌≢◌, ◌+◌, ◌≤◌, ◌%◌, ◌∷◌, ◌++◌, [], ◌<◌, None, Some, ℕ, List, length, map, OnOk, IfOk, IfErr, IfSome};
 ghost use Rattle.std.specs.Option.{option_map};
 ghost use Rattle.lexical.specs.Line.{plain_code};
@@ -21,7 +21,7 @@ pub struct Target<'a> {
     pub label: Option<&'a [u8]>,
 }
 
-// Adds an instruction, and what is to be resolved of it.
+// Adds an instruction and its target.
 fn add_instruction<'a>(
     code: &mut Vec<Instr>,
     targets: &mut Vec<Target<'a>>,
@@ -48,8 +48,8 @@ fn add_instruction<'a>(
     Ok(())
 }
 
-// Reads the code of one line, its labels and its statement; there is none for a line with a byte
-// that may not stand before a comment.
+// Reads the labels and the statement of the code of one line. There is no code where a byte may not stand before a
+// comment.
 fn read_line<'a>(
     labels: &mut Vec<Entry<'a>>,
     code: &mut Vec<Instr>,
@@ -92,7 +92,7 @@ fn read_line<'a>(
     add_instruction(code, targets, draft, number)
 }
 
-/// Reads the first line of a text. The answer is what stands behind its line feed, if it has one.
+/// Reads the first line of a text. The result is the text after its line feed, if it has one.
 pub fn read_first_line<'a>(
     labels: &mut Vec<Entry<'a>>,
     code: &mut Vec<Instr>,

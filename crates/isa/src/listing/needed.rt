@@ -8,27 +8,27 @@ use super::line::Target;
 use super::table::{Entry, hash_of, start_of};
 use std::alloc::{AllocError, Global};
 
-/// Of names with 64 hashes: which were met, and which are needed.
+/// The names of 64 hashes that were met, and those that are needed: a bit for each hash.
 #[derive(Clone, Copy)]
 pub struct Bits {
     pub met: u64,
     pub needed: u64,
 }
 
-/// For how many labels there are bits side by side.
+/// The number of labels whose bits stand side by side.
 const SHARE: usize = 8;
 
-/// Labels for which room is made.
+/// The most labels for which room is made.
 const MOST: usize = 4_194_304;
 
-// The half of the hash of a name that tells its bits.
+// The half of the hash of a name by which its bits are found.
 fn short_hash(name: &[u8]) -> u32
     ensures { result ≡ short_hash name.now }
 {
     (hash_of(name) & 0xffff_ffff) as u32
 }
 
-// Which bit is that of a name.
+// The number of the bit of a name.
 fn bit_of(hash: u32) -> u32
     ensures value { result ≡ bit_of hash }
     ensures small { result < 64 }
@@ -36,7 +36,7 @@ fn bit_of(hash: u32) -> u32
     hash % 64
 }
 
-// Meets a name, which is needed if it was met before. The answer is its hash.
+// Meets a name, which is needed if it was met before. The result is its hash.
 fn meet(all: &mut Vec<Bits>, name: &[u8]) -> u32
     requires room { 1 ≤ length all.old.items }
     requires few { length all.old.items ≤ 2 ^ 32 }
@@ -56,7 +56,7 @@ fn meet(all: &mut Vec<Bits>, name: &[u8]) -> u32
     hash
 }
 
-// Notes that a name is needed.
+// Marks a name as needed.
 fn need(all: &mut Vec<Bits>, name: &[u8])
     requires room { 1 ≤ length all.old.items }
     requires few { length all.old.items ≤ 2 ^ 32 }
@@ -73,7 +73,7 @@ fn need(all: &mut Vec<Bits>, name: &[u8])
     };
 }
 
-// Notes that the label of an instruction is needed, if it has one.
+// Marks the label of an instruction as needed, if it has one.
 fn want(all: &mut Vec<Bits>, label: Option<&[u8]>)
     requires room { 1 ≤ length all.old.items }
     requires few { length all.old.items ≤ 2 ^ 32 }
@@ -95,7 +95,7 @@ fn is_needed(all: &[Bits], hash: u32) -> bool
     all[at].needed >> bit_of(hash) & 1 == 1
 }
 
-// Meets all names in their order. The answer is their hashes.
+// Meets all names in their order. The results are their hashes.
 fn meet_all<'a>(
     alloc: Global,
     all: &mut Vec<Bits>,
@@ -115,7 +115,7 @@ fn meet_all<'a>(
     Ok(hashes)
 }
 
-// Notes what labels instructions need.
+// Marks the labels of instructions as needed.
 fn need_all<'a>(all: &mut Vec<Bits>, targets: &[Target<'a>])
     requires room { 1 ≤ length all.old.items }
     requires few { length all.old.items ≤ 2 ^ 32 }

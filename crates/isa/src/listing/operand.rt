@@ -1,4 +1,4 @@
-//! What stands in an operand.
+//! The kinds of operands.
 ghost use Rattle.std.specs.Prelude.{◌≡◌};
 ghost use Rattle.isa.specs.Reading.{Reads};
 ghost use Rattle.isa.specs.Operands.{number, signed_half, label, offset, offset_and_register};
@@ -47,7 +47,7 @@ fn offset(text: &[u8]) -> Result<u32, FaultKind>
     }
 }
 
-/// `offset(register)`.
+/// The offset and the register of an operand `offset(register)`.
 #[tactic(auto, unfolding(crate::specs::Operands::offset_and_register))]
 pub fn offset_and_register(text: &[u8]) -> Result<(u32, Reg), FaultKind>
     ensures { Reads (λ p. (p.0, p.1)) result (offset_and_register text.now) }

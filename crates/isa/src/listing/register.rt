@@ -45,6 +45,7 @@ static NAMES: [(&str, u8); 33] = [
     ("ra", 31),
 ];
 
+// The register with a name, by the first row of a table that has it.
 fn named_in(table: &[(&str, u8)], text: &[u8]) -> Option<u8>
     ensures { result ≡ lookup (λ k. bytes_eq k text.now) (map (λ e. (e.0.now, e.1)) table.now) }
 {
@@ -56,6 +57,7 @@ fn named_in(table: &[(&str, u8)], text: &[u8]) -> Option<u8>
     None
 }
 
+// The number of a register: 0 to 31 without leading zeros, or a name.
 #[tactic(auto, unfolding(crate::specs::RegisterNames::register_number))]
 fn register_number(text: &[u8]) -> Option<u8>
     ensures { result ≡ register_number text.now }
@@ -66,7 +68,7 @@ fn register_number(text: &[u8]) -> Option<u8>
     }
 }
 
-/// A register.
+/// The register of an operand: `$`, and a number or a name.
 #[tactic(auto, unfolding(crate::specs::RegisterNames::register))]
 pub fn register(text: &[u8]) -> Result<Reg, FaultKind>
     ensures { Reads (λ r. r) result (register text.now) }

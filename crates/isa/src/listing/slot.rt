@@ -1,11 +1,11 @@
-//! What the operands of an operation are.
+//! The operands of an operation.
 ghost use Rattle.std.specs.Prelude.{◌≡◌};
 ghost use Rattle.isa.specs.Forms.{operands_text, slots};
 
 /// The kind of an operand of an operation.
 #[derive(Clone, Copy)]
 pub enum Slot {
-    /// The register that it writes.
+    /// The register that the operation writes.
     Into,
     /// The register of source 1.
     First,
@@ -25,7 +25,7 @@ pub enum Slot {
 
 use Slot::{First, Into, Label, Offset, S16, Second, U5, U16};
 
-/// What the operands of an operation are, by the names that the manual of MIPS I gives registers:
+/// The operands of an operation, by the names that the manual of MIPS I gives registers:
 /// rd is written, rs and rt are read, but rt is written where there is no rd.
 #[derive(Clone, Copy)]
 pub enum Operands {
@@ -71,7 +71,7 @@ impl Operands {
         }
     }
 
-    /// What stands behind the word where a form is told.
+    /// The operands as a form shows them after its word.
     pub fn text(self) -> &'static str
         ensures { result.now ≡ operands_text self }
     {

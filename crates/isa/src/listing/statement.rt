@@ -22,7 +22,7 @@ fn add_space(memory: &mut Vec<u8>, n: u32) -> Result<(), FaultKind>
     Ok(())
 }
 
-/// Reads a word and an operand part, as `statement` does.
+/// Reads a directive or an instruction, by its word.
 fn with_operands<'a>(
     memory: &mut Vec<u8>,
     draft: &mut Draft<'a>,
@@ -52,7 +52,7 @@ fn with_operands<'a>(
 }
 
 /// Reads a statement. The bytes of a directive are added to the memory. Where the statement is an
-/// instruction, the answer is yes, and the draft is that instruction.
+/// instruction, the result is true, and the draft is that instruction.
 pub fn statement<'a>(
     memory: &mut Vec<u8>,
     draft: &mut Draft<'a>,

@@ -1,4 +1,4 @@
-//! The labels that were read, and how one is found by its name.
+//! The labels of a listing, as a hash table of their names.
 ghost use Rattle.std.specs.Prelude.{◌≡◌, ◌≢◌, ◌+◌, ◌≤◌, ◌<◌, ◌^◌, ◌∷◌, ◌++◌, [], is_some, length, map, true, None, OnOk, IfOk, IfErr};
 ghost use Rattle.std.specs.Map.{lookup};
 ghost use Rattle.std.specs.Str.{bytes_eq};
@@ -12,7 +12,7 @@ use std::collections::BTreeMap;
 use std::hash::{FoldHasher, Hasher};
 use std::marker::Model;
 
-/// In how many buckets, one behind the other, a name may be noted.
+/// The number of buckets, one after the other, in which a name may be noted.
 const RUN: usize = 16;
 
 /// More labels than a listing can have.
@@ -29,7 +29,7 @@ pub struct Entry<'a> {
     pub line: u32,
 }
 
-/// Where a name is noted, or is to be noted.
+/// The place at which a name is noted, or is to be noted.
 #[derive(Clone, Copy)]
 pub enum Place {
     /// This entry has it.
@@ -99,7 +99,7 @@ fn look_up<'a>(
     }
 }
 
-// Notes one more entry behind those before it.
+// Notes one more entry after those before it.
 fn note<'a>(
     before: &[Entry<'a>],
     entry: &Entry<'a>,
