@@ -1,18 +1,14 @@
 -- A line of a listing as it is shown: without control characters, shortened where it is long, with a mark below a part.
 use Rattle.std.specs.Prelude.{ℕ, ◌+◌, ◌-◌, ◌/◌, ◌%◌, ◌==◌, ◌&&◌, ◌||◌, min, Bool, not, nat_le, nat_lt, List, [], ◌∷◌, ◌++◌, length, codes, slice_range, flat_map, if◌then◌else◌}
 use Rattle.lexical.specs.Name.{is_plain}
-use Rattle.isa.specs.Report.{newline}
+use Rattle.isa.specs.Report.{hex_digit, newline}
 use Rattle.checker.specs.declared.parts.Part.{Part}
 use Rattle.checker.specs.declared.quoting.Layer.{Layer}
 use Rattle.checker.specs.declared.quoting.Layer.TheVariants.{Line, Blank, Mark, Name}
 
--- the hexadecimal digit of four bits
-abbrev pub nibble : ℕ → ℕ
-nibble n = if nat_lt n 10 then 48 + n else 87 + n
-
 -- the escape of a byte: `\x` and two hexadecimal digits
 abbrev pub escape : ℕ → List ℕ
-escape b = codes "\\x" ++ (nibble (b / 16) ∷ nibble (b % 16) ∷ [])
+escape b = codes "\\x" ++ (hex_digit (b / 16) ∷ hex_digit (b % 16) ∷ [])
 
 -- a byte in a line: a tab or a byte that can be printed is shown as it is, any other byte by its escape
 abbrev pub shown : ℕ → List ℕ

@@ -1,8 +1,9 @@
 -- The instructions that a run can reach.
 use Rattle.std.specs.Prelude.{◌≡◌, ◌+◌, ◌<◌, ◌==◌, ◌&&◌, ◌||◌, ℕ, Bool, true, false, not, List, length, Some, slice_get}
 use Rattle.instructions.specs.declared.op.Op.{Op}
-use Rattle.instructions.specs.declared.op.Op.TheVariants.{Beq, Bne, Blez, Bgtz, Bltz, Bgez, J, Jal, Jr, Jalr, Break}
+use Rattle.instructions.specs.declared.op.Op.TheVariants.{Beq, J, Jal, Jr, Jalr, Break}
 use Rattle.instructions.specs.declared.instr.Instr.{Instr}
+use Rattle.instructions.specs.Targets.{names_target}
 use Rattle.instructions.specs.Programs.{Program, address, instr_of}
 
 -- ---- one instruction
@@ -41,18 +42,6 @@ is_always_taken i = is_beq i.op && (i.first == i.second)
 -- whether an instruction never falls through to the next one
 abbrev pub ends_path : Instr → Bool
 ends_path i = never_falls_through i.op || is_always_taken i
-
--- whether the number of an operation is the address of its target
-abbrev pub names_target : Op → Bool
-names_target Beq = true
-names_target Bne = true
-names_target Blez = true
-names_target Bgtz = true
-names_target Bltz = true
-names_target Bgez = true
-names_target J = true
-names_target Jal = true
-names_target _ = false
 
 -- whether an instruction hides where a run goes: by a jump to a register that is no return behind a `jal`, or by writing
 -- register 31 other than by `jal`

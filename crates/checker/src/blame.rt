@@ -9,7 +9,7 @@ mod registers;
 use super::clearing::Labels;
 use super::parts::{Part, code, label_at, operands, statement, word};
 use isa::{FaultKind, TextFault};
-use lexical::is_plain_text;
+use lexical::is_plain;
 use numbers::bad_number;
 use operands::{bad_operands, last_operand};
 use registers::bad_register;
@@ -40,7 +40,7 @@ fn odd_character(line: &[u8], code: Part) -> Part
     ensures { LiesIn code result }
 {
     for at in code.from..code.to {
-        if !is_plain_text(&line[at..at + 1]) {
+        if !is_plain(line[at]) {
             return Part {
                 from: at,
                 to: end_of_character(line, code, at),

@@ -2,18 +2,13 @@
 ghost use Rattle.std.specs.Prelude.{◌≤◌, ◌<◌, IfSome};
 ghost use Rattle.checker.specs.Parts.{IsPartOf, LiesIn};
 
-use lexical::is_name;
+use lexical::{is_blank, is_name};
 
 /// A part of a line: from the byte `from` up to the byte `to`, which is behind it.
 #[derive(Clone, Copy)]
 pub(crate) struct Part {
     pub from: usize,
     pub to: usize,
-}
-
-/// Whether a byte is a blank or a tab.
-pub(crate) fn is_blank(byte: u8) -> bool {
-    byte == b' ' || byte == b'\t'
 }
 
 /// The first place of a byte in a part.

@@ -1,10 +1,11 @@
 //! A line of a listing as it is shown, with a mark below a part of it.
 ghost use Rattle.std.specs.Prelude.{◌≡◌, ◌≤◌, ◌<◌, ◌++◌, OnOk, flat_map, length};
-ghost use Rattle.lexical.specs.Name.{is_plain};
+ghost use Rattle.isa.specs.Report.{hex_digit};
 ghost use Rattle.checker.specs.Parts.{IsPartOf};
-ghost use Rattle.checker.specs.Quotes.{caret, escape, excerpt, is_in_name, nibble, on_layer, quote, quoted, three_if, underline};
+ghost use Rattle.checker.specs.Quotes.{caret, escape, excerpt, is_in_name, on_layer, quote, quoted, three_if, underline};
 
 use super::parts::Part;
+use lexical::is_plain;
 use std::alloc::AllocError;
 
 /// How many bytes of a line are shown at most.
@@ -19,13 +20,6 @@ pub(crate) enum Layer {
     Name,
 }
 
-// Whether a byte is a tab or can be printed.
-fn is_plain(byte: u8) -> bool
-    ensures { result ≡ is_plain byte }
-{
-    byte == b'\t' || (0x20 <= byte && byte <= 0x7e)
-}
-
 // Whether a byte of a file's name can be printed, or is part of a character beyond ASCII that is no control character.
 fn is_in_name(byte: u8) -> bool
     ensures { result ≡ is_in_name byte }
@@ -33,9 +27,10 @@ fn is_in_name(byte: u8) -> bool
     (0x20 <= byte && byte <= 0x7e) || (0x80 <= byte && byte != 0xc2)
 }
 
-fn nibble(n: u8) -> u8
+// The hexadecimal digit of a number below 16.
+fn hex_digit(n: u8) -> u8
     requires { n < 16 }
-    ensures { result ≡ nibble n }
+    ensures { result ≡ hex_digit n }
 {
     if n < 10 { b'0' + n } else { b'a' - 10 + n }
 }
@@ -45,8 +40,8 @@ fn push_escape(text: &mut Vec<u8>, byte: u8) -> Result<(), AllocError>
     ensures { OnOk result (text.new.items ≡ text.old.items ++ escape byte) }
 {
     text.extend_from_slice(b"\\x")?;
-    text.push(nibble(byte / 16))?;
-    text.push(nibble(byte % 16))?;
+    text.push(hex_digit(byte / 16))?;
+    text.push(hex_digit(byte % 16))?;
     Ok(())
 }
 

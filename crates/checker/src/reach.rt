@@ -1,7 +1,8 @@
 //! The instructions that a run can reach.
 ghost use Rattle.std.specs.Prelude.{◌≡◌, ◌+◌, ◌<◌, ℕ, IfOk, Some, length, slice_get, false, true};
+ghost use Rattle.instructions.specs.Targets.{names_target};
 ghost use Rattle.instructions.specs.Programs.{address, instr_of};
-ghost use Rattle.checker.specs.Reach.{HasSuccessors, IsClosedSet, ends_path, names_target, is_always_taken, is_opaque};
+ghost use Rattle.checker.specs.Reach.{HasSuccessors, IsClosedSet, ends_path, is_always_taken, is_opaque};
 
 use instructions::{Instr, Op, Program, Reg};
 use std::alloc::{AllocError, Global};
@@ -18,16 +19,6 @@ pub(crate) fn ends_path(instr: &Instr) -> bool
     ensures { result ≡ ends_path instr.now }
 {
     matches!(instr.op, Op::J | Op::Jr | Op::Break) || is_always_taken(instr)
-}
-
-/// Whether the number of an operation is the address of its target.
-pub(crate) fn names_target(instr: &Instr) -> bool
-    ensures { result ≡ names_target instr.now.op }
-{
-    matches!(
-        instr.op,
-        Op::Beq | Op::Bne | Op::Blez | Op::Bgtz | Op::Bltz | Op::Bgez | Op::J | Op::Jal
-    )
 }
 
 // Whether an instruction hides where a run goes: by a jump to a register that is no return behind a `jal`, or by
@@ -69,7 +60,7 @@ fn has_target(program: &Program, reached: &[bool], k: usize) -> bool
         → slice_get reached.now j ≡ Some true }
 {
     let instr = program.instr(k);
-    !names_target(instr) || has(reached, instr.number)
+    !instr.op.names_target() || has(reached, instr.number)
 }
 
 // Whether all successors of instruction k are reached.
@@ -131,7 +122,7 @@ pub(crate) fn reached(alloc: Global, program: &Program) -> Result<Vec<bool>, All
             if !ends_path(instr) {
                 reach(&mut reached, &mut next, k + 1)?;
             }
-            if names_target(instr) {
+            if instr.op.names_target() {
                 reach(&mut reached, &mut next, index_of(instr.number))?;
             }
         }

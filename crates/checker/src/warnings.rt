@@ -10,7 +10,7 @@ ghost use Rattle.checker.specs.Warnings.{AreOperandsOf, AreWarned, Applies, Stan
 mod operands;
 
 use super::parts::{Part, code, label_at, statement};
-use super::reach::{ends_path, is_closed, names_target, reached};
+use super::reach::{ends_path, is_closed, reached};
 use super::spot::{Spot, push_spot};
 use instructions::Program;
 use lexical::next_line;
@@ -60,7 +60,7 @@ fn may_run_past_end(program: &Program, k: usize) -> bool
     let instr = program.instr(k);
     let end = Program::START + 4 * program.len() as u32;
     let goes_on = !ends_path(instr) && k + 1 == program.len();
-    let jumps = names_target(instr) && instr.number == end;
+    let jumps = instr.op.names_target() && instr.number == end;
     goes_on || jumps
 }
 

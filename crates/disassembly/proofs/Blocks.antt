@@ -13,6 +13,7 @@ use Rattle.instructions.specs.declared.op.Op.TheVariants.{Beq, Bne, Blez, Bgtz, 
 use Rattle.instructions.specs.declared.instr.Instr.{Instr}
 use Rattle.isa.specs.declared.listing.instr_text.Naming.TheVariants.{Names}
 use Rattle.instructions.specs.Instruction.{instr_with}
+use Rattle.instructions.specs.Targets.{names_target}
 use Rattle.instructions.specs.Programs.{address}
 use Rattle.isa.specs.Statement.{statement}
 use Rattle.isa.specs.Report.{hex8}
@@ -21,7 +22,6 @@ use Rattle.isa.specs.InstrText.{text_of, label_text, said_of, is_nop, IsWritable
 use Rattle.isa.proofs.TextBytes.{Of, of_append, all_of, of_other, inner, part_of, part_trimmed, before_whole, split_at}
 use Rattle.isa.proofs.TextOperands.{label_part, label_is_name}
 use Rattle.isa.proofs.TextRead.{in_code, text_code, indent_in_code, code_read, code_unlabelled, spoken, text_spoken, spoken_stands}
-use Rattle.disassembly.specs.Meaning.{has_target}
 use Rattle.disassembly.specs.Writing.{as_line, unlines, printable, label_line, label_lines, code_line, marked, with_mark, IsReadAs, IsText, IsQuieter, IsSound, AllSound}
 use Rattle.disassembly.proofs.Pushed.{text_all_quiet, text_label, text_code as code_added}
 use Rattle.disassembly.proofs.Printed.{code_printable, inner_printable}
@@ -73,7 +73,7 @@ line_printable i w =
     (of_other in_code printable code_printable (code_line i) (of_append in_code (replicate 8 32) (text_of Names i) (indent_in_code 8) (text_code Names i w).bytes))
 
 -- only what goes somewhere names a label
-unlabelled : (op : Op) (target first second number : ℕ) → has_target op ≡ false → (said_of (instr_with op target first second number)).label ≡ None
+unlabelled : (op : Op) (target first second number : ℕ) → names_target op ≡ false → (said_of (instr_with op target first second number)).label ≡ None
 unlabelled Beq target first second number h = absurd (cc)
 unlabelled Bne target first second number h = absurd (cc)
 unlabelled Blez target first second number h = absurd (cc)

@@ -5,7 +5,8 @@ use Rattle.std.proofs.lemmas.Bool.{cases_eq}
 use Rattle.std.proofs.lemmas.List.{take_more}
 use Rattle.instructions.specs.declared.instr.Instr.{Instr}
 use Rattle.instructions.specs.Programs.{address}
-use Rattle.disassembly.specs.Meaning.{has_target, is_inside}
+use Rattle.instructions.specs.Targets.{names_target}
+use Rattle.disassembly.specs.Meaning.{is_inside}
 use Rattle.disassembly.specs.Writing.{IsLabelled, AllMarked}
 
 set_at : (marks : List Bool) (k j : ℕ) → k < length marks → get_or marks j false ≡ true → get_or (set marks k true) j false ≡ true
@@ -27,13 +28,13 @@ all_kept old new n [] f h = tt
 all_kept old new n (i ∷ is) f h = (λ goes inside. f i.number (h.0 goes inside), all_kept old new n is f h.1)
 
 all_push : (marks : List Bool) (n : ℕ) (is : List Instr) (i : Instr) → AllMarked marks n is
-    → (has_target i.op ≡ true → is_inside n i.number ≡ true → IsLabelled marks i.number) → AllMarked marks n (is ++ i ∷ [])
+    → (names_target i.op ≡ true → is_inside n i.number ≡ true → IsLabelled marks i.number) → AllMarked marks n (is ++ i ∷ [])
 all_push marks n [] i h one = (one, tt)
 all_push marks n (j ∷ is) i h one = (h.0, all_push marks n is i h.1 one)
 
 pub marks_more : (old new : List Bool) (n k : ℕ) (code : List Instr) (d : Instr) → k < length code → AllMarked old n (take k code)
     → ((target : ℕ) → IsLabelled old target → IsLabelled new target)
-    → (has_target (get_or code k d).op ≡ true → is_inside n (get_or code k d).number ≡ true → IsLabelled new (get_or code k d).number)
+    → (names_target (get_or code k d).op ≡ true → is_inside n (get_or code k d).number ≡ true → IsLabelled new (get_or code k d).number)
     → AllMarked new n (take (k + 1) code)
 marks_more old new n k code d lt h kept one =
     rw (take_more code k d lt) (all_push new n (take k code) (get_or code k d) (all_kept old new n (take k code) kept h) one)

@@ -12,7 +12,7 @@ use Rattle.instructions.specs.Programs.{address}
 use Rattle.isa.specs.Statement.{Parsed, statement}
 use Rattle.isa.specs.InstrText.{label_text, ReadsAsBy}
 use Rattle.isa.specs.Listing.{Lines, read, labels, table, numbered, memory, resolve_number, numbered_with, resolve, resolved, listing}
-use Rattle.disassembly.specs.Meaning.{has_target}
+use Rattle.instructions.specs.Targets.{names_target}
 use Rattle.disassembly.specs.Writing.{AllRead, AllSound, AllMarked, IsLabelled, marked, IsText, AddsData}
 use Rattle.disassembly.proofs.Printed.{lines_are}
 use Rattle.disassembly.proofs.Pushed.{push_bytes, faultless_none, text_all_quiet, text_nothing}
@@ -30,11 +30,11 @@ empty_read = refl
 
 module _ (marks : List Bool) (n : ℕ) (few : n ≤ 16384) (all : length marks ≡ n) where
   -- the number of an instruction, by its label or its own
-  number_of : (i : Instr) (line : ℕ) (label : Option (List ℕ)) (found : Instr) → ReadsAsBy label found i → (has_target i.op ≡ false → label ≡ None)
-      → (has_target i.op ≡ true → IsLabelled marks i.number)
+  number_of : (i : Instr) (line : ℕ) (label : Option (List ℕ)) (found : Instr) → ReadsAsBy label found i → (names_target i.op ≡ false → label ≡ None)
+      → (names_target i.op ≡ true → IsLabelled marks i.number)
       → numbered_with found (resolve_number (marked marks n) line found.number label) ≡ Ok i
   number_of i line None found stands bare goes = ap (λ (j : Instr). Ok j) stands
-  number_of i line (Some name) found stands bare goes = elim (cases_Bool (has_target i.op)) [
+  number_of i line (Some name) found stands bare goes = elim (cases_Bool (names_target i.op)) [
     | inr stays ↦ let bad : Some name ≡ None = bare stays in absurd cc
     | inl target ↦
         let at = goes target in

@@ -8,7 +8,8 @@ use Rattle.encoding.specs.Words.{decode}
 use Rattle.encoding.proofs.Written.{each_is_written}
 use Rattle.disassembly.specs.declared.refusal.Refusal.{Refusal}
 use Rattle.disassembly.specs.declared.refusal.Refusal.TheVariants.{Target, Slot}
-use Rattle.disassembly.specs.Meaning.{has_target, is_inside, has_slot, with_delay_slot, checked, checked_if, meant, appended, with_next, meant_up_to}
+use Rattle.instructions.specs.Targets.{names_target}
+use Rattle.disassembly.specs.Meaning.{is_inside, has_slot, with_delay_slot, checked, checked_if, meant, appended, with_next, meant_up_to}
 use Rattle.disassembly.specs.Writing.{IsSound, AllSound}
 
 sound_push : (n : ℕ) (is : List Instr) (i : Instr) → AllSound n is → IsSound n i → AllSound n (is ++ i ∷ [])
@@ -23,8 +24,8 @@ with_slot_same at word i j (Some next) h = elim (cases_Bool (next == 0)) [
 ]
 
 -- what was checked is the instruction itself, and goes inside
-checked_sound : (words : List ℕ) (k : ℕ) (i j : Instr) → checked words k i ≡ Ok j → (i ≡ j) × (has_target i.op ≡ true → is_inside (length words) i.number ≡ true)
-checked_sound words k i j h = elim (cases_Bool (has_target i.op)) [
+checked_sound : (words : List ℕ) (k : ℕ) (i j : Instr) → checked words k i ≡ Ok j → (i ≡ j) × (names_target i.op ≡ true → is_inside (length words) i.number ≡ true)
+checked_sound words k i j h = elim (cases_Bool (names_target i.op)) [
   | inl goes ↦ elim (cases_Bool (is_inside (length words) i.number)) [
     | inl inside ↦
         let rest : (if has_slot i.op then with_delay_slot (address k) (slice_index words k) i (slice_get words (k + 1)) else Ok i) ≡ Ok j = rw (goes, inside) at h in

@@ -1,11 +1,11 @@
 -- The instructions that the words of a text mean.
 use Rattle.std.specs.Prelude.{ℕ, zero, suc, ◌+◌, ◌%◌, ◌==◌, ◌&&◌, Bool, true, false, not, nat_lt, nat_le, List, [], ◌∷◌, ◌++◌, length, slice_get, slice_index, Option, Some, None, Result, Ok, Err, if◌then◌else◌}
 use Rattle.instructions.specs.declared.op.Op.{Op}
-use Rattle.instructions.specs.declared.op.Op.TheVariants.{Jr, Jalr}
 use Rattle.instructions.specs.declared.op.Kind.{Kind}
 use Rattle.instructions.specs.declared.op.Kind.TheVariants.{Jumps, Links}
 use Rattle.instructions.specs.declared.instr.Instr.{Instr}
 use Rattle.instructions.specs.Instruction.{kind}
+use Rattle.instructions.specs.Targets.{names_target}
 use Rattle.instructions.specs.Programs.{text_start, address}
 use Rattle.encoding.specs.Words.{decode}
 use Rattle.disassembly.specs.declared.refusal.Refusal.{Refusal}
@@ -22,12 +22,6 @@ has_slot_by _ = false
 abbrev pub has_slot : Op → Bool
 has_slot op = has_slot_by (kind op)
 
--- all of them but `jr` and `jalr` name where they go
-abbrev pub has_target : Op → Bool
-has_target Jr = false
-has_target Jalr = false
-has_target op = has_slot op
-
 -- whether an address is that of one of n instructions
 abbrev pub is_inside : ℕ → ℕ → Bool
 is_inside n target = (target % 4 == 0) && (nat_le text_start target && nat_lt target (address n))
@@ -41,7 +35,7 @@ with_delay_slot at word i (Some next) = if next == 0 then Ok i else Err (Slot (a
 -- instruction k of a text, if its target and its delay slot are allowed
 abbrev pub checked : List ℕ → ℕ → Instr → Result Instr Refusal
 checked words k i =
-    if has_target i.op && not (is_inside (length words) i.number)
+    if names_target i.op && not (is_inside (length words) i.number)
     then Err (Target (address k) (slice_index words k) i.number)
     else (if has_slot i.op
     then with_delay_slot (address k) (slice_index words k) i (slice_get words (k + 1))

@@ -10,7 +10,8 @@ use Rattle.instructions.specs.Programs.{address}
 use Rattle.isa.specs.Statement.{Parsed}
 use Rattle.isa.specs.Listing.{Lines, read, labels, table, numbered, memory, fault_in}
 use Rattle.isa.specs.InstrText.{with_operands_text, text_of, label_text, IsWritable, ReadsAs}
-use Rattle.disassembly.specs.Meaning.{has_target, is_inside}
+use Rattle.instructions.specs.Targets.{names_target}
+use Rattle.disassembly.specs.Meaning.{is_inside}
 
 -- ---- lines
 
@@ -92,7 +93,7 @@ marked marks (suc k) = marked marks k ++ with_mark k (slice_index_or marks k fal
 -- a listing can write the instruction, and its target is one of n instructions
 pub record IsSound (n : ℕ) (i : Instr) : Type 0 where
   pub writable : IsWritable i
-  pub inside : has_target i.op ≡ true → is_inside n i.number ≡ true
+  pub inside : names_target i.op ≡ true → is_inside n i.number ≡ true
 
 -- a listing can write each of these, and their targets are among n instructions
 abbrev pub AllSound : ℕ → List Instr → Type 0
@@ -103,7 +104,7 @@ AllSound n (i ∷ is) = IsSound n i × AllSound n is
 abbrev pub AllMarked : List Bool → ℕ → List Instr → Type 0
 AllMarked marks n [] = ⊤
 AllMarked marks n (i ∷ is) =
-    (has_target i.op ≡ true → is_inside n i.number ≡ true → IsLabelled marks i.number)
+    (names_target i.op ≡ true → is_inside n i.number ≡ true → IsLabelled marks i.number)
     × AllMarked marks n is
 
 -- ---- the meaning of lines
@@ -121,7 +122,7 @@ Faultless before (l ∷ ls) = (fault_in before l ≡ None) × Faultless (before 
 -- the instruction that was read is this one, and has a label only if its operation names a target
 pub record IsReadAs (p : Parsed) (i : Instr) : Type 0 where
   pub stands : ReadsAs p i
-  pub unlabelled : has_target i.op ≡ false → p.label ≡ None
+  pub unlabelled : names_target i.op ≡ false → p.label ≡ None
 
 -- each line was read as its instruction, in their order
 abbrev pub AllRead : List (ℕ × Parsed) → List Instr → Type 0

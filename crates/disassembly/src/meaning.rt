@@ -2,7 +2,7 @@
 ghost use Rattle.std.specs.Prelude.{◌≡◌, ◌≢◌, ◌<◌, ◌≤◌, Ok, Err, IfOk, IfErr, length};
 ghost use Rattle.instructions.specs.Programs.{address as address_at};
 ghost use Rattle.disassembly.specs.Writing.{AllSound};
-ghost use Rattle.disassembly.specs.Meaning.{has_slot as has_slot_of, has_target as has_target_of, is_inside as is_inside_of, checked as checked_by, meant as meant_by, meant_up_to};
+ghost use Rattle.disassembly.specs.Meaning.{has_slot as has_slot_of, is_inside as is_inside_of, checked as checked_by, meant as meant_by, meant_up_to};
 
 use crate::Refusal;
 use crate::foreign::foreign_word;
@@ -18,20 +18,11 @@ pub fn address_of(k: usize) -> u32
     Program::START + 4 * k as u32
 }
 
+// Whether an operation has a delay slot.
 fn has_slot(op: Op) -> bool
     ensures { result ≡ has_slot_of op }
 {
     matches!(op.kind(), Kind::Jumps | Kind::Links)
-}
-
-/// The operation is a jump or branch that names its target.
-pub fn has_target(op: Op) -> bool
-    ensures { result ≡ has_target_of op }
-{
-    match op {
-        Op::Jr | Op::Jalr => false,
-        _ => has_slot(op),
-    }
 }
 
 fn is_inside(len: usize, target: u32) -> bool
@@ -51,7 +42,7 @@ fn checked(code: &[u32], k: usize, instr: Instr) -> Result<Instr, Refusal>
     let address = address_of(k);
     let word = code[k];
     let target = instr.number();
-    if has_target(op) && !is_inside(code.len(), target) {
+    if op.names_target() && !is_inside(code.len(), target) {
         return Err(Refusal::Target {
             address,
             word,

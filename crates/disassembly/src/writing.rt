@@ -3,12 +3,12 @@ ghost use Rattle.std.specs.Prelude.{◌≡◌, ℕ, ◌<◌, ◌≤◌, ◌++◌
 ghost use Rattle.std.specs.List.{list_all};
 ghost use Rattle.instructions.specs.Programs.{address};
 ghost use Rattle.isa.specs.Listing.{listing};
-ghost use Rattle.disassembly.specs.Meaning.{is_inside, has_target as has_target_of};
+ghost use Rattle.instructions.specs.Targets.{names_target};
+ghost use Rattle.disassembly.specs.Meaning.{is_inside};
 ghost use Rattle.disassembly.specs.Writing.{IsQuieter, IsLabelled, AllSound, AllMarked, as_line, unlines, label_lines, gap_lines, comment_line, printable};
 
 use crate::data::push_data;
 use crate::lines::{push_label, push_line};
-use crate::meaning::has_target;
 use elf::{Function, name_at};
 use instructions::{Instr, Program};
 use std::alloc::{AllocError, Global};
@@ -36,11 +36,11 @@ fn mark(marks: &mut Vec<bool>, instr: &Instr)
     ensures length { length marks.new.items ≡ length marks.old.items }
     ensures kept { (target : ℕ) → IsLabelled marks.old.items target
         → IsLabelled marks.new.items target }
-    ensures new { has_target_of instr.now.op ≡ true
+    ensures new { names_target instr.now.op ≡ true
         → is_inside (length marks.old.items) instr.now.number ≡ true
         → IsLabelled marks.new.items instr.now.number }
 {
-    if !has_target(instr.op()) {
+    if !instr.op().names_target() {
         return;
     }
     if let Some(k) = index_of(marks.len(), instr.number()) {

@@ -2,9 +2,9 @@
 ghost use Rattle.std.specs.Prelude.{◌≤◌, ◌<◌, IfSome};
 ghost use Rattle.checker.specs.Parts.{IsPartOf, LiesIn};
 
-use super::super::parts::{Part, find, is_blank, trimmed};
+use super::super::parts::{Part, find, trimmed};
 use isa::{Form, Operands, Slot, directive_text, form_of, forms};
-use lexical::{begins_number, first_is, is_name};
+use lexical::{begins_number, first_is, is_blank, is_name};
 
 /// The end of the first operand: its comma, or the end of all operands.
 pub(crate) fn end_of_first(line: &[u8], operands: Part) -> usize

@@ -1,7 +1,7 @@
 //! Remedies of characters that are not allowed before a comment.
 
 use super::{joined, nothing};
-use lexical::is_plain_text;
+use lexical::is_plain;
 use std::alloc::{AllocError, Global};
 
 /// A character that is often copied from elsewhere: its bytes, its name, and the remedy.
@@ -74,7 +74,7 @@ static CHARACTERS: [Character; 28] = [
 
 /// The name of the first character that is not allowed before a comment, and its remedy.
 pub(crate) fn remedy(alloc: Global, code: &[u8]) -> Result<Vec<u8>, AllocError> {
-    let Some(at) = code.iter().position(|byte| !is_plain_text(&[*byte])) else {
+    let Some(at) = code.iter().position(|byte| !is_plain(*byte)) else {
         return nothing(alloc);
     };
     let (_, odd) = code.split_at(at);
