@@ -33,7 +33,8 @@ impl Queue {
     }
 }
 
-fn answer_over(older: &[Entry], address: u32, width: Width) -> Answer
+/// Answers a load of so many bytes from an address on by older stores.
+pub fn answer_over(older: &[Entry], address: u32, width: Width) -> Answer
     ensures { result ≡ answer_over older.now address (bytes width) }
 {
     if let Some((place, _)) = youngest_lacking(older) {

@@ -5,7 +5,6 @@ use Rattle.std.specs.List.{AllByRecursion}
 use Rattle.instructions.specs.Programs.{Program}
 use Rattle.inorder.specs.declared.history.Step.{Step}
 use Rattle.inorder.specs.Laws.{IsNoRetire}
-use Rattle.inorder.specs.Steps.{settled}
 use Rattle.inorder.specs.Tenants.{Live, Tenant}
 use Rattle.inorder.specs.Unit.{UpdateUnit, how_many}
 use Rattle.inorder.specs.Tenants.{is_live}

@@ -1,5 +1,5 @@
 -- The turns Retired, Halved and Over are steps of the unit.
-use Rattle.std.proofs.Common.{◌≡◌, ◌+◌, Bool, true, false, List, [], ◌∷◌, ◌++◌, length, Option, Some, None, refl, sym, ap, ◌∙◌, subst}
+use Rattle.std.proofs.Common.{◌≡◌, Bool, true, false, List, [], ◌∷◌, ◌++◌, length, Option, Some, None, refl, sym, ap, ◌∙◌, subst}
 use Rattle.std.proofs.Common.{arith}
 use Rattle.std.specs.Prelude.{is_some, slice_get}
 use Rattle.std.specs.List.{AllByRecursion}
@@ -11,7 +11,7 @@ use Rattle.instructions.specs.declared.stop.Stop.TheVariants.{BadPc}
 use Rattle.inorder.specs.Steps.{IsNoRetiredStop}
 use Rattle.inorder.specs.Tenants.{Tenant, is_first}
 use Rattle.inorder.specs.Tenants.{stands_on_path}
-use Rattle.inorder.specs.Unit.{Sizes, UpdateUnit, at}
+use Rattle.inorder.specs.Unit.{Sizes, UpdateUnit}
 use Rattle.inorder.proofs.Commits.{live_not}
 use Rattle.inorder.proofs.Halves.{first_low}
 use Rattle.inorder.proofs.Sound.{IsSound}

@@ -3,7 +3,7 @@ use Rattle.std.proofs.Common.{◌≡◌, ℕ, suc, ◌+◌, ◌-◌, ◌*◌, �
 use Rattle.std.specs.Prelude.{is_some}
 use Rattle.instructions.specs.Programs.{Program}
 use Rattle.instructions.specs.declared.stop.Stop.{Stop}
-use Rattle.instructions.specs.declared.end.Ending.TheVariants.{Stop as ByStop, Limit as ByLimit}
+use Rattle.instructions.specs.declared.end.Ending.TheVariants.{Stop as ByStop}
 use Rattle.inorder.specs.Committed.{committed}
 use Rattle.inorder.specs.Machine.{Goes, Halts, Ran as RanStep, State, fetched, step}
 use Rattle.inorder.specs.Runs.{after, end_after, end_from, next_state, stop, stop_of, then_state, then_stop}

@@ -1,7 +1,7 @@
 -- What the next tenant finds: where nobody is live, behind one station more, and where the oldest has left.
-use Rattle.std.proofs.Common.{◌≡◌, ◌≢◌, ◌<◌, ℕ, zero, suc, ◌-◌, true, cond, List, [], ◌∷◌, ◌++◌, length, Option, Some, None, refl}
+use Rattle.std.proofs.Common.{◌≡◌, ◌≢◌, ◌<◌, ◌≤◌, ℕ, zero, suc, ◌-◌, true, cond, List, [], ◌∷◌, ◌++◌, length, Option, Some, None, refl}
 use Rattle.std.proofs.Common.{sym, ap, ◌∙◌, ⊎_elim, arith, eq-eqb, ne_eqb, length-append, length-set, true≢false}
-use Rattle.std.proofs.lemmas.Bool.{cases_eq}
+use Rattle.std.proofs.lemmas.Bool.{cases_eq, cases_lt, le-ltb}
 use Rattle.std.proofs.lemmas.List.{get_or-set_same, get_or-set_other}
 use Rattle.circular_buffer.proofs.Places.{slice_get-some}
 use Rattle.std.specs.Prelude.{is_some, slice_get, slice_index, slice_set, unwrap_or}
@@ -9,7 +9,7 @@ use Rattle.inorder.specs.Machine.{write}
 use Rattle.inorder.proofs.Basics.{read_same, read_other}
 use Rattle.one_thread.specs.declared.future.Future.{Future}
 use Rattle.one_thread.specs.declared.station.Station.{Station}
-use Rattle.one_thread.specs.Steady.{AwaitsRetirement, Foresees, GoesOnBehind}
+use Rattle.one_thread.specs.Steady.{Foresees, GoesOnBehind}
 use Rattle.one_thread.specs.Window.{next_after, next_in, register_after, register_in, source_in}
 use Rattle.one_thread.proofs.Scan.{get_end, register_end}
 use Rattle.one_thread.proofs.Sources.{source_by}
@@ -21,6 +21,14 @@ values_none registers zero l h = ap Some (sym (get_or-set_same registers 0 0 0 l
 values_none registers (suc r) l h =
     let apart : suc r ≢ 0 = omega arith in
     source_by registers [] (suc r) apart h ∙ ap Some (sym (get_or-set_other registers 0 (suc r) 0 0 apart))
+
+pub nobody_live : (values registers : List ℕ) (at pc : ℕ) → values ≡ registers → at ≡ pc → length registers ≡ 34 → Foresees (record { values = slice_set values 0 0; pc = at }) registers pc []
+nobody_live values registers at pc same path all =
+    record {
+      all = length-set values 0 0 ∙ ap length same ∙ all;
+      values = λ r l. values_none registers r (omega (arith, all)) l ∙ ap (λ x. Some (slice_index (slice_set x 0 0) r)) (sym same);
+      path = path;
+    }
 
 -- One station more
 
@@ -76,7 +84,7 @@ path_end pc W w =
 
 -- The oldest has left, and what it made is in its register
 
-values_left : (registers : List ℕ) (w : Station) (W : List Station) (v r : ℕ) → length registers ≡ 34 → (w.destination ≢ 0 → w.made ≡ Some v) → r < 34 →
+pub values_left : (registers : List ℕ) (w : Station) (W : List Station) (v r : ℕ) → length registers ≡ 34 → (w.destination ≢ 0 → w.made ≡ Some v) → r < 34 →
     source_in (write registers w.destination v) W r ≡ source_in registers (w ∷ W) r
 values_left registers w W v zero s m l = refl
 values_left registers w W v (suc r) s m l =
@@ -101,7 +109,17 @@ values_left registers w W v (suc r) s m l =
         ap Some (read_other registers w.destination r v n)
         ∙ sym (ap (λ b. cond b w.made (Some (slice_index registers (suc r)))) (ne_eqb w.destination (suc r) n))
 
-path_left : (pc : ℕ) (w : Station) (W : List Station) → next_in w.next W ≡ next_in pc (w ∷ W)
+-- A number that is no register's reads as 0
+beyond : (registers : List ℕ) (W : List Station) (r : ℕ) → 34 ≤ r → source_in registers W r ≡ Some 0
+beyond registers W zero h = refl
+beyond registers W (suc r) h = ap (λ b. cond b (register_in (suc r) (Some (slice_index registers (suc r))) W) (Some 0)) (le-ltb (suc r) 34 h)
+
+pub values_passed : (registers : List ℕ) (w : Station) (W : List Station) (v r : ℕ) → length registers ≡ 34 → (w.destination ≢ 0 → w.made ≡ Some v) →
+    source_in (write registers w.destination v) W r ≡ source_in registers (w ∷ W) r
+values_passed registers w W v r s m =
+    ⊎_elim (λ l. values_left registers w W v r s m l) (λ h. beyond (write registers w.destination v) W r h ∙ sym (beyond registers (w ∷ W) r h)) (cases_lt r 34)
+
+pub path_left : (pc : ℕ) (w : Station) (W : List Station) → next_in w.next W ≡ next_in pc (w ∷ W)
 path_left pc w [] = refl
 path_left pc w (x ∷ W) =
     let one : suc (length W) - 1 ≡ length W = omega arith in
@@ -112,16 +130,16 @@ path_left pc w (x ∷ W) =
     ∙ sym (ap (next_after pc) last.1)
     ∙ sym (ap (λ k. next_after pc (slice_get (w ∷ x ∷ W) k)) two)
 
-made_value : (o : Option ℕ) → is_some o ≡ true → o ≡ Some (unwrap_or o 0)
+pub made_value : (o : Option ℕ) → is_some o ≡ true → o ≡ Some (unwrap_or o 0)
 made_value (Some v) e = refl
 made_value None e = absurd (true≢false (sym e))
 
-pub foresees_left : (f : Future) (registers : List ℕ) (pc : ℕ) (w : Station) (W : List Station) → length registers ≡ 34 → AwaitsRetirement w → Foresees f registers pc (w ∷ W) →
+pub foresees_left : (f : Future) (registers : List ℕ) (pc : ℕ) (w : Station) (W : List Station) → length registers ≡ 34 → (w.destination ≢ 0 → is_some w.made ≡ true) → Foresees f registers pc (w ∷ W) →
     Foresees f (write registers w.destination (unwrap_or w.made 0)) w.next W
 foresees_left f registers pc w W s p h =
     record {
       all = h.all;
-      values = λ r l. values_left registers w W (unwrap_or w.made 0) r s (λ n. made_value w.made (p.made n)) l ∙ h.values r l;
+      values = λ r l. values_left registers w W (unwrap_or w.made 0) r s (λ n. made_value w.made (p n)) l ∙ h.values r l;
       path = h.path ∙ sym (path_left pc w W);
     }
 

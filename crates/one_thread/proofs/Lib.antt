@@ -51,3 +51,8 @@ pub mod StreamsIn
 pub mod StreamsLoads
 pub mod StreamsOut
 pub mod Mended
+pub mod Rings
+pub mod Stores
+pub mod Flowing
+pub mod FlowOut
+pub mod FlowIn

@@ -42,7 +42,7 @@ use Rattle.one_thread.specs.Window.{operands_in, stage_of, station_of, window}
 use Rattle.one_thread.proofs.Entries.{answered_waits}
 use Rattle.one_thread.proofs.Noted.{given_station}
 use Rattle.one_thread.proofs.Queues.{answer_like, queue_like}
-use Rattle.one_thread.proofs.Tests.{all_blocked, no_claim, no_let, no_miss}
+use Rattle.one_thread.proofs.Tests.{all_blocked, no_miss}
 use Rattle.one_thread.proofs.Turns.{FoundIn, found_in, none_in, oldest_is}
 use Rattle.one_thread.proofs.Known.{IsSplit, cannot_let, knows, nobody_claims, split_of}
 use Rattle.one_thread.proofs.Changed.{GoesOn, age_is, changed_stands, set_shown}

@@ -37,7 +37,7 @@ by_entry false false at e (Some x) q = refl
 by_entry false false at e None None = refl
 by_entry false false at e None (Some y) = refl
 
-older_more : (es : List Entry) (e : Entry) (a n : ℕ) →
+pub older_more : (es : List Entry) (e : Entry) (a n : ℕ) →
     older_of (es ++ e ∷ []) a n ≡ joined_with (older_of es a n) e a n
 older_more es e a n =
     let at : length es ≡ 0 + length es = omega arith in
@@ -124,6 +124,14 @@ by_rule None None es memory op a n h = sym (ap (λ o. value_by (by_overlap o a n
 by_rule None (Some (place, e)) es memory op a n h =
     forwarded_value (taken_from e.address (bytes e.width) e.content a n) place memory op a
     ∙ sym (ap (λ o. value_by (by_overlap o a n) memory op a) h)
+
+-- entries that are the same to a load give it the same
+pub same_answer : (es fs : List Entry) (memory : List ℕ) (op : Op) (a n : ℕ) → older_of es a n ≡ older_of fs a n →
+    value_by (answer_over es a n) memory op a ≡ value_by (answer_over fs a n) memory op a
+same_answer es fs memory op a n same =
+    sym (by_rule (youngest lacks_address es) (youngest (overlaps a n) es) es memory op a n refl)
+    ∙ ap (λ o. value_over o memory op a n) same
+    ∙ by_rule (youngest lacks_address fs) (youngest (overlaps a n) fs) fs memory op a n refl
 
 -- what the code makes of the older stores is what the rule answers
 pub value_right : (registers memory : List ℕ) (W : List Station) (w : Station) (i a : ℕ) →

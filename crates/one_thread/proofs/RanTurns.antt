@@ -7,7 +7,7 @@ use Rattle.instructions.specs.Programs.{Program}
 use Rattle.instructions.specs.declared.stop.Outcome.{Outcome}
 use Rattle.instructions.specs.declared.stop.Outcome.TheVariants.{Address, Next, Pair, Stop, Value}
 use Rattle.inorder.specs.Committed.{ahead}
-use Rattle.inorder.specs.Steps.{IsNoRetiredStop, MayClaim, finished, settled}
+use Rattle.inorder.specs.Steps.{IsNoRetiredStop, MayClaim, finished}
 use Rattle.inorder.specs.Tenants.{Addr, Busy, Done, Fate, Miss, Open, Stopped, Tenant, computed, instr, kind_of, operand_value}
 use Rattle.inorder.specs.Unit.{Sizes, UpdateUnit}
 use Rattle.inorder.proofs.Sound.{IsSound}
@@ -29,7 +29,7 @@ use Rattle.one_thread.specs.StandsFor.{StandsFor, sizes}
 use Rattle.one_thread.specs.Turns.{Runs}
 use Rattle.one_thread.specs.Window.{operands_by, operands_in, source_in, stage_of, station_after, station_of, where_open, window}
 use Rattle.one_thread.proofs.Noted.{given_station}
-use Rattle.one_thread.proofs.Tests.{AreNeeded, HasSources, has_sources, needed_are, no_claim, no_let, no_miss}
+use Rattle.one_thread.proofs.Tests.{AreNeeded, HasSources, has_sources, needed_are, no_claim, no_miss}
 use Rattle.one_thread.proofs.Turns.{FoundIn, found_in, none_in, oldest_is}
 use Rattle.one_thread.proofs.Known.{IsSplit, cannot_let, knows, split_of}
 use Rattle.one_thread.proofs.Changed.{GoesOn, age_is, changed_stands, set_shown}

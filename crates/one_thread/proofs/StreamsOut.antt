@@ -90,7 +90,7 @@ due_steady b now later w f d e is leaves s = subst (λ x. IsSteady x f) (sym (le
           passed = λ k y g. d.passed (suc k) y (sym (get_drop b.window k) ∙ g);
           foresees = subst (Foresees f (write (registers_of b) w.destination (unwrap_or w.made 0)) w.next) (sym rest)
               (subst (λ r. Foresees f (write r w.destination (unwrap_or w.made 0)) w.next W) (sym (whole_registers b d.whole))
-              (foresees_left f b.committed.registers b.committed.pc w W (registers_long b d.unit d.whole) p now'));
+              (foresees_left f b.committed.registers b.committed.pc w W (registers_long b d.unit d.whole) p.made now'));
         }
 
 pub due_ended : (b : Pipeline) (w : Station) → IsDue b → slice_get b.window 0 ≡ Some w → HasEnded (length b.committed.memory) w.instr w.stage

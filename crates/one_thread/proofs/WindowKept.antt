@@ -8,7 +8,7 @@ use Rattle.one_thread.specs.declared.station.Station.{Station}
 use Rattle.one_thread.specs.Creators.{HasCreators, IsCreator, IsOfSame, IsWindow, KnowsCreators, places_of}
 use Rattle.one_thread.specs.Slots.{place_from, ring_of, slot_of}
 use Rattle.one_thread.specs.Window.{further_on}
-use Rattle.one_thread.proofs.CreatorsKept.{known_let, known_pop, known_put, known_shift, known_start}
+use Rattle.one_thread.proofs.CreatorsKept.{known_let, known_pop, known_put, known_shift}
 use Rattle.one_thread.proofs.Slots.{ring_cut, ring_get, ring_length, ring_push, ring_set, ring_shift, slot_small}
 
 -- another stage

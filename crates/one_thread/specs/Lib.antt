@@ -20,4 +20,6 @@ pub mod Choices
 pub mod Steps
 pub mod Ordered
 pub mod Seeds
+pub mod FullRing
 pub mod Steady
+pub mod Flow

@@ -8,6 +8,7 @@ ghost use Rattle.inorder.specs.Unit.{empty_unit};
 ghost use Rattle.one_thread.specs.Order.{IsTurn};
 ghost use Rattle.one_thread.specs.Turns.{Falls, SizesStay, stalled_after};
 
+use crate::flow::PATIENCE;
 use crate::pipeline::Pipeline;
 use crate::station::Station;
 use instructions::{Config, End, Ending, Memory, Predictor, Program, Stop};
@@ -181,14 +182,35 @@ impl<'a, P: Predictor + Drop> Bench<'a, P> {
         self.pipeline.streams(&mut self.predictor, limit)
     }
 
+    // Turns as long as its ring stays full. Answers how many retirements in a row have left it so, none behind these.
+    #[inline(always)]
+    fn stays_full(&mut self, limit: u64, before: u32) -> u32
+        ensures program { self.new.pipeline.program ≡ self.old.pipeline.program }
+        ensures more { self.old.pipeline.committed.count ≤ self.new.pipeline.committed.count }
+        ensures ends { run_from self.new.pipeline limit ≡ run_from self.old.pipeline limit }
+    {
+        let full = self.pipeline.full_again(before);
+        if full < PATIENCE {
+            return full;
+        }
+        self.stalled = false;
+        self.pipeline.stays_full(&mut self.predictor, limit);
+        0
+    }
+
     // Turns until it stops, or its count has reached a limit.
     fn run_to(&mut self, limit: u64) -> Ending
         ensures { (result, self.new.pipeline.committed) ≡ run_from self.old.pipeline limit }
     {
         let mut again = 0;
+        let mut full = 0;
         loop {
-            if again <= self.pipeline.committed.count() {
+            let before = self.pipeline.committed.count();
+            if again <= before {
                 again = self.streams(limit);
+            }
+            if before < self.pipeline.committed.count() {
+                full = 0;
             }
             if limit <= self.pipeline.committed.count() {
                 return Ending::Limit;
@@ -196,6 +218,7 @@ impl<'a, P: Predictor + Drop> Bench<'a, P> {
             if let Some(code) = self.retires_one() {
                 return Ending::Stop(code);
             }
+            full = self.stays_full(limit, full);
         }
     }
 

@@ -32,7 +32,7 @@ pub struct Fetched {
 }
 
 // The half that comes next where nobody is live, by what waits for LO.
-fn waiting_half(low: Option<u32>) -> Half
+pub fn waiting_half(low: Option<u32>) -> Half
     ensures { result ≡ waiting_half_of low }
 {
     match low {
@@ -42,7 +42,7 @@ fn waiting_half(low: Option<u32>) -> Half
 }
 
 // The half that comes behind a station: behind a first half its second.
-fn half_behind(station: &Station) -> Half
+pub fn half_behind(station: &Station) -> Half
     ensures { result ≡ half_after (is_first_half station.now.instr.op station.now.half) }
 {
     if station.instr.is_first_half(station.half) {

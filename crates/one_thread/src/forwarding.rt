@@ -26,7 +26,8 @@ pub enum Older {
     Nearest(Entry),
 }
 
-fn address_of(stage: Stage) -> Option<u32>
+/// The address of a load or store, if it was computed.
+pub fn address_of(stage: Stage) -> Option<u32>
     ensures { result ≡ address_by stage }
 {
     match stage {
@@ -60,8 +61,8 @@ fn entry(window: &Window, ahead: &Ahead, i: usize, station: &Station) -> Entry
     access_entry(op, address_of(station.stage), data)
 }
 
-// What the queue holds of the station at `i`, if that is a store.
-fn store_at(window: &Window, ahead: &Ahead, i: usize) -> Option<Entry>
+/// What the queue holds of the station at `i`, if that is a store.
+pub fn store_at(window: &Window, ahead: &Ahead, i: usize) -> Option<Entry>
     requires { i ≤ length window.now }
     ensures { result ≡ store_in ahead.now.registers window.now (slice_get window.now i) i }
 {

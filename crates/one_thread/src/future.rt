@@ -3,10 +3,12 @@ ghost use Rattle.std.specs.Prelude.{⊤, ◌≡◌, ◌≢◌, ◌<◌, [], true
 ghost use Rattle.instructions.specs.Instruction.{first_of, is_first_half, kind as kind_of, second_of};
 ghost use Rattle.instructions.specs.declared.stop.Stop.{Stop as Code};
 ghost use Rattle.one_thread.specs.declared.station.Stage.TheVariants.{Stops};
+ghost use Rattle.one_thread.specs.Flow.{Absorbs};
 ghost use Rattle.one_thread.specs.Givers.{Chosen};
 ghost use Rattle.one_thread.specs.Notes.{settled_by};
 ghost use Rattle.one_thread.specs.Steady.{Follows, Foresees, GoesOnBehind};
 
+use crate::ahead::Ahead;
 use crate::decoded::Decoded;
 use crate::execute::Operands;
 use crate::station::{Stage, Station};
@@ -79,6 +81,32 @@ impl Future {
         }
         self.pc = next;
         true
+    }
+
+    /// The values where nobody is live.
+    pub fn behind(ahead: &Ahead) -> Future
+        requires { length ahead.now.registers ≡ 34 }
+        ensures { Foresees result ahead.now.registers ahead.now.pc [] }
+    {
+        let mut values = *ahead.committed.registers();
+        if let Some(low) = *ahead.low {
+            values[Reg::LO.number() as usize] = low;
+        }
+        values[0] = 0;
+        Future {
+            values,
+            pc: ahead.committed.pc(),
+        }
+    }
+
+    /// Goes on behind a station, if that has completed.
+    #[inline(always)]
+    pub fn absorbs(&mut self, station: &Station) -> bool
+        requires { length self.old.values ≡ 34 }
+        ensures absorbs { Chosen result (Absorbs self.old station.now self.new) ⊤ }
+        ensures same { Chosen result ⊤ (self.new ≡ self.old) }
+    {
+        has_ended(station) && self.goes_on(station.destination, station.made, station.next)
     }
 
     /// Goes on behind a station, if that has ended and goes on itself.

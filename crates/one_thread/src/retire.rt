@@ -19,9 +19,9 @@ fn leave(leavers: &mut [Option<Leaver>; 32], station: usize, told: Option<Leaver
     leavers[station] = told;
 }
 
-// The same, where no predictor is to be told of the station yet.
+/// A tenant leaves a station of which no predictor is to be told yet.
 #[inline(always)]
-fn leave_untold(leavers: &mut [Option<Leaver>; 32], station: usize, told: Option<Leaver>)
+pub fn leave_untold(leavers: &mut [Option<Leaver>; 32], station: usize, told: Option<Leaver>)
     requires inside { station < length leavers.old }
     requires untold { slice_get leavers.old station ≡ Some None }
     ensures { leavers.new ≡ slice_set leavers.old station told }
@@ -54,9 +54,9 @@ impl<'a> Pipeline<'a> {
             .advance(oldest.destination, made, oldest.next);
     }
 
-    // The same, and what has waited for it.
+    /// What the oldest tenant has made or stored is committed, and what has waited for it.
     #[inline(always)]
-    fn commit(&mut self, oldest: &Station)
+    pub fn commit(&mut self, oldest: &Station)
         requires count { self.old.committed.count < 2 ^ 64 - 1 }
         requires can { HasEnded (length self.old.committed.memory)
             oldest.now.instr oldest.now.stage }

@@ -41,8 +41,8 @@ impl Model for Window {
         × (w.accesses ≡ accesses_of (ring_of w.stations w.start w.len) w.len) };
 }
 
-// 1 for an instruction that reaches memory, else 0.
-fn access(instr: &Decoded) -> usize
+/// 1 for an instruction that reaches memory, else 0.
+pub fn access(instr: &Decoded) -> usize
     ensures value { result ≡ access_of instr.now }
     ensures small { result ≤ 1 }
 {
@@ -215,6 +215,25 @@ impl Window {
             made,
             stage,
         };
+        self.len += 1;
+    }
+
+    /// A tenant joins behind the youngest as it stands.
+    pub fn join(&mut self, station: &Station)
+        requires { length self.old < 32 }
+        ensures { self.new ≡ self.old ++ station.now ∷ [] }
+    {
+        let instr = &station.instr;
+        self.accesses += access(instr);
+        let slot = slot_of(self.start, self.len);
+        let r = station.destination.number() as usize;
+        self.creators[slot] = Creators {
+            first: self.newest[instr.first().number() as usize],
+            second: self.newest[instr.second().number() as usize],
+            replaced: self.newest[r],
+        };
+        self.newest[r] = slot as u8;
+        self.stations[slot] = *station;
         self.len += 1;
     }
 

@@ -1,5 +1,5 @@
 -- A run by choice goes on as the in-order machine does.
-use Rattle.std.proofs.Common.{◌≡◌, ◌<◌, ◌-◌, ap, ◌∙◌, subst, arith}
+use Rattle.std.proofs.Common.{◌<◌, ◌-◌, ap, ◌∙◌, subst, arith}
 use Rattle.inorder.specs.Runs.{end_from}
 use Rattle.one_thread.specs.StandsFor.{StandsForSome}
 use Rattle.one_thread.specs.declared.bench.Turn.TheVariants.{Over}

@@ -1,11 +1,11 @@
 -- Each step that can be made.
-use Rattle.std.proofs.Common.{◌≡◌, true, Option, Some, refl, sym, subst}
+use Rattle.std.proofs.Common.{◌≡◌, true, Some, refl, sym, subst}
 use Rattle.std.specs.Prelude.{slice_get}
 use Rattle.one_thread.specs.Changes.{CanClaim, LoadGives}
 use Rattle.one_thread.specs.Notes.{settled_at}
 use Rattle.one_thread.specs.Stages.{FirstMiss}
 use Rattle.one_thread.specs.Steps.{Makes, Permits}
-use Rattle.one_thread.specs.Turns.{IsPlain, fields}
+use Rattle.one_thread.specs.Turns.{fields}
 use Rattle.one_thread.specs.declared.bench.Turn.TheVariants.{Loaded, Ran, Recovered}
 use Rattle.one_thread.specs.declared.possible.Step.TheVariants.{Load, Recover, Retire, Run}
 use Rattle.one_thread.proofs.BenchTurns.{plain_makes, recovered_shows}

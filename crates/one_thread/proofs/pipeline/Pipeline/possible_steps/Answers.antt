@@ -1,5 +1,5 @@
 -- There is room for all of them.
-use Rattle.std.proofs.Common.{◌≡◌, ◌≤◌, [], length, ap, arith}
+use Rattle.std.proofs.Common.{◌≡◌, length, ap, arith}
 use Rattle.arrayvec.specs.ArrayVec.{array_vec_len}
 use Rattle.one_thread.proofs.Inside.{are_inside, stores_write_none, window_room}
 use Rattle.one_thread.proofs.pipeline.Pipeline.possible_steps.Goals as goal

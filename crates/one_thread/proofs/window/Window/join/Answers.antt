@@ -1,0 +1,53 @@
+use Rattle.std.proofs.Common.{◌≡◌, ◌<◌, ◌+◌, ◌++◌, ◌∷◌, [], length, set, sym, ap, ◌∙◌, subst, arith}
+use Rattle.std.specs.Prelude.{slice_index}
+use Rattle.instructions.specs.Instruction.{first_of, second_of}
+use Rattle.one_thread.specs.declared.creators.Creators.{Creators}
+use Rattle.one_thread.specs.Creators.{IsWindow}
+use Rattle.one_thread.specs.Slots.{ring_of, slot_of}
+use Rattle.one_thread.specs.Window.{accesses}
+use Rattle.one_thread.proofs.Accesses.{accesses_most, count_push}
+use Rattle.one_thread.proofs.Slots.{ring_length, ring_push}
+use Rattle.one_thread.proofs.WindowKept.{window_let}
+use Rattle.one_thread.proofs.window.Window.join.Goals as goal
+
+pub invariant_of-self : goal.invariant_of-self
+invariant_of-self c =
+    let s = c.self.inside in
+    let h = c.self.invariant.0 in
+    let w = c.args.station.now in
+    let made : Creators = record { first = slice_index s.newest c.number.result; second = slice_index s.newest c.number-2.result; replaced = slice_index s.newest c.number-r.result } in
+    let long = ring_length s.stations s.start s.len h.every_station h.begins h.most in
+    let room : s.len < 32 = omega (arith, c.requires, ap length c.self.view_is, long) in
+    let first : c.number.result ≡ first_of w.instr = c.number.ensures.value ∙ c.first.ensures in
+    let second : c.number-2.result ≡ second_of w.instr = c.number-2.ensures.value ∙ c.second.ensures in
+    let r : c.number-r.result ≡ w.destination = c.number-r.ensures.value in
+    let all = window_let s.stations s.creators s.newest s.start s.len w made h room (omega (arith, first, c.number.ensures.small)) (omega (arith, second, c.number-2.ensures.small))
+    (omega (arith, r, c.number-r.ensures.small)) (ap (slice_index s.newest) first) (ap (slice_index s.newest) second)
+    (ap (slice_index s.newest) r) in
+    let known =
+    subst (λ k. IsWindow (set s.stations k w) (set s.creators k made) (set s.newest c.number-r.result k) s.start (s.len + 1)) (sym c.slot_of-slot.ensures.value)
+    (subst (λ d. IsWindow (set s.stations (slot_of s.start s.len) w) (set s.creators (slot_of s.start s.len) made) (set s.newest d (slot_of s.start s.len)) s.start (s.len + 1))
+    (sym r) all) in
+    let count =
+    subst (λ k. s.accesses + c.access.result ≡ accesses (ring_of (set s.stations k w) s.start (s.len + 1)) (s.len + 1)) (sym c.slot_of-slot.ensures.value)
+    (ap (λ n. s.accesses + n) c.access.ensures.value
+    ∙ count_push s.stations s.start s.len s.accesses w h.every_station h.begins room c.self.invariant.1) in
+    (known, count)
+
+pub overflow_add-self : goal.overflow_add-self
+overflow_add-self c =
+    let s = c.self.inside in
+    let most = c.self.invariant.0.most in
+    let few = accesses_most (ring_of s.stations s.start s.len) s.len in
+    omega (arith, c.self.invariant.1, few, most, c.access.ensures.small)
+
+pub returns : goal.returns
+returns c =
+    let s = c.self.inside in
+    let h = c.self.invariant.0 in
+    let w = c.args.station.now in
+    let long = ring_length s.stations s.start s.len h.every_station h.begins h.most in
+    let room : s.len < 32 = omega (arith, c.requires, ap length c.self.view_is, long) in
+    ap (λ k. ring_of (set s.stations k w) s.start (s.len + 1)) c.slot_of-slot.ensures.value
+    ∙ ring_push s.stations s.start s.len w h.every_station h.begins room
+    ∙ ap (λ l. l ++ w ∷ []) c.self.view_is
