@@ -22,8 +22,8 @@ use Rattle.one_thread.specs.StandsFor.{StandsFor, StandsForSome}
 use Rattle.one_thread.specs.Turns.{Falls, Moves, SizesStay}
 use Rattle.one_thread.proofs.Ends.{one_over}
 use Rattle.commit_log.specs.Lines.{commit_line}
-use Rattle.commit_log.specs.Logs.{last_line, line_at, log, log_behind, log_from}
-use Rattle.commit_log.specs.Retirements.{HasCommitted, HasTold, IsBegun, IsOver, last_of, log_left}
+use Rattle.commit_log.specs.Logs.{last_line, line_of_step, log, log_after, log_from}
+use Rattle.commit_log.specs.Retirements.{HasCommittedNext, HasLogged, IsBeginning, HasOnlyItsEnd, final_line, log_ahead}
 
 -- One step
 
@@ -46,7 +46,7 @@ halts_by P s t c h = go (step P s) refl h
         e ∙ ap Halts (sym same)
 
 -- the machine in order makes one step more
-step_of_one : (b later : Pipeline) (w : Station) → HasCommitted b w later → step b.program.now b.committed ≡ Goes later.committed
+step_of_one : (b later : Pipeline) (w : Station) → HasCommittedNext b w later → step b.program.now b.committed ≡ Goes later.committed
 step_of_one b later w h =
     let n = suc b.committed.count in
     let zero_left : n - later.committed.count ≡ 0 = omega (arith, h.one.0) in
@@ -55,16 +55,16 @@ step_of_one b later w h =
     (sym (ap (λ k. end_from later.program.now k later.committed) zero_left) ∙ h.one.1 n (omega arith)
     ∙ ap (λ k. end_from b.program.now k b.committed) one_left)
 
-pub log_next : (b later : Pipeline) (w : Station) (limit : ℕ) (registers : List ℕ) → HasCommitted b w later → b.committed.count < limit → registers ≡ registers_of later →
-    log_left b limit ≡ commit_line w.pc w.instr registers ++ log_left later limit
+pub log_next : (b later : Pipeline) (w : Station) (limit : ℕ) (registers : List ℕ) → HasCommittedNext b w later → b.committed.count < limit → registers ≡ registers_of later →
+    log_ahead b limit ≡ commit_line w.pc w.instr registers ++ log_ahead later limit
 log_next b later w limit registers h less is =
     let P = b.program.now in
     let s = b.committed in
     let k = limit - later.committed.count in
     let left : limit - s.count ≡ suc k = omega (arith, h.one.0, less) in
     ap (λ n. log_from P n s) left
-    ∙ ap (log_behind (log_from P k) s.pc (instr_at P s.pc)) (step_of_one b later w h)
-    ∙ ap (λ o. line_at s.pc o later.committed.registers ++ log_from P k later.committed) h.instr
+    ∙ ap (log_after (log_from P k) s.pc (instr_at P s.pc)) (step_of_one b later w h)
+    ∙ ap (λ o. line_of_step s.pc o later.committed.registers ++ log_from P k later.committed) h.instr
     ∙ ap (λ pc. commit_line pc w.instr later.committed.registers ++ log_from P k later.committed) (sym h.pc)
     ∙ ap (λ r. commit_line w.pc w.instr r ++ log_from P k later.committed) (sym (is ∙ h.registers))
     ∙ ap (λ q. commit_line w.pc w.instr registers ++ log_from q.now k later.committed) (sym h.program)
@@ -75,17 +75,17 @@ run_alike : (start b : Pipeline) (limit : ℕ) → b.program ≡ start.program �
 run_alike start b limit p e =
     ap (λ q. end_from q.now (limit - b.committed.count) b.committed) p ∙ ap (λ s. end_from start.program.now (limit - s.count) s) e
 
-pub at_limit : (start b : Pipeline) (limit : ℕ) → b.program ≡ start.program → b.committed ≡ start.committed → limit ≤ b.committed.count → IsOver start limit b
+pub at_limit : (start b : Pipeline) (limit : ℕ) → b.program ≡ start.program → b.committed ≡ start.committed → limit ≤ b.committed.count → HasOnlyItsEnd start limit b
 at_limit start b limit p e h =
     let none : limit - start.committed.count ≡ 0 = omega (arith, ap (λ s. s.count) e, h) in
     record {
       ends = run_alike start b limit p e;
       log = ap (λ k. log_from start.program.now k start.committed) none
-          ∙ sym (ap last_of (ap (λ k. end_from start.program.now k start.committed) none));
+          ∙ sym (ap final_line (ap (λ k. end_from start.program.now k start.committed) none));
     }
 
 pub at_stop : (start b later : Pipeline) (limit : ℕ) (c : Stop) → StandsForSome b → Moves b (Over c) later → SizesStay b later → Falls (Over c) b later →
-    b.program ≡ start.program → b.committed ≡ start.committed → b.committed.count < limit → IsOver start limit later
+    b.program ≡ start.program → b.committed ≡ start.committed → b.committed.count < limit → HasOnlyItsEnd start limit later
 at_stop start b later limit c h moves same falls p e less =
     let P = start.program.now in
     let s = start.committed in
@@ -98,32 +98,32 @@ at_stop start b later limit c h moves same falls p e less =
     let halts : step P s ≡ Halts c = halts_by P s later.committed c (over n (omega arith) ∙ ap (λ x. end_from P x s) one_left) in
     record {
       ends = run_alike start later limit (same.program ∙ p) (falls ∙ e);
-      log = ap (λ x. log_from P x s) left ∙ ap (log_behind (log_from P k) s.pc (instr_at P s.pc)) halts
-          ∙ sym (ap last_of (ap (λ x. end_from P x s) left ∙ ap (end_after (end_from P k) s) halts));
+      log = ap (λ x. log_from P x s) left ∙ ap (log_after (log_from P k) s.pc (instr_at P s.pc)) halts
+          ∙ sym (ap final_line (ap (λ x. end_from P x s) left ∙ ap (end_after (end_from P k) s) halts));
     }
 
--- What was told
+-- ---- the log that was written
 
 pub appends_none : (known : Option (List ℕ)) → Appends known known []
 appends_none None = tt
 appends_none (Some xs) = sym (append-nil xs)
 
-pub none_begun : (text : List ℕ) (known : Option (List ℕ)) → IsBegun text known known
+pub none_begun : (text : List ℕ) (known : Option (List ℕ)) → IsBeginning text known known
 none_begun text known = record { n = 0; inside = omega arith; says = appends_none known }
 
-pub told_more : (whole left line rest : List ℕ) (before mid after : Option (List ℕ)) → HasTold whole left before mid → left ≡ line ++ rest → Appends mid after line →
-    HasTold whole rest before after
-told_more whole left line rest before mid after h e a = record {
+pub logged_more : (whole left line rest : List ℕ) (before mid after : Option (List ℕ)) → HasLogged whole left before mid → left ≡ line ++ rest → Appends mid after line →
+    HasLogged whole rest before after
+logged_more whole left line rest before mid after h e a = record {
   text = h.text ++ line;
   says = Appends-trans before mid after h.text line h.says a;
   is = h.is ∙ ap (λ l. h.text ++ l) e ∙ sym (append_assoc h.text line rest);
 }
 
-pub all_told : (whole left : List ℕ) (before mid after : Option (List ℕ)) → HasTold whole left before mid → Appends mid after left → Appends before after whole
-all_told whole left before mid after h a =
+pub all_logged : (whole left : List ℕ) (before mid after : Option (List ℕ)) → HasLogged whole left before mid → Appends mid after left → Appends before after whole
+all_logged whole left before mid after h a =
     subst (Appends before after) (sym h.is) (Appends-trans before mid after h.text left h.says a)
 
-pub begun_more : (whole left : List ℕ) (before mid after : Option (List ℕ)) → HasTold whole left before mid → IsBegun left mid after → IsBegun whole before after
+pub begun_more : (whole left : List ℕ) (before mid after : Option (List ℕ)) → HasLogged whole left before mid → IsBeginning left mid after → IsBeginning whole before after
 begun_more whole left before mid after h b = record {
   n = length h.text + b.n;
   inside = subst (λ l. length h.text + b.n ≤ length l) (sym h.is) (omega (arith, length-append h.text left, b.inside));
@@ -131,7 +131,7 @@ begun_more whole left before mid after h b = record {
       (Appends-trans before mid after h.text (take b.n left) h.says b.says);
 }
 
-pub begun_line : (line rest left : List ℕ) (before after : Option (List ℕ)) → left ≡ line ++ rest → IsBegun line before after → IsBegun left before after
+pub begun_line : (line rest left : List ℕ) (before after : Option (List ℕ)) → left ≡ line ++ rest → IsBeginning line before after → IsBeginning left before after
 begun_line line rest left before after e b = record {
   n = b.n;
   inside = subst (λ l. b.n ≤ length l) (sym e) (omega (arith, length-append line rest, b.inside));
@@ -143,7 +143,7 @@ begun_line line rest left before after e b = record {
 pub first_registers : (b : Pipeline) (P : Program) → b.committed ≡ start P → StandsFor b empty_unit → replicate 34 0 ≡ registers_of b
 first_registers b P e s = sym (ap (λ l. with_low l b.committed.registers) s.low ∙ ap (λ x. x.registers) e)
 
-pub first_log : (b : Pipeline) (P : Program) (limit : ℕ) → b.program.now ≡ P → b.committed ≡ start P → log_left b limit ≡ log P limit
+pub first_log : (b : Pipeline) (P : Program) (limit : ℕ) → b.program.now ≡ P → b.committed ≡ start P → log_ahead b limit ≡ log P limit
 first_log b P limit p e =
     let all : limit - 0 ≡ limit = omega arith in
     ap (λ Q. log_from Q (limit - b.committed.count) b.committed) p ∙ ap (λ s. log_from P (limit - s.count) s) e
@@ -151,14 +151,14 @@ first_log b P limit p e =
 
 -- Whole runs
 
--- what was told of a run up to its last line
-pub run_told : (b later : Pipeline) (P : Program) (limit most : ℕ) (end : End) (before mid : Option (List ℕ)) → b.program.now ≡ P → b.committed ≡ start P →
-    limit ≡ most → HasTold (log_left b limit) (last_of (run_from b limit)) before mid → run_from later limit ≡ run_from b limit →
-    end_state end ≡ run_from later limit → HasTold (log P most) (last_line end.outcome end.pc) before mid
-run_told b later P limit most end before mid p e l h same ends = record {
+-- the log of a run up to its last line
+pub run_logged : (b later : Pipeline) (P : Program) (limit most : ℕ) (end : End) (before mid : Option (List ℕ)) → b.program.now ≡ P → b.committed ≡ start P →
+    limit ≡ most → HasLogged (log_ahead b limit) (final_line (run_from b limit)) before mid → run_from later limit ≡ run_from b limit →
+    end_state end ≡ run_from later limit → HasLogged (log P most) (last_line end.outcome end.pc) before mid
+run_logged b later P limit most end before mid p e l h same ends = record {
   text = h.text;
   says = h.says;
-  is = sym (first_log b P limit p e ∙ ap (log P) l) ∙ h.is ∙ ap (λ x. h.text ++ last_of x) (sym (ends ∙ same));
+  is = sym (first_log b P limit p e ∙ ap (log P) l) ∙ h.is ∙ ap (λ x. h.text ++ final_line x) (sym (ends ∙ same));
 }
 
 -- what holds at all holds on an error

@@ -34,7 +34,7 @@ use Rattle.one_thread.proofs.Ends.{one_retired}
 use Rattle.one_thread.proofs.Found.{window_middle, window_none}
 use Rattle.one_thread.proofs.Known.{ahead_stands}
 use Rattle.one_thread.proofs.Waiting.{first_writes}
-use Rattle.commit_log.specs.Retirements.{HasCommitted, registers_behind}
+use Rattle.commit_log.specs.Retirements.{HasCommittedNext, registers_after}
 
 -- Who has left
 
@@ -133,7 +133,7 @@ found_oldest b U V s reached r =
 halved_by : (b later : Pipeline) → StandsForSome b → (U V : UpdateUnit) → IsReached b.program.now (sizes b) U → StandsFor b U →
     IsReached b.program.now (sizes b) V → StandsFor later V → Halves b.program.now (sizes b) U V → SizesStay b later →
     Falls Halved b later → (oldest : Option Station) → oldest ≡ slice_get b.window 0 →
-    registers_of later ≡ registers_behind oldest (registers_of b)
+    registers_of later ≡ registers_after oldest (registers_of b)
 halved_by b later h U V ru su rv sv d same falls oldest is =
     let P = b.program.now in
     let t = d.retires.tenant in
@@ -143,13 +143,13 @@ halved_by b later h U V ru su rv sv d same falls oldest is =
     in
     registers_behind_turn b later V same rv sv
     ∙ ap (λ s. s.registers) d.waits
-    ∙ sym (ap (λ o. registers_behind o (registers_of b)) station
+    ∙ sym (ap (λ o. registers_after o (registers_of b)) station
     ∙ ap (λ r. write r (destination_of P t) (unwrap_or t.made 0)) level
     ∙ ap (λ x. write (committed P U.tenants).registers x (unwrap_or t.made 0)) (first_writes P t d.first)
     ∙ ap (λ m. write (committed P U.tenants).registers Rattle.instructions.specs.Registers.lo (unwrap_or m 0)) d.makes)
 
 pub halved : (b later : Pipeline) → StandsForSome b → Moves b Halved later → SizesStay b later → Falls Halved b later →
-    (oldest : Option Station) → oldest ≡ slice_get b.window 0 → registers_of later ≡ registers_behind oldest (registers_of b)
+    (oldest : Option Station) → oldest ≡ slice_get b.window 0 → registers_of later ≡ registers_after oldest (registers_of b)
 halved b later h moves same falls oldest is =
     let m = moves h.unit h.reached h.stands in
     halved_by b later h h.unit m.unit h.reached h.stands m.reached m.stands m.does same falls oldest is
@@ -211,8 +211,8 @@ module _ (P : Program) (C : Sizes) (U V : UpdateUnit) (r : Retires P C U V) (rea
 pub record IsCommitted (start b later : Pipeline) (oldest : Option Station) (registers : List ℕ) : Type 0 where
   pub station : Station
   pub is : oldest ≡ Some station
-  pub committed : HasCommitted start station later
-  pub written : registers_behind oldest registers ≡ registers_of later
+  pub committed : HasCommittedNext start station later
+  pub written : registers_after oldest registers ≡ registers_of later
 
 committed_by : (start b later : Pipeline) → StandsForSome b → Moves b Retired later → (U V : UpdateUnit) → IsReached b.program.now (sizes b) U → StandsFor b U →
     IsReached b.program.now (sizes b) V → StandsFor later V → Retires b.program.now (sizes b) U V → SizesStay b later → Falls Retired b later →
@@ -242,7 +242,7 @@ committed_by start b later h moves U V ru su rv sv r same falls p e oldest is =
         one = one_retired start b later h moves same p e falls;
         registers = now ∙ sym (ap (λ s. s.registers) (committed_behind_turn b later V same sv));
       };
-      written = ap (λ o. registers_behind o (registers_of b)) station
+      written = ap (λ o. registers_after o (registers_of b)) station
           ∙ ap (λ x. write x (destination_of P t) (unwrap_or t.made 0)) before
           ∙ ap (λ m. write (ahead P U.tenants).registers (destination_of P t) (unwrap_or m 0)) (sym (commits_made P C U V r ru counts))
           ∙ sym (ap (λ s. s.registers) (commits_state P C U V r ru counts)) ∙ sym now;

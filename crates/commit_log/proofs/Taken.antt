@@ -1,4 +1,4 @@
--- What is told of the bytes that were taken is told of all, and what is told of a fault.
+-- The log of the bytes that were read at most is that of all bytes, and the line of a fault.
 use Rattle.std.proofs.Common.{◌≡◌, ◌∙◌, ℕ, List, take, ap, refl, subst, Option, Some, None, Result, Ok, Err, IfSome, IfOk, IfErr}
 use Rattle.isa.specs.declared.listing.fault.FaultKind.{FaultKind}
 use Rattle.isa.specs.Listing.{listing}
@@ -7,7 +7,7 @@ use Rattle.std.specs.Io.KnownBytes.{Appends}
 use Rattle.isa.specs.Report.{fault_line}
 use Rattle.bench.specs.Answer.{most_taken}
 use Rattle.bench.specs.Enough.{listing_taken}
-use Rattle.commit_log.specs.Answers.{IsLogged}
+use Rattle.commit_log.specs.Answers.{IsLogOf}
 
 found_taken : (F : Result Program (ℕ × FaultKind) → Type 0) (known : Option (List ℕ)) (bytes slice : List ℕ)
     → IfSome known (λ input. bytes ≡ take most_taken input) → slice ≡ bytes → F (listing slice) → IfSome known (λ input. F (listing input))
@@ -28,6 +28,6 @@ cut_taken (Err e) F known bytes slice read same is = found_taken (F e) known byt
 
 -- the line of a fault
 pub fault_logged : (limit : ℕ) (found : Result Program (ℕ × FaultKind)) (line : ℕ) (kind : FaultKind) (bytes : List ℕ) (before after : Option (List ℕ)) →
-    found ≡ Err (line, kind) → bytes ≡ fault_line line kind → Appends before after bytes → IsLogged limit found 2 before after
+    found ≡ Err (line, kind) → bytes ≡ fault_line line kind → Appends before after bytes → IsLogOf limit found 2 before after
 fault_logged limit found line kind bytes before after is same wrote =
     rw is (record { status_is = refl; says = subst (Appends before after) same wrote })

@@ -14,7 +14,7 @@ use Rattle.instructions.specs.Instruction.{operations}
 use Rattle.encoding.specs.Layouts.{has_layout, layout}
 use Rattle.encoding.specs.Words.{decode, packed}
 use Rattle.encoding.proofs.Rebuilt.{packed_back}
-use Rattle.commit_log.specs.Words.{AWordSaysItsInstruction, IsWordOf, is_said, is_same, says, word_of}
+use Rattle.commit_log.specs.Words.{AWordSaysItsInstruction, IsWordOf, is_said, are_equal, says, word_of}
 
 -- an operation is found again by its opcode and what selects it
 found_again : (op : Op) → find (has_layout (layout op).opcode (layout op).select) operations ≡ Some op
@@ -80,7 +80,7 @@ same_op a b h =
     in
     cc found
 
-is_same_self : (i : Instr) → is_same i i ≡ true
+is_same_self : (i : Instr) → are_equal i i ≡ true
 is_same_self i =
     rw (
       eq-eqb (layout i.op).opcode (layout i.op).opcode refl,
@@ -91,7 +91,7 @@ is_same_self i =
       eq-eqb i.number i.number refl,
     ) refl
 
-same_is : (i j : Instr) → is_same i j ≡ true → i ≡ j
+same_is : (i j : Instr) → are_equal i j ≡ true → i ≡ j
 same_is i j h =
     let op : i.op ≡ j.op = same_op i.op j.op (and_left _ _ h) in
     let rest = and_right _ _ h in

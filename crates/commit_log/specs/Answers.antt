@@ -7,17 +7,17 @@ use Rattle.bench.specs.Answer.{status_for}
 use Rattle.without_threads.specs.declared.went.Refusal.{Refusal}
 use Rattle.without_threads.specs.declared.went.Refusal.TheVariants.{Memory, Write}
 use Rattle.without_threads.specs.Went.{status_number}
-use Rattle.commit_log.specs.Logs.{text_for}
+use Rattle.commit_log.specs.Logs.{log_for}
 
 -- the log was written whole, or the line of the fault of a listing, with the status of the run
-pub record IsLogged (limit : ℕ) (found : Result Program (ℕ × FaultKind)) (status : ℕ) (before after : Option (List ℕ)) : Type 0 where
+pub record IsLogOf (limit : ℕ) (found : Result Program (ℕ × FaultKind)) (status : ℕ) (before after : Option (List ℕ)) : Type 0 where
   pub status_is : status ≡ status_number (status_for limit found)
-  pub says : Appends before after (text_for limit found)
+  pub says : Appends before after (log_for limit found)
 
 -- the number of failed calls of the writer where a log was refused
-abbrev pub writer_failures : Refusal → ℕ
-writer_failures Write = 1
-writer_failures _ = 0
+abbrev pub failed_writes : Refusal → ℕ
+failed_writes Write = 1
+failed_writes _ = 0
 
 -- the reasons for which a log can be refused once its program is there
 abbrev pub IsOfWriting : Refusal → Type 0

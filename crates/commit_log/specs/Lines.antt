@@ -20,20 +20,20 @@ abbrev pub head : ℕ → List ℕ
 head pc = codes "core   0: 3 " ++ (hexadecimal pc ++ codes " ")
 
 -- the word of an instruction, or as many dashes
-abbrev pub word_text : Option ℕ → List ℕ
-word_text None = codes "----------"
-word_text (Some word) = hexadecimal word
+abbrev pub word_column : Option ℕ → List ℕ
+word_column None = codes "----------"
+word_column (Some word) = hexadecimal word
 
 -- a register in three columns: `x` and its number, `lo` or `hi`
-abbrev pub register_label : ℕ → List ℕ
-register_label r =
+abbrev pub register_column : ℕ → List ℕ
+register_column r =
     if r == lo then codes "lo "
     else (if r == hi then codes "hi "
     else (if nat_lt r 10 then codes "x" ++ (decimal r ++ codes " ") else codes "x" ++ decimal r))
 
 -- a register with its value
-abbrev pub register_text : ℕ → List ℕ → List ℕ
-register_text r registers = register_label r ++ (codes " " ++ hexadecimal (slice_index registers r))
+abbrev pub register_with_value : ℕ → List ℕ → List ℕ
+register_with_value r registers = register_column r ++ (codes " " ++ hexadecimal (slice_index registers r))
 
 -- the two digits of the low byte of a number
 abbrev pub byte_text : ℕ → List ℕ
@@ -47,8 +47,8 @@ stored_text width v =
     else hexadecimal v)
 
 -- the address of a store, and the bytes that it writes
-abbrev pub memory_text : Instr → List ℕ → List ℕ
-memory_text i registers =
+abbrev pub store_text : Instr → List ℕ → List ℕ
+store_text i registers =
     codes "mem "
     ++ (hexadecimal (sum (slice_index registers (first_of i)) i.number)
     ++ (codes " " ++ stored_text (width i.op) (slice_index registers (second_of i))))
@@ -63,18 +63,18 @@ gap length = replicate (1 + (16 - length)) 32
 -- the change of a register; none of register 0, which never changes
 abbrev pub change_of_register : (length r : ℕ) → List ℕ → List ℕ
 change_of_register length r registers =
-    if r == 0 then [] else gap length ++ register_text r registers
+    if r == 0 then [] else gap length ++ register_with_value r registers
 
 -- the change by an instruction that writes at most one register
-abbrev pub change_by : Kind → (length : ℕ) → Instr → List ℕ → List ℕ
-change_by Stores length i registers = gap length ++ memory_text i registers
-change_by _ length i registers = change_of_register length (destination i Low) registers
+abbrev pub change_of_kind : Kind → (length : ℕ) → Instr → List ℕ → List ℕ
+change_of_kind Stores length i registers = gap length ++ store_text i registers
+change_of_kind _ length i registers = change_of_register length (destination i Low) registers
 
 -- the change by a multiplication or division, which writes LO and HI
 abbrev pub change_if : Bool → (length : ℕ) → Instr → List ℕ → List ℕ
 change_if true length i registers =
-    gap length ++ (register_text lo registers ++ (codes " " ++ register_text hi registers))
-change_if false length i registers = change_by (kind i.op) length i registers
+    gap length ++ (register_with_value lo registers ++ (codes " " ++ register_with_value hi registers))
+change_if false length i registers = change_of_kind (kind i.op) length i registers
 
 -- the change by an instruction with a text of this length, by the registers after it
 abbrev pub change_text : (length : ℕ) → Instr → List ℕ → List ℕ
@@ -86,7 +86,7 @@ change_text length i registers = change_if (is_pair i.op) length i registers
 abbrev pub commit_line : ℕ → Instr → List ℕ → List ℕ
 commit_line pc i registers =
     head pc
-    ++ (codes "(" ++ (word_text (word_of pc i) ++ (codes ") "
+    ++ (codes "(" ++ (word_column (word_of pc i) ++ (codes ") "
     ++ (instr_text i ++ (change_text (length (instr_text i)) i registers ++ newline)))))
 
 -- the line of a stop at pc

@@ -10,19 +10,19 @@ use Rattle.inorder.specs.Machine.{Goes, Halts, Ran, State, start, step}
 use Rattle.commit_log.specs.Lines.{commit_line, stop_line}
 
 -- the line of the instruction at pc, by the registers after it
-abbrev pub line_at : ℕ → Option Instr → List ℕ → List ℕ
-line_at pc None registers = []
-line_at pc (Some i) registers = commit_line pc i registers
+abbrev pub line_of_step : ℕ → Option Instr → List ℕ → List ℕ
+line_of_step pc None registers = []
+line_of_step pc (Some i) registers = commit_line pc i registers
 
 -- the log of a step from pc and of the steps after it: a stop is the last line
-abbrev pub log_behind : (State → List ℕ) → ℕ → Option Instr → Ran → List ℕ
-log_behind rest pc i (Goes t) = line_at pc i t.registers ++ rest t
-log_behind rest pc i (Halts c) = stop_line pc c
+abbrev pub log_after : (State → List ℕ) → ℕ → Option Instr → Ran → List ℕ
+log_after rest pc i (Goes t) = line_of_step pc i t.registers ++ rest t
+log_after rest pc i (Halts c) = stop_line pc c
 
 -- the log of so many steps from a state on
 abbrev pub log_from : Program → ℕ → State → List ℕ
 log_from P zero s = []
-log_from P (suc k) s = log_behind (log_from P k) s.pc (instr_at P s.pc) (step P s)
+log_from P (suc k) s = log_after (log_from P k) s.pc (instr_at P s.pc) (step P s)
 
 -- the log of the first steps of a program
 abbrev pub log : Program → ℕ → List ℕ
@@ -34,6 +34,6 @@ last_line (ByStop c) pc = stop_line pc c
 last_line ByLimit pc = []
 
 -- the text for a program that may run so many instructions, or for the fault of a listing
-abbrev pub text_for : (limit : ℕ) → Result Program (ℕ × FaultKind) → List ℕ
-text_for limit (Ok P) = log P limit
-text_for limit (Err f) = fault_line f.0 f.1
+abbrev pub log_for : (limit : ℕ) → Result Program (ℕ × FaultKind) → List ℕ
+log_for limit (Ok P) = log P limit
+log_for limit (Err f) = fault_line f.0 f.1

@@ -5,15 +5,15 @@ use Rattle.encoding.specs.Layouts.{has_layout, layout}
 use Rattle.encoding.specs.Words.{decode, packed}
 
 -- whether two instructions are equal: in their operation, by its layout, and in their registers and number
-abbrev pub is_same : Instr → Instr → Bool
-is_same i j =
+abbrev pub are_equal : Instr → Instr → Bool
+are_equal i j =
     has_layout (layout j.op).opcode (layout j.op).select i.op
     && ((i.target == j.target) && ((i.first == j.first) && ((i.second == j.second) && (i.number == j.number))))
 
 -- whether a word that was decoded says this instruction
 abbrev pub is_said : Instr → Option Instr → Bool
 is_said i None = false
-is_said i (Some j) = is_same j i
+is_said i (Some j) = are_equal j i
 
 -- whether this word of 32 bits says an instruction at pc
 abbrev pub says : ℕ → ℕ → Instr → Bool

@@ -4,9 +4,9 @@ ghost use Rattle.isa.specs.Listing.{listing};
 ghost use Rattle.counted_io.specs.Counted.{failures_of, known_by};
 ghost use Rattle.without_threads.specs.Went.{HoldsOfInput, IsOfOneThread, refused, status_number};
 ghost use Rattle.without_threads.specs.declared.went.Line.TheVariants.{Nothing, Refused};
-ghost use Rattle.commit_log.specs.Answers.{IsLogged, IsOfWriting, writer_failures};
-ghost use Rattle.commit_log.specs.Logs.{text_for};
-ghost use Rattle.commit_log.specs.Retirements.{IsBegun};
+ghost use Rattle.commit_log.specs.Answers.{IsLogOf, IsOfWriting, failed_writes};
+ghost use Rattle.commit_log.specs.Logs.{log_for};
+ghost use Rattle.commit_log.specs.Retirements.{IsBeginning};
 
 use crate::logging::log_run;
 use bench::{MOST_TAKEN, Status};
@@ -36,7 +36,7 @@ pub fn log_commits<R: Read + Drop, W: Write>(
     ensures opened { result.line ≡ Refused Refusal.Open → reader ≡ None }
     // A log that was written whole is that of the in-order machine's steps, for any predictor, sizes and seed.
     ensures answer { result.line ≡ Nothing → HoldsOfInput R.remaining reader (λ input.
-        IsLogged asked.now.config.limit (listing input) result.status
+        IsLogOf asked.now.config.limit (listing input) result.status
         (known_by W.contents writer.old) (known_by W.contents writer.new)) }
     ensures quiet { result.line ≡ Nothing → failures_of writer.new ≡ failures_of writer.old }
     ensures line { IsOfOneThread result.line }
@@ -45,25 +45,25 @@ pub fn log_commits<R: Read + Drop, W: Write>(
         result ≡ refused refusal }
     // The writer is blamed for one failed call, and only then.
     ensures write { (refusal : Refusal) → result.line ≡ Refused refusal →
-        failures_of writer.new ≡ failures_of writer.old + writer_failures refusal }
+        failures_of writer.new ≡ failures_of writer.old + failed_writes refusal }
     // The part that was written before a refusal is a beginning of the log; none, where reading failed.
     ensures begun { (refusal : Refusal) → result.line ≡ Refused refusal →
         HoldsOfInput R.remaining reader (λ input.
-        IsBegun (text_for asked.now.config.limit (listing input))
+        IsBeginning (log_for asked.now.config.limit (listing input))
         (known_by W.contents writer.old) (known_by W.contents writer.new)) }
     ensures unread { result.line ≡ Refused Refusal.Read → writer.new ≡ writer.old }
 {
     let Some(mut reader) = reader else {
         return refused(Refusal::Open);
     };
-    match logged(alloc, asked, &mut reader, writer) {
+    match log_listing(alloc, asked, &mut reader, writer) {
         Ok(status) => written(status, Line::Nothing),
         Err(refusal) => refused(refusal),
     }
 }
 
 // Reads a listing and logs its run. The result is the status, once all is written.
-fn logged<R: Read, W: Write>(
+fn log_listing<R: Read, W: Write>(
     alloc: Global,
     asked: &Committed<'_>,
     reader: &mut Counted<R>,
@@ -72,24 +72,24 @@ fn logged<R: Read, W: Write>(
     requires reader_room { failures_of reader.old < 2 ^ 64 - 1 }
     requires writer_room { failures_of writer.old < 2 ^ 64 - 1 }
     ensures ok { IfOk result (λ status. IfSome (known_by R.remaining reader.old) (λ input.
-        IsLogged asked.now.config.limit (listing input) (status_number status)
+        IsLogOf asked.now.config.limit (listing input) (status_number status)
         (known_by W.contents writer.old) (known_by W.contents writer.new))) }
     ensures quiet { OnOk result (failures_of writer.new ≡ failures_of writer.old) }
     ensures err { IfErr result (λ refusal. IsOfOneThread (Refused refusal)) }
     ensures opened { IfErr result (λ refusal. refusal ≢ Refusal.Open) }
     ensures write { IfErr result (λ refusal.
-        failures_of writer.new ≡ failures_of writer.old + writer_failures refusal) }
+        failures_of writer.new ≡ failures_of writer.old + failed_writes refusal) }
     ensures begun { IfErr result (λ refusal. IfSome (known_by R.remaining reader.old) (λ input.
-        IsBegun (text_for asked.now.config.limit (listing input))
+        IsBeginning (log_for asked.now.config.limit (listing input))
         (known_by W.contents writer.old) (known_by W.contents writer.new))) }
     ensures unread { IfErr result (λ refusal. refusal ≡ Refusal.Read → writer.new ≡ writer.old) }
 {
     let listing = read_up_to(alloc, reader, MOST_TAKEN)?;
-    told(alloc, asked, listing.as_slice(), writer)
+    log_bytes(alloc, asked, listing.as_slice(), writer)
 }
 
 // Logs the run of the listing of these bytes, or writes the line of its fault. The result is the status.
-fn told<W: Write>(
+fn log_bytes<W: Write>(
     alloc: Global,
     asked: &Committed<'_>,
     bytes: &[u8],
@@ -97,17 +97,17 @@ fn told<W: Write>(
 ) -> Result<Status, Refusal>
     requires { failures_of writer.old < 2 ^ 64 - 1 }
     ensures ok { IfOk result (λ status.
-        IsLogged asked.now.config.limit (listing bytes.now) (status_number status)
+        IsLogOf asked.now.config.limit (listing bytes.now) (status_number status)
         (known_by W.contents writer.old) (known_by W.contents writer.new)) }
     ensures quiet { OnOk result (failures_of writer.new ≡ failures_of writer.old) }
     ensures err { IfErr result (λ refusal. IsOfWriting refusal) }
     ensures write { IfErr result (λ refusal.
-        failures_of writer.new ≡ failures_of writer.old + writer_failures refusal) }
-    ensures begun { OnErr result (IsBegun (text_for asked.now.config.limit (listing bytes.now))
+        failures_of writer.new ≡ failures_of writer.old + failed_writes refusal) }
+    ensures begun { OnErr result (IsBeginning (log_for asked.now.config.limit (listing bytes.now))
         (known_by W.contents writer.old) (known_by W.contents writer.new)) }
 {
     match parse(alloc, bytes) {
-        Ok(program) => told_of(alloc, asked, &program, writer),
+        Ok(program) => log_program(alloc, asked, &program, writer),
         Err(fault) if fault.kind == FaultKind::Memory => Err(Refusal::Memory),
         Err(fault) => {
             let text = fault_text(alloc, &fault)?;
@@ -118,7 +118,7 @@ fn told<W: Write>(
 }
 
 // Logs the run of a program. The result is the status.
-fn told_of<W: Write>(
+fn log_program<W: Write>(
     alloc: Global,
     asked: &Committed<'_>,
     program: &Program,
@@ -126,13 +126,13 @@ fn told_of<W: Write>(
 ) -> Result<Status, Refusal>
     requires { failures_of writer.old < 2 ^ 64 - 1 }
     ensures ok { IfOk result (λ status.
-        IsLogged asked.now.config.limit (Ok program.now) (status_number status)
+        IsLogOf asked.now.config.limit (Ok program.now) (status_number status)
         (known_by W.contents writer.old) (known_by W.contents writer.new)) }
     ensures quiet { OnOk result (failures_of writer.new ≡ failures_of writer.old) }
     ensures err { IfErr result (λ refusal. IsOfWriting refusal) }
     ensures write { IfErr result (λ refusal.
-        failures_of writer.new ≡ failures_of writer.old + writer_failures refusal) }
-    ensures begun { OnErr result (IsBegun (text_for asked.now.config.limit (Ok program.now))
+        failures_of writer.new ≡ failures_of writer.old + failed_writes refusal) }
+    ensures begun { OnErr result (IsBeginning (log_for asked.now.config.limit (Ok program.now))
         (known_by W.contents writer.old) (known_by W.contents writer.new)) }
 {
     let predictor = choose(asked.predictor);

@@ -1,6 +1,6 @@
 //! The change by an instruction: registers and stored bytes.
 ghost use Rattle.std.specs.Prelude.{◌≡◌, ◌++◌, Some, OnOk, replicate, string_bytes, slice_index};
-ghost use Rattle.commit_log.specs.Lines.{change_text, gap, memory_text, register_label, register_text};
+ghost use Rattle.commit_log.specs.Lines.{change_text, gap, store_text, register_column, register_with_value};
 
 use crate::digits::Stored;
 use instructions::{Half, Instr, Kind, Reg};
@@ -16,7 +16,7 @@ const COLUMN: usize = 16;
 struct Label(Reg);
 
 impl fmt::Display for Label {
-    ghost output = { λ label. Some (register_label label.0) };
+    ghost output = { λ label. Some (register_column label.0) };
 
     fn fmt<W: fmt::Write>(&self, f: &mut fmt::Formatter<W>) -> fmt::Result {
         let number = self.0.number();
@@ -49,7 +49,7 @@ fn push_gap(out: &mut String, length: usize) -> Result<(), AllocError>
 
 fn push_register(out: &mut String, registers: &[u32; 34], r: Reg) -> Result<(), AllocError>
     ensures { OnOk result
-        (string_bytes out.new ≡ string_bytes out.old ++ register_text r registers.now) }
+        (string_bytes out.new ≡ string_bytes out.old ++ register_with_value r registers.now) }
 {
     let label = Label(r);
     let value = Hexadecimal(value_of(registers, r));
@@ -58,7 +58,7 @@ fn push_register(out: &mut String, registers: &[u32; 34], r: Reg) -> Result<(), 
 
 fn push_memory(out: &mut String, registers: &[u32; 34], instr: &Instr) -> Result<(), AllocError>
     ensures { OnOk result
-        (string_bytes out.new ≡ string_bytes out.old ++ memory_text instr.now registers.now) }
+        (string_bytes out.new ≡ string_bytes out.old ++ store_text instr.now registers.now) }
 {
     let base = value_of(registers, instr.first());
     let address = Hexadecimal(base.wrapping_add(instr.number()));

@@ -4,10 +4,10 @@ ghost use Rattle.std.specs.Prelude.{string_bytes};
 ghost use Rattle.counted_io.specs.Counted.{failures_of, known_by, Gives};
 ghost use Rattle.inorder.specs.Runs.{end_of, end_state};
 ghost use Rattle.one_thread.specs.Changes.{registers_of, run_from};
-ghost use Rattle.commit_log.specs.Answers.{IsOfWriting, writer_failures};
+ghost use Rattle.commit_log.specs.Answers.{IsOfWriting, failed_writes};
 ghost use Rattle.commit_log.specs.Lines.{commit_line as line_of};
 ghost use Rattle.commit_log.specs.Logs.{last_line as last_line_of, log};
-ghost use Rattle.commit_log.specs.Retirements.{HasTold, IsBegun, last_of, log_left};
+ghost use Rattle.commit_log.specs.Retirements.{HasLogged, IsBeginning, final_line, log_ahead};
 
 use crate::line::{commit_line, stop_line};
 use crate::retiring::next_commit;
@@ -19,7 +19,10 @@ use std::io::Write;
 use without_threads::Refusal;
 
 // Writes a line, if there was room for it.
-fn tell<W: Write>(line: Result<String, AllocError>, writer: &mut Counted<W>) -> Result<(), Refusal>
+fn write_line<W: Write>(
+    line: Result<String, AllocError>,
+    writer: &mut Counted<W>,
+) -> Result<(), Refusal>
     requires { failures_of writer.old < 2 ^ 64 - 1 }
     ensures says { OnOk result (IfOk line (λ text.
         Gives W.contents writer.old writer.new (string_bytes text))) }
@@ -27,10 +30,10 @@ fn tell<W: Write>(line: Result<String, AllocError>, writer: &mut Counted<W>) -> 
     ensures there { OnOk result (IsOk line) }
     ensures begun { OnErr result ((bytes : List ℕ) →
         IfOk line (λ text. string_bytes text ≡ bytes) →
-        IsBegun bytes (known_by W.contents writer.old) (known_by W.contents writer.new)) }
+        IsBeginning bytes (known_by W.contents writer.old) (known_by W.contents writer.new)) }
     ensures err { IfErr result (λ refusal. IsOfWriting refusal) }
     ensures write { IfErr result (λ refusal.
-        failures_of writer.new ≡ failures_of writer.old + writer_failures refusal) }
+        failures_of writer.new ≡ failures_of writer.old + failed_writes refusal) }
 {
     let line = line?;
     write_whole(writer, line.as_str().as_bytes())?;
@@ -38,7 +41,7 @@ fn tell<W: Write>(line: Result<String, AllocError>, writer: &mut Counted<W>) -> 
 }
 
 // Writes the line of an instruction that has committed.
-fn tell_commit<W: Write>(
+fn log_commit<W: Write>(
     alloc: Global,
     station: &Station,
     registers: &[u32; 34],
@@ -48,19 +51,20 @@ fn tell_commit<W: Write>(
     ensures says { OnOk result (Gives W.contents writer.old writer.new
         (line_of station.now.pc station.now.instr registers.now)) }
     ensures quiet { OnOk result (failures_of writer.new ≡ failures_of writer.old) }
-    ensures begun { OnErr result (IsBegun (line_of station.now.pc station.now.instr registers.now)
+    ensures begun { OnErr result (IsBeginning
+        (line_of station.now.pc station.now.instr registers.now)
         (known_by W.contents writer.old) (known_by W.contents writer.new)) }
     ensures err { IfErr result (λ refusal. IsOfWriting refusal) }
     ensures write { IfErr result (λ refusal.
-        failures_of writer.new ≡ failures_of writer.old + writer_failures refusal) }
+        failures_of writer.new ≡ failures_of writer.old + failed_writes refusal) }
 {
     let instr = station.instr.to_instr();
     let line = commit_line(alloc, station.pc, &instr, registers);
-    tell(line, writer)
+    write_line(line, writer)
 }
 
 // Turns in an order until the unit has ended, or its count has reached a limit, and writes the line of each commit.
-fn tell_commits<P: Predictor + Drop, C: Chooser + Drop, W: Write>(
+fn log_each_commit<P: Predictor + Drop, C: Chooser + Drop, W: Write>(
     alloc: Global,
     bench: &mut Bench<'_, P>,
     order: &mut Order<C>,
@@ -72,39 +76,39 @@ fn tell_commits<P: Predictor + Drop, C: Chooser + Drop, W: Write>(
     requires registers { registers.old ≡ registers_of bench.old.pipeline }
     ensures ends { OnOk result
         (run_from bench.new.pipeline limit ≡ run_from bench.old.pipeline limit) }
-    ensures told { OnOk result (HasTold (log_left bench.old.pipeline limit)
-        (last_of (run_from bench.old.pipeline limit))
+    ensures logged { OnOk result (HasLogged (log_ahead bench.old.pipeline limit)
+        (final_line (run_from bench.old.pipeline limit))
         (known_by W.contents writer.old) (known_by W.contents writer.new)) }
     ensures quiet { OnOk result (failures_of writer.new ≡ failures_of writer.old) }
-    ensures begun { OnErr result (IsBegun (log_left bench.old.pipeline limit)
+    ensures begun { OnErr result (IsBeginning (log_ahead bench.old.pipeline limit)
         (known_by W.contents writer.old) (known_by W.contents writer.new)) }
     ensures err { IfErr result (λ refusal. IsOfWriting refusal) }
     ensures write { IfErr result (λ refusal.
-        failures_of writer.new ≡ failures_of writer.old + writer_failures refusal) }
+        failures_of writer.new ≡ failures_of writer.old + failed_writes refusal) }
 {
     'commits: while let Some(station) = next_commit(bench, order, registers, limit) {
-        tell_commit(alloc, &station, registers, writer)?;
+        log_commit(alloc, &station, registers, writer)?;
     }
     Ok(())
 }
 
 // Writes the last line of a run that ended by a stop.
-fn tell_last<W: Write>(alloc: Global, end: &End, writer: &mut Counted<W>) -> Result<(), Refusal>
+fn log_stop<W: Write>(alloc: Global, end: &End, writer: &mut Counted<W>) -> Result<(), Refusal>
     requires { failures_of writer.old < 2 ^ 64 - 1 }
     ensures says { OnOk result (Gives W.contents writer.old writer.new
         (last_line_of end.now.outcome end.now.pc)) }
     ensures quiet { OnOk result (failures_of writer.new ≡ failures_of writer.old) }
-    ensures begun { OnErr result (IsBegun (last_line_of end.now.outcome end.now.pc)
+    ensures begun { OnErr result (IsBeginning (last_line_of end.now.outcome end.now.pc)
         (known_by W.contents writer.old) (known_by W.contents writer.new)) }
     ensures err { IfErr result (λ refusal. IsOfWriting refusal) }
     ensures write { IfErr result (λ refusal.
-        failures_of writer.new ≡ failures_of writer.old + writer_failures refusal) }
+        failures_of writer.new ≡ failures_of writer.old + failed_writes refusal) }
 {
     match end.outcome {
         Ending::Limit => Ok(()),
         Ending::Stop(stop) => {
             let line = stop_line(alloc, end.pc, stop);
-            tell(line, writer)
+            write_line(line, writer)
         }
     }
 }
@@ -124,18 +128,18 @@ pub(crate) fn log_run<P: Predictor + Drop, C: Chooser + Drop, W: Write>(
     ensures says { OnOk result (Gives W.contents writer.old writer.new
         (log program.now config.now.limit)) }
     ensures quiet { OnOk result (failures_of writer.new ≡ failures_of writer.old) }
-    ensures begun { OnErr result (IsBegun (log program.now config.now.limit)
+    ensures begun { OnErr result (IsBeginning (log program.now config.now.limit)
         (known_by W.contents writer.old) (known_by W.contents writer.new)) }
     ensures err { IfErr result (λ refusal. IsOfWriting refusal) }
     ensures write { IfErr result (λ refusal.
-        failures_of writer.new ≡ failures_of writer.old + writer_failures refusal) }
+        failures_of writer.new ≡ failures_of writer.old + failed_writes refusal) }
 {
     let mut bench = Bench::new(alloc, program, config, predictor)?;
     let mut order = order;
     let mut registers = [0; 34];
     let limit = u64::from(config.limit());
-    tell_commits(alloc, &mut bench, &mut order, &mut registers, limit, writer)?;
+    log_each_commit(alloc, &mut bench, &mut order, &mut registers, limit, writer)?;
     let end = bench.run(limit);
-    tell_last(alloc, &end, writer)?;
+    log_stop(alloc, &end, writer)?;
     Ok(end.outcome)
 }

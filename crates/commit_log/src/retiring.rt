@@ -2,7 +2,7 @@
 ghost use Rattle.std.specs.Prelude.{◌≡◌, ◌<◌, IfSome, IsNone};
 ghost use Rattle.inorder.specs.Machine.{write as written};
 ghost use Rattle.one_thread.specs.Changes.{registers_of};
-ghost use Rattle.commit_log.specs.Retirements.{HasCommitted, IsOver, registers_behind};
+ghost use Rattle.commit_log.specs.Retirements.{HasCommittedNext, HasOnlyItsEnd, registers_after};
 
 use instructions::{Predictor, Reg};
 use one_thread::{Bench, Chooser, Order, Station, Turn};
@@ -19,7 +19,7 @@ fn write(registers: &mut [u32; 34], r: Reg, value: u32)
 
 // Writes the value of a station's tenant into its register, as it retires.
 fn retire(registers: &mut [u32; 34], station: &Option<Station>)
-    ensures { registers.new ≡ registers_behind station.now registers.old }
+    ensures { registers.new ≡ registers_after station.now registers.old }
 {
     if let Some(station) = station {
         write(registers, station.destination, station.made.unwrap_or(0));
@@ -40,8 +40,8 @@ pub(crate) fn next_commit<P: Predictor + Drop, C: Chooser + Drop>(
         registers.new ≡ registers_of bench.new.pipeline) }
     ensures below { IfSome result (λ _. bench.old.pipeline.committed.count < limit) }
     ensures some { IfSome result (λ station.
-        HasCommitted bench.old.pipeline station bench.new.pipeline) }
-    ensures none { IsNone result → IsOver bench.old.pipeline limit bench.new.pipeline }
+        HasCommittedNext bench.old.pipeline station bench.new.pipeline) }
+    ensures none { IsNone result → HasOnlyItsEnd bench.old.pipeline limit bench.new.pipeline }
 {
     'turns: while bench.count() < limit {
         let oldest = bench.tenant(0);

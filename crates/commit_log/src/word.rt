@@ -1,7 +1,7 @@
 //! The machine word of an instruction.
 ghost use Rattle.std.specs.Prelude.{◌≡◌, Some};
 ghost use Rattle.commit_log.specs.Words.{word_of as word_at};
-ghost use Rattle.commit_log.specs.Lines.{word_text};
+ghost use Rattle.commit_log.specs.Lines.{word_column};
 
 use encoding::{Decoded, encode};
 use instructions::Instr;
@@ -27,7 +27,7 @@ pub(crate) fn word_of(pc: u32, instr: &Instr) -> Option<u32>
 pub(crate) struct WordText(pub(crate) Option<u32>);
 
 impl fmt::Display for WordText {
-    ghost output = { λ word. Some (word_text word.0) };
+    ghost output = { λ word. Some (word_column word.0) };
 
     fn fmt<W: fmt::Write>(&self, f: &mut fmt::Formatter<W>) -> fmt::Result {
         match self.0 {

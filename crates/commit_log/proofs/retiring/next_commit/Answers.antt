@@ -3,7 +3,7 @@ use Rattle.std.specs.Prelude.{IfSome, IsNone}
 use Rattle.one_thread.specs.declared.bench.Turn.TheVariants.{Halved}
 use Rattle.one_thread.proofs.OrderedTurns.{moves_in}
 use Rattle.one_thread.proofs.Ends.{left_falls}
-use Rattle.commit_log.specs.Retirements.{HasCommitted, registers_behind}
+use Rattle.commit_log.specs.Retirements.{HasCommittedNext, registers_after}
 use Rattle.commit_log.proofs.LogKept.{at_stop}
 use Rattle.commit_log.proofs.Retirement.{commits_one, halved, if_some}
 use Rattle.commit_log.proofs.retiring.next_commit.Goals as goal
@@ -21,14 +21,14 @@ returns-in-Retired-clause-registers g c =
     let one = commits_one c.args.bench.now.pipeline c.turns.bench.pipeline c.turn_in-turn.new.self.pipeline c.count.ensures.unit moves
     c.in-Retired.ensures.same c.in-Retired.ensures.falls c.turns.invariant.program c.turns.invariant.committed c.tenant-oldest.result c.tenant-oldest.ensures in
     if_some c.tenant-oldest.result
-    (c.retire.ensures ∙ ap (registers_behind c.tenant-oldest.result) c.turns.invariant.registers ∙ one.written)
+    (c.retire.ensures ∙ ap (registers_after c.tenant-oldest.result) c.turns.invariant.registers ∙ one.written)
 
 pub returns-in-Retired-clause-some : goal.returns-in-Retired-clause-some
 returns-in-Retired-clause-some g c =
     let moves = moves_in g.P.Predictor.Predicts g.P.Predictor.Learns g.C.Chooser.Chooses c.turns.bench c.turn_in-turn.new.self c.turns.order c.turn_in-turn.new.order _ c.in-Retired.ensures.turn in
     let one = commits_one c.args.bench.now.pipeline c.turns.bench.pipeline c.turn_in-turn.new.self.pipeline c.count.ensures.unit moves
     c.in-Retired.ensures.same c.in-Retired.ensures.falls c.turns.invariant.program c.turns.invariant.committed c.tenant-oldest.result c.tenant-oldest.ensures in
-    subst (λ o. IfSome o (λ station. HasCommitted c.args.bench.now.pipeline station c.turn_in-turn.new.self.pipeline)) (sym one.is) one.committed
+    subst (λ o. IfSome o (λ station. HasCommittedNext c.args.bench.now.pipeline station c.turn_in-turn.new.self.pipeline)) (sym one.is) one.committed
 
 pub returns-in-Retired-clause-none : goal.returns-in-Retired-clause-none
 returns-in-Retired-clause-none g c = λ n.
@@ -48,7 +48,7 @@ turns-preserved-in-Halved g c =
     record {
       program = c.in-Halved.ensures.same.program ∙ c.turns.invariant.program;
       committed = c.in-Halved.ensures.falls.0 ∙ c.turns.invariant.committed;
-      registers = c.retire-in-Halved.ensures ∙ ap (registers_behind c.tenant-oldest.result) c.turns.invariant.registers
+      registers = c.retire-in-Halved.ensures ∙ ap (registers_after c.tenant-oldest.result) c.turns.invariant.registers
           ∙ sym (halved c.turns.bench.pipeline c.turn_in-turn.new.self.pipeline c.count.ensures.unit moves c.in-Halved.ensures.same
           c.in-Halved.ensures.falls c.tenant-oldest.result c.tenant-oldest.ensures);
     }

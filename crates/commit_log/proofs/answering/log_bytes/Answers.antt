@@ -1,7 +1,7 @@
 use Rattle.std.proofs.Common.{◌∙◌, rules}
 use Rattle.isa.specs.Listing.{listing}
 use Rattle.commit_log.proofs.Taken.{fault_logged}
-use Rattle.commit_log.proofs.answering.told.Goals as goal
+use Rattle.commit_log.proofs.answering.log_bytes.Goals as goal
 
 pub returns-in_ok-write_whole-in-Err-2-clause-ok :
     goal.returns-in_ok-write_whole-in-Err-2-clause-ok
