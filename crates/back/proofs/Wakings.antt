@@ -35,9 +35,6 @@ module _ (P : Program) (C : Sizes) (by : ℕ) where
   pub nobody_still : (old new : List Entry) (was woken : ℕ) → Adds P C by old new [] → woken ≡ was → WakesNobody P C by old new was woken
   nobody_still old new was woken adds same = record { late = []; are_late = tt; adds = adds; since = same }
 
-  pub nobody_yet : (h : List Entry) (woken : ℕ) → IsLegal P C h → WakesNobody P C by h h woken woken
-  nobody_yet h woken legal = nobody_still h h woken woken (adds_none P C by h legal) refl
-
   quiet : (old new : List Entry) (es : List Event) → Adds P C by old new es → AllByRecursion IsTooLate es → Wakes P C by old new (λ s. ⊥)
   quiet old new es adds late = wakes_nobody P C by old new es adds (none_late es late)
 

@@ -13,8 +13,3 @@ some_or false x o = refl
 or_assoc : (a b c : Bool) → ((a || b) || c) ≡ (a || (b || c))
 or_assoc true b c = refl
 or_assoc false b c = refl
-
--- a name stands in one of two lists
-pub stands_in_both : (xs ys : List (List ℕ)) (name : List ℕ) → stands_in (xs ++ ys) name ≡ (stands_in xs name || stands_in ys name)
-stands_in_both [] ys name = refl
-stands_in_both (x ∷ xs) ys name = ap (λ b. bytes_eq x name || b) (stands_in_both xs ys name) ∙ sym (or_assoc (bytes_eq x name) (stands_in xs name) (stands_in ys name))

@@ -40,9 +40,3 @@ count_total (l ∷ ls) = omega (arith, count_total ls)
 -- there are no more lines than bytes, and one
 pub few_lines : (bytes : List ℕ) (left : List (List ℕ)) (n : ℕ) (l : List ℕ) → drop n (lines_of bytes) ≡ l ∷ left → n < length bytes + 1
 few_lines bytes left n l is = omega (arith, next_few (lines_of bytes) left n l is, count_total (lines_of bytes), lines_fit bytes)
-
--- an element that is compared
-pub at_get : (xs : List ℕ) (k d v : ℕ) → k < length xs → slice_index_or xs k d ≡ v → slice_get xs k ≡ Some v
-at_get [] k d v few is = absurd (omega (arith, few))
-at_get (x ∷ xs) zero d v few is = cc
-at_get (x ∷ xs) (suc k) d v few is = at_get xs k d v (omega (arith, few)) is

@@ -22,10 +22,6 @@ pub feeds_append : (xs ys : List ℕ) → feeds (xs ++ ys) ≡ feeds xs + feeds 
 feeds_append [] ys = omega arith
 feeds_append (x ∷ xs) ys = omega (arith, feeds_append xs ys)
 
--- a text with nothing added
-pub no_longer : (text : List ℕ) → IsLonger text text
-no_longer text = record { added = []; is = grind (arith, common_steps); in_line = refl }
-
 -- a text with one more byte
 pub one_longer : (old text new : List ℕ) (b : ℕ) → IsLonger old text → b ≢ 10 → new ≡ text ++ b ∷ [] → IsLonger old new
 one_longer old text new b longer other is =

@@ -7,11 +7,6 @@ pub three_behind : (old a b c first second third : List ℕ) → first ≡ old +
     → third ≡ old ++ (a ++ (b ++ c))
 three_behind old a b c first second third one two three = grind (arith, common_steps)
 
--- four pieces behind a text
-pub four_behind : (old a b c d first second third fourth : List ℕ) → first ≡ old ++ a → second ≡ first ++ b → third ≡ second ++ c
-    → fourth ≡ third ++ d → fourth ≡ old ++ (a ++ (b ++ (c ++ d)))
-four_behind old a b c d first second third fourth one two three four = grind (arith, common_steps)
-
 -- five pieces behind a text
 pub five_behind : (old a b c d e first second third fourth fifth : List ℕ) → first ≡ old ++ a → second ≡ first ++ b
     → third ≡ second ++ c → fourth ≡ third ++ d → fifth ≡ fourth ++ e → fifth ≡ old ++ (a ++ (b ++ (c ++ (d ++ e))))

@@ -3,10 +3,6 @@ use Rattle.std.proofs.Common.{◌≡◌, ◌++◌, ℕ, List, [], ◌∷◌, ref
 use Rattle.instructions.specs.Programs.{Program}
 use Rattle.checker.specs.Warnings.{Warned, IsWarranted, AreWarnings, AreWarned, warning_text}
 
--- no warning
-pub none_warned : (file bytes : List ℕ) (P : Program) (text : List ℕ) → AreWarned file bytes P text text
-none_warned file bytes P text = ([], refl)
-
 -- one warning
 pub one_warned : (file bytes : List ℕ) (P : Program) (w : Warned) (old new : List ℕ) → IsWarranted bytes P w
     → new ≡ old ++ warning_text file w → AreWarned file bytes P old new

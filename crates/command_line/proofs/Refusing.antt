@@ -103,10 +103,3 @@ refused_read app word words rows Values Odd e same is = go e (subst (λ (a : App
         refused (subst Values same held.holds))
     go no.Ring entered refused = record { rows = rows; entered = entered; holds = refused }
     go no.Memory entered refused = tt
-
--- a mistake in the rows
-pub mistaken : (rows : List Row) (Values Odd : List Row → Type 0) (e : NoRun) → IsUsage e → ¬ (Values rows) → AreRefused rows Values Odd e
-mistaken rows Values Odd (no.Help _) usage none = absurd usage
-mistaken rows Values Odd (no.Usage _) usage none = none
-mistaken rows Values Odd no.Ring usage none = absurd usage
-mistaken rows Values Odd no.Memory usage none = tt

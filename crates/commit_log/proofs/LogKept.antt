@@ -108,9 +108,6 @@ pub appends_none : (known : Option (List ℕ)) → Appends known known []
 appends_none None = tt
 appends_none (Some xs) = sym (append-nil xs)
 
-pub none_begun : (text : List ℕ) (known : Option (List ℕ)) → IsBeginning text known known
-none_begun text known = record { n = 0; inside = omega arith; says = appends_none known }
-
 pub logged_more : (whole left line rest : List ℕ) (before mid after : Option (List ℕ)) → HasLogged whole left before mid → left ≡ line ++ rest → Appends mid after line →
     HasLogged whole rest before after
 logged_more whole left line rest before mid after h e a = record {
@@ -139,9 +136,6 @@ begun_line line rest left before after e b = record {
 }
 
 -- The beginning
-
-pub first_registers : (b : Pipeline) (P : Program) → b.committed ≡ start P → StandsFor b empty_unit → replicate 34 0 ≡ registers_of b
-first_registers b P e s = sym (ap (λ l. with_low l b.committed.registers) s.low ∙ ap (λ x. x.registers) e)
 
 pub first_log : (b : Pipeline) (P : Program) (limit : ℕ) → b.program.now ≡ P → b.committed ≡ start P → log_ahead b limit ≡ log P limit
 first_log b P limit p e =

@@ -154,18 +154,6 @@ halved b later h moves same falls oldest is =
     let m = moves h.unit h.reached h.stands in
     halved_by b later h h.unit m.unit h.reached h.stands m.reached m.stands m.does same falls oldest is
 
--- Nothing retires
-
-pub nothing_retires : (b later : Pipeline) (answer : Turn) → ((c : Stop) → answer ≡ Over c → ⊥) → (answer ≡ Retired → ⊥) → (answer ≡ Halved → ⊥) →
-    Falls answer b later → registers_of later ≡ registers_of b
-nothing_retires b later Recovered n m k f = ap (λ s. with_low later.low s.registers) f.0 ∙ ap (λ l. with_low l b.committed.registers) f.1
-nothing_retires b later Let n m k f = ap (λ s. with_low later.low s.registers) f.0 ∙ ap (λ l. with_low l b.committed.registers) f.1
-nothing_retires b later Ran n m k f = ap (λ s. with_low later.low s.registers) f.0 ∙ ap (λ l. with_low l b.committed.registers) f.1
-nothing_retires b later Loaded n m k f = ap (λ s. with_low later.low s.registers) f.0 ∙ ap (λ l. with_low l b.committed.registers) f.1
-nothing_retires b later Halved n m k f = absurd (k refl)
-nothing_retires b later Retired n m k f = absurd (m refl)
-nothing_retires b later (Over c) n m k f = absurd (n c refl)
-
 -- An instruction commits
 
 made_same : (f : Fate) (made : Option ℕ) → commits_by RetiredStanding f ≡ true → made_at_end f made 0 ≡ made

@@ -49,7 +49,7 @@ pub record HasNoReply {R W : Type 0} (failed : ℕ) (remaining : R → Option (L
   pub read : HasBegunToRead failed remaining most reader reader_new
   pub silent : writer_new ≡ writer
 
--- how the devices are left where an input was not answered
+-- how reader and writer are left where an input was not answered
 abbrev pub IsUnanswered : {R W E : Type 0} → (R → Option (List ℕ)) → (W → Option (List ℕ)) → (most : ℕ)
     → (reader reader_new : Counted R) → (writer writer_new : Counted W)
     → (IsText : (input text : List ℕ) → Type 0) → Unanswered E → Type 0

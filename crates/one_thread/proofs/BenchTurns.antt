@@ -95,9 +95,6 @@ module _ {S : Type 0} (Predicts : S → ℕ → Instr → ℕ → S → Type 0) 
         is = x.is;
       }
 
-  pub moves_of : (b later : BenchFields S) (answer : Turn) → IsTurn Predicts Learns b answer later → Moves b.pipeline answer later.pipeline
-  moves_of b later answer t U r s = let x = t U r s in record { unit = x.unit; reached = x.reached; stands = x.stands; does = x.does.0 }
-
   -- a guess where the next pc is fixed is that
   pub guess_fixed : (f : Option ℕ) (pc : ℕ) (i : Instr) (guess : ℕ) (old new : S) → IsAsked Predicts f pc i guess old new → IfSome f (λ x. guess ≡ x)
   guess_fixed None pc i guess old new a = tt

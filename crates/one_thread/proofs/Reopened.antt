@@ -72,9 +72,6 @@ reopened_miss V V' zero (w ∷ W) (suc k) i j e = reopened_miss V V' zero W k i 
 reopened_miss V V' (suc n) (w ∷ W) zero i j e = e
 reopened_miss V V' (suc n) (w ∷ W) (suc k) i j e = reopened_miss V V' n W k i j e
 
-reopened_no_miss : (n : ℕ) (W : List Station) → NoneGives miss_in W → NoneGives miss_in (reopened n W)
-reopened_no_miss n W h k l = reopened_miss W (reopened n W) n W k k k (h k (subst (λ m. k < m) (reopened_long n W) l))
-
 -- What can be let can be let behind them
 
 reopened_lets : (b : Pipeline) (n : ℕ) (f : Fetched) → NextOf b (Some f) → NextOf (with_reopened n b) (Some f)

@@ -70,11 +70,6 @@ after (Nearest e) Unknown = Unknown
 after (Nearest e) Elsewhere = Nearest e
 after (Nearest e) (Nearest s) = Nearest e
 
-pub after_end : (y : Older) → after y Elsewhere ≡ y
-after_end Unknown = refl
-after_end Elsewhere = refl
-after_end (Nearest e) = refl
-
 after_step : (y o : Older) (l m : Bool) (e : Entry) → after y (joined_by o l m e) ≡ after (preceded_by y l m e) o
 after_step Unknown o true m e = refl
 after_step Unknown o false m e = refl

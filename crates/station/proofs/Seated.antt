@@ -50,16 +50,6 @@ is_alive P C role by station over me s = subst IsAlive (sym s.role_is) (go role 
     go Worker k = tt
     go Spent k = absurd k
 
-pub is_begun : (P : Program) (C : Sizes) (role : Role) (by station : ℕ) (over : Bool) (me : Me ℕ View) → IsSeated P C role by station over me → me.0.role ≢ Start
-is_begun P C role by station over me s e = go role s.knows (sym s.role_is ∙ e)
-  where
-    go : (r : Role) → Knows P C r by station over me.0 → r ≢ Start
-    go Start k e = absurd k
-    go Front k e = cc
-    go Back k e = cc
-    go Worker k e = cc
-    go Spent k e = absurd k
-
 -- a seat after a look
 pub seated_on : (P : Program) (C : Sizes) (role : Role) (by station : ℕ) (over : Bool) (v w : Me ℕ View) (x : Place) (n : ℕ) → IsSeated P C role by station over v
     → Grows P C by v.0 w.0 (Sees P C by v.0 x n) → w.1 ≡ v.1 → IsSeated P C role by station over w

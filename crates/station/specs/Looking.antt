@@ -44,7 +44,7 @@ ShowsInfo None index half predicted = (index ≡ 0) × (half ≡ Low) × (predic
 ShowsInfo (Some t) index half predicted =
     (index ≡ t.index) × (half ≡ t.half) × (predicted ≡ t.predicted)
 
--- An info word is that of the station's last tenant, or of the let in progress
+-- An info word is that of the station's last tenant, or of some let that is allowed there
 pub record SeesInfo (P : Program) (C : Sizes) (h : List Entry) (s index : ℕ) (half : Half)
     (predicted : ℕ) : Type 0 where
   pub draft : Draft
@@ -75,7 +75,7 @@ ShowsOperand None tag state value = (tag ≡ 0) × (state ≡ Unset) × (value �
 ShowsOperand (Some o) tag state value =
     (tag ≡ o.tag) × (state ≡ source_state o.value) × (value ≡ value_field o.value)
 
--- An operand word is that of the station's last tenant, or of the let in progress
+-- An operand word is that of the station's last tenant, or of some let that is allowed there
 pub record SeesOperand (P : Program) (C : Sizes) (h : List Entry) (s : ℕ) (k : Source) (seen : Seen SourceState) : Type 0 where
   pub draft : Draft
   pub proper : IsDraft P C (unit_of P C h) draft

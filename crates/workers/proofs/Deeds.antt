@@ -51,10 +51,6 @@ one_done {P} {C} {by} {old} {new} {e} a total =
     let one = sum_by-cons (ones total) e [] in
     omega (arith, more, one)
 
--- no event more
-pub none_done : {P : Program} {C : Sizes} {by : ℕ} {old new : List Entry} → Adds P C by old new [] → HasDone by old new None
-none_done a total = deeds_more a total
-
 -- a claim
 pub claim_done : (P : Program) (C : Sizes) (by : ℕ) (old new : List Entry) (s : ℕ) (answer : Claim) → ClaimAnswers P C by old new s answer → HasDone by old new (total_of_claim answer)
 claim_done P C by old new s (HasJob j) a = one_done a.adds

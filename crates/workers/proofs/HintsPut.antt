@@ -84,9 +84,3 @@ pub put_or_dropped : (woken i : ℕ) (old new then : TheHinter) (is_put : Bool) 
     → (IsFalse is_put → then.hand ≡ new.hand) → HasOffered new then → HasHinted woken i old new → HasHinted woken (i + 1) old then
 put_or_dropped woken i old new then true set of put kept once h = hinted woken i old new then set of (put refl) once h
 put_or_dropped woken i old new then false set of put kept once h = dropped woken i old new then set of (kept refl) once h
-
--- one station was hinted, or found the queue full
-pub one_hinted : (station : ℕ) (old new : TheHinter) (is_put : Bool) → new.of ≡ old.of → (IsTrue is_put → new.hand ≡ putting station old.hand)
-    → (IsFalse is_put → new.hand ≡ old.hand) → HasOffered old new → HasHintedOne station old new
-one_hinted station old new true of put kept once = record { of = of; put = inl (put refl); offered = once }
-one_hinted station old new false of put kept once = record { of = of; put = inr (kept refl); offered = once }
