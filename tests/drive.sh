@@ -32,7 +32,7 @@ for script in examples/drive/*.txt; do
   words_of "$script"
   drive "$script" "${words[@]}"
   case $script in
-    */lines.txt | */meetings.txt | */mistakes.txt | */wild_guess.txt) expected=1 ;;
+    */creator.txt | */lines.txt | */meetings.txt | */mistakes.txt | */wild_guess.txt) expected=1 ;;
     *) expected=0 ;;
   esac
   is_told "$script" "${script%.txt}.told" $expected ''

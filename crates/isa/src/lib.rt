@@ -11,6 +11,6 @@ pub use instructions::{
 };
 pub use listing::{
     FaultKind, Form, InstrText, Label, Naming, Operands, Slot, TextFault, directive_text, form_of,
-    forms, parse, parse_with_lines, text_is_read_back, the_first_fault_is_named,
+    forms, parse, parse_with_lines, register_in, text_is_read_back, the_first_fault_is_named,
 };
 pub use report::{Hexadecimal, RegisterName, fault_text, report_text};

@@ -29,6 +29,7 @@ use instructions::{Instr, Program};
 pub use law::the_first_fault_is_named;
 use line::{Target, read_first_line};
 use needed::needed;
+pub use register::register as register_in;
 pub use slot::{Operands, Slot};
 use std::alloc::Global;
 use table::{Entry, Labels};

@@ -1,7 +1,9 @@
 -- The commands of a script, and the texts that stand for them.
-use Rattle.std.specs.Prelude.{◌≡◌, ◌≢◌, ◌==◌, ◌&&◌, ℕ, Bool, true, false, not, List, [], length, codes, Option, Some, None, if◌then◌else◌}
+use Rattle.std.specs.Prelude.{◌≡◌, ◌≢◌, ◌==◌, ◌&&◌, ℕ, Bool, true, false, not, List, [], length, codes, Option, Some, None, Result, Ok, Err, if◌then◌else◌}
 use Rattle.std.specs.Option.{option_map}
 use Rattle.std.specs.Str.{bytes_eq}
+use Rattle.isa.specs.RegisterNames.{first_some, register}
+use Rattle.isa.specs.declared.listing.fault.FaultKind.{FaultKind}
 use Rattle.lexical.specs.Number.{decimal_in, number_in}
 use Rattle.session.specs.declared.commands.Command.{Command}
 use Rattle.session.specs.declared.commands.Command.TheVariants as call
@@ -68,6 +70,19 @@ number_of text = decimal_in 4294967295 text
 abbrev pub only_number : Texts → Option ℕ
 only_number w = if has_one w then number_of w.first else None
 
+-- The number that was read, if there is one
+abbrev pub read_number : Result ℕ FaultKind → Option ℕ
+read_number (Ok n) = Some n
+read_number (Err fault) = None
+
+-- A register by its number, or as a listing names it
+abbrev pub register_of : List ℕ → Option ℕ
+register_of text = first_some (number_of text) (read_number (register text))
+
+-- The register that is the only operand
+abbrev pub only_register : Texts → Option ℕ
+only_register w = if has_one w then register_of w.first else None
+
 -- The pc that is the only operand
 abbrev pub only_pc : Texts → Option ℕ
 only_pc w = if has_one w then number_in 0 4294967295 w.first else None
@@ -123,7 +138,7 @@ command_of Show w = without_operands w call.Show
 command_of Take w = without_operands w call.Take
 command_of Learn w = without_operands w call.Learn
 command_of Look w = option_map (λ s. call.Look s) (only_number w)
-command_of Creator w = option_map (λ r. call.Creator r) (only_number w)
+command_of Creator w = option_map (λ r. call.Creator r) (only_register w)
 command_of Touched w = without_operands w call.Touched
 command_of Info w = option_map (λ s. call.Info s) (only_number w)
 command_of Operand w = option_map (λ p. call.Operand p.0 p.1) (station_and_source w)

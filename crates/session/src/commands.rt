@@ -1,10 +1,10 @@
 //! The commands of a script.
 ghost use Rattle.std.specs.Prelude.{◌≡◌, ◌≢◌, IfNone, IfSome};
-ghost use Rattle.session.specs.Commands.{IsLine, without_operands, command_of, ends_script, has_one, has_two, is_command, number_of, only_number, only_pc, source_of, station_and_source, turn_of, two_parties, unit_and_number, verb_name};
+ghost use Rattle.session.specs.Commands.{IsLine, without_operands, command_of, ends_script, has_one, has_two, is_command, number_of, only_number, only_pc, only_register, source_of, station_and_source, turn_of, two_parties, unit_and_number, verb_name};
 ghost use Rattle.session.specs.Words.{texts_of, words_of};
 ghost use Rattle.session.specs.declared.commands.Verb.{Verb};
 
-use crate::names::unit_in;
+use crate::names::{register_in, unit_in};
 use crate::parties::{Party, party_in};
 use crate::words::{Words, words_in};
 use lexical::decimal_in;
@@ -166,6 +166,16 @@ fn only_number(words: &Words<'_>) -> Option<u32>
     }
 }
 
+fn only_register(words: &Words<'_>) -> Option<u32>
+    ensures { result ≡ only_register (texts_of words.now) }
+{
+    if has_one(words) {
+        register_in(words.first)
+    } else {
+        None
+    }
+}
+
 fn only_pc(words: &Words<'_>) -> Option<u32>
     ensures { result ≡ only_pc (texts_of words.now) }
 {
@@ -248,7 +258,7 @@ fn command_in(verb: Verb, words: &Words<'_>) -> Option<Command>
         Verb::Take => bare(words, Command::Take),
         Verb::Learn => bare(words, Command::Learn),
         Verb::Look => only_number(words).map(Command::Look),
-        Verb::Creator => only_number(words).map(Command::Creator),
+        Verb::Creator => only_register(words).map(Command::Creator),
         Verb::Touched => bare(words, Command::Touched),
         Verb::Info => only_number(words).map(Command::Info),
         Verb::Operand => station_and_source(words).map(|(station, k)| Command::Operand(station, k)),

@@ -4,7 +4,7 @@ ghost use Rattle.session.specs.Help.{help_text};
 
 use std::alloc::{AllocError, Global};
 
-/// A line for each command. U is a unit, A to Z and AA to BL; S a station; K 1 or 2; R the number of a register.
+/// A line for each command. U is a unit, A to Z and AA to BL; S a station; K 1 or 2; R a register.
 pub const HELP: &str = "\
 turn          lets the next instruction
 turn PC       lets it with the guess PC, where the predictor would be asked for its next pc
@@ -18,7 +18,7 @@ operand S K   operand K of station S, or whom it waits for
 link S K      the producer of operand K of station S, by the link words
 look S        the word of station S
 info S        the info word of station S
-creator R     who makes register R: its number, 32 for lo, 33 for hi
+creator R     who makes register R: a name of listings, or its number, 32 for lo, 33 for hi
 ring          the oldest tenant's station, the next one's, and the next pc
 table         a line for each station that is not free, the create vector, the ring
 report        the committed state, as a run reports it

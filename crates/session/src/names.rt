@@ -1,9 +1,13 @@
-//! The names of units, and the numbers of registers.
+//! The names of units and of registers.
 ghost use Rattle.std.specs.Prelude.{◌≡◌, ◌<◌, ◌≤◌, IfNone, IfSome};
 ghost use Rattle.instructions.specs.Registers.{register_count};
+ghost use Rattle.isa.specs.RegisterNames.{register};
+ghost use Rattle.session.specs.Commands.{read_number, register_of};
 ghost use Rattle.session.specs.Units.{both_letters, letter, unit_count, unit_named};
 
 use instructions::Reg;
+use isa::register_in as listed_register;
+use lexical::decimal_in;
 
 /// How many units there can be.
 pub const UNITS: usize = 64;
@@ -39,6 +43,26 @@ pub fn unit_in(name: &[u8]) -> Option<usize>
         [a] => letter(*a),
         [a, b] => both_letters(letter(*a), letter(*b)),
         _ => None,
+    }
+}
+
+// The number of the register that a listing names so.
+fn listed_number(text: &[u8]) -> Option<u32>
+    ensures { result ≡ read_number (register text.now) }
+{
+    match listed_register(text) {
+        Ok(named) => Some(u32::from(named.number())),
+        Err(_) => None,
+    }
+}
+
+/// The number that a text has for a register: itself, or that of a name which listings take.
+pub(crate) fn register_in(text: &[u8]) -> Option<u32>
+    ensures { result ≡ register_of text.now }
+{
+    match decimal_in(text, 0xffff_ffff) {
+        Some(number) => Some(number),
+        None => listed_number(text),
     }
 }
 
