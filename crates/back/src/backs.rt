@@ -94,8 +94,8 @@ impl<J: Naming> Back<J> {
         self.committed.count()
     }
 
-    /// Whom the last load that got its value took it to: bit s is set where one or both sources of
-    /// station s got it. It is 0 before the first such load.
+    /// The stations that the last completed load took its value to: bit s is set if one or both sources of
+    /// station s got the value. Before the first such load no bit is set.
     pub fn woken(&self) -> u32
         ensures { result ≡ self.now.woken }
     {

@@ -7,7 +7,7 @@ use instructions::Half;
 /// The content of a station's info word.
 #[derive(Clone, Copy, Debug, PartialEq, Eq)]
 pub struct InfoWord {
-    /// The half that it is of its instruction.
+    /// The half of its instruction that the tenant is.
     pub half: Half,
     /// The index of the instruction.
     pub index: u32,
@@ -15,7 +15,7 @@ pub struct InfoWord {
     pub predicted: u32,
 }
 
-// the bit of a half
+// The bit of a half.
 fn bit(half: Half) -> u64
     ensures { result ≡ half_bit half }
 {
@@ -25,7 +25,7 @@ fn bit(half: Half) -> u64
     }
 }
 
-// the half of a bit
+// The half of a bit.
 fn half_at(bit: u64) -> Half
     ensures { result ≡ half_by bit }
 {
@@ -36,7 +36,7 @@ fn half_at(bit: u64) -> Half
 }
 
 impl InfoWord {
-    /// Bit 63 is the half, 62 to 32 are the index, 31 to 0 the predicted next pc.
+    /// The word: bit 63 is the half, bits 62 to 32 are the index, 31 to 0 the predicted next pc.
     pub fn pack(self) -> u64
         requires { self.index < 2 ^ 31 }
         ensures { result ≡ pack_info self.half self.index self.predicted }

@@ -12,7 +12,7 @@ pub struct LinkWord {
 }
 
 impl LinkWord {
-    /// Bits 63 to 36 are the producer's tag, 35 to 8 the consumer's, 7 to 0 zero.
+    /// The word: bits 63 to 36 are the producer's tag, 35 to 8 the consumer's, 7 to 0 zero.
     pub fn pack(self) -> u64
         requires producer { self.producer < tag_count }
         requires consumer { self.consumer < tag_count }

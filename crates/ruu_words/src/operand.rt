@@ -17,12 +17,12 @@ pub struct OperandWord {
     /// The tag of the tenant whose source this is.
     pub tag: u32,
     pub state: OperandState,
-    /// 0 while the source waits.
+    /// The value of the source; 0 while the source waits.
     pub value: u32,
 }
 
 impl OperandWord {
-    /// Bits 63 to 36 are the tag, 35 to 32 the state, 31 to 0 the value.
+    /// The word: bits 63 to 36 are the tag, 35 to 32 the state, 31 to 0 the value.
     pub fn pack(self) -> u64
         requires tag { self.tag < tag_count }
         ensures { result ≡ pack self.tag (operand_state_code self.state) self.value }

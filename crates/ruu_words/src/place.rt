@@ -11,7 +11,7 @@ pub enum Place {
     Info(usize),
     /// The operand of a source of a station's tenant.
     Operand(usize, Source),
-    /// From a producer's station to a source of a consumer's.
+    /// The link from a producer's station to a source of a consumer's station.
     Link(usize, usize, Source),
 }
 
@@ -26,7 +26,7 @@ fn number(k: Source) -> usize
 }
 
 impl Place {
-    /// Its index in the table of a ring of `ring` stations.
+    /// The index of the place in the table of a ring of `ring` stations.
     pub fn index(self, ring: usize) -> usize
         requires place { IsPlace ring self }
         requires ring { ring ≤ 32 }
@@ -42,7 +42,7 @@ impl Place {
     }
 }
 
-/// How many words the table of a ring of `ring` stations has.
+/// The number of words in the table of a ring of `ring` stations.
 pub fn word_count(ring: usize) -> usize
     requires ring { ring ≤ 32 }
     ensures { result ≡ words_for ring }

@@ -1,4 +1,4 @@
-//! What a table of these words is made for, what its seats know, and its rule.
+//! The setup of a table of these words, the views of its seats, and its rule.
 use atomic_table::{Badge, Play, TableRule};
 use inorder::history::{Entry, Supply};
 use instructions::Program;
@@ -73,7 +73,7 @@ impl TableRule<u8, View, Setup> for OneHistory {
     ghost first = { first_view };
 }
 
-// What a step tells is picked where it is made.
+// The contract of a step is picked where the step is made.
 impl Play<u8, View> for Brand {
     ghost use Rattle.std.specs.Prelude.{⊤};
 

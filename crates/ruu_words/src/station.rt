@@ -5,7 +5,7 @@ ghost use Rattle.ruu_words.specs.Fields.{tag_count, pack, tag_of, state_of, word
 ghost use Rattle.ruu_words.specs.States.{state_count, state_code};
 ghost use Rattle.ruu_words.specs.declared.station.StationState.TheVariants.{Stop};
 
-/// How far the last tenant of a station has come.
+/// The state of a station: how far its last tenant has come.
 #[derive(Clone, Copy, Debug, PartialEq, Eq)]
 pub enum StationState {
     /// No tenant is live here. The tag is the next tenant's.
@@ -66,7 +66,7 @@ pub struct StationWord {
 }
 
 impl StationWord {
-    /// Bits 63 to 36 are the tag, 35 to 32 the state, 31 to 0 the value.
+    /// The word: bits 63 to 36 are the tag, 35 to 32 the state, 31 to 0 the value.
     pub fn pack(self) -> u64
         requires tag { self.tag < tag_count }
         ensures { result ≡ pack self.tag (state_code self.state) self.value }
@@ -92,7 +92,7 @@ impl StationWord {
         }
     }
 
-    /// The word once its tenant has left: free, with the next tag.
+    /// The word of a station whose tenant has left: free, with the next tag.
     pub fn left(self, value: u32) -> StationWord
         requires tag { self.tag < last_tag }
         ensures tag { result.tag ≡ self.tag + 1 }

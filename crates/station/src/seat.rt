@@ -51,11 +51,11 @@ impl Part for UnitPart {
 pub struct SeatOf<P: Part> {
     pub(crate) seat: Seat<u8, View>,
     pub(crate) words: Snapshot<Words>,
-    // where the front's next tenant goes, or the back's oldest live tenant stands
+    // the station of the front's next tenant, or of the back's oldest live tenant
     pub(crate) station: usize,
     // the back has retired a stop
     pub(crate) over: bool,
-    // whom its last result was taken to, a bit for each station
+    // the stations that its last result was taken to, a bit for each
     pub(crate) woken: u32,
     pub(crate) part: PhantomData<P>,
 }
@@ -118,8 +118,8 @@ impl Writer for UnitPart {}
 impl<P: Writer> SeatOf<P> {
     ghost use Rattle.std.specs.Prelude.{◌≡◌};
 
-    /// Whom the seat's last `finish` or `settle` took its value to: bit s is set where one or both
-    /// sources of station s got it. It is 0 where there was none.
+    /// The stations that the seat's last `finish` or `settle` took its value to: bit s is set if one or both
+    /// sources of station s got the value. No bit is set where there was no such call.
     pub fn woken(&self) -> u32
         ensures { result ≡ self.now.woken }
     {
