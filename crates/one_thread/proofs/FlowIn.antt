@@ -185,7 +185,8 @@ module _ (b : Pipeline) (f : Future) (es : List Entry) (next : Fetched) (predict
       plain : StandsForSome (entered_fields (station_after last (Address a)))
       plain = as_ran (station_after last (Address a)) (sym (ap (station_after last) e)) (ap (λ x. missed_after b.missed (stage_after x predicted)) e)
 
-      answered : kind next.instr.op ≡ Loads → (r : Option ℕ) → value_by (answer_over es a (width next.instr.op)) b.committed.memory next.instr.op a ≡ r → StandsForSome (entered_fields (completed_by last (Address a) r))
+      answered : kind next.instr.op ≡ Loads → (r : Option ℕ) → value_by (answer_over es a (width next.instr.op)) b.committed.memory next.instr.op a ≡ r →
+          StandsForSome (entered_fields (completed_by last (Address a) r))
       answered k None q = plain
       answered k (Some v) q = loads a v e k q
 

@@ -163,7 +163,8 @@ runs_by true b later u s limit less =
     ∙ ap (λ p. end_from p.now (limit - b.committed.count) b.committed) s.same.program
 runs_by false b later u s limit less = let one = one_retired b b later u (moves_first b later Retired s.turn) s.same refl refl s.falls in one.1 limit less
 
-pub passed_runs : (b later : Pipeline) (w : Station) → IsFilled b → slice_get b.window 0 ≡ Some w → later ≡ passed_from (is_first_half w.instr.op w.half) b w → (limit : ℕ) → b.committed.count < limit →
+pub passed_runs : (b later : Pipeline) (w : Station) → IsFilled b → slice_get b.window 0 ≡ Some w → later ≡ passed_from (is_first_half w.instr.op w.half) b w →
+    (limit : ℕ) → b.committed.count < limit →
     run_from later limit ≡ run_from b limit
 passed_runs b later w d is e limit less = runs_by (is_first_half w.instr.op w.half) b later d.unit (passed_shows b later w d is e) limit less
 
@@ -171,7 +172,8 @@ more_by : (h : Bool) (b later : Pipeline) → Shows b (answer_by h) later → b.
 more_by true b later s = let same = ap (λ x. x.count) s.falls.0 in omega (arith, same)
 more_by false b later s = let one = s.falls in omega (arith, one)
 
-pub passed_counts : (b later : Pipeline) (w : Station) → IsFilled b → slice_get b.window 0 ≡ Some w → later ≡ passed_from (is_first_half w.instr.op w.half) b w → b.committed.count ≤ later.committed.count
+pub passed_counts : (b later : Pipeline) (w : Station) → IsFilled b → slice_get b.window 0 ≡ Some w → later ≡ passed_from (is_first_half w.instr.op w.half) b w →
+    b.committed.count ≤ later.committed.count
 passed_counts b later w d is e = more_by (is_first_half w.instr.op w.half) b later (passed_shows b later w d is e)
 
 -- and less is to be done
@@ -202,7 +204,8 @@ less_by false b later s limit less =
     let behind = at_most later.low in
     omega (arith, one, behind, less)
 
-pub passed_less : (b later : Pipeline) (w : Station) → IsFilled b → slice_get b.window 0 ≡ Some w → later ≡ passed_from (is_first_half w.instr.op w.half) b w → (limit : ℕ) → b.committed.count < limit →
+pub passed_less : (b later : Pipeline) (w : Station) → IsFilled b → slice_get b.window 0 ≡ Some w → later ≡ passed_from (is_first_half w.instr.op w.half) b w →
+    (limit : ℕ) → b.committed.count < limit →
     to_do limit later < to_do limit b
 passed_less b later w d is e limit less = less_by (is_first_half w.instr.op w.half) b later (passed_shows b later w d is e) limit less
 

@@ -50,6 +50,18 @@ window_let S C newest start len w c h room a b r first second replaced =
           (known_let W R newest start w c h.begins h.known (omega (arith, size, room)) r has)));
     }
 
+pub window_room : (S : List Station) (C : List Creators) (newest : List ℕ) (start len : ℕ) (W : List Station) → IsWindow S C newest start len → ring_of S start len ≡ W → length W < 32 → len < 32
+window_room S C newest start len W h is room =
+    let long = ring_length S start len h.every_station h.begins h.most in
+    omega (arith, room, ap length is, long)
+
+pub view_let : (S : List Station) (C : List Creators) (newest : List ℕ) (start len k : ℕ) (W : List Station) (w : Station) → IsWindow S C newest start len → ring_of S start len ≡ W → length W < 32 →
+    k ≡ slot_of start len → ring_of (set S k w) start (len + 1) ≡ W ++ w ∷ []
+view_let S C newest start len k W w h is room place =
+    ap (λ j. ring_of (set S j w) start (len + 1)) place
+    ∙ ring_push S start len w h.every_station h.begins (window_room S C newest start len W h is room)
+    ∙ ap (λ l. l ++ w ∷ []) is
+
 -- the youngest is squashed
 pub window_popped : (S : List Station) (C : List Creators) (newest : List ℕ) (start len m : ℕ) (w : Station) (c : Creators) → IsWindow S C newest start len → len ≡ suc m →
     slice_get S (slot_of start m) ≡ Some w → slice_get C (slot_of start m) ≡ Some c → w.destination < 34 → IsWindow S C (set newest w.destination c.replaced) start m

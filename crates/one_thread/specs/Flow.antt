@@ -88,6 +88,7 @@ abbrev pub passed_by : Bool → Station → Pipeline → Pipeline
 passed_by true w b = record b { low = Some (unwrap_or w.made 0) }
 passed_by false w b = record b { committed = with_station w (ahead_of b); low = None }
 
+-- What any oldest tenant leaves behind
 abbrev pub passed_on : Station → Pipeline → Pipeline
 passed_on w b = passed_by (is_first_half w.instr.op w.half) w b
 

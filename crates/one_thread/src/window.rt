@@ -3,6 +3,8 @@ ghost use Rattle.std.specs.Prelude.{◌≡◌, ◌<◌, ◌≤◌, ◌-◌, [], 
 ghost use Rattle.one_thread.specs.Creators.{CreatorsAt, IsCreator, IsOfSame};
 ghost use Rattle.one_thread.specs.Window.{HasReached, IsAdvanced, access_of, accesses as accesses_of, further_on, let_at};
 
+mod joining;
+
 use crate::creators::Creators;
 use crate::decoded::Decoded;
 use crate::places::{place_of, slot_of};
@@ -215,25 +217,6 @@ impl Window {
             made,
             stage,
         };
-        self.len += 1;
-    }
-
-    /// A tenant joins behind the youngest as it stands.
-    pub fn join(&mut self, station: &Station)
-        requires { length self.old < 32 }
-        ensures { self.new ≡ self.old ++ station.now ∷ [] }
-    {
-        let instr = &station.instr;
-        self.accesses += access(instr);
-        let slot = slot_of(self.start, self.len);
-        let r = station.destination.number() as usize;
-        self.creators[slot] = Creators {
-            first: self.newest[instr.first().number() as usize],
-            second: self.newest[instr.second().number() as usize],
-            replaced: self.newest[r],
-        };
-        self.newest[r] = slot as u8;
-        self.stations[slot] = *station;
         self.len += 1;
     }
 

@@ -6,8 +6,7 @@ use Rattle.one_thread.specs.Creators.{IsWindow}
 use Rattle.one_thread.specs.Slots.{ring_of, slot_of}
 use Rattle.one_thread.specs.Window.{accesses}
 use Rattle.one_thread.proofs.Accesses.{accesses_most, count_push}
-use Rattle.one_thread.proofs.Slots.{ring_length, ring_push}
-use Rattle.one_thread.proofs.WindowKept.{window_let}
+use Rattle.one_thread.proofs.WindowKept.{view_let, window_let, window_room}
 use Rattle.one_thread.proofs.window.Window.join.Goals as goal
 
 pub invariant_of-self : goal.invariant_of-self
@@ -16,8 +15,7 @@ invariant_of-self c =
     let h = c.self.invariant.0 in
     let w = c.args.station.now in
     let made : Creators = record { first = slice_index s.newest c.number.result; second = slice_index s.newest c.number-2.result; replaced = slice_index s.newest c.number-r.result } in
-    let long = ring_length s.stations s.start s.len h.every_station h.begins h.most in
-    let room : s.len < 32 = omega (arith, c.requires, ap length c.self.view_is, long) in
+    let room = window_room s.stations s.creators s.newest s.start s.len c.args.self.now h c.self.view_is c.requires in
     let first : c.number.result ≡ first_of w.instr = c.number.ensures.value ∙ c.first.ensures in
     let second : c.number-2.result ≡ second_of w.instr = c.number-2.ensures.value ∙ c.second.ensures in
     let r : c.number-r.result ≡ w.destination = c.number-r.ensures.value in
@@ -44,10 +42,4 @@ overflow_add-self c =
 pub returns : goal.returns
 returns c =
     let s = c.self.inside in
-    let h = c.self.invariant.0 in
-    let w = c.args.station.now in
-    let long = ring_length s.stations s.start s.len h.every_station h.begins h.most in
-    let room : s.len < 32 = omega (arith, c.requires, ap length c.self.view_is, long) in
-    ap (λ k. ring_of (set s.stations k w) s.start (s.len + 1)) c.slot_of-slot.ensures.value
-    ∙ ring_push s.stations s.start s.len w h.every_station h.begins room
-    ∙ ap (λ l. l ++ w ∷ []) c.self.view_is
+    view_let s.stations s.creators s.newest s.start s.len c.slot_of-slot.result c.args.self.now c.args.station.now c.self.invariant.0 c.self.view_is c.requires c.slot_of-slot.ensures.value

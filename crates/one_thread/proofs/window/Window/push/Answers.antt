@@ -6,8 +6,8 @@ use Rattle.one_thread.specs.Creators.{IsWindow}
 use Rattle.one_thread.specs.Slots.{ring_of, slot_of}
 use Rattle.one_thread.specs.Window.{accesses, further_on, let_at}
 use Rattle.one_thread.proofs.Accesses.{accesses_most, count_push}
-use Rattle.one_thread.proofs.Slots.{ring_length, ring_push}
-use Rattle.one_thread.proofs.WindowKept.{window_let}
+use Rattle.one_thread.proofs.Slots.{ring_length}
+use Rattle.one_thread.proofs.WindowKept.{view_let, window_let, window_room}
 use Rattle.one_thread.proofs.window.Window.push.Goals as goal
 
 pub invariant_of-self : goal.invariant_of-self
@@ -17,8 +17,7 @@ invariant_of-self c =
     let w = further_on (let_at c.args.instr.now c.args.half c.args.pc c.args.predicted) c.args.stage c.args.made in
     let is = ap (λ d. record w { destination = d }) c.destination-destination.ensures in
     let made : Creators = record { first = slice_index s.newest c.number.result; second = slice_index s.newest c.number-2.result; replaced = slice_index s.newest c.number-r.result } in
-    let long = ring_length s.stations s.start s.len h.every_station h.begins h.most in
-    let room : s.len < 32 = omega (arith, c.requires, ap length c.self.view_is, long) in
+    let room = window_room s.stations s.creators s.newest s.start s.len c.args.self.now h c.self.view_is c.requires in
     let first : c.number.result ≡ first_of w.instr = c.number.ensures.value ∙ c.first.ensures in
     let second : c.number-2.result ≡ second_of w.instr = c.number-2.ensures.value ∙ c.second.ensures in
     let r : c.number-r.result ≡ w.destination = c.number-r.ensures.value ∙ c.destination-destination.ensures in
@@ -49,9 +48,6 @@ returns c =
     let s = c.self.inside in
     let h = c.self.invariant.0 in
     let w = further_on (let_at c.args.instr.now c.args.half c.args.pc c.args.predicted) c.args.stage c.args.made in
-    let long = ring_length s.stations s.start s.len h.every_station h.begins h.most in
-    let room : s.len < 32 = omega (arith, c.requires, ap length c.self.view_is, long) in
+    let room = window_room s.stations s.creators s.newest s.start s.len c.args.self.now h c.self.view_is c.requires in
     ap (λ d. ring_of (set s.stations c.slot_of-slot.result (record w { destination = d })) s.start (s.len + 1)) c.destination-destination.ensures
-    ∙ ap (λ k. ring_of (set s.stations k w) s.start (s.len + 1)) c.slot_of-slot.ensures.value
-    ∙ ring_push s.stations s.start s.len w h.every_station h.begins room
-    ∙ ap (λ l. l ++ w ∷ []) c.self.view_is
+    ∙ view_let s.stations s.creators s.newest s.start s.len c.slot_of-slot.result c.args.self.now w h c.self.view_is c.requires c.slot_of-slot.ensures.value
