@@ -134,7 +134,8 @@ fn push_explanation(
     fault: TextFault,
 ) -> Result<(), AllocError>
     ensures { OnOk result (IsExplanationBehind source.entry.file.now fault.line fault.kind
-        (numbered_line fault.line (lines_of source.entry.bytes.now)) text.old.items text.new.items) }
+        (numbered_line fault.line (lines_of source.entry.bytes.now))
+        text.old.items text.new.items) }
 {
     match numbered_line(source.bytes, fault.line) {
         Some(line) => push_line(alloc, text, source, labels, fault, line),
