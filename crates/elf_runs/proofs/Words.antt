@@ -7,11 +7,12 @@ use Rattle.instructions.specs.declared.op.Op.TheVariants.{Break}
 use Rattle.instructions.specs.Programs.{Program, address}
 use Rattle.inorder.specs.Machine.{start}
 use Rattle.encoding.specs.Words.{decode}
+use Rattle.instructions.specs.Targets.{names_target}
 use Rattle.elf.specs.Images.{Loaded}
 use Rattle.disassembly.specs.declared.refusal.Refusal.{Refusal}
 use Rattle.disassembly.specs.declared.refusal.Refusal.TheVariants.{Target, Slot}
 use Rattle.disassembly.specs.Conversion.{program_by, with_memory}
-use Rattle.disassembly.specs.Meaning.{has_target, is_inside, has_slot, with_delay_slot, checked, checked_if, meant, appended, with_next, meant_up_to}
+use Rattle.disassembly.specs.Meaning.{is_inside, has_slot, with_delay_slot, checked, checked_if, meant, appended, with_next, meant_up_to}
 use Rattle.lockstep.specs.Law.{IsTextOf}
 use Rattle.lockstep.proofs.TheStep.{the_run}
 use Rattle.elf_runs.specs.Law.{ARunOfAnExecutable}
@@ -45,7 +46,7 @@ slot_same at word i j (Some next) h = elim (cases_Bool (next == 0)) [
 ]
 
 checked_same : (words : List ℕ) (k : ℕ) (i j : Instr) → checked words k i ≡ Ok j → i ≡ j
-checked_same words k i j h = elim (cases_Bool (has_target i.op)) [
+checked_same words k i j h = elim (cases_Bool (names_target i.op)) [
   | inl goes ↦ elim (cases_Bool (is_inside (length words) i.number)) [
     | inl inside ↦
         let rest : (if has_slot i.op then with_delay_slot (address k) (slice_index words k) i (slice_get words (k + 1)) else Ok i) ≡ Ok j = rw (goes, inside) at h in
