@@ -8,7 +8,7 @@ build_refuse
 build run ruu
 build run checker
 build run alone
-build run driver
+build run drive
 build run listing
 ruu=crates/ruu/out/ruu
 check=crates/checker/out/checker
@@ -140,7 +140,7 @@ done
 
 # each word has its help and the version
 "$ruu" --version > "$work/version" || fail 'ruu --version'
-for words in 'ruu run' 'checker check' 'driver drive' listing; do
+for words in 'ruu run' 'checker check' 'drive drive' listing; do
   read -r program word <<< "$words"
   # shellcheck disable=SC2086
   for option in --version -V; do

@@ -3,8 +3,8 @@
 # is its command line. Then what goes wrong: a listing with a fault or none, a full device, want of memory; and the prompt.
 . "$(dirname "$0")/common.bash"
 build_refuse
-build run driver
-ruu=crates/driver/out/driver
+build run drive
+ruu=crates/drive/out/drive
 
 words_of() { # script
   local first

@@ -14,7 +14,7 @@ prove = importlib.util.module_from_spec(importlib.util.spec_from_loader("prove",
 loader.exec_module(prove)
 
 LANES, TICK = 4, 3
-PROGRAMS = ["ruu", "checker", "chart", "commits", "driver", "listing"]
+PROGRAMS = ["ruu", "checker", "chart", "commits", "drive", "listing"]
 
 
 class World:

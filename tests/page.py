@@ -24,7 +24,7 @@ def same(what, page, told):
 
 def drive(listing, options, script):
     """The answers of a session: pairs of a command and its lines."""
-    done = subprocess.run(["crates/driver/out/driver", "drive", "--echo", *options, listing], input=script, stdout=subprocess.PIPE, text=True, check=True)
+    done = subprocess.run(["crates/drive/out/drive", "drive", "--echo", *options, listing], input=script, stdout=subprocess.PIPE, text=True, check=True)
     blocks = ("\n" + done.stdout).split("\n> ")[1:]
     return [(lines[0], lines[1:]) for lines in (block.rstrip("\n").split("\n") for block in blocks)]
 

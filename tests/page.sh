@@ -3,11 +3,11 @@
 # from elsewhere. Where headless Chromium is, each page is stepped through in it by keys, at three widths: what stands there
 # is compared too, each text can be read, and the console says nothing. Mistakes have their words and their status.
 . "$(dirname "$0")/common.bash"
-build run driver
-driver=crates/driver/out/driver
+build run drive
+drive=crates/drive/out/drive
 
 make_page() { # words
-  python3 -B page/page.py $driver "$@" > "$work/out" 2> "$work/err"
+  python3 -B page/page.py $drive "$@" > "$work/out" 2> "$work/err"
   status=$?
 }
 
@@ -82,7 +82,7 @@ cp examples/sum.s "$work/own.s"
 ln -s own.s "$work/link.s"
 says 3 'error: OUT.html names the file of the listing' "$work/own.s" "$work/link.s"
 cmp -s examples/sum.s "$work/own.s" || fail 'the listing was overwritten'
-$driver drive tests/listings/fault.s < /dev/null > "$work/fault"
+$drive drive tests/listings/fault.s < /dev/null > "$work/fault"
 says 2 "tests/listings/fault.s: $(cat "$work/fault")" tests/listings/fault.s "$work/x.html"
 [ ! -e "$work/x.html" ] || fail 'a mistake left a page'
 for words in 'page --help' 'help page'; do

@@ -3,7 +3,7 @@
 # of the programs; and how the work is told and foreseen, with a kit that proves nothing. With the word `renew` those texts are
 # written anew from the programs.
 . "$(dirname "$0")/common.bash"
-programs=(ruu checker chart commits driver listing)
+programs=(ruu checker chart commits drive listing)
 words=(run check chart commits drive listing)
 for program in "${programs[@]}"; do
   build run "$program"
@@ -14,7 +14,6 @@ start_by() { # word
   case $1 in
     run) program=$PWD/crates/ruu/out/ruu ;;
     check) program=$PWD/crates/checker/out/checker ;;
-    drive) program=$PWD/crates/driver/out/driver ;;
     *) program=$PWD/crates/$1/out/$1 ;;
   esac
 }
@@ -341,7 +340,7 @@ unproved "ruu try -- run $work/a.s --units 3" run a.s --units 3
 unproved 'ruu try -- run nowhere.s' run nowhere.s
 unproved "chart try -- chart $work/a.s --seed 3 --trace=$work/b.log" chart a.s --seed 3 --trace=b.log
 unproved "chart try -- chart --trace $work/b.log $work/a.s" chart --trace b.log a.s
-unproved "driver try -- drive $work/a.s" drive a.s
+unproved "drive try -- drive $work/a.s" drive a.s
 unproved "listing try -- $work/a.s" listing a.s
 echo 'a first look is built without a proof, and says so'
 

@@ -11,8 +11,8 @@ use Rattle.bench.specs.Enough.{listing_taken}
 use Rattle.command_line.specs.declared.request.ByHand.{ByHand}
 use Rattle.without_threads.specs.declared.went.Refusal.{Refusal}
 use Rattle.without_threads.specs.declared.went.Refusal.TheVariants.{Open, Read, Memory, Thread, Write, Trace}
-use Rattle.by_hand.specs.ByHand.{IsDriven}
-use Rattle.by_hand.specs.Replies.{HasAnswered, IsUndrivenBy}
+use Rattle.drive.specs.ByHand.{IsDriven}
+use Rattle.drive.specs.Replies.{HasAnswered, IsUndrivenBy}
 
 -- the line of a fault
 pub fault_told : (hand : ByHand) (found : Result Program (ℕ × FaultKind)) (line : ℕ) (kind : FaultKind) (script before after : Option (List ℕ)) (bytes : List ℕ)

@@ -8,7 +8,7 @@ use Rattle.counted_io.specs.declared.counted.Counted.{Counted}
 use Rattle.command_line.specs.declared.request.ByHand.{ByHand}
 use Rattle.without_threads.specs.declared.went.Refusal.{Refusal}
 use Rattle.without_threads.specs.declared.went.Refusal.TheVariants.{Open, Read, Memory, Thread, Write, Trace}
-use Rattle.by_hand.specs.ByHand.{IsBroken, IsDriven, WasBrokenOff}
+use Rattle.drive.specs.ByHand.{IsBroken, IsDriven, WasBrokenOff}
 
 -- the listing that the reader has left, if there is a reader that tells its bytes
 abbrev pub listing_from : {R : Type 0} → (R → Option (List ℕ)) → Option (Counted R) → Option (Result Program (ℕ × FaultKind))

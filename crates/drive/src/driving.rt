@@ -1,9 +1,11 @@
 //! A unit that is driven from standard input.
-use by_hand::{ByHand, Refusal, Went, go_by_hand, refused};
+use crate::hand::go_by_hand;
+use command_line::ByHand;
 use counted_io::Counted;
 use std::fs::File;
 use std::io::{self, BufReader, IsTerminal, Read};
 use std::sync::Wait;
+use without_threads::{Refusal, Went, refused};
 
 // What stands before a command on a terminal. It goes to standard error: standard output has answers
 // alone.

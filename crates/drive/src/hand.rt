@@ -3,8 +3,8 @@ ghost use Rattle.std.specs.Prelude.{◌≡◌, ◌≢◌, ◌+◌, ◌-◌, ◌^
 ghost use Rattle.isa.specs.Listing.{listing};
 ghost use Rattle.counted_io.specs.Counted.{failures_of, known_by};
 ghost use Rattle.session.specs.Scripts.{failed_writes};
-ghost use Rattle.by_hand.specs.ByHand.{AreAnswered, AreSomeAnswered, IsAnswerBroken, script_refusal, status_of};
-ghost use Rattle.by_hand.specs.Replies.{HasAnswered, IsLeftByHand, IsUndrivenBy, listing_from};
+ghost use Rattle.drive.specs.ByHand.{AreAnswered, AreSomeAnswered, IsAnswerBroken, script_refusal, status_of};
+ghost use Rattle.drive.specs.Replies.{HasAnswered, IsLeftByHand, IsUndrivenBy, listing_from};
 ghost use Rattle.command_line.specs.Predictors.{IsChosen};
 ghost use Rattle.without_threads.specs.Replies.{IfRefused};
 ghost use Rattle.without_threads.specs.Went.{IsOfOneThread, refused};

@@ -1,13 +1,14 @@
-//! The program `driver`, which is `./ruu drive`: its words, its file and its standard streams.
+//! The program `drive`, which is `./ruu drive`: its words, its file and its standard streams.
 #![tactic(auto)]
 
 mod driving;
+mod hand;
 
-use by_hand::end;
 use command_line::{driven, refuse, words};
 use counted_io::ClosedStreams;
 use driving::drive;
 use std::process::ExitCode;
+use without_threads::end;
 
 fn main(rt: HostRuntime) -> ExitCode {
     let Ok(_closed) = ClosedStreams::taken(&rt) else {

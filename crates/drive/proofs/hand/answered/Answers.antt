@@ -1,7 +1,7 @@
 use Rattle.std.proofs.Common.{◌∙◌, rules}
 use Rattle.isa.specs.Listing.{listing}
-use Rattle.by_hand.proofs.Driven.{fault_told}
-use Rattle.by_hand.proofs.hand.answered.Goals as goal
+use Rattle.drive.proofs.Driven.{fault_told}
+use Rattle.drive.proofs.hand.answered.Goals as goal
 
 pub returns-in_ok-write_whole-in-Err-2-clause-ok :
     goal.returns-in_ok-write_whole-in-Err-2-clause-ok

@@ -1,4 +1,4 @@
-use Rattle.by_hand.proofs.hand.answered.Given as goal
+use Rattle.drive.proofs.hand.answered.Given as goal
 
 abbrev pub ghosts-drive_by : goal.ghosts-drive_by
 ghosts-drive_by g a = record { program = a.program.now }

@@ -1,5 +1,5 @@
-use Rattle.by_hand.proofs.Driven.{answers_all, leaves_all}
-use Rattle.by_hand.proofs.hand.driven.Goals as goal
+use Rattle.drive.proofs.Driven.{answers_all, leaves_all}
+use Rattle.drive.proofs.hand.driven.Goals as goal
 
 pub returns-clause-ok : goal.returns-clause-ok
 returns-clause-ok g c =
