@@ -16,7 +16,7 @@ LAYERS = [
     ("The unit by one thread", "one_thread in_order_issue bench charts"),
     ("The unit that threads share", "ruu_words station snapshots front back client session"),
     ("Threads", "hints counts workers run_ends pool"),
-    ("What a command line asks for", "command_line without_threads commit_log command"),
+    ("What a command line asks for", "command_line commit_log command"),
     ("Programs", "alone ruu checker chart commits drive listing"),
     ("What is run to see that all is well", "examples tests_of_calls tests_of_runs speed"),
 ]

@@ -22,10 +22,7 @@ fn status(answer: Result<Status, Fault>) -> u8
     ensures { result ≡ status_of_run answer }
 {
     match answer {
-        Ok(Status::Break) => 0,
-        Ok(Status::Stopped) => 1,
-        Ok(Status::TextFault) => 2,
-        Ok(Status::Limit) => 4,
+        Ok(status) => status.number(),
         Err(_) => 5,
     }
 }

@@ -35,6 +35,13 @@ ending_status (ByStop BreakStop) = Break
 ending_status (ByStop _) = Stopped
 ending_status ByLimit = Limit
 
+-- the exit status of a program, by what a listing came to
+abbrev pub status_number : Status → ℕ
+status_number Break = 0
+status_number Stopped = 1
+status_number TextFault = 2
+status_number Limit = 4
+
 -- the status for a program that may run so many instructions, or for the fault of a listing
 abbrev pub status_for : (limit : ℕ) → Result Program (ℕ × FaultKind) → Status
 status_for limit (Ok P) = ending_status (end_of P limit).0

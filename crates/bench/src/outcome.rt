@@ -1,6 +1,6 @@
 //! What a listing comes to, and why none was run.
 ghost use Rattle.std.specs.Prelude.{◌≡◌};
-ghost use Rattle.bench.specs.Answer.{ending_status};
+ghost use Rattle.bench.specs.Answer.{ending_status, status_number};
 ghost use Rattle.bench.specs.Faults.{unanswered};
 
 use counted_io::Unanswered;
@@ -29,6 +29,18 @@ impl Status {
             Ending::Stop(Stop::Break) => Status::Break,
             Ending::Stop(_) => Status::Stopped,
             Ending::Limit => Status::Limit,
+        }
+    }
+
+    /// The exit status of a program that wrote this.
+    pub fn number(self) -> u8
+        ensures { result ≡ status_number self }
+    {
+        match self {
+            Status::Break => 0,
+            Status::Stopped => 1,
+            Status::TextFault => 2,
+            Status::Limit => 4,
         }
     }
 }

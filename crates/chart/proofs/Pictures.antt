@@ -6,7 +6,7 @@ use Rattle.instructions.specs.Programs.{Program}
 use Rattle.isa.specs.Report.{fault_line}
 use Rattle.command_line.specs.declared.request.Charted.{Charted}
 use Rattle.chart.specs.Watched.{IsBegun, IsWatched, Outputs}
-use Rattle.without_threads.specs.declared.went.Refusal.TheVariants.{Write}
+use Rattle.command_line.specs.declared.exit.Refusal.TheVariants.{Write}
 
 -- The line of a fault
 pub fault_watched : (asked : Charted) (found : Result Program (ℕ × FaultKind)) (line : ℕ) (kind : FaultKind) (bytes : List ℕ)

@@ -14,9 +14,9 @@ use Rattle.command_line.specs.Predictors.{IsChosen, LearnsAs, PredictsAs}
 use Rattle.command_line.specs.declared.chosen.Chosen.{Chosen}
 use Rattle.command_line.specs.declared.request.Charted.{Charted}
 use Rattle.one_thread.specs.Seeds.{ChoosesNext, order_by}
-use Rattle.without_threads.specs.declared.went.Refusal.{Refusal}
-use Rattle.without_threads.specs.declared.went.Refusal.TheVariants.{Memory, Trace, Write}
-use Rattle.without_threads.specs.Went.{status_number}
+use Rattle.command_line.specs.declared.exit.Refusal.{Refusal}
+use Rattle.command_line.specs.declared.exit.Refusal.TheVariants.{Memory, Trace, Write}
+use Rattle.bench.specs.Answer.{status_number}
 
 -- What is known of the bytes of the writer and of the log
 pub record Outputs : Type 0 where

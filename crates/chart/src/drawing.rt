@@ -3,17 +3,16 @@ ghost use Rattle.std.specs.Prelude.{◌≡◌, ◌≢◌, ◌+◌, ◌-◌, ◌^
 ghost use Rattle.counted_io.specs.Counted.{failures_of, known_by};
 ghost use Rattle.chart.specs.Watched.{HasBegun, HasToldWhole, IsLogged, IsRefusalOfFault};
 ghost use Rattle.chart.specs.Watched.{chart_refusal, log_failures, log_refusal, writer_failures};
-ghost use Rattle.without_threads.specs.Went.{IsOfOneThread};
-ghost use Rattle.without_threads.specs.declared.went.Line.TheVariants.{Refused};
+ghost use Rattle.command_line.specs.Exits.{IsOfOneThread};
+ghost use Rattle.command_line.specs.declared.exit.Line.TheVariants.{Refused};
 
 use charts::{Fault, Format, watch};
-use command_line::{Charted, choose};
+use command_line::{Charted, Refusal, choose};
 use counted_io::Counted;
 use instructions::Program;
 use one_thread::Order;
 use std::alloc::Global;
 use std::io::Write;
-use without_threads::Refusal;
 
 /// Draws the chart.
 pub(crate) fn draw<W: Write>(

@@ -5,7 +5,7 @@ mod drawing;
 mod log_file;
 mod watching;
 
-use command_line::{Charted, charted, is_standard_input, refuse, words};
+use command_line::{Charted, REFUSED, charted, end, is_standard_input, refuse, words};
 use counted_io::{ClosedStreams, Counted};
 use log_file::{NoLog, open_log};
 use std::fs::{File, Metadata};
@@ -13,14 +13,13 @@ use std::io::Read;
 use std::path::Path;
 use std::process::ExitCode;
 use watching::chart;
-use without_threads::end;
 
 // The link behind which the system keeps standard input.
 const STANDARD_INPUT: &str = "/dev/stdin";
 
 fn main(rt: HostRuntime) -> ExitCode {
     let Ok(_closed) = ClosedStreams::taken(&rt) else {
-        return ExitCode::from(5);
+        return ExitCode::from(REFUSED);
     };
     let words = match words(&rt) {
         Ok(words) => words,

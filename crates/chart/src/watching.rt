@@ -4,19 +4,19 @@ ghost use Rattle.isa.specs.Listing.{listing};
 ghost use Rattle.counted_io.specs.Counted.{failures_of, known_by};
 ghost use Rattle.inorder.specs.Runs.{end_of, end_state};
 ghost use Rattle.chart.specs.Watched.{IsBegun, IsWatched, log_failures, outputs, writer_failures};
-ghost use Rattle.without_threads.specs.Went.{HoldsOfInput, IsOfOneThread, refused, status_number};
-ghost use Rattle.without_threads.specs.declared.went.Line.TheVariants.{Nothing, Refused};
+ghost use Rattle.bench.specs.Answer.{status_number};
+ghost use Rattle.command_line.specs.Exits.{HoldsOfInput, IsOfOneThread, refused};
+ghost use Rattle.command_line.specs.declared.exit.Line.TheVariants.{Nothing, Refused};
 
 use crate::drawing::{draw, trace};
 use bench::{MOST_TAKEN, Status};
-use command_line::{Charted, choose};
+use command_line::{Charted, Exit, Line, Refusal, choose, refused};
 use counted_io::{Counted, read_up_to, write_whole};
 use instructions::{End, Memory, Program};
 use isa::{FaultKind, fault_text, parse, report_text};
 use one_thread::{Bench, Order};
 use std::alloc::Global;
 use std::io::{Read, Write};
-use without_threads::{Line, Refusal, Went, refused, written};
 
 /// Reads the listing, runs it on the one-thread unit in the order of the seed, and writes its report; behind
 /// it the chart of that run, and then its log, where one is wanted. For a listing with a fault its line is
@@ -28,7 +28,7 @@ pub fn chart<R: Read + Drop, W: Write, L: Write>(
     reader: Option<Counted<R>>,
     writer: &mut Counted<W>,
     log: &mut Counted<L>,
-) -> Went
+) -> Exit
     requires reader_room { IfSome reader (λ r. failures_of r < 2 ^ 64 - 1) }
     requires writer_room { failures_of writer.old < 2 ^ 64 - 1 }
     requires log_room { failures_of log.old < 2 ^ 64 - 1 }
@@ -64,7 +64,10 @@ pub fn chart<R: Read + Drop, W: Write, L: Write>(
         return refused(Refusal::Open);
     };
     match watched(alloc, asked, &mut reader, writer, log) {
-        Ok(status) => written(status, Line::Nothing),
+        Ok(status) => Exit {
+            status: status.number(),
+            line: Line::Nothing,
+        },
         Err(refusal) => refused(refusal),
     }
 }

@@ -1,5 +1,5 @@
-pub use Rattle.without_threads.specs.Replies
-pub use Rattle.without_threads.specs.Went
+pub use Rattle.command_line.specs.Replies
+pub use Rattle.command_line.specs.Exits
 pub mod Forms
 pub mod Lines
 pub mod Parts

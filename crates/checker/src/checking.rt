@@ -3,18 +3,17 @@ ghost use Rattle.std.specs.Prelude.{◌≡◌, ◌-◌, ◌^◌, ◌<◌, IfSome
 ghost use Rattle.counted_io.specs.Counted.{failures_of};
 ghost use Rattle.bench.specs.Answer.{most_taken};
 ghost use Rattle.checker.specs.Checked.{IsCheck, IsSomeCheck, told_of_all};
-ghost use Rattle.without_threads.specs.Replies.{HasWritten, IfRefused, IsLeftBy};
-ghost use Rattle.without_threads.specs.Went.{IsOfOneThread, refused};
-ghost use Rattle.without_threads.specs.declared.went.Line.TheVariants.{Nothing};
+ghost use Rattle.command_line.specs.Replies.{HasWritten, IfRefused, IsLeftBy};
+ghost use Rattle.command_line.specs.Exits.{IsOfOneThread, refused};
+ghost use Rattle.command_line.specs.declared.exit.Line.TheVariants.{Nothing};
 
 use crate::diagnostics::diagnostics;
 use bench::MOST_TAKEN;
-use command_line::Checked;
+use command_line::{Checked, Exit, Line, Refusal, refused};
 use counted_io::{Counted, Reply, Unanswered, reply_to};
 use instructions::Memory;
 use std::alloc::Global;
 use std::io::{Read, Write};
-use without_threads::{Line, Refusal, Went, refused};
 
 // The reply to the bytes of a listing: its diagnostics.
 #[derive(Drop)]
@@ -51,7 +50,7 @@ pub fn check<R: Read + Drop, W: Write>(
     asked: &Checked<'_>,
     reader: Option<Counted<R>>,
     writer: &mut Counted<W>,
-) -> Went
+) -> Exit
     requires reader_room { IfSome reader (λ r. failures_of r < 2 ^ 64 - 1) }
     requires writer_room { failures_of writer.old < 2 ^ 64 - 1 }
     // Without a reader nothing is read.
@@ -73,7 +72,7 @@ pub fn check<R: Read + Drop, W: Write>(
         all: asked.all,
     };
     match reply_to(alloc, &mut reader, writer, checking) {
-        Ok(status) => Went {
+        Ok(status) => Exit {
             status,
             line: Line::Nothing,
         },

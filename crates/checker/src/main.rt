@@ -20,16 +20,15 @@ mod summary;
 mod warnings;
 
 use checking::check;
-use command_line::{Checked, checked, is_standard_input, refuse, words};
+use command_line::{Checked, REFUSED, checked, end, is_standard_input, refuse, words};
 use counted_io::{ClosedStreams, Counted};
 use std::fs::File;
 use std::io::Read;
 use std::process::ExitCode;
-use without_threads::end;
 
 fn main(rt: HostRuntime) -> ExitCode {
     let Ok(_closed) = ClosedStreams::taken(&rt) else {
-        return ExitCode::from(5);
+        return ExitCode::from(REFUSED);
     };
     let words = match words(&rt) {
         Ok(words) => words,
@@ -51,7 +50,7 @@ fn check_file(rt: &HostRuntime, asked: &Checked<'_>) -> ExitCode {
         Ok(listing) => check_from(rt, asked, listing),
         Err(reason) => {
             let _ = eprintln!(rt; "ruu: {file}: {reason}");
-            ExitCode::from(5)
+            ExitCode::from(REFUSED)
         },
     }
 }

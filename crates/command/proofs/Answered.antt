@@ -13,7 +13,7 @@ use Rattle.bench.specs.declared.outcome.Fault.{Fault}
 use Rattle.bench.specs.declared.outcome.Fault.TheVariants.{Write as Unwritten}
 use Rattle.bench.specs.declared.outcome.Status.{Status}
 use Rattle.command_line.specs.declared.request.Asked.{Asked}
-use Rattle.without_threads.specs.declared.went.Line.TheVariants.{Nothing}
+use Rattle.command_line.specs.declared.exit.Line.TheVariants.{Nothing}
 use Rattle.command.specs.Answers.{IsAnswerFor, IsAnswerTo, IsRunEnd, IsLineWith, IsSomeAnswerTo}
 use Rattle.command.specs.Runs.{written_run}
 

@@ -12,11 +12,12 @@ use Rattle.counted_io.specs.Replies.{HasText, HasTextFor}
 use Rattle.counted_io.specs.declared.counted.Counted.{Counted}
 use Rattle.bench.specs.Answer.{ending_status, report_of_run, status_for, status_of, text_for, text_of}
 use Rattle.command_line.specs.declared.request.Asked.{Asked}
-use Rattle.without_threads.specs.declared.went.Line.{Line}
+use Rattle.command_line.specs.declared.exit.Line.{Line}
 use Rattle.command.specs.declared.went.Went.{Went}
 use Rattle.command.specs.Answers.{AsAlone, Early, IsAnswerFor, IsAnswerTo, IsAsAlone, EndedEarly, IsRunEnd, IsLineWith}
 use Rattle.command.specs.Runs.{AtAStop, AtTheLimit, IsWhole, WithoutThreads}
-use Rattle.without_threads.specs.Went.{HoldsOfInput, status_number}
+use Rattle.bench.specs.Answer.{status_number}
+use Rattle.command_line.specs.Exits.{HoldsOfInput}
 
 not_early : (limit : ℕ) (P : Program) (ending : Ending) (state : State) (went : Went) → IsWhole limit went
     → went.status ≡ status_number (ending_status ending) → IsLineWith false state.count went.line

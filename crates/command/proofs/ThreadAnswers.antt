@@ -23,8 +23,8 @@ use Rattle.pool.specs.Records.{TheRan, configured_term}
 use Rattle.pool.specs.Runs.{HasTurnsLeft, IsCarriedOut, IsLimit}
 use Rattle.pool.specs.declared.answer.RunInTurns.{RunInTurns}
 use Rattle.command_line.specs.declared.request.Asked.{Asked}
-use Rattle.without_threads.specs.declared.went.Line.TheVariants.{Tally}
-use Rattle.without_threads.specs.Went.{status_number}
+use Rattle.command_line.specs.declared.exit.Line.TheVariants.{Tally}
+use Rattle.bench.specs.Answer.{status_number}
 use Rattle.command.specs.Answers.{AsAlone, Early, IsAnswerFor, IsRunEnd, IsEndOfThreads, IsLineWith, IsReport}
 use Rattle.command.specs.Runs.{IsCarriedOutWith, IsRunWith, written_run}
 use Rattle.command.specs.Threads.{ended_of}

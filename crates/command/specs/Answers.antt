@@ -14,9 +14,9 @@ use Rattle.bench.specs.Answer.{ending_status, most_taken, report_of_run, status_
 use Rattle.bench.specs.Enough.{listing_taken}
 use Rattle.bench.specs.declared.outcome.Status.TheVariants.{TextFault}
 use Rattle.command_line.specs.declared.request.Asked.{Asked}
-use Rattle.without_threads.specs.declared.went.Line.{Line}
-use Rattle.without_threads.specs.declared.went.Line.TheVariants.{Nothing, Tally, Refused}
-use Rattle.without_threads.specs.Went.{status_number}
+use Rattle.command_line.specs.declared.exit.Line.{Line}
+use Rattle.command_line.specs.declared.exit.Line.TheVariants.{Nothing, Tally, Refused}
+use Rattle.bench.specs.Answer.{status_number}
 use Rattle.command.specs.declared.went.Went.{Went}
 use Rattle.command.specs.Runs.{written_run}
 

@@ -5,10 +5,10 @@ use Rattle.bench.specs.declared.outcome.Status.{Status}
 use Rattle.bench.specs.declared.outcome.Status.TheVariants.{Limit}
 use Rattle.counts.specs.declared.tally.Tally.{Tally as Totals}
 use Rattle.pool.specs.Records.{TheRan, configured_term}
-use Rattle.without_threads.specs.declared.went.Line.{Line}
-use Rattle.without_threads.specs.declared.went.Line.TheVariants.{Nothing, Tally, Refused}
-use Rattle.without_threads.specs.declared.went.Refusal.{Refusal}
-use Rattle.without_threads.specs.Went.{status_number}
+use Rattle.command_line.specs.declared.exit.Line.{Line}
+use Rattle.command_line.specs.declared.exit.Line.TheVariants.{Nothing, Tally, Refused}
+use Rattle.command_line.specs.declared.exit.Refusal.{Refusal}
+use Rattle.bench.specs.Answer.{status_number}
 use Rattle.command.specs.declared.went.Went.{Went}
 
 -- a run whose text was written whole

@@ -5,8 +5,8 @@ use Rattle.run_ends.specs.declared.answer.Refusal.TheVariants as refusal
 use Rattle.run_ends.specs.declared.answer.Run.{Run}
 use Rattle.run_ends.specs.declared.answer.Run.TheVariants as run
 use Rattle.pool.specs.Records.{TheRan}
-use Rattle.without_threads.specs.declared.went.Refusal.{Refusal}
-use Rattle.without_threads.specs.declared.went.Refusal.TheVariants.{Memory, Thread}
+use Rattle.command_line.specs.declared.exit.Refusal.{Refusal}
+use Rattle.command_line.specs.declared.exit.Refusal.TheVariants.{Memory, Thread}
 use Rattle.command.specs.declared.threads.Ended.{Ended}
 
 -- what is refused by the threads

@@ -3,8 +3,8 @@ use Rattle.std.specs.Prelude.{ℕ, Option, List}
 use Rattle.counted_io.specs.Replies.{HasNoReply, HasReplyBegun}
 use Rattle.counted_io.specs.declared.counted.Counted.{Counted}
 use Rattle.bench.specs.Answer.{most_taken}
-use Rattle.without_threads.specs.declared.went.Refusal.{Refusal}
-use Rattle.without_threads.specs.declared.went.Refusal.TheVariants.{Open, Read, Memory, Thread, Write, Trace}
+use Rattle.command_line.specs.declared.exit.Refusal.{Refusal}
+use Rattle.command_line.specs.declared.exit.Refusal.TheVariants.{Open, Read, Memory, Thread, Write, Trace}
 
 -- a device was blamed for one failed call, and only then; there was a reader, and nobody asked for a log
 abbrev pub IsUnansweredBy : {R W : Type 0} → (R → Option (List ℕ)) → (W → Option (List ℕ))

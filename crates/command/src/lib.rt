@@ -6,7 +6,8 @@ mod single_thread;
 mod threads;
 mod went;
 
-pub use command_line::{Asked, BranchPredictor, NoRun, asked, is_standard_input, status};
+pub use command_line::{
+    Asked, BranchPredictor, Line, NoRun, Progress, Refusal, asked, is_standard_input, status,
+};
 pub use running::go;
 pub use went::{Went, end};
-pub use without_threads::{Line, Progress, Refusal};

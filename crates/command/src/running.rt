@@ -6,8 +6,8 @@ ghost use Rattle.bench.specs.Answer.{most_taken};
 ghost use Rattle.command.specs.Answers.{IsAnswerTo, IsAsAlone, IsSomeAnswerTo};
 ghost use Rattle.command.specs.Runs.{IsRunWith, IsWhole, WasWritten, refused_run, went_of};
 ghost use Rattle.command.specs.Unanswered.{IsUnansweredBy};
-ghost use Rattle.without_threads.specs.Replies.{HasWritten, IfRefused, IsLeftBy};
-ghost use Rattle.without_threads.specs.Went.{HoldsOfInput, IsOfOneThread};
+ghost use Rattle.command_line.specs.Replies.{HasWritten, IfRefused, IsLeftBy};
+ghost use Rattle.command_line.specs.Exits.{HoldsOfInput, IsOfOneThread};
 
 use crate::went::refused;
 use crate::{Asked, Refusal, Went, single_thread, threads};

@@ -9,8 +9,8 @@ ghost use Rattle.one_thread.specs.Seeds.{order_by};
 ghost use Rattle.command.specs.Answers.{IsAnswerTo, IsSomeAnswerTo};
 ghost use Rattle.command.specs.Runs.{IsRunWith};
 ghost use Rattle.command.specs.Unanswered.{IsUnansweredBy};
-ghost use Rattle.without_threads.specs.Went.{IsOfOneThread};
-ghost use Rattle.without_threads.specs.declared.went.Line.TheVariants.{Nothing, Refused};
+ghost use Rattle.command_line.specs.Exits.{IsOfOneThread};
+ghost use Rattle.command_line.specs.declared.exit.Line.TheVariants.{Nothing, Refused};
 
 use crate::went::written;
 use crate::{Asked, Line, Refusal, Went};

@@ -5,6 +5,7 @@ ghost use Rattle.command.specs.Runs.{refused_run, written_run};
 
 use crate::{Line, Refusal};
 use bench::Status;
+use command_line::Exit;
 use pool::Ran;
 use std::process::ExitCode;
 
@@ -21,10 +22,9 @@ pub struct Went {
 pub(crate) fn written(status: Status, line: Line, ran: Option<Ran>) -> Went
     ensures { result ≡ written_run status line ran }
 {
-    let exit = without_threads::written(status, line);
     Went {
-        status: exit.status,
-        line: exit.line,
+        status: status.number(),
+        line,
         ran,
     }
 }
@@ -33,7 +33,7 @@ pub(crate) fn written(status: Status, line: Line, ran: Option<Ran>) -> Went
 pub(crate) fn refused(refusal: Refusal) -> Went
     ensures { result ≡ refused_run refusal }
 {
-    let exit = without_threads::refused(refusal);
+    let exit = command_line::refused(refusal);
     Went {
         status: exit.status,
         line: exit.line,
@@ -46,9 +46,9 @@ pub(crate) fn refused(refusal: Refusal) -> Went
 pub fn end(rt: &HostRuntime, went: Went) -> ExitCode
     ensures { exit_status result ≡ went.status }
 {
-    let exit = without_threads::Went {
+    let exit = Exit {
         status: went.status,
         line: went.line,
     };
-    without_threads::end(rt, exit)
+    command_line::end(rt, exit)
 }

@@ -1,31 +1,18 @@
--- How a run went.
+-- How programs end.
 use Rattle.std.specs.Prelude.{ℕ, ⊤, List, [], ◌++◌, codes, decimal, Option, IfSome}
 use Rattle.counted_io.specs.Counted.{known_by}
 use Rattle.counted_io.specs.declared.counted.Counted.{Counted}
 use Rattle.counted_io.specs.declared.input.InputFault.{InputFault}
 use Rattle.counted_io.specs.declared.input.InputFault.TheVariants as input
-use Rattle.bench.specs.declared.outcome.Status.{Status}
-use Rattle.bench.specs.declared.outcome.Status.TheVariants as end
 use Rattle.counts.specs.declared.tally.Tally.{Tally as Totals}
-use Rattle.without_threads.specs.declared.went.Went.{Went}
-use Rattle.without_threads.specs.declared.went.Line.{Line}
-use Rattle.without_threads.specs.declared.went.Line.TheVariants.{Nothing, Tally, Refused}
-use Rattle.without_threads.specs.declared.went.Refusal.{Refusal}
-use Rattle.without_threads.specs.declared.went.Refusal.TheVariants.{Open, Read, Memory, Thread, Write, Trace}
+use Rattle.command_line.specs.declared.exit.Exit.{Exit}
+use Rattle.command_line.specs.declared.exit.Line.{Line}
+use Rattle.command_line.specs.declared.exit.Line.TheVariants.{Nothing, Tally, Refused}
+use Rattle.command_line.specs.declared.exit.Refusal.{Refusal}
+use Rattle.command_line.specs.declared.exit.Refusal.TheVariants.{Open, Read, Memory, Thread, Write, Trace}
 
--- the exit status of a run that was written down
-abbrev pub status_number : Status → ℕ
-status_number end.Break = 0
-status_number end.Stopped = 1
-status_number end.TextFault = 2
-status_number end.Limit = 4
-
--- a run whose text was written whole
-abbrev pub written_whole : Status → Line → Went
-written_whole status line = record { status = status_number status; line = line }
-
--- a run that was refused
-abbrev pub refused : Refusal → Went
+-- the exit of a program that did not get what it wanted
+abbrev pub refused : Refusal → Exit
 refused refusal = record { status = 5; line = Refused refusal }
 
 -- what is refused where the input was not read to its end

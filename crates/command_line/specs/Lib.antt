@@ -11,4 +11,6 @@ pub mod Commits
 pub mod Check
 pub mod Drive
 pub mod Statuses
+pub mod Exits
+pub mod Replies
 pub mod Predictors

@@ -3,11 +3,11 @@ use Rattle.std.specs.Prelude.{◌≡◌, ◌+◌, ⊤, ℕ, None, Option, List}
 use Rattle.counted_io.specs.Counted.{failures_of, Gives, GivesPart}
 use Rattle.counted_io.specs.Replies.{HasText}
 use Rattle.counted_io.specs.declared.counted.Counted.{Counted}
-use Rattle.without_threads.specs.Went.{HoldsOfInput}
-use Rattle.without_threads.specs.declared.went.Line.{Line}
-use Rattle.without_threads.specs.declared.went.Line.TheVariants.{Nothing, Tally, Refused}
-use Rattle.without_threads.specs.declared.went.Refusal.{Refusal}
-use Rattle.without_threads.specs.declared.went.Refusal.TheVariants.{Open, Read, Memory, Thread, Write, Trace}
+use Rattle.command_line.specs.Exits.{HoldsOfInput}
+use Rattle.command_line.specs.declared.exit.Line.{Line}
+use Rattle.command_line.specs.declared.exit.Line.TheVariants.{Nothing, Tally, Refused}
+use Rattle.command_line.specs.declared.exit.Refusal.{Refusal}
+use Rattle.command_line.specs.declared.exit.Refusal.TheVariants.{Open, Read, Memory, Thread, Write, Trace}
 
 -- P of the refusal that a line tells, if it tells one
 abbrev pub IfRefused : Line → (Refusal → Type 0) → Type 0

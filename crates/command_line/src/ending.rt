@@ -2,16 +2,16 @@
 ghost use Rattle.std.specs.Prelude.{◌≡◌};
 ghost use Rattle.std.specs.Process.{exit_status};
 
-use crate::{Line, Went};
+use crate::{Exit, Line};
 use std::process::ExitCode;
 
-/// Prints the line of a run on standard error, if it has one, and gives its status. A failure to
+/// Prints the line of an exit on standard error, if it has one, and gives its status. A failure to
 /// print changes no status.
-pub fn end(rt: &HostRuntime, went: Went) -> ExitCode
-    ensures { exit_status result ≡ went.status }
+pub fn end(rt: &HostRuntime, exit: Exit) -> ExitCode
+    ensures { exit_status result ≡ exit.status }
 {
-    if went.line != Line::Nothing {
-        let _ = eprintln!(rt; "{}", went.line);
+    if exit.line != Line::Nothing {
+        let _ = eprintln!(rt; "{}", exit.line);
     }
-    ExitCode::from(went.status)
+    ExitCode::from(exit.status)
 }

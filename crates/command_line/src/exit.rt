@@ -1,7 +1,7 @@
-//! How a run went.
+//! How programs end.
 ghost use Rattle.std.specs.Prelude.{◌≡◌, Some};
-ghost use Rattle.without_threads.specs.Went.{input_refusal, line_text, refusal_line};
-ghost use Rattle.without_threads.specs.declared.went.Refusal.TheVariants.{Memory, Write};
+ghost use Rattle.command_line.specs.Exits.{input_refusal, line_text, refused, refusal_line};
+ghost use Rattle.command_line.specs.declared.exit.Refusal.TheVariants.{Memory, Write};
 
 use crate::totals::Totals;
 use counted_io::{InputFault, WriteFailed};
@@ -9,14 +9,27 @@ use counts::Tally;
 use std::alloc::AllocError;
 use std::fmt;
 
-/// How a run went: the exit status of the program, and what standard error is told.
+/// The exit status of a program that was refused what it wanted.
+pub const REFUSED: u8 = 5;
+
+/// How a program ends: its exit status, and what standard error is told.
 #[derive(Clone, Copy, Debug, PartialEq, Eq)]
-pub struct Went {
+pub struct Exit {
     pub status: u8,
     pub line: Line,
 }
 
-/// What standard error is told of a run. Its `Display` is that line, without a line feed.
+/// How a program ends that was refused what it wanted.
+pub fn refused(refusal: Refusal) -> Exit
+    ensures { result ≡ refused refusal }
+{
+    Exit {
+        status: REFUSED,
+        line: Line::Refused(refusal),
+    }
+}
+
+/// What standard error is told at the end of a program. Its `Display` is that line, without a line feed.
 #[derive(Clone, Copy, Debug, PartialEq, Eq)]
 pub enum Line {
     /// Nothing, not even an empty line.
@@ -27,7 +40,7 @@ pub enum Line {
     Refused(Refusal),
 }
 
-/// What a run wanted and did not get.
+/// What a program wanted and did not get.
 #[derive(Clone, Copy, Debug, PartialEq, Eq)]
 pub enum Refusal {
     /// The file did not open.

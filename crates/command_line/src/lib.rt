@@ -1,13 +1,16 @@
-//! What the words of a command line of `ruu` ask for, and why they are refused.
+//! What the words of a command line of `ruu` ask for, why they are refused, and how programs end.
 #![tactic(auto)]
 
 mod chosen;
 mod commands;
+mod ending;
 mod entered;
 mod entries;
+mod exit;
 mod no_run;
 mod options;
 mod program;
+mod progress;
 mod reading_chart;
 mod reading_check;
 mod reading_commits;
@@ -18,12 +21,16 @@ mod request;
 mod ring;
 mod seeds;
 mod steps;
+mod totals;
 mod trace;
 mod values;
 
 pub use chosen::{Chosen, choose};
+pub use ending::end;
+pub use exit::{Exit, Line, REFUSED, Refusal, refused};
 pub use no_run::{NoRun, status};
 pub use program::{refuse, words};
+pub use progress::Progress;
 pub use reading_chart::charted;
 pub use reading_check::checked;
 pub use reading_commits::committed;

@@ -2,6 +2,7 @@
 ghost use Rattle.std.specs.Prelude.{◌≡◌, Some};
 ghost use Rattle.command_line.specs.Statuses.{status_of, no_run_text};
 
+use crate::exit::REFUSED;
 use std::alloc::{AllocError, AllocFailed};
 use std::fmt;
 
@@ -26,7 +27,7 @@ pub fn status(no_run: &NoRun) -> u8
     match no_run {
         NoRun::Help(_) => 0,
         NoRun::Usage(_) | NoRun::Ring => 3,
-        NoRun::Memory => 5,
+        NoRun::Memory => REFUSED,
     }
 }
 

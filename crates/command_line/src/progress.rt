@@ -1,6 +1,6 @@
 //! What is told while the threads run.
 ghost use Rattle.std.specs.Prelude.{Some};
-ghost use Rattle.without_threads.specs.Went.{progress_text};
+ghost use Rattle.command_line.specs.Exits.{progress_text};
 
 use crate::totals::Totals;
 use counts::Tally;

@@ -1,6 +1,6 @@
 //! A tally as text.
 ghost use Rattle.std.specs.Prelude.{Some};
-ghost use Rattle.without_threads.specs.Went.{totals_text};
+ghost use Rattle.command_line.specs.Exits.{totals_text};
 
 use counts::Tally;
 use std::fmt;

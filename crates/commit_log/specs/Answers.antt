@@ -4,9 +4,9 @@ use Rattle.std.specs.Io.KnownBytes.{Appends}
 use Rattle.instructions.specs.Programs.{Program}
 use Rattle.isa.specs.declared.listing.fault.FaultKind.{FaultKind}
 use Rattle.bench.specs.Answer.{status_for}
-use Rattle.without_threads.specs.declared.went.Refusal.{Refusal}
-use Rattle.without_threads.specs.declared.went.Refusal.TheVariants.{Memory, Write}
-use Rattle.without_threads.specs.Went.{status_number}
+use Rattle.command_line.specs.declared.exit.Refusal.{Refusal}
+use Rattle.command_line.specs.declared.exit.Refusal.TheVariants.{Memory, Write}
+use Rattle.bench.specs.Answer.{status_number}
 use Rattle.commit_log.specs.Logs.{log_for}
 
 -- the log was written whole, or the line of the fault of a listing, with the status of the run

@@ -1,4 +1,4 @@
-pub use Rattle.without_threads.specs.Went
+pub use Rattle.command_line.specs.Exits
 pub mod Words
 pub mod Lines
 pub mod Logs

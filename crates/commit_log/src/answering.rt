@@ -2,22 +2,22 @@
 ghost use Rattle.std.specs.Prelude.{◌≡◌, ◌≢◌, ◌+◌, ◌-◌, ◌^◌, ◌<◌, IfErr, IfOk, IfSome, None, Ok, OnErr, OnOk};
 ghost use Rattle.isa.specs.Listing.{listing};
 ghost use Rattle.counted_io.specs.Counted.{failures_of, known_by};
-ghost use Rattle.without_threads.specs.Went.{HoldsOfInput, IsOfOneThread, refused, status_number};
-ghost use Rattle.without_threads.specs.declared.went.Line.TheVariants.{Nothing, Refused};
+ghost use Rattle.bench.specs.Answer.{status_number};
+ghost use Rattle.command_line.specs.Exits.{HoldsOfInput, IsOfOneThread, refused};
+ghost use Rattle.command_line.specs.declared.exit.Line.TheVariants.{Nothing, Refused};
 ghost use Rattle.commit_log.specs.Answers.{IsLogOf, IsOfWriting, failed_writes};
 ghost use Rattle.commit_log.specs.Logs.{log_for};
 ghost use Rattle.commit_log.specs.Retirements.{IsBeginning};
 
 use crate::logging::log_run;
 use bench::{MOST_TAKEN, Status};
-use command_line::{Committed, choose};
+use command_line::{Committed, Exit, Line, Refusal, choose, refused};
 use counted_io::{Counted, read_up_to, write_whole};
 use instructions::Program;
 use isa::{FaultKind, fault_text, parse};
 use one_thread::Order;
 use std::alloc::Global;
 use std::io::{Read, Write};
-use without_threads::{Line, Refusal, Went, refused, written};
 
 /// Reads the listing, runs it on the one-thread unit in the order of the seed, and writes a line for each instruction that
 /// it commits, before the next one does. For a listing with a fault its line is written, and nothing else. There is no
@@ -27,7 +27,7 @@ pub fn log_commits<R: Read + Drop, W: Write>(
     asked: &Committed<'_>,
     reader: Option<Counted<R>>,
     writer: &mut Counted<W>,
-) -> Went
+) -> Exit
     requires reader_room { IfSome reader (λ r. failures_of r < 2 ^ 64 - 1) }
     requires writer_room { failures_of writer.old < 2 ^ 64 - 1 }
     // Without a reader nothing is run, and only then is opening blamed.
@@ -57,7 +57,10 @@ pub fn log_commits<R: Read + Drop, W: Write>(
         return refused(Refusal::Open);
     };
     match log_listing(alloc, asked, &mut reader, writer) {
-        Ok(status) => written(status, Line::Nothing),
+        Ok(status) => Exit {
+            status: status.number(),
+            line: Line::Nothing,
+        },
         Err(refusal) => refused(refusal),
     }
 }

@@ -11,5 +11,5 @@ mod retiring;
 mod word;
 
 pub use answering::log_commits;
+pub use command_line::{Exit, Line, Refusal, end};
 pub use laws::a_word_says_its_instruction;
-pub use without_threads::{Line, Refusal, Went, end};

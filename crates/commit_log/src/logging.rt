@@ -11,12 +11,12 @@ ghost use Rattle.commit_log.specs.Retirements.{HasLogged, IsBeginning, final_lin
 
 use crate::line::{commit_line, stop_line};
 use crate::retiring::next_commit;
+use command_line::Refusal;
 use counted_io::{Counted, write_whole};
 use instructions::{Config, End, Ending, Predictor, Program};
 use one_thread::{Bench, Chooser, Order, Station};
 use std::alloc::{AllocError, Global};
 use std::io::Write;
-use without_threads::Refusal;
 
 // Writes a line, if there was room for it.
 fn write_line<W: Write>(

@@ -1,7 +1,7 @@
 //! The program `commits`, which is `./ruu commits FILE`: its words, its file and its standard streams.
 #![tactic(auto)]
 
-use command_line::{Committed, committed, is_standard_input, refuse, words};
+use command_line::{Committed, REFUSED, committed, is_standard_input, refuse, words};
 use commit_log::{end, log_commits};
 use counted_io::{ClosedStreams, Counted};
 use std::fs::File;
@@ -10,7 +10,7 @@ use std::process::ExitCode;
 
 fn main(rt: HostRuntime) -> ExitCode {
     let Ok(_closed) = ClosedStreams::taken(&rt) else {
-        return ExitCode::from(5);
+        return ExitCode::from(REFUSED);
     };
     let words = match words(&rt) {
         Ok(words) => words,

@@ -9,8 +9,8 @@ use Rattle.counted_io.specs.declared.counted.Counted.{Counted}
 use Rattle.bench.specs.Answer.{most_taken}
 use Rattle.bench.specs.Enough.{listing_taken}
 use Rattle.command_line.specs.declared.request.ByHand.{ByHand}
-use Rattle.without_threads.specs.declared.went.Refusal.{Refusal}
-use Rattle.without_threads.specs.declared.went.Refusal.TheVariants.{Open, Read, Memory, Thread, Write, Trace}
+use Rattle.command_line.specs.declared.exit.Refusal.{Refusal}
+use Rattle.command_line.specs.declared.exit.Refusal.TheVariants.{Open, Read, Memory, Thread, Write, Trace}
 use Rattle.drive.specs.ByHand.{IsDriven}
 use Rattle.drive.specs.Replies.{HasAnswered, IsUndrivenBy}
 

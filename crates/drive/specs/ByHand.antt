@@ -10,8 +10,8 @@ use Rattle.session.specs.Scripts.{HasBroken, HasDriven, HasTold}
 use Rattle.session.specs.declared.script.Fault.{Fault as ScriptFault}
 use Rattle.session.specs.declared.script.Fault.TheVariants as script
 use Rattle.command_line.specs.declared.request.ByHand.{ByHand}
-use Rattle.without_threads.specs.declared.went.Refusal.{Refusal}
-use Rattle.without_threads.specs.declared.went.Refusal.TheVariants.{Memory, Read, Write}
+use Rattle.command_line.specs.declared.exit.Refusal.{Refusal}
+use Rattle.command_line.specs.declared.exit.Refusal.TheVariants.{Memory, Read, Write}
 
 -- all commands were answered: those of a script, each line of which is a command or not, or those that a seed chooses
 abbrev pub AreAnswered : Option ℕ → (echo : Bool) → (first last : TheSession)

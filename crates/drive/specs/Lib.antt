@@ -1,3 +1,3 @@
-pub use Rattle.without_threads.specs.Went
+pub use Rattle.command_line.specs.Exits
 pub mod ByHand
 pub mod Replies

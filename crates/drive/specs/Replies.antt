@@ -6,8 +6,8 @@ use Rattle.instructions.specs.Programs.{Program}
 use Rattle.counted_io.specs.Counted.{failures_of, known_by}
 use Rattle.counted_io.specs.declared.counted.Counted.{Counted}
 use Rattle.command_line.specs.declared.request.ByHand.{ByHand}
-use Rattle.without_threads.specs.declared.went.Refusal.{Refusal}
-use Rattle.without_threads.specs.declared.went.Refusal.TheVariants.{Open, Read, Memory, Thread, Write, Trace}
+use Rattle.command_line.specs.declared.exit.Refusal.{Refusal}
+use Rattle.command_line.specs.declared.exit.Refusal.TheVariants.{Open, Read, Memory, Thread, Write, Trace}
 use Rattle.drive.specs.ByHand.{IsBroken, IsDriven, WasBrokenOff}
 
 -- the listing that the reader has left, if there is a reader that tells its bytes

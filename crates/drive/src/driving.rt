@@ -1,11 +1,10 @@
 //! A unit that is driven from standard input.
 use crate::hand::go_by_hand;
-use command_line::ByHand;
+use command_line::{ByHand, Exit, Refusal, refused};
 use counted_io::Counted;
 use std::fs::File;
 use std::io::{self, BufReader, IsTerminal, Read};
 use std::sync::Wait;
-use without_threads::{Refusal, Went, refused};
 
 // What stands before a command on a terminal. It goes to standard error: standard output has answers
 // alone.
@@ -31,7 +30,7 @@ impl<R: Read> Read for Prompting<'_, R> {
 
 /// Drives the unit of a listing by the commands on standard input, with a prompt on a terminal unless
 /// it is unwanted.
-pub fn drive<T: Wait>(rt: &HostRuntime, wait: &T, hand: &ByHand<'_>) -> Went {
+pub fn drive<T: Wait>(rt: &HostRuntime, wait: &T, hand: &ByHand<'_>) -> Exit {
     let input = Prompting {
         rt,
         input: rt.stdin(),

@@ -6,12 +6,12 @@ ghost use Rattle.session.specs.Scripts.{failed_writes};
 ghost use Rattle.drive.specs.ByHand.{AreAnswered, AreSomeAnswered, IsAnswerBroken, script_refusal, status_of};
 ghost use Rattle.drive.specs.Replies.{HasAnswered, IsLeftByHand, IsUndrivenBy, listing_from};
 ghost use Rattle.command_line.specs.Predictors.{IsChosen};
-ghost use Rattle.without_threads.specs.Replies.{IfRefused};
-ghost use Rattle.without_threads.specs.Went.{IsOfOneThread, refused};
-ghost use Rattle.without_threads.specs.declared.went.Line.TheVariants.{Nothing};
+ghost use Rattle.command_line.specs.Replies.{IfRefused};
+ghost use Rattle.command_line.specs.Exits.{IsOfOneThread, refused};
+ghost use Rattle.command_line.specs.declared.exit.Line.TheVariants.{Nothing};
 
 use bench::MOST_TAKEN;
-use command_line::{ByHand, Chosen, choose};
+use command_line::{ByHand, Chosen, Exit, Line, Refusal, choose, refused};
 use counted_io::{Counted, read_up_to, write_whole};
 use instructions::Program;
 use isa::{FaultKind, fault_text, parse};
@@ -21,7 +21,6 @@ use std::alloc::Global;
 use std::io::{BufRead, Read, Write};
 use std::marker::Brand;
 use std::sync::Wait;
-use without_threads::{Line, Refusal, Went, refused};
 
 /// The most commands that a seed chooses.
 const MOST_STEPS: u64 = 1_000_000;
@@ -37,7 +36,7 @@ pub fn go_by_hand<T: Wait, R: Read + Drop, I: BufRead, W: Write>(
     reader: Option<Counted<R>>,
     script: &mut I,
     writer: &mut Counted<W>,
-) -> Went
+) -> Exit
     requires reader_room { IfSome reader (λ r. failures_of r < 2 ^ 64 - 1) }
     requires writer_room { failures_of writer.old < 2 ^ 64 - 1 }
     // Without a reader nothing is driven.
@@ -57,7 +56,7 @@ pub fn go_by_hand<T: Wait, R: Read + Drop, I: BufRead, W: Write>(
         return refused(Refusal::Open);
     };
     match driven(wait, alloc, hand, &mut reader, script, writer) {
-        Ok(status) => Went {
+        Ok(status) => Exit {
             status,
             line: Line::Nothing,
         },

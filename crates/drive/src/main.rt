@@ -4,15 +4,14 @@
 mod driving;
 mod hand;
 
-use command_line::{driven, refuse, words};
+use command_line::{REFUSED, driven, end, refuse, words};
 use counted_io::ClosedStreams;
 use driving::drive;
 use std::process::ExitCode;
-use without_threads::end;
 
 fn main(rt: HostRuntime) -> ExitCode {
     let Ok(_closed) = ClosedStreams::taken(&rt) else {
-        return ExitCode::from(5);
+        return ExitCode::from(REFUSED);
     };
     let words = match words(&rt) {
         Ok(words) => words,

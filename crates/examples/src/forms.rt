@@ -1,6 +1,6 @@
 //! The forms in which a listing is run: under a command line, from bytes to bytes on one thread, and in order.
 use crate::example::Example;
-use bench::{Status, alone};
+use bench::alone;
 use command::{asked, go};
 use counted_io::Counted;
 use inorder::{Ended, Machine};
@@ -102,14 +102,8 @@ pub fn from_bytes_to_bytes(alloc: Global, options: &[&str], listing: &[u8]) -> i
     let Ok(status) = alone(alloc, &mut reader, &mut text, &asked.config, NotTaken) else {
         return Err(io::Error::from(ErrorKind::Other));
     };
-    let status = match status {
-        Status::Break => 0,
-        Status::Stopped => 1,
-        Status::TextFault => 2,
-        Status::Limit => 4,
-    };
     Ok(Answer {
-        status,
+        status: status.number(),
         text: text.into_inner(),
     })
 }

@@ -6,7 +6,7 @@ mod teller;
 mod watcher;
 
 use command::{Asked, NoRun, asked, end, go, is_standard_input};
-use command_line::{refuse, words};
+use command_line::{REFUSED, refuse, words};
 use counted_io::{ClosedStreams, Counted};
 use pool::Open;
 use shaker::Shaker;
@@ -21,7 +21,7 @@ use watcher::Watcher;
 
 fn main(rt: HostRuntime) -> ExitCode {
     let Ok(_closed) = ClosedStreams::taken(&rt) else {
-        return ExitCode::from(5);
+        return ExitCode::from(REFUSED);
     };
     let words = match words(&rt) {
         Ok(words) => words,

@@ -1,5 +1,5 @@
 use Rattle.chart.specs.Watched.{IsBegun, IsWatched, outputs}
-use Rattle.without_threads.specs.Went.{status_number}
+use Rattle.bench.specs.Answer.{status_number}
 use Rattle.chart.proofs.Taken.{cut_taken, ok_taken}
 use Rattle.chart.proofs.watching.watched.Goals as goal
 

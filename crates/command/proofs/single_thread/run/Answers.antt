@@ -3,7 +3,7 @@ use Rattle.counted_io.proofs.Replied.{replied_as}
 use Rattle.command.specs.Answers.{IsAnswerTo}
 use Rattle.command.specs.Runs.{written_run}
 use Rattle.std.specs.Prelude.{None}
-use Rattle.without_threads.specs.declared.went.Line.TheVariants.{Nothing}
+use Rattle.command_line.specs.declared.exit.Line.TheVariants.{Nothing}
 use Rattle.command.proofs.Answered.{alone_answers, alone_begins}
 use Rattle.command.proofs.single_thread.run.Goals as goal
 

@@ -1,4 +1,4 @@
-use Rattle.without_threads.specs.Went.{status_number}
+use Rattle.bench.specs.Answer.{status_number}
 use Rattle.commit_log.specs.Answers.{IsLogOf}
 use Rattle.commit_log.specs.Logs.{log_for}
 use Rattle.commit_log.specs.Retirements.{IsBeginning}
