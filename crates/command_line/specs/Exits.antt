@@ -20,7 +20,7 @@ abbrev pub input_refusal : InputFault → Refusal
 input_refusal input.Read = Read
 input_refusal input.Memory = Memory
 
--- it may be told of a run without threads: none was refused, and none has counted
+-- the line may be told of a run without threads: none was refused, and none has counted
 abbrev pub IsOfOneThread : Line → Type 0
 IsOfOneThread Nothing = ⊤
 IsOfOneThread (Tally totals) = ⊥

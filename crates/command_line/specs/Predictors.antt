@@ -17,7 +17,7 @@ answer_of Bimod counters pc i = two_bit counters pc i
 abbrev pub PredictsAs : Chosen → (pc : ℕ) → Instr → (answer : ℕ) → Chosen → Type 0
 PredictsAs old pc instr answer new = (answer ≡ answer_of old.which old.bimod.counters pc instr) × (new ≡ old)
 
--- it is told how a prediction went on: its counters learn
+-- the counters of the chosen predictor learn from the pc that followed a branch
 abbrev pub LearnsAs : Chosen → (pc next : ℕ) → Chosen → Type 0
 LearnsAs old pc next new =
     (new.which ≡ old.which) × (new.bimod.counters ≡ trained old.bimod.counters pc next)

@@ -23,7 +23,7 @@ IsNumber default None n = n ≡ default
 IsNumber default (Some text) n =
     IsNumeral 10 (without_leading_plus text) × (n ≡ digits_value 10 (without_leading_plus text))
 
--- the same, and n is in the range of its option
+-- n is what the text writes, or the default, and is in the range of its option
 pub record IsNumberFrom (least most default : ℕ) (text : Option Text) (n : ℕ) : Type 0 where
   pub reads : IsNumber default text n
   pub above : least ≤ n

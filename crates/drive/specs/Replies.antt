@@ -43,7 +43,8 @@ IsUndrivenBy contents hand found script w w' Thread = ⊥
 IsUndrivenBy contents hand found script w w' Write = HasAnsweredPart contents hand found script w w'
 IsUndrivenBy contents hand found script w w' Trace = ⊥
 
--- the same where the listing may not have opened: only then is opening blamed, and nothing was written
+-- how the writer is left by a refusal where the listing may not have opened: only then is opening blamed, and nothing
+-- was written
 abbrev pub IsLeftByHand : {R W : Type 0} → (R → Option (List ℕ)) → (W → Option (List ℕ)) → ByHand
     → (reader : Option (Counted R)) → (script : Option (List ℕ)) → (writer writer_new : Counted W) → Refusal → Type 0
 IsLeftByHand remaining contents hand reader script w w' Open = (reader ≡ None) × (w' ≡ w)

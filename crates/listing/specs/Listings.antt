@@ -11,6 +11,6 @@ pub record IsListingOf (file text : List ℕ) : Type 0 where
   pub short : length file < most_of_file
   pub said : IsSaid file text
 
--- the same, whatever is told of it
+-- the text is a listing of the file, whatever is told of it
 abbrev pub HasListing : (file text : List ℕ) → Type 0
 HasListing file text = (told : ⊤) × IsListingOf file text

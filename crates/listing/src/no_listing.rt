@@ -10,9 +10,9 @@ use std::fmt;
 /// Why a file has no listing.
 #[derive(Clone, Copy, Drop)]
 pub enum NoListing {
-    /// It means no program, or memory ran out.
+    /// The file means no program, or memory ran out.
     Refused { why: Refusal },
-    /// It has more than 16,777,216 bytes.
+    /// The file has more than 16,777,216 bytes.
     TooLong,
 }
 
