@@ -15,7 +15,7 @@ LAYERS = [
     ("The machine, and the unit as definitions", "lsq inorder lockstep ruu_step elf_runs"),
     ("The unit by one thread", "one_thread in_order_issue bench charts"),
     ("The unit that threads share", "ruu_words station snapshots front back client session"),
-    ("Threads", "hints counts workers run_ends pool"),
+    ("Threads", "hints counts workers pool"),
     ("What a command line asks for", "command_line commit_log command"),
     ("Programs", "alone ruu checker chart commits drive listing"),
     ("What is run to see that all is well", "examples tests_of_calls tests_of_runs speed"),

@@ -15,9 +15,9 @@ use Rattle.inorder.specs.Runs.{state_in}
 use Rattle.bench.specs.Answer.{ending_status}
 use Rattle.bench.specs.declared.outcome.Status.{Status}
 use Rattle.bench.specs.declared.outcome.Status.TheVariants as status
-use Rattle.run_ends.specs.declared.answer.Run.{Run}
-use Rattle.run_ends.specs.declared.answer.Run.TheVariants as run
-use Rattle.run_ends.specs.Runs.{IsAfter, IsStopEnding, IsWithinLimit, RunIsRight}
+use Rattle.pool.specs.declared.ends.Run.{Run}
+use Rattle.pool.specs.declared.ends.Run.TheVariants as run
+use Rattle.pool.specs.RunEnds.{IsAfter, IsStopEnding, IsWithinLimit, RunIsRight}
 use Rattle.pool.specs.Ended.{HasRun}
 use Rattle.pool.specs.Records.{TheRan, configured_term}
 use Rattle.pool.specs.Runs.{HasTurnsLeft, IsCarriedOut, IsLimit}

@@ -7,7 +7,7 @@ use Rattle.instructions.specs.Programs.{Program}
 use Rattle.inorder.specs.Machine.{Goes, Halts, Ran, State, start, step}
 use Rattle.inorder.specs.Runs.{after, end_after, end_from, end_of, next_state, stop, stop_of, then_state, then_stop}
 use Rattle.back.specs.Ends.{StopsThere}
-use Rattle.run_ends.specs.Runs.{IsStopEnding}
+use Rattle.pool.specs.RunEnds.{IsStopEnding}
 
 goes : (r : Ran) (t : State) → next_state r ≡ Some t → r ≡ Goes t
 goes (Goes s) t is = let same : s ≡ t = cc in ap Goes same

@@ -1,9 +1,9 @@
 -- How a run on several threads ends.
 use Rattle.std.specs.Prelude.{Option, Some, None}
-use Rattle.run_ends.specs.declared.answer.Refusal.{Refusal as RunRefusal}
-use Rattle.run_ends.specs.declared.answer.Refusal.TheVariants as refusal
-use Rattle.run_ends.specs.declared.answer.Run.{Run}
-use Rattle.run_ends.specs.declared.answer.Run.TheVariants as run
+use Rattle.pool.specs.declared.ends.Refusal.{Refusal as RunRefusal}
+use Rattle.pool.specs.declared.ends.Refusal.TheVariants as refusal
+use Rattle.pool.specs.declared.ends.Run.{Run}
+use Rattle.pool.specs.declared.ends.Run.TheVariants as run
 use Rattle.pool.specs.Records.{TheRan}
 use Rattle.command_line.specs.declared.exit.Refusal.{Refusal}
 use Rattle.command_line.specs.declared.exit.Refusal.TheVariants.{Memory, Thread}

@@ -9,8 +9,8 @@ use Rattle.counts.specs.Shares.{added_to, share_of}
 use Rattle.inorder.specs.History.{back as the_back, renewals}
 use Rattle.inorder.specs.Machine.{State}
 use Rattle.instructions.specs.Settings.{Settings}
-use Rattle.run_ends.specs.declared.answer.Refusal.{Refusal}
-use Rattle.run_ends.specs.declared.answer.Refusal.TheVariants.{Thread}
+use Rattle.pool.specs.declared.ends.Refusal.{Refusal}
+use Rattle.pool.specs.declared.ends.Refusal.TheVariants.{Thread}
 use Rattle.workers.specs.Deeds.{deeds}
 use Rattle.workers.specs.Turns.{TheTurns}
 use Rattle.pool.specs.declared.commit.Why.{Why}

@@ -10,7 +10,7 @@ use Rattle.instructions.specs.declared.end.Ending.TheVariants.{Limit, Stop as By
 use Rattle.instructions.specs.declared.stop.Stop.{Stop}
 use Rattle.instructions.specs.Programs.{Program}
 use Rattle.instructions.specs.Settings.{Settings}
-use Rattle.run_ends.specs.declared.answer.Run.TheVariants.{Ended, LimitReached}
+use Rattle.pool.specs.declared.ends.Run.TheVariants.{Ended, LimitReached}
 use Rattle.workers.specs.Turns.{TheTurns}
 use Rattle.pool.specs.declared.commit.Why.{Why}
 use Rattle.pool.specs.declared.commit.Why.TheVariants.{AtEnd, AtLimit, Spent}
@@ -32,7 +32,7 @@ module _ (P : Program) (counts : TableId) (config : Settings) (back : TheBack) (
   pub ended : (code : Stop) → end.outcome ≡ ByStop code → back.ended ≢ None →
       HasRun P config (record { run = Ended end tally; ran = record { turns = turns; last = last } })
   ended code outcome over = record {
-    right = (record { in_order = in_order; retires = retires }, subst (λ o. Rattle.run_ends.specs.Runs.IsStopEnding o) (sym outcome) tt);
+    right = (record { in_order = in_order; retires = retires }, subst (λ o. Rattle.pool.specs.RunEnds.IsStopEnding o) (sym outcome) tt);
     within = subst (λ m. m < config.limit) (sym n) (subst (λ l. (back_state back).count < l) c.limit_is (c.keeps.below over));
     all = c.turns_are;
     turns_left = each;

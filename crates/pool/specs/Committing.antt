@@ -9,8 +9,8 @@ use Rattle.counts.specs.Shares.{share_of}
 use Rattle.hints.specs.Hinted.{TheHinter}
 use Rattle.inorder.specs.History.{renewals as renewals_in}
 use Rattle.instructions.specs.Settings.{Settings}
-use Rattle.run_ends.specs.declared.answer.Refusal.{Refusal}
-use Rattle.run_ends.specs.declared.answer.Refusal.TheVariants.{Memory, Thread}
+use Rattle.pool.specs.declared.ends.Refusal.{Refusal}
+use Rattle.pool.specs.declared.ends.Refusal.TheVariants.{Memory, Thread}
 use Rattle.workers.specs.Deeds.{deeds}
 use Rattle.workers.specs.Hinting.{HasHinted}
 use Rattle.workers.specs.Turns.{TheTurns}

@@ -2,7 +2,7 @@
 use Rattle.std.specs.Prelude.{◌≡◌}
 use Rattle.instructions.specs.Programs.{Program}
 use Rattle.instructions.specs.Settings.{Settings}
-use Rattle.run_ends.specs.Runs.{IsWithinLimit, RunIsRight}
+use Rattle.pool.specs.RunEnds.{IsWithinLimit, RunIsRight}
 use Rattle.pool.specs.declared.answer.RunInTurns.{RunInTurns}
 use Rattle.pool.specs.Runs.{HasTurnsLeft, IsCarriedOut, IsLimit}
 

@@ -2,5 +2,6 @@ pub mod Committing
 pub mod Dispatching
 pub mod Ended
 pub mod Records
+pub mod RunEnds
 pub mod Runs
 pub mod Terms

@@ -1,9 +1,9 @@
 -- The record of a run beside its answer.
 use Rattle.std.specs.Prelude.{⊤, ◌≡◌, ◌+◌, ◌≤◌, ◌⊎◌, ℕ, None, Some}
 use Rattle.instructions.specs.Settings.{Settings}
-use Rattle.run_ends.specs.declared.answer.Refusal.TheVariants.{Memory, Thread}
-use Rattle.run_ends.specs.declared.answer.Run.{Run}
-use Rattle.run_ends.specs.declared.answer.Run.TheVariants.{Ended, LimitReached, Refused}
+use Rattle.pool.specs.declared.ends.Refusal.TheVariants.{Memory, Thread}
+use Rattle.pool.specs.declared.ends.Run.{Run}
+use Rattle.pool.specs.declared.ends.Run.TheVariants.{Ended, LimitReached, Refused}
 use Rattle.pool.specs.Records.{TheRan, configured_term}
 
 -- Each instruction took the commit thread a turn, and it has the others left. Without all its threads a run takes none,

@@ -7,7 +7,7 @@ use Rattle.front.specs.Stills.{FrontMayEnter, TheStillFront}
 use Rattle.inorder.specs.declared.history.Entry.{Entry}
 use Rattle.inorder.specs.History.{unit_of}
 use Rattle.instructions.specs.Settings.{Settings}
-use Rattle.run_ends.specs.declared.answer.Refusal.TheVariants.{Thread}
+use Rattle.pool.specs.declared.ends.Refusal.TheVariants.{Thread}
 use Rattle.station.specs.Renewals.{HasNobody}
 use Rattle.station.specs.Seats.{Caller, TheCore}
 use Rattle.workers.specs.Configured.{configured_sizes}

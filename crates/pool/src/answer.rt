@@ -1,8 +1,8 @@
 //! The answer of a run that says how it was carried out.
 ghost use Rattle.std.specs.Prelude.{◌≡◌};
 
+use crate::ends::Run;
 use crate::ran::Ran;
-use run_ends::Run;
 
 /// How a run ended, and how it was carried out.
 #[derive(Drop)]

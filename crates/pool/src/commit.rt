@@ -7,12 +7,12 @@ mod renewal;
 mod turning;
 
 use crate::answer::RunInTurns;
+use crate::ends::{Refusal, Run};
 use crate::ran::{Ran, TermRecord};
 use back::{Back, Naming};
 use counts::CountSeat;
 use hints::Ring;
 use instructions::Ending;
-use run_ends::{Refusal, Run};
 use std::marker::{Model, PhantomData};
 use std::sync::Wait;
 use workers::{Bounds, RunState, Turns};

@@ -1,8 +1,8 @@
-//! What a run answers.
+//! How a run ends.
 use counts::Tally;
 use instructions::End;
 
-/// What a run could not have.
+/// A resource that a run could not have.
 #[derive(Clone, Copy, Debug, PartialEq, Eq)]
 pub enum Refusal {
     Memory,

@@ -5,6 +5,7 @@
 mod answer;
 mod commit;
 mod dispatch;
+mod ends;
 mod making;
 mod ran;
 mod running;
@@ -14,7 +15,8 @@ mod terms;
 mod watch;
 
 pub use answer::RunInTurns;
+pub use counts::Tally;
+pub use ends::{Refusal, Run};
 pub use ran::{Ran, TermRecord};
-pub use run_ends::{Gate, Open, Refusal, Run, Tally};
 pub use running::{run, run_in_turns};
-pub use workers::Bounds;
+pub use workers::{Bounds, Gate, Open};

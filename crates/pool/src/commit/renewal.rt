@@ -8,6 +8,7 @@ ghost use Rattle.workers.specs.Configured.{configured_sizes};
 
 use super::Committer;
 use crate::dispatch::Dispatcher;
+use crate::ends::Refusal;
 use crate::terms::Term;
 use back::{Naming, a_back_enters_behind_a_renewal};
 use core::mem::replace_with;
@@ -15,7 +16,6 @@ use counts::Total;
 use front::a_front_enters_behind_a_renewal;
 use hints::Ring;
 use instructions::Predictor;
-use run_ends::Refusal;
 use station::{Core, FrontSeat, UnitSeat};
 use std::alloc::Global;
 use workers::{Bounds, RunState};

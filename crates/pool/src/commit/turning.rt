@@ -9,13 +9,13 @@ ghost use Rattle.pool.specs.declared.commit.turning.Turned.TheVariants.{Over};
 ghost use Rattle.pool.specs.declared.commit.Why.{Why};
 
 use super::{Committer, Why};
+use crate::ends::Refusal;
 use crate::ran::TermRecord;
 use crate::snappers::Places;
 use back::{Commit, Mark, Naming, Refresh};
 use counts::{CountSeat, Tally, Total};
 use hints::{Hinter, Ring};
 use instructions::Memory;
-use run_ends::Refusal;
 use std::snapshot::Snapshot;
 use std::sync::Wait;
 use workers::{Backoff, Bounds, Gate, StartedUnits, TermShared, hint_each};

@@ -1,8 +1,8 @@
 use Rattle.std.proofs.Common.{Result, ap, rules, subst, sym, ◌∙◌}
 use Rattle.inorder.specs.Machine.{State}
 use Rattle.counts.specs.declared.tally.Total.TheVariants.{Renewals, Retires}
-use Rattle.run_ends.specs.declared.answer.Refusal.{Refusal}
-use Rattle.run_ends.specs.declared.answer.Run.TheVariants.{Ended, LimitReached}
+use Rattle.pool.specs.declared.ends.Refusal.{Refusal}
+use Rattle.pool.specs.declared.ends.Run.TheVariants.{Ended, LimitReached}
 use Rattle.pool.specs.declared.commit.Why.{Why}
 use Rattle.pool.specs.Committing.{IsCommitter, committer_of}
 use Rattle.pool.specs.Ended.{HasRun}

@@ -1,6 +1,6 @@
 use Rattle.std.specs.Prelude.{◌≡◌, Err}
 use Rattle.hints.specs.Hinted.{IsEndOf}
-use Rattle.run_ends.specs.declared.answer.Refusal.TheVariants.{Memory}
+use Rattle.pool.specs.declared.ends.Refusal.TheVariants.{Memory}
 use Rattle.pool.proofs.commit.Committer.take_turns.Given as goal
 
 abbrev pub invariant-loop-backoff : goal.invariant-loop-backoff
