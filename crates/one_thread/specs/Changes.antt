@@ -63,7 +63,7 @@ ran_at b r w =
     station_after w
     (outcome_of w.instr w.half w.pc r.operands.a r.operands.b (length b.program.now.bytes))
 
--- It is claimed and finished
+-- A tenant at a place is claimed and finished
 abbrev pub RunsAt : Pipeline → Ready → Pipeline → Type 0
 RunsAt b r later =
     (w : Station) → slice_get b.window r.at ≡ Some w →
@@ -83,7 +83,7 @@ NoneRuns b = NoneGives (operands_in (registers_of b)) b.window
 abbrev pub LoadGives : Pipeline → Answered → Type 0
 LoadGives b l = gives (load_in (registers_of b) b.committed.memory) b.window l.at ≡ Some l.value
 
--- It gets its value
+-- A load at a place gets its value
 abbrev pub LoadsAt : Pipeline → Answered → Pipeline → Type 0
 LoadsAt b l later =
     (w : Station) → slice_get b.window l.at ≡ Some w →

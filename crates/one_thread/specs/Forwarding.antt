@@ -38,7 +38,7 @@ joined_by older false meets e = met_by older meets e
 abbrev pub joined_with : Older → Entry → ℕ → ℕ → Older
 joined_with older e a n = joined_by older (lacks_address e) (overlaps a n e) e
 
--- The same with what is a store at most
+-- What the older stores are to the load with a store more, if there is one
 abbrev pub joined_if : Older → Option Entry → ℕ → ℕ → Older
 joined_if older None a n = older
 joined_if older (Some e) a n = joined_with older e a n
@@ -51,7 +51,7 @@ preceded_by Unknown false meets e = Unknown
 preceded_by Elsewhere false meets e = if meets then Nearest e else Elsewhere
 preceded_by (Nearest s) false meets e = Nearest s
 
--- The same with what is an older store at most
+-- What stores are to the load with an older one, if there is one
 abbrev pub preceded : Older → Option Entry → ℕ → ℕ → Older
 preceded older None a n = older
 preceded older (Some e) a n = preceded_by older (lacks_address e) (overlaps a n e) e

@@ -16,7 +16,7 @@ use Rattle.one_thread.specs.Changes.{ahead_of}
 use Rattle.one_thread.specs.Leavers.{told_at}
 use Rattle.one_thread.specs.Window.{source_in}
 
--- It is done, a stop, or an access inside a memory of this size
+-- A station has ended: it is done, a stop, or an access inside a memory of this size
 abbrev pub HasEnded : ℕ → Instr → Stage → Type 0
 HasEnded size i Done = ⊤
 HasEnded size i (Stops c) = ⊤

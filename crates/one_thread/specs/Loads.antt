@@ -47,7 +47,7 @@ abbrev pub waits_by : Kind → Stage → Option ℕ
 waits_by LoadKind (Addr a) = Some a
 waits_by _ _ = None
 
--- The same of a station
+-- The address of a load that waits for its value, from its station
 abbrev pub waits : Station → Option ℕ
 waits w = waits_by (kind w.instr.op) w.stage
 

@@ -9,14 +9,14 @@ use Rattle.one_thread.specs.declared.station.Station.{Station}
 use Rattle.one_thread.specs.Givers.{NoneGives}
 use Rattle.one_thread.specs.Window.{miss_of}
 
--- It is done, a stop, or a store with its address
+-- A stage is settled: done, a stop, or a store with its address
 abbrev pub settled_by : Kind → Stage → Bool
 settled_by _ Done = true
 settled_by _ (Stops c) = true
 settled_by StoreKind (Addr a) = true
 settled_by _ _ = false
 
--- The same of a station, if there is one
+-- A station is settled, if there is one
 abbrev pub settled_at : Option Station → Bool
 settled_at None = false
 settled_at (Some w) = settled_by (kind w.instr.op) w.stage

@@ -38,18 +38,18 @@ pub record Foresees (f : Future) (registers : List ℕ) (pc : ℕ) (W : List Sta
   pub values : (r : ℕ) → r < 34 → source_in registers W r ≡ Some (slice_index f.values r)
   pub path : f.pc ≡ next_in pc W
 
--- The same behind any station more that writes this register, has made this for it and goes on there
+-- The future behind any station more that writes this register, has made this for it and goes on there
 pub record GoesOnBehind (f : Future) (destination : ℕ) (value : Option ℕ) (next : ℕ) (later : Future) : Type 0 where
   pub made : destination ≢ 0 → is_some value ≡ true
   pub on : (w : Station) → w.destination ≡ destination → w.made ≡ value → w.next ≡ next → (registers : List ℕ) (pc : ℕ) (W : List Station) →
       Foresees f registers pc W → Foresees later registers pc (W ++ w ∷ [])
 
--- The same behind one station more, which awaits its retirement
+-- The future behind one station more, which awaits its retirement
 pub record Follows (f : Future) (w : Station) (later : Future) : Type 0 where
   pub passed : AwaitsRetirement w
   pub goes_on : GoesOnBehind f w.destination w.made w.next later
 
--- The same behind the youngest station
+-- The future behind the youngest station
 abbrev pub FollowsYoungest : Future → List Station → List Station → Future → Type 0
 FollowsYoungest f W later g = (w : Station) → later ≡ W ++ w ∷ [] → Follows f w g
 
@@ -82,7 +82,7 @@ reopened n [] = []
 reopened zero (w ∷ W) = as_let w ∷ reopened zero W
 reopened (suc n) (w ∷ W) = w ∷ reopened n W
 
--- The same of the fields
+-- The fields with all but the oldest n tenants as they were let
 abbrev pub with_reopened : ℕ → Pipeline → Pipeline
 with_reopened n b = record b { window = reopened n b.window }
 

@@ -134,7 +134,7 @@ pub record Moved (b : Pipeline) (U : UpdateUnit) (answer : Turn) (later : Pipeli
   pub stands : StandsFor later unit
   pub does : Does b.program.now (sizes b) U unit answer
 
--- It is so for each unit that b stands for
+-- A turn is made so from each unit that b stands for
 abbrev pub Moves : Pipeline → Turn → Pipeline → Type 0
 Moves b answer later =
     (U : UpdateUnit) → IsReached b.program.now (sizes b) U → StandsFor b U → Moved b U answer later

@@ -167,7 +167,7 @@ reaches_memory op = is_access (kind op)
 abbrev pub access_of : Instr → ℕ
 access_of i = if reaches_memory i.op then 1 else 0
 
--- The same of a station
+-- 1 for a station that reaches memory, else 0
 abbrev pub access_at : Option Station → ℕ
 access_at None = 0
 access_at (Some w) = access_of w.instr

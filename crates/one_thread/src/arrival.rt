@@ -123,7 +123,7 @@ impl<'a> Pipeline<'a> {
         true
     }
 
-    // The same of the youngest tenant, where it is one that is not blocked. Answers whether it has only to retire then.
+    // If the youngest tenant is an unblocked load, completes it. Answers whether it is ready to retire then.
     #[inline(always)]
     fn loads_next(&mut self, future: &mut Future, at: usize) -> bool
         requires unit { StandsForSome self.old }

@@ -98,7 +98,7 @@ impl Decoded {
         self.kind
     }
 
-    /// It is a load or store.
+    /// The operation is a load or store.
     pub(crate) fn is_access(&self) -> bool
         ensures { result ≡ is_access_of (kind_of self.now.op) }
     {
@@ -119,7 +119,7 @@ impl Decoded {
         self.second
     }
 
-    /// It is the first of two halves.
+    /// This half is the first of two.
     pub(crate) fn is_first_half(&self, half: Half) -> bool
         ensures { result ≡ first_half self.now.op half }
     {

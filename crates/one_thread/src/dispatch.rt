@@ -107,7 +107,7 @@ impl<'a> Pipeline<'a> {
         })
     }
 
-    /// The same, where it may be known that none can.
+    /// The next instruction, if it can be let; where dispatch is stalled, none can.
     #[inline(always)]
     pub fn next_unless(&self, stalled: bool) -> Option<Fetched>
         requires stalled { IsStalled stalled self.now }

@@ -83,7 +83,7 @@ fn oldest_ready(window: &Window, ahead: &Ahead, from: usize) -> Option<Ready>
     None
 }
 
-// It has ended, or is a store with its address.
+// A tenant has ended, or is a store with its address.
 #[inline(always)]
 fn settles(kind: Kind, stage: Stage) -> bool
     ensures { result ≡ settled_by kind stage }

@@ -34,7 +34,7 @@ pub fn fetch(code: &[Decoded], pc: u32) -> Option<&Decoded>
     Some(&code[at])
 }
 
-/// The same at an address that is known to be that of one.
+/// The instruction at an address that is known to be that of one.
 #[inline(always)]
 pub fn fetch_known(code: &[Decoded], pc: u32) -> &Decoded
     requires { HasInstr code.now pc }

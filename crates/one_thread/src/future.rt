@@ -23,7 +23,7 @@ pub struct Future {
     pub pc: u32,
 }
 
-// It has ended, or is a store with its address, and does not stop.
+// A station has ended, or is a store with its address, and does not stop.
 #[inline(always)]
 fn has_ended(station: &Station) -> bool
     ensures settled { Chosen result

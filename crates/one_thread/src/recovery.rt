@@ -57,7 +57,7 @@ impl<'a> Pipeline<'a> {
         self.recovers_oldest()
     }
 
-    // The same where a station may be a miss, apart from the way that nearly every turn takes.
+    // Recovers from the oldest miss where there may be one, apart from the way that nearly every turn takes.
     #[cold]
     #[inline(never)]
     fn recovers_oldest(&mut self) -> bool

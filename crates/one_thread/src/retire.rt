@@ -138,7 +138,7 @@ impl<'a> Pipeline<'a> {
         Turn::Retired
     }
 
-    /// The same where nothing waits for LO, and one more is settled than is known: as many are known to be behind it.
+    /// Retires the oldest tenant in the steady state: no value waits for LO, and as many are settled behind it as before.
     #[inline(always)]
     pub fn leaves_settled(&mut self, oldest: Station)
         requires oldest { self.old.oldest < self.old.ring }

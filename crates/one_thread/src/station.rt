@@ -8,15 +8,15 @@ use instructions::{Half, Instr, Kind, Op, Reg, Stop, pc_plus_4};
 /// How far a tenant has come.
 #[derive(Clone, Copy)]
 pub enum Stage {
-    /// It waits for its operands, or for its turn.
+    /// The tenant waits for its operands, or for its turn.
     Open,
     /// A load or store has its address.
     Addr(u32),
-    /// It has its value, or its next pc as predicted.
+    /// The tenant has its value, or its next pc as predicted.
     Done,
     /// Its next pc is this one, and another was predicted.
     Miss(u32),
-    /// It stops the program, should it retire.
+    /// The tenant stops the program, should it retire.
     Stops(Stop),
 }
 
@@ -38,7 +38,7 @@ pub struct Station {
     pub stage: Stage,
 }
 
-/// That of a slot that nobody has used.
+/// The station of a slot that nobody has used.
 pub(crate) fn unused() -> Station {
     Station {
         instr: Decoded::new(Instr::new(Op::Break, Reg::ZERO, Reg::ZERO, Reg::ZERO, 0)),

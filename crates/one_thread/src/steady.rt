@@ -23,9 +23,9 @@ use instructions::{Half, Predictor};
 /// What comes next in the steady state.
 #[derive(Clone, Copy)]
 enum Upcoming {
-    /// It can be let.
+    /// The next instruction can be let.
     Fits(Fetched),
-    /// It reaches memory, and the queue is full.
+    /// The next instruction reaches memory, and the queue is full.
     Waits,
     /// There is no instruction, or one of two halves.
     Ends,
@@ -34,9 +34,9 @@ enum Upcoming {
 /// What became of it.
 #[derive(Clone, Copy)]
 enum Streamed {
-    /// It was let and has only to retire, and more may be let.
+    /// The next instruction was let and is ready to retire, and more may be let.
     Let,
-    /// The same, or it waits, and the oldest tenant has to retire first.
+    /// What comes next was let or waits, and the oldest tenant has to retire first.
     Full,
     /// There is none, or it has not only to retire.
     Ends,
