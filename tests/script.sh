@@ -276,7 +276,7 @@ for of in 'run nowhere.s' 'check nowhere.s' '--unproved run nowhere.s' prove; do
   # shellcheck disable=SC2086
   lacks rt env PATH="$work/with_python" "$fresh/ruu" $of
 done
-lacks rt env PATH="$work/with_python" "$fresh/prove" text
+lacks rt env PATH="$work/with_python" "$fresh/prove" lexical
 echo 'a missing kit is named in one line'
 
 # a kit that proves nothing: what it is asked for goes to a file, and what is built says with which words it is run
