@@ -39,11 +39,11 @@ pub record DispatchFacts (P : Program) (C : Sizes) (old : List Entry) (records :
   pub second_is : second ≡ supply_in records base (second_of f.instr)
 
 -- They are made of the place of the instruction, and of both sources with the create vector that each was found in
-pub facts_of : {P : Program} {C : Sizes} {old : List Entry} {records : List Record} {base : Base} {f : Fetched} {predicted place a b : ℕ} {T T1 : Table} {first second : Supply} →
+pub facts_of : {P : Program} {C : Sizes} {old : List Entry} {records : List Record} {base : Base} {f : Fetched} {predicted place a b : ℕ} {T later : Table} {first second : Supply} →
     IsLegal P C old → RecordsAreReady P C (unit_of P C old) records base → HasTable P (unit_of P C old) (rested_at base) T → CanBeLet P C old f → predicted < 2 ^ 32 →
-    IfSome (fixed_next f.instr f.half f.pc) (λ x. predicted ≡ x) → place ≡ f.pc - 4194304 → a ≡ first_of f.instr → a < 34 → IsSupplied T f.station base a first → T1 ≡ T →
-    b ≡ second_of f.instr → b < 34 → IsSupplied T1 f.station base b second → DispatchFacts P C old records base f predicted (place / 4) first second
-facts_of {P} {C} {old} {records} {base} {f} {predicted} {place} {a} {b} {T} {T1} {first} {second} legal ready table next small fixed place_is a_is a_small from_a same b_is b_small from_b =
+    IfSome (fixed_next f.instr f.half f.pc) (λ x. predicted ≡ x) → place ≡ f.pc - 4194304 → a ≡ first_of f.instr → a < 34 → IsSupplied T f.station base a first → later ≡ T →
+    b ≡ second_of f.instr → b < 34 → IsSupplied later f.station base b second → DispatchFacts P C old records base f predicted (place / 4) first second
+facts_of {P} {C} {old} {records} {base} {f} {predicted} {place} {a} {b} {T} {later} {first} {second} legal ready table next small fixed place_is a_is a_small from_a same b_is b_small from_b =
     let first_small : first_of f.instr < 34 = subst (λ z. z < 34) a_is a_small in
     let second_small : second_of f.instr < 34 = subst (λ z. z < 34) b_is b_small in
     record {
@@ -56,7 +56,7 @@ facts_of {P} {C} {old} {records} {base} {f} {predicted} {place} {a} {b} {T} {T1}
       first_small = first_small;
       second_small = second_small;
       first_is = supplied_at P C old legal records base ready T table f.station next.station T refl a (first_of f.instr) a_is first_small first from_a;
-      second_is = supplied_at P C old legal records base ready T table f.station next.station T1 same b (second_of f.instr) b_is second_small second from_b;
+      second_is = supplied_at P C old legal records base ready T table f.station next.station later same b (second_of f.instr) b_is second_small second from_b;
     }
 
 module _ {P : Program} {C : Sizes} {old : List Entry} {records : List Record} {base : Base} {f : Fetched} {predicted index : ℕ} {first second : Supply}
