@@ -71,7 +71,7 @@ accesses_first w ws (suc k) =
     let some = access_at (Some w) in
     ap (λ n. n + access_at (slice_get ws k)) (accesses_first w ws k) ∙ omega arith
 
-accesses_drop : (ws : List Station) (w : Station) (k : ℕ) → slice_get ws 0 ≡ Some w →
+pub accesses_drop : (ws : List Station) (w : Station) (k : ℕ) → slice_get ws 0 ≡ Some w →
     accesses ws (suc k) ≡ access_at (Some w) + accesses (drop 1 ws) k
 accesses_drop [] w k e = absurd (cc e)
 accesses_drop (v ∷ vs) w k e =

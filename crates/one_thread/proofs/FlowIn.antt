@@ -1,45 +1,47 @@
 -- An instruction enters a ring where all others have completed, and is run as far as it comes.
-use Rattle.std.proofs.Common.{◌≡◌, ◌<◌, ◌≤◌, ◌^◌, ℕ, ◌+◌, ◌%◌, Bool, true, false, cond, eqb, List, [], ◌∷◌, ◌++◌, length, Option, Some, None, refl, sym, ap, ◌∙◌, subst, arith, eqb-true, length-append}
+use Rattle.std.proofs.Common.{◌≡◌, ◌<◌, ◌≤◌, ◌^◌, ℕ, ◌+◌, ◌-◌, ◌%◌, Bool, true, false, cond, eqb, List, [], ◌∷◌, ◌++◌, length, Option, Some, None, refl, sym, ap, ◌∙◌, subst, suc, arith, eqb-true, length-append}
 use Rattle.std.specs.Prelude.{IfSome, slice_get, slice_index, slice_set}
-use Rattle.instructions.specs.Instruction.{destination, destination_by, first_of, fixed_next, is_first_half, is_low, is_pair, kind, second_of, target_by, target_of, width}
+use Rattle.instructions.specs.Instruction.{destination, first_of, fixed_next, is_first_half, kind, second_of, width}
+use Rattle.instructions.specs.Guesses.{Guesses}
 use Rattle.instructions.specs.Operations.{outcome_of}
-use Rattle.instructions.specs.Registers.{lo}
+use Rattle.instructions.specs.Programs.{instr_at}
 use Rattle.instructions.specs.declared.instr.Instr.{Instr}
-use Rattle.instructions.specs.declared.op.Half.{Half}
-use Rattle.instructions.specs.declared.op.Half.TheVariants.{High, Low}
 use Rattle.instructions.specs.declared.op.Kind.{Kind}
 use Rattle.instructions.specs.declared.op.Kind.TheVariants.{Computes, Jumps, Links, Loads, Stores}
 use Rattle.instructions.specs.declared.stop.Outcome.{Outcome}
 use Rattle.instructions.specs.declared.stop.Outcome.TheVariants.{Address, Next, Pair, Stop, Value}
 use Rattle.inorder.specs.Unit.{half_after}
-use Rattle.inorder.proofs.Pairs.{and_left, and_right, pair_computes}
 use Rattle.lsq.specs.LoadRule.{answer_over}
 use Rattle.lsq.specs.declared.entry.Entry.{Entry}
 use Rattle.one_thread.specs.Changes.{CanClaim, LoadGives, LoadsAt, registers_of}
-use Rattle.one_thread.specs.Flow.{Absorbs, HaveCompleted, IsFlowing, WritesLow, completed_by, filled, load_of, loaded_behind}
-use Rattle.one_thread.specs.FullRing.{store_with, stores}
+use Rattle.one_thread.specs.Flow.{AreThere, CanEnter, Completes, HasRoom, HasStayed, HaveCompleted, IsFlowing, IsFull, comes_to, completed_by, enters_as, filled, free_of, load_of, loaded_behind, outcome_in, restored, window_of, with_leaver}
+use Rattle.one_thread.specs.FullRing.{made_by, station_by, stations, store_with, stores}
 use Rattle.one_thread.specs.Givers.{gives}
 use Rattle.one_thread.specs.Loads.{AreInside, entries, load_in, loaded_over, value_by, waits_by, with_entry}
 use Rattle.one_thread.specs.Notes.{AreNoted, miss_in, missed_after}
 use Rattle.one_thread.specs.Stages.{CanLet, RecoversTo}
 use Rattle.one_thread.specs.StandsFor.{StandsForSome}
-use Rattle.one_thread.specs.Steady.{Foresees}
-use Rattle.one_thread.specs.Window.{further_on, half_in, let_at, made_after, operands_by, operands_in, source_in, stage_after, station_after}
+use Rattle.one_thread.specs.Steady.{Foresees, GoesOnBehind}
+use Rattle.one_thread.specs.Window.{access_of, accesses, further_on, half_in, let_at, made_after, operands_by, operands_in, source_in, stage_after, station_after}
 use Rattle.one_thread.specs.declared.dispatch.Fetched.{Fetched}
 use Rattle.one_thread.specs.declared.execute.Operands.{Operands}
 use Rattle.one_thread.specs.declared.flow.Flow.{Flow}
+use Rattle.one_thread.specs.declared.full_ring.Completed.{Completed}
 use Rattle.one_thread.specs.declared.future.Future.{Future}
 use Rattle.one_thread.specs.declared.pipeline.Pipeline.{Pipeline}
 use Rattle.one_thread.specs.declared.station.Stage.TheVariants.{Addr, Done, Miss}
 use Rattle.one_thread.specs.declared.station.Station.{Station}
-use Rattle.one_thread.proofs.BenchTurns.{let_shows, recovered_shows}
+use Rattle.one_thread.proofs.Accesses.{accesses_end, accesses_most}
+use Rattle.one_thread.proofs.BenchTurns.{guess_fixed, let_shows, recovered_shows}
 use Rattle.one_thread.proofs.CanLeave.{both_there}
+use Rattle.one_thread.proofs.Completions.{has_completed, station_is, stations_long, stations_more, there_more}
 use Rattle.one_thread.proofs.Flowing.{completed_more, completed_no_miss, half_end}
+use Rattle.one_thread.proofs.FreeStation.{set_again, set_as_is}
 use Rattle.one_thread.proofs.Idle.{ran_unit}
 use Rattle.one_thread.proofs.Inside.{are_inside}
 use Rattle.one_thread.proofs.Noted.{miss_gives, noted_more, noted_ran}
 use Rattle.one_thread.proofs.Scan.{get_end, get_left, set_middle, take_middle}
-use Rattle.one_thread.proofs.Stores.{stores_answer, stores_more}
+use Rattle.one_thread.proofs.Stores.{stores_answer, stores_few, stores_more}
 use Rattle.one_thread.proofs.StreamsLoads.{loaded_youngest}
 use Rattle.one_thread.proofs.Tests.{gives_here}
 
@@ -200,90 +202,165 @@ module _ (b : Pipeline) (f : Future) (es : List Entry) (next : Fetched) (predict
   pub entered_unit : StandsForSome (entered_fields left)
   entered_unit = entered outcome refl
 
--- The station of what entered
+-- A completed instruction joins a flow
 
-kept_instr : (w : Station) (o : Outcome) (r : Option ℕ) → (completed_by w o r).instr ≡ w.instr
-kept_instr w (Value v) r = refl
-kept_instr w (Pair l u) r = refl
-kept_instr w (Stop c) r = refl
-kept_instr w (Next x) r = refl
-kept_instr w (Address a) None = refl
-kept_instr w (Address a) (Some v) = refl
+pub record HasJoined (flow after : Flow) (i : Instr) (c : Completed) (content : ℕ) : Type 0 where
+  pub completed : after.ring.completed ≡ flow.ring.completed ++ c ∷ []
+  pub stores : after.ring.stores ≡ with_entry flow.ring.stores (store_with (station_by i c) content)
+  pub future : GoesOnBehind flow.future (destination i c.half) (made_by (kind i.op) c.value) c.next after.future
+  pub half : after.half ≡ half_after (is_first_half i.op c.half)
+  pub accesses : after.accesses ≡ flow.accesses + access_of i
 
-kept_half : (w : Station) (o : Outcome) (r : Option ℕ) → (completed_by w o r).half ≡ w.half
-kept_half w (Value v) r = refl
-kept_half w (Pair l u) r = refl
-kept_half w (Stop c) r = refl
-kept_half w (Next x) r = refl
-kept_half w (Address a) None = refl
-kept_half w (Address a) (Some v) = refl
+module _ (b : Pipeline) (flow after : Flow) (i : Instr) (c : Completed) (content : ℕ) (j : HasJoined flow after i c content) (is : instr_at b.program.now c.pc ≡ Some i) where
+  abbrev z : Station
+  z = station_by i c
 
-kept_destination : (w : Station) (o : Outcome) (r : Option ℕ) → (completed_by w o r).destination ≡ w.destination
-kept_destination w (Value v) r = refl
-kept_destination w (Pair l u) r = refl
-kept_destination w (Stop c) r = refl
-kept_destination w (Next x) r = refl
-kept_destination w (Address a) None = refl
-kept_destination w (Address a) (Some v) = refl
+  abbrev W : List Station
+  W = window_of b flow
 
-low_target : (half : Half) (target : ℕ) → is_low half ≡ true → target_by true half target ≡ lo
-low_target Low target e = refl
-low_target High target e = absurd (cc)
+  pub joined_window : window_of b after ≡ W ++ z ∷ []
+  joined_window = ap (stations b.program.now) j.completed ∙ stations_more b.program.now flow.ring.completed c ∙ ap (λ w. W ++ w ∷ []) (station_is b.program.now c i is)
 
--- a first half writes LO
-low_destination : (i : Instr) (half : Half) → is_first_half i.op half ≡ true → destination i half ≡ lo
-low_destination i half e =
-    let pair = and_left (is_pair i.op) (is_low half) e in
-    ap (λ k. destination_by k (target_of i half)) (pair_computes i.op pair)
-    ∙ ap (λ p. target_by p half i.target) pair
-    ∙ low_target half i.target (and_right (is_pair i.op) (is_low half) e)
+  pub joined : IsFlowing b flow → second_of i < 34 → content ≡ slice_index flow.future.values (second_of i) → IsFlowing b after
+  joined h small same =
+      let all = joined_window in
+      let read : source_in (registers_of b) W (second_of i) ≡ Some content = h.foresees.values (second_of i) small ∙ ap Some (sym same) in
+      let long : length (W ++ z ∷ []) ≡ suc (length W) = omega (arith, length-append W (z ∷ [])) in
+      record {
+        goes_on = h.goes_on;
+        there = subst (AreThere b.program.now) (sym j.completed) (there_more b.program.now flow.ring.completed c i h.there is);
+        completed = subst HaveCompleted (sym all) (completed_more W z h.completed (has_completed i c));
+        foresees = subst (Foresees after.future (registers_of b) b.committed.pc) (sym all) (j.future.on z refl refl refl (registers_of b) b.committed.pc W h.foresees);
+        half = j.half ∙ sym (half_end b.low W z) ∙ sym (ap (half_in b.low) all);
+        stores = j.stores
+            ∙ ap (λ l. with_entry l (store_with z content)) h.stores
+            ∙ sym (stores_more (registers_of b) W z content read)
+            ∙ sym (ap (λ l. stores (registers_of b) l (length l)) all);
+        accesses = j.accesses
+            ∙ ap (λ n. n + access_of i) h.accesses
+            ∙ sym (accesses_end W z)
+            ∙ ap (accesses (W ++ z ∷ [])) (sym long)
+            ∙ sym (ap (λ l. accesses l (length l)) all);
+      }
 
-pub record HasEntered (x y : Pipeline) (flow after : Flow) (next : Fetched) (predicted : ℕ) (o : Operands) (outcome : Outcome) (z : Station) : Type 0 where
-  pub enters : Enters (filled x flow.ring.window) flow.future flow.ring.stores next predicted o outcome
-  pub is : z ≡ completed_by (let_at next.instr next.half next.pc predicted) outcome (load_of flow.ring.stores x.committed.memory next.instr.op outcome)
-  pub window : after.ring.window ≡ flow.ring.window ++ z ∷ []
-  pub entries : after.ring.stores ≡ with_entry flow.ring.stores (store_with z o.b)
-  pub half : after.half ≡ half_after (is_first_half z.instr.op z.half)
-  pub leavers : y.leavers ≡ slice_set x.leavers ((x.oldest + length flow.ring.window) % x.ring) None
-  pub rest : y ≡ record x { leavers = y.leavers }
+pub flowing_untold : (b : Pipeline) (flow : Flow) → IsFlowing b flow → IsFlowing b (record flow { told = None })
+flowing_untold b flow h =
+    record { goes_on = h.goes_on; there = h.there; completed = h.completed; foresees = h.foresees; half = h.half; stores = h.stores; accesses = h.accesses }
 
-pub flow_unit : (x y : Pipeline) (flow after : Flow) (next : Fetched) (predicted : ℕ) (o : Operands) (outcome : Outcome) (z : Station) → HasEntered x y flow after next predicted o outcome z →
-    StandsForSome (filled y after.ring.window)
-flow_unit x y flow after next predicted o outcome z h =
-    let W = flow.ring.window in
-    subst StandsForSome
-    (ap (λ w. record (filled x (W ++ w ∷ [])) { leavers = slice_set x.leavers ((x.oldest + length W) % x.ring) None }) (sym h.is)
-    ∙ ap (λ l. record (filled x (W ++ z ∷ [])) { leavers = l }) (sym h.leavers)
-    ∙ sym (ap (λ p. filled p (W ++ z ∷ [])) h.rest)
-    ∙ ap (filled y) (sym h.window))
-    (entered_unit (filled x W) flow.future flow.ring.stores next predicted o outcome h.enters)
+-- The next instruction enters
 
-pub flow_on : (x y : Pipeline) (flow after : Flow) (next : Fetched) (predicted : ℕ) (o : Operands) (outcome : Outcome) (z : Station) → HasEntered x y flow after next predicted o outcome z →
-    Absorbs flow.future z after.future → IsFlowing y after
-flow_on x y flow after next predicted o outcome z h absorbs =
-    let W = flow.ring.window in
-    let w : Station = let_at next.instr next.half next.pc predicted in
-    let r = load_of flow.ring.stores x.committed.memory next.instr.op outcome in
-    let e = h.enters in
-    let instr : z.instr ≡ next.instr = ap (λ (s : Station). s.instr) h.is ∙ kept_instr w outcome r in
-    let half : z.half ≡ next.half = ap (λ (s : Station). s.half) h.is ∙ kept_half w outcome r in
-    let target : z.destination ≡ destination next.instr next.half = ap (λ (s : Station). s.destination) h.is ∙ kept_destination w outcome r in
-    let low : WritesLow z =
-    λ q. target ∙ low_destination next.instr next.half (sym (ap (λ (i : Instr). is_first_half i.op z.half) instr ∙ ap (is_first_half next.instr.op) half) ∙ q) in
-    let regs : registers_of y ≡ registers_of x = ap registers_of h.rest in
-    let pc : y.committed.pc ≡ x.committed.pc = ap (λ (p : Pipeline). p.committed.pc) h.rest in
-    let content : source_in (registers_of x) W (second_of z.instr) ≡ Some o.b =
-    ap (λ (i : Instr). source_in (registers_of x) W (second_of i)) instr ∙ e.foresees.values (second_of next.instr) e.second_small ∙ ap Some (sym e.second) in
-    let on : Foresees after.future (registers_of x) x.committed.pc (W ++ z ∷ []) = absorbs.goes_on.on z refl refl refl (registers_of x) x.committed.pc W e.foresees in
+pub record Comes (x : Pipeline) (flow : Flow) (i : Instr) (predicted : ℕ) (o : Operands) : Type 0 where
+  pub room : HasRoom x flow
+  pub can : CanEnter x flow i
+  pub small : predicted < 2 ^ 32
+  pub fixed : IfSome (fixed_next i flow.half flow.future.pc) (λ n. predicted ≡ n)
+  pub first_small : first_of i < 34
+  pub second_small : second_of i < 34
+  pub first : o.a ≡ slice_index flow.future.values (first_of i)
+  pub second : o.b ≡ slice_index flow.future.values (second_of i)
+
+-- what the predictor answers, and what the next instruction reads then
+pub comes : {S : Type 0} {Predicts : S → ℕ → Instr → ℕ → S → Type 0} {Learns : S → ℕ → ℕ → S → Type 0} (x : Pipeline) (flow later : Flow) (i : Instr) (predicted : ℕ) (o : Operands) (old new : S) →
+    HasRoom x flow → CanEnter x flow i → predicted < 2 ^ 32 → Guesses Predicts Learns flow.told i flow.half flow.future.pc predicted old new → later ≡ record flow { told = None } →
+    (first_of i < 34) × (second_of i < 34) → o.a ≡ slice_index later.future.values (first_of i) → o.b ≡ slice_index later.future.values (second_of i) → Comes x flow i predicted o
+comes {S} {Predicts} {Learns} x flow later i predicted o old new room can small guess same registers first second =
     record {
-      goes_on = ap (λ (p : Pipeline). p.over) h.rest ∙ e.goes_on;
-      completed = subst HaveCompleted (sym h.window) (completed_more W z e.completed (absorbs.completed, low));
-      foresees = subst (Foresees after.future (registers_of y) y.committed.pc) (sym h.window)
-          (subst (λ p. Foresees after.future (registers_of y) p (W ++ z ∷ [])) (sym pc) (subst (λ l. Foresees after.future l x.committed.pc (W ++ z ∷ [])) (sym regs) on));
-      half = h.half ∙ sym (half_end y.low W z) ∙ sym (ap (half_in y.low) h.window);
-      stores = h.entries
-          ∙ ap (λ l. with_entry l (store_with z o.b)) e.stores
-          ∙ sym (stores_more (registers_of x) W z o.b content)
-          ∙ sym (ap (λ l. stores l (W ++ z ∷ []) (length (W ++ z ∷ []))) regs)
-          ∙ sym (ap (λ l. stores (registers_of y) l (length l)) h.window);
+      room = room;
+      can = can;
+      small = small;
+      fixed = guess_fixed Predicts Learns (fixed_next i flow.half flow.future.pc) flow.future.pc i predicted guess.middle new guess.asked;
+      first_small = registers.0;
+      second_small = registers.1;
+      first = first ∙ ap (λ (f : Flow). slice_index f.future.values (first_of i)) same;
+      second = second ∙ ap (λ (f : Flow). slice_index f.future.values (second_of i)) same;
     }
+
+module _ (x : Pipeline) (flow : Flow) (i : Instr) (predicted : ℕ) (o : Operands) (h : Comes x flow i predicted o) where
+  abbrev all : List Station
+  all = window_of x flow
+
+  abbrev with_it : Pipeline
+  with_it = with_leaver (filled x all) flow.told
+
+  abbrev next : Fetched
+  next = record { instr = i; half = flow.half; pc = flow.future.pc }
+
+  enters : Enters with_it flow.future flow.ring.stores next predicted o (outcome_in x flow i o)
+  enters =
+      let room : length all < x.ring = omega (arith, h.room.room) in
+      record {
+        unit = h.room.unit;
+        goes_on = h.room.flowing.goes_on;
+        missed = refl;
+        completed = h.room.flowing.completed;
+        foresees = h.room.flowing.foresees;
+        stores = h.room.flowing.stores;
+        can = record {
+          room = room;
+          place = h.room.flowing.foresees.path;
+          half = h.room.flowing.half;
+          is = h.can.is;
+          free = λ e. subst (λ n. n < x.queue) h.room.flowing.accesses (h.can.free e);
+        };
+        small = h.small;
+        fixed = h.fixed;
+        first_small = h.first_small;
+        second_small = h.second_small;
+        first = h.first;
+        second = h.second;
+        comes = refl;
+      }
+
+  pub comes_inside : (a : ℕ) → outcome_in x flow i o ≡ Address a → a + width i.op ≤ length x.committed.memory
+  comes_inside = reached_inside with_it flow.future flow.ring.stores next predicted o (outcome_in x flow i o) enters
+
+  leavers_as : slice_set (slice_set x.leavers (free_of x) flow.told) ((x.oldest + length all) % x.ring) None ≡ x.leavers
+  leavers_as =
+      let last : length all ≡ x.ring - 1 = omega (arith, h.room.room) in
+      ap (λ n. slice_set (slice_set x.leavers (free_of x) flow.told) ((x.oldest + n) % x.ring) None) last
+      ∙ set_again x.leavers (free_of x) flow.told None
+      ∙ set_as_is x.leavers (free_of x) None h.room.untold
+
+  pub comes_unit : StandsForSome (filled x (all ++ comes_to x flow i predicted o ∷ []))
+  comes_unit =
+      subst StandsForSome (ap (λ l. record (filled x (all ++ comes_to x flow i predicted o ∷ [])) { leavers = l }) leavers_as)
+      (entered_unit with_it flow.future flow.ring.stores next predicted o (outcome_in x flow i o) enters)
+
+  abbrev untold : Flow
+  untold = record flow { told = None }
+
+  -- there is room for it
+  pub comes_room : (length flow.ring.completed < 32) × (length flow.ring.stores < 32) × (flow.accesses ≤ 32)
+  comes_room =
+      let long = stations_long x.program.now flow.ring.completed in
+      let few = stores_few (registers_of x) all (length all) in
+      let most = accesses_most all (length all) in
+      (omega (arith, long, h.room.room, h.room.unit.ring),
+      omega (arith, few, ap length h.room.flowing.stores, h.room.room, h.room.unit.ring),
+      omega (arith, most, h.room.flowing.accesses, h.room.room, h.room.unit.ring))
+
+  -- it has completed
+  pub comes_full : (c : Completed) (after : Flow) → Completes x flow i predicted o (Some c) → HasJoined (record flow { told = None }) after i c o.b → IsFull x after
+  comes_full c after completes j =
+      let is : instr_at x.program.now c.pc ≡ Some i = ap (instr_at x.program.now) completes.0 ∙ h.can.is in
+      let window : window_of x after ≡ all ++ station_by i c ∷ [] = joined_window x untold after i c o.b j is in
+      let same : filled x (all ++ comes_to x flow i predicted o ∷ []) ≡ filled x (window_of x after) =
+      ap (λ w. filled x (all ++ w ∷ [])) completes.1 ∙ sym (ap (filled x) window) in
+      record {
+        unit = subst StandsForSome same comes_unit;
+        flowing = joined x untold after i c o.b j is (flowing_untold x flow h.room.flowing) h.second_small h.second;
+        full = ap length window ∙ omega (arith, length-append all (station_by i c ∷ []), h.room.room);
+        two = h.room.two;
+      }
+
+  -- or not
+  pub comes_stays : (w : Station) → w ≡ station_after (enters_as flow i predicted) (outcome_in x flow i o) → Completes x flow i predicted o None →
+      HasStayed x (record flow { told = None }) w
+  comes_stays w e completes =
+      let same : filled x (all ++ comes_to x flow i predicted o ∷ []) ≡ filled x (all ++ w ∷ []) = ap (λ y. filled x (all ++ y ∷ [])) (completes ∙ sym e) in
+      let long = stations_long x.program.now flow.ring.completed in
+      record {
+        unit = subst StandsForSome (same ∙ ap (λ l. record (filled x (all ++ w ∷ [])) { leavers = l }) (sym (set_as_is x.leavers (free_of x) None h.room.untold))) comes_unit;
+        there = h.room.flowing.there;
+        room = omega (arith, long, h.room.room, h.room.unit.ring);
+      }

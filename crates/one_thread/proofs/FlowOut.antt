@@ -1,39 +1,47 @@
 -- The oldest tenant leaves a full ring where all have completed.
 use Rattle.std.proofs.Common.{◌≡◌, ◌≢◌, ◌<◌, ◌≤◌, ℕ, suc, ◌+◌, ◌-◌, ◌%◌, Bool, true, false, cond, List, [], ◌∷◌, length, drop, Option, Some, None, refl, sym, ap, ◌∙◌, subst, arith, length-drop, true≢false}
-use Rattle.std.specs.Prelude.{is_none, is_some, slice_get, unwrap_or}
-use Rattle.instructions.specs.Instruction.{is_first_half}
+use Rattle.std.specs.Prelude.{is_none, is_some, slice_get, slice_set, unwrap_or}
+use Rattle.instructions.specs.Instruction.{is_first_half, kind, width}
 use Rattle.instructions.specs.Registers.{lo}
-use Rattle.instructions.specs.declared.guessing.Leaver.{Leaver}
+use Rattle.instructions.specs.Programs.{instr_at}
+use Rattle.instructions.specs.declared.instr.Instr.{Instr}
+use Rattle.instructions.specs.declared.op.Kind.TheVariants.{Stores}
 use Rattle.instructions.specs.declared.stop.Stop.{Stop}
 use Rattle.inorder.specs.Committed.{with_low}
 use Rattle.inorder.specs.Machine.{write}
 use Rattle.inorder.specs.Runs.{end_from}
 use Rattle.one_thread.specs.Changes.{registers_of, run_from}
-use Rattle.one_thread.specs.Flow.{HaveCompleted, IsFlowing, filled, passed_by, passed_on, to_do}
-use Rattle.one_thread.specs.FullRing.{stores, stores_behind}
+use Rattle.one_thread.specs.Flow.{AreThere, HasRoom, HaveCompleted, IsFlowing, IsFull, committed_by, filled, free_of, low_by, to_do, window_of, with_leaver}
+use Rattle.one_thread.specs.FullRing.{stage_by, station_by, stations, stores, stores_behind}
 use Rattle.one_thread.specs.Givers.{NoneGives}
 use Rattle.one_thread.specs.Leaves.{HasEnded, LeavesTo, OldestHasEnded, PassesTo, RetiresTo, halved, leavers_with, left}
+use Rattle.one_thread.specs.Leavers.{told_at}
 use Rattle.one_thread.specs.Loads.{load_in}
 use Rattle.one_thread.specs.Notes.{AreNoted}
 use Rattle.one_thread.specs.Stages.{NoRoom}
 use Rattle.one_thread.specs.StandsFor.{StandsForSome}
 use Rattle.one_thread.specs.Steady.{Foresees}
-use Rattle.one_thread.specs.Window.{half_in}
+use Rattle.one_thread.specs.Window.{access_of, accesses, half_in}
 use Rattle.one_thread.specs.declared.bench.Turn.{Turn}
 use Rattle.one_thread.specs.declared.bench.Turn.TheVariants.{Halved, Retired}
 use Rattle.one_thread.specs.declared.flow.Flow.{Flow}
+use Rattle.one_thread.specs.declared.full_ring.Completed.{Completed}
 use Rattle.one_thread.specs.declared.pipeline.Pipeline.{Pipeline}
 use Rattle.one_thread.specs.declared.station.Stage.{Stage}
 use Rattle.one_thread.specs.declared.station.Stage.TheVariants.{Open, Addr, Done, Miss, Stops}
 use Rattle.one_thread.specs.declared.station.Station.{Station}
+use Rattle.one_thread.proofs.Accesses.{accesses_drop}
+use Rattle.one_thread.proofs.Completions.{station_is, stations_get, stations_less, there_less}
 use Rattle.one_thread.proofs.Ends.{one_retired}
 use Rattle.one_thread.proofs.Flowing.{completed_less, completed_no_miss, completed_settled, half_less, path_any, registers_all}
+use Rattle.one_thread.proofs.FreeStation.{freed}
 use Rattle.one_thread.proofs.Futures.{foresees_left, made_value}
 use Rattle.one_thread.proofs.Idle.{Idle, Shows, idle, leaves_after, noted_unit, retired_shows}
 use Rattle.one_thread.proofs.LookBack.{settled_unanswered}
 use Rattle.one_thread.proofs.Moved.{moves_first}
 use Rattle.one_thread.proofs.Settled.{settled_closed}
 use Rattle.one_thread.proofs.Stores.{stores_passed}
+use Rattle.one_thread.proofs.Untold.{oldest_untold}
 
 pub record IsFilled (b : Pipeline) : Type 0 where
   pub unit : StandsForSome b
@@ -80,7 +88,14 @@ leaves_as b later w answer (Miss x) n p = p
 
 -- the fields where it has
 abbrev pub passed_from : Bool → Pipeline → Station → Pipeline
-passed_from h b w = record (passed_by h w (record b { leavers = leavers_with b w })) { window = drop 1 b.window; oldest = (b.oldest + 1) % b.ring }
+passed_from h b w =
+    record b {
+      committed = committed_by h w b.low b.committed;
+      low = low_by h w;
+      leavers = leavers_with b w;
+      window = drop 1 b.window;
+      oldest = (b.oldest + 1) % b.ring;
+    }
 
 passes : (h : Bool) (b later : Pipeline) (w : Station) → later ≡ passed_from h b w → PassesTo h (record b { settled = suc b.settled }) w (answer_by h) later
 passes true b later w e =
@@ -101,48 +116,8 @@ passed_shows b later w d is e =
     retired_shows b now later (answer_by h) (filled_idle b now d refl) (no_loads b d)
     (subst (λ o. RetiresTo now o (answer_by h) later) (sym is) (leaves_as now later w (answer_by h) w.stage p.0.goes_on (passes h b later w e)))
 
--- as the code leaves them
-passed_same : (h : Bool) (x : Pipeline) (w : Station) (W : List Station) →
-    filled (record (passed_by h w (record x { leavers = leavers_with x w })) { oldest = (x.oldest + 1) % x.ring }) (drop 1 W) ≡ passed_from h (filled x W) w
-passed_same true x w W = refl
-passed_same false x w W = refl
-
-place_same : (h : Bool) (x : Pipeline) (w : Station) → ((passed_by h w x).oldest + 1) % (passed_by h w x).ring ≡ (x.oldest + 1) % x.ring
-place_same true x w = refl
-place_same false x w = refl
-
-ring_by : (h : Bool) (x : Pipeline) (w : Station) → (passed_by h w x).ring ≡ x.ring
-ring_by true x w = refl
-ring_by false x w = refl
-
--- one station is free again
-pub passed_room : (x y : Pipeline) (w : Station) (W rest : List Station) (L : List (Option Leaver)) → y ≡ passed_on w (record x { leavers = L }) → rest ≡ drop 1 W → length W ≡ x.ring → 2 ≤ x.ring →
-    length rest + 1 ≡ y.ring
-passed_room x y w W rest L e less full two =
-    let same : y.ring ≡ x.ring = ap (λ (z : Pipeline). z.ring) e ∙ ring_by (is_first_half w.instr.op w.half) (record x { leavers = L }) w in
-    omega (arith, same, ap length less, length-drop 1 W, full, two)
-
-pub passed_is : (x y : Pipeline) (w : Station) (W rest : List Station) (L : List (Option Leaver)) (o : ℕ) → y ≡ passed_on w (record x { leavers = L }) → L ≡ leavers_with x w →
-    o ≡ (y.oldest + 1) % y.ring → rest ≡ drop 1 W → filled (record y { oldest = o }) rest ≡ passed_from (is_first_half w.instr.op w.half) (filled x W) w
-passed_is x y w W rest L o e leavers place less =
-    let h : Bool = is_first_half w.instr.op w.half in
-    let there : o ≡ (x.oldest + 1) % x.ring = place ∙ ap (λ (z : Pipeline). (z.oldest + 1) % z.ring) e ∙ place_same h (record x { leavers = L }) w in
-    ap (λ (z : Pipeline). filled (record z { oldest = o }) rest) e
-    ∙ ap (λ l. filled (record (passed_by h w (record x { leavers = l })) { oldest = o }) rest) leavers
-    ∙ ap (λ n. filled (record (passed_by h w (record x { leavers = leavers_with x w })) { oldest = n }) rest) there
-    ∙ ap (λ l. filled (record (passed_by h w (record x { leavers = leavers_with x w })) { oldest = (x.oldest + 1) % x.ring }) l) less
-    ∙ passed_same h x w W
-
-pub flowing_filled : (b : Pipeline) (W : List Station) (flow : Flow) → IsFlowing b flow → IsFlowing (filled b W) flow
-flowing_filled b W flow h = record { goes_on = h.goes_on; completed = h.completed; foresees = h.foresees; half = h.half; stores = h.stores }
-
-pub filled_flowing : (b : Pipeline) (W : List Station) (flow : Flow) → IsFlowing (filled b W) flow → IsFlowing b flow
-filled_flowing b W flow h = record { goes_on = h.goes_on; completed = h.completed; foresees = h.foresees; half = h.half; stores = h.stores }
-
-pub due : (b : Pipeline) (flow : Flow) → StandsForSome (filled b flow.ring.window) → IsFlowing b flow → length flow.ring.window ≡ b.ring → 2 ≤ b.ring → IsFilled (filled b flow.ring.window)
-due b flow unit h full two = record { unit = unit; goes_on = h.goes_on; full = omega (arith, full); completed = h.completed; settled = omega (arith, full, two) }
-
 -- A ring that is full but for one station
+
 pub filled_unit : (b : Pipeline) (W : List Station) → StandsForSome b → W ≡ b.window → HaveCompleted W → length W + 1 ≡ b.ring → StandsForSome (filled b W)
 filled_unit b W h is completed room =
     let same : filled b W ≡ record b { missed = false; settled = b.ring - 1 } = ap (filled b) is in
@@ -209,6 +184,9 @@ pub passed_less : (b later : Pipeline) (w : Station) → IsFilled b → slice_ge
     to_do limit later < to_do limit b
 passed_less b later w d is e limit less = less_by (is_first_half w.instr.op w.half) b later (passed_shows b later w d is e) limit less
 
+left_accesses : (n m a k j : ℕ) → m ≡ n - a → n ≡ a + k → j ≡ k → m ≡ j
+left_accesses n m a k j less more same = omega (arith, less, more, same)
+
 -- What the next one finds is there again
 
 registers_by : (h : Bool) (b later : Pipeline) (w : Station) → (h ≡ true → w.destination ≡ lo) → Shows b (answer_by h) later → later ≡ passed_from h b w →
@@ -219,45 +197,165 @@ registers_by true b later w low s e =
     ∙ sym (ap registers_of e)
 registers_by false b later w low s e = sym (ap registers_of e)
 
-over_by : (h : Bool) (b : Pipeline) (w : Station) → (passed_from h b w).over ≡ b.over
-over_by true b w = refl
-over_by false b w = refl
+-- The oldest instruction of a flow
 
-pub passed_flows : (b later : Pipeline) (flow after : Flow) (w : Station) → IsFilled b → 2 ≤ b.ring → slice_get b.window 0 ≡ Some w → later ≡ passed_from (is_first_half w.instr.op w.half) b w →
-    flow.ring.window ≡ b.window → IsFlowing b flow → after.future ≡ flow.future → after.half ≡ flow.half → after.ring.window ≡ drop 1 flow.ring.window →
-    after.ring.stores ≡ stores_behind w flow.ring.stores → IsFlowing later after
-passed_flows b later flow after w d two is e same h future half window entries = go b.window refl
-  where
-    f : Bool
-    f = is_first_half w.instr.op w.half
+pub record IsOldest (x : Pipeline) (flow : Flow) (i : Instr) (c : Completed) : Type 0 where
+  pub full : IsFull x flow
+  pub is : slice_get flow.ring.completed 0 ≡ Some c
+  pub instr : instr_at x.program.now c.pc ≡ Some i
 
-    v : ℕ
-    v = unwrap_or w.made 0
+module _ (x : Pipeline) (flow : Flow) (i : Instr) (c : Completed) (here : IsOldest x flow i c) where
+  oldest_is : slice_get (window_of x flow) 0 ≡ Some (station_by i c)
+  oldest_is = stations_get x.program.now flow.ring.completed 0 c here.is ∙ ap Some (station_is x.program.now c i here.instr)
 
-    go : (W : List Station) → b.window ≡ W → IsFlowing later after
-    go [] q = let no : Some w ≡ None = sym is ∙ ap (λ l. slice_get l 0) q in absurd (cc)
-    go (y ∷ []) q = let long = ap length q in let full = d.full in absurd (omega (arith, long, full, two))
-    go (y ∷ x ∷ W) q =
-        let all : flow.ring.window ≡ y ∷ x ∷ W = same ∙ q in
-        let this : y ≡ w = cc (sym (ap (λ l. slice_get l 0) q) ∙ is) in
-        let there : flow.ring.window ≡ w ∷ x ∷ W = all ∙ ap (λ z. z ∷ x ∷ W) this in
-        let rest : after.ring.window ≡ x ∷ W = window ∙ ap (λ l. drop 1 l) there in
-        let p = d.completed 0 w is in
-        let regs = registers_by f b later w p.1 (passed_shows b later w d is e) e in
-        let seen : Foresees flow.future (registers_of b) b.committed.pc (w ∷ x ∷ W) = subst (Foresees flow.future (registers_of b) b.committed.pc) there h.foresees in
-        let past = foresees_left flow.future (registers_of b) b.committed.pc w (x ∷ W) (registers_all b d.unit) p.0.made seen in
-        let long = registers_all b d.unit in
-        record {
-          goes_on = ap (λ z. z.over) e ∙ over_by f b w ∙ d.goes_on;
-          completed = subst HaveCompleted (sym rest) (completed_less w (x ∷ W) (subst HaveCompleted there h.completed));
-          foresees = subst (Foresees after.future (registers_of later) later.committed.pc) (sym rest)
-              (subst (λ g. Foresees g (registers_of later) later.committed.pc (x ∷ W)) (sym future)
-              (subst (λ r. Foresees flow.future r later.committed.pc (x ∷ W)) regs
-              (record { all = past.all; values = past.values; path = past.path ∙ path_any w.next later.committed.pc x W })));
-          half = half ∙ h.half ∙ ap (half_in b.low) there ∙ half_less b.low later.low w x W ∙ sym (ap (half_in later.low) rest);
-          stores = entries
-              ∙ ap (stores_behind w) (h.stores ∙ ap (λ l. stores (registers_of b) l (length l)) there)
-              ∙ stores_passed (registers_of b) w (x ∷ W) v long (λ n. made_value w.made (p.0.made n))
-              ∙ ap (λ r. stores r (x ∷ W) (length (x ∷ W))) regs
-              ∙ sym (ap (λ l. stores (registers_of later) l (length l)) rest);
-        }
+  fills : IsFilled (filled x (window_of x flow))
+  fills =
+      record {
+        unit = here.full.unit;
+        goes_on = here.full.flowing.goes_on;
+        full = omega (arith, here.full.full);
+        completed = here.full.flowing.completed;
+        settled = omega (arith, here.full.full, here.full.two);
+      }
+
+  -- a store is inside the memory
+  pub oldest_inside : kind i.op ≡ Stores → c.value + width i.op ≤ length x.committed.memory
+  oldest_inside k =
+      subst (λ q. HasEnded (length x.committed.memory) i (stage_by q c.value)) k
+      (filled_ended (filled x (window_of x flow)) (station_by i c) fills oldest_is)
+
+  -- it is counted among those that reach memory
+  pub oldest_counted : access_of i ≤ flow.accesses
+  oldest_counted = go (window_of x flow) refl
+    where
+      go : (V : List Station) → window_of x flow ≡ V → access_of i ≤ flow.accesses
+      go [] q = let no : Some (station_by i c) ≡ None = sym oldest_is ∙ ap (λ V. slice_get V 0) q in absurd (cc)
+      go (u ∷ V) q =
+          let counts : flow.accesses ≡ access_of i + accesses V (length V) =
+          here.full.flowing.accesses ∙ ap (λ V. accesses V (length V)) q ∙ accesses_drop (u ∷ V) (station_by i c) (length V) (sym (ap (λ V. slice_get V 0) q) ∙ oldest_is) in
+          omega (arith, counts)
+
+-- It has left
+
+pub record HasLeft (x y : Pipeline) (flow after : Flow) (i : Instr) (c : Completed) : Type 0 where
+  pub here : IsOldest x flow i c
+  pub completed : after.ring.completed ≡ drop 1 flow.ring.completed
+  pub stores : after.ring.stores ≡ stores_behind (station_by i c) flow.ring.stores
+  pub accesses : after.accesses ≡ flow.accesses - access_of i
+  pub told : after.told ≡ told_at (station_by i c)
+  pub future : after.future ≡ flow.future
+  pub half : after.half ≡ flow.half
+  pub commits : y.committed ≡ committed_by (is_first_half i.op c.half) (station_by i c) x.low x.committed
+  pub low : y.low ≡ low_by (is_first_half i.op c.half) (station_by i c)
+  pub oldest : y.oldest ≡ (x.oldest + 1) % x.ring
+  pub rest : y ≡ record x { committed = y.committed; low = y.low; oldest = y.oldest }
+
+module _ (x y : Pipeline) (flow after : Flow) (i : Instr) (c : Completed) (l : HasLeft x y flow after i c) where
+  abbrev w : Station
+  w = station_by i c
+
+  abbrev W : List Station
+  W = window_of x flow
+
+  abbrev b : Pipeline
+  b = filled x W
+
+  abbrev f : Bool
+  f = is_first_half i.op c.half
+
+  abbrev later : Pipeline
+  later = with_leaver (filled y (window_of y after)) after.told
+
+  abbrev full : IsFull x flow
+  full = l.here.full
+
+  first : slice_get W 0 ≡ Some w
+  first = oldest_is x flow i c l.here
+
+  whole : IsFilled b
+  whole = fills x flow i c l.here
+
+  rest_is : window_of y after ≡ drop 1 W
+  rest_is =
+      ap (λ (p : Pipeline). stations p.program.now after.ring.completed) l.rest
+      ∙ ap (stations x.program.now) l.completed
+      ∙ stations_less x.program.now flow.ring.completed
+
+  -- the free station is the one that it leaves
+  free_is : free_of y ≡ x.oldest
+  free_is =
+      ap (λ (p : Pipeline). (y.oldest + (p.ring - 1)) % p.ring) l.rest
+      ∙ ap (λ n. (n + (x.ring - 1)) % x.ring) l.oldest
+      ∙ freed x.oldest x.ring full.unit.oldest
+
+  later_is : later ≡ passed_from f b w
+  later_is =
+      ap (λ n. record (filled y (window_of y after)) { leavers = slice_set y.leavers n after.told }) free_is
+      ∙ ap (λ (p : Pipeline). record (filled p (window_of y after)) { leavers = slice_set p.leavers x.oldest after.told }) l.rest
+      ∙ ap (λ V. record x { committed = y.committed; low = y.low; oldest = y.oldest; window = V; missed = false; settled = x.ring - 1; leavers = slice_set x.leavers x.oldest after.told }) rest_is
+      ∙ ap (λ t. record x { committed = y.committed; low = y.low; oldest = y.oldest; window = drop 1 W; missed = false; settled = x.ring - 1; leavers = slice_set x.leavers x.oldest t }) l.told
+      ∙ ap (λ s. record x { committed = s; low = y.low; oldest = y.oldest; window = drop 1 W; missed = false; settled = x.ring - 1; leavers = leavers_with x w }) l.commits
+      ∙ ap (λ v. record x { committed = committed_by f w x.low x.committed; low = v; oldest = y.oldest; window = drop 1 W; missed = false; settled = x.ring - 1; leavers = leavers_with x w }) l.low
+      ∙ ap (λ n. record x { committed = committed_by f w x.low x.committed; low = low_by f w; oldest = n; window = drop 1 W; missed = false; settled = x.ring - 1; leavers = leavers_with x w }) l.oldest
+
+  flows_on : IsFlowing y after
+  flows_on = go W refl
+    where
+      v : ℕ
+      v = unwrap_or w.made 0
+
+      go : (V : List Station) → W ≡ V → IsFlowing y after
+      go [] q = let no : Some w ≡ None = sym first ∙ ap (λ V. slice_get V 0) q in absurd (cc)
+      go (u ∷ []) q = let long = ap length q in let all = full.full in let two = full.two in absurd (omega (arith, long, all, two))
+      go (u ∷ a ∷ V) q =
+          let this : u ≡ w = cc (sym (ap (λ V. slice_get V 0) q) ∙ first) in
+          let there : W ≡ w ∷ a ∷ V = q ∙ ap (λ z. z ∷ a ∷ V) this in
+          let behind : window_of y after ≡ a ∷ V = rest_is ∙ ap (λ V. drop 1 V) there in
+          let h = full.flowing in
+          let p = h.completed 0 w first in
+          let regs : write (registers_of x) w.destination v ≡ registers_of y = registers_by f b later w p.1 (passed_shows b later w whole first later_is) later_is in
+          let seen : Foresees flow.future (registers_of x) x.committed.pc (w ∷ a ∷ V) = subst (Foresees flow.future (registers_of x) x.committed.pc) there h.foresees in
+          let long = registers_all b full.unit in
+          let past = foresees_left flow.future (registers_of x) x.committed.pc w (a ∷ V) long p.0.made seen in
+          let one : length (w ∷ a ∷ V) ≡ suc (length (a ∷ V)) = refl in
+          record {
+            goes_on = ap (λ (z : Pipeline). z.over) l.rest ∙ h.goes_on;
+            there = subst (λ (z : Pipeline). AreThere z.program.now after.ring.completed) (sym l.rest) (subst (AreThere x.program.now) (sym l.completed) (there_less x.program.now flow.ring.completed h.there));
+            completed = subst HaveCompleted (sym behind) (completed_less w (a ∷ V) (subst HaveCompleted there h.completed));
+            foresees = subst (Foresees after.future (registers_of y) y.committed.pc) (sym behind)
+                (subst (λ g. Foresees g (registers_of y) y.committed.pc (a ∷ V)) (sym l.future)
+                (subst (λ r. Foresees flow.future r y.committed.pc (a ∷ V)) regs
+                (record { all = past.all; values = past.values; path = past.path ∙ path_any w.next y.committed.pc a V })));
+            half = l.half ∙ h.half ∙ ap (half_in x.low) there ∙ half_less x.low y.low w a V ∙ sym (ap (half_in y.low) behind);
+            stores = l.stores
+                ∙ ap (stores_behind w) (h.stores ∙ ap (λ V. stores (registers_of x) V (length V)) there)
+                ∙ stores_passed (registers_of x) w (a ∷ V) v long (λ n. made_value w.made (p.0.made n))
+                ∙ ap (λ r. stores r (a ∷ V) (length (a ∷ V))) regs
+                ∙ sym (ap (λ V. stores (registers_of y) V (length V)) behind);
+            accesses = left_accesses flow.accesses after.accesses (access_of i) (accesses (a ∷ V) (length (a ∷ V))) (accesses (window_of y after) (length (window_of y after))) l.accesses
+                (h.accesses ∙ ap (λ V. accesses V (length V)) there ∙ accesses_drop (w ∷ a ∷ V) w (length (a ∷ V)) refl) (ap (λ V. accesses V (length V)) behind);
+          }
+
+  pub left_room : HasRoom y after
+  left_room =
+      let shows = passed_shows b later w whole first later_is in
+      let ring : y.ring ≡ x.ring = ap (λ (p : Pipeline). p.ring) l.rest in
+      record {
+        unit = shows.unit;
+        flowing = flows_on;
+        room = omega (arith, ap length rest_is, length-drop 1 W, full.full, full.two, ring);
+        two = omega (arith, ring, full.two);
+        untold = ap (slice_get y.leavers) free_is ∙ ap (λ (p : Pipeline). slice_get p.leavers x.oldest) l.rest ∙ oldest_untold b w full.unit first;
+      }
+
+  pub left_program : y.program ≡ x.program
+  left_program = ap (λ (p : Pipeline). p.program) l.rest
+
+  pub left_more : x.committed.count ≤ y.committed.count
+  left_more = passed_counts b later w whole first later_is
+
+  pub left_runs : (limit : ℕ) → x.committed.count < limit → run_from y limit ≡ run_from x limit
+  left_runs = passed_runs b later w whole first later_is
+
+  pub left_less : (limit : ℕ) → x.committed.count < limit → to_do limit y < to_do limit x
+  left_less = passed_less b later w whole first later_is

@@ -20,7 +20,7 @@ pub record Found (P : Program) (U : List Tenant) (i : ℕ) (w : Station) : Type 
   pub station : station_of P t ≡ w
   pub place : i ≡ length (window P ts)
 
-pub get_append : (xs : List Station) (x w : Station) (i : ℕ) → slice_get (xs ++ x ∷ []) i ≡ Some w → (slice_get xs i ≡ Some w) ⊎ ((i ≡ length xs) × (x ≡ w))
+pub get_append : {X : Type 0} → (xs : List X) (x w : X) (i : ℕ) → slice_get (xs ++ x ∷ []) i ≡ Some w → (slice_get xs i ≡ Some w) ⊎ ((i ≡ length xs) × (x ≡ w))
 get_append [] x w zero h = inr (refl, cc)
 get_append [] x w (suc i) h = absurd (cc)
 get_append (y ∷ xs) x w zero h = inl h

@@ -17,6 +17,7 @@ pub mod Ring
 pub mod Noted
 pub mod Windows
 pub mod Found
+pub mod FreeStation
 pub mod Queues
 pub mod Tests
 pub mod Leavers
@@ -32,6 +33,7 @@ pub mod Fates
 pub mod Inside
 pub mod CanLeave
 pub mod Commits
+pub mod Completions
 pub mod Leaving
 pub mod EndTurns
 pub mod Start
@@ -51,8 +53,8 @@ pub mod StreamsIn
 pub mod StreamsLoads
 pub mod StreamsOut
 pub mod Mended
-pub mod Rings
 pub mod Stores
-pub mod Flowing
-pub mod FlowOut
 pub mod FlowIn
+pub mod FlowOut
+pub mod FlowStays
+pub mod Flowing

@@ -1,25 +1,32 @@
 -- The flow of a full ring: how the next instruction enters it and completes, and the oldest leaves it.
-use Rattle.std.specs.Prelude.{◌≡◌, ◌≢◌, ◌<◌, ℕ, ◌+◌, ◌-◌, ◌*◌, Bool, true, false, List, length, Option, Some, None, is_some, is_none, unwrap_or, if◌then◌else◌, slice_get}
+use Rattle.std.specs.Prelude.{◌≡◌, ◌≢◌, ◌≤◌, ◌<◌, ℕ, ◌+◌, ◌-◌, ◌*◌, ◌%◌, Bool, true, false, List, [], ◌∷◌, ◌++◌, length, Option, Some, None, is_some, is_none, unwrap_or, if◌then◌else◌, slice_get, slice_set}
 use Rattle.instructions.specs.Instruction.{is_first_half, kind, width}
-use Rattle.instructions.specs.Programs.{instr_at}
+use Rattle.instructions.specs.Operations.{outcome_of}
+use Rattle.instructions.specs.Programs.{Program, instr_at}
 use Rattle.instructions.specs.Registers.{lo}
+use Rattle.instructions.specs.declared.guessing.Leaver.{Leaver}
+use Rattle.instructions.specs.declared.instr.Instr.{Instr}
 use Rattle.instructions.specs.declared.op.Kind.{Kind}
 use Rattle.instructions.specs.declared.op.Kind.TheVariants.{Loads as LoadKind}
 use Rattle.instructions.specs.declared.op.Op.{Op}
 use Rattle.instructions.specs.declared.stop.Outcome.{Outcome}
 use Rattle.instructions.specs.declared.stop.Outcome.TheVariants.{Address, Next}
 use Rattle.instructions.specs.declared.stop.Stop.{Stop}
+use Rattle.inorder.specs.Committed.{ahead_by}
+use Rattle.inorder.specs.Machine.{State}
 use Rattle.lsq.specs.LoadRule.{answer_over}
 use Rattle.lsq.specs.declared.entry.Entry.{Entry}
-use Rattle.one_thread.specs.Changes.{ahead_of, registers_of}
-use Rattle.one_thread.specs.FullRing.{stores}
+use Rattle.one_thread.specs.Changes.{registers_of}
+use Rattle.one_thread.specs.FullRing.{station_by, stations, stores}
 use Rattle.one_thread.specs.Leaves.{with_station}
 use Rattle.one_thread.specs.Loads.{value_by}
 use Rattle.one_thread.specs.Notes.{settled_by}
+use Rattle.one_thread.specs.StandsFor.{StandsForSome}
 use Rattle.one_thread.specs.Steady.{Foresees, GoesOnBehind}
-use Rattle.one_thread.specs.Window.{accesses, further_on, half_in, reaches_memory, station_after}
-use Rattle.one_thread.specs.declared.dispatch.Fetched.{Fetched}
+use Rattle.one_thread.specs.Window.{accesses, further_on, half_in, let_at, reaches_memory, station_after}
+use Rattle.one_thread.specs.declared.execute.Operands.{Operands}
 use Rattle.one_thread.specs.declared.flow.Flow.{Flow}
+use Rattle.one_thread.specs.declared.full_ring.Completed.{Completed}
 use Rattle.one_thread.specs.declared.future.Future.{Future}
 use Rattle.one_thread.specs.declared.pipeline.Pipeline.{Pipeline}
 use Rattle.one_thread.specs.declared.station.Stage.TheVariants.{Done, Stops}
@@ -56,41 +63,114 @@ WritesLow w = is_first_half w.instr.op w.half ≡ true → w.destination ≡ lo
 abbrev pub HaveCompleted : List Station → Type 0
 HaveCompleted W = (k : ℕ) (w : Station) → slice_get W k ≡ Some w → HasCompleted w × WritesLow w
 
--- The future behind one station more, which has completed
-pub record Absorbs (f : Future) (w : Station) (later : Future) : Type 0 where
-  pub completed : HasCompleted w
-  pub goes_on : GoesOnBehind f w.destination w.made w.next later
-
--- The fields with these stations in the window, of which all have completed where one is free
+-- The fields with these stations in the window, of which all but the youngest have completed
 abbrev pub filled : Pipeline → List Station → Pipeline
 filled b W = record b { window = W; missed = false; settled = b.ring - 1 }
+
+-- The stations of a flow
+abbrev pub window_of : Pipeline → Flow → List Station
+window_of b flow = stations b.program.now flow.ring.completed
+
+-- An instruction stands at the address of each of these
+abbrev pub AreThere : Program → List Completed → Type 0
+AreThere P cs = (k : ℕ) (c : Completed) → slice_get cs k ≡ Some c → is_some (instr_at P c.pc) ≡ true
 
 -- All stations of a flow have completed, and this is what the next instruction finds
 pub record IsFlowing (b : Pipeline) (flow : Flow) : Type 0 where
   pub goes_on : b.over ≡ None
-  pub completed : HaveCompleted flow.ring.window
-  pub foresees : Foresees flow.future (registers_of b) b.committed.pc flow.ring.window
-  pub half : flow.half ≡ half_in b.low flow.ring.window
-  pub stores : flow.ring.stores ≡ stores (registers_of b) flow.ring.window (length flow.ring.window)
+  pub there : AreThere b.program.now flow.ring.completed
+  pub completed : HaveCompleted (window_of b flow)
+  pub foresees : Foresees flow.future (registers_of b) b.committed.pc (window_of b flow)
+  pub half : flow.half ≡ half_in b.low (window_of b flow)
+  pub stores : flow.ring.stores ≡ stores (registers_of b) (window_of b flow) (length (window_of b flow))
+  pub accesses : flow.accesses ≡ accesses (window_of b flow) (length (window_of b flow))
+
+-- The station that is free where all others are taken
+abbrev pub free_of : Pipeline → ℕ
+free_of b = (b.oldest + (b.ring - 1)) % b.ring
+
+-- The fields where this has left the free station
+abbrev pub with_leaver : Pipeline → Option Leaver → Pipeline
+with_leaver b told = record b { leavers = slice_set b.leavers (free_of b) told }
+
+-- One station is free, and the predictor is told of who has left that by the flow
+pub record HasRoom (b : Pipeline) (flow : Flow) : Type 0 where
+  pub unit : StandsForSome (with_leaver (filled b (window_of b flow)) flow.told)
+  pub flowing : IsFlowing b flow
+  pub room : length (window_of b flow) + 1 ≡ b.ring
+  pub two : 2 ≤ b.ring
+  pub untold : slice_get b.leavers (free_of b) ≡ Some None
+
+-- No station is free
+pub record IsFull (b : Pipeline) (flow : Flow) : Type 0 where
+  pub unit : StandsForSome (filled b (window_of b flow))
+  pub flowing : IsFlowing b flow
+  pub full : length (window_of b flow) ≡ b.ring
+  pub two : 2 ≤ b.ring
 
 -- The next instruction can enter
-pub record CanEnter (b : Pipeline) (flow : Flow) (f : Fetched) : Type 0 where
-  pub is : instr_at b.program.now f.pc ≡ Some f.instr
-  pub place : f.pc ≡ flow.future.pc
-  pub half : f.half ≡ flow.half
-  pub free :
-      reaches_memory f.instr.op ≡ true →
-      accesses flow.ring.window (length flow.ring.window) < b.queue
+pub record CanEnter (b : Pipeline) (flow : Flow) (i : Instr) : Type 0 where
+  pub is : instr_at b.program.now flow.future.pc ≡ Some i
+  pub free : reaches_memory i.op ≡ true → flow.accesses < b.queue
 
--- What the oldest tenant leaves behind where all have completed: a first half what waits for LO, any other what it
--- commits with that
-abbrev pub passed_by : Bool → Station → Pipeline → Pipeline
-passed_by true w b = record b { low = Some (unwrap_or w.made 0) }
-passed_by false w b = record b { committed = with_station w (ahead_of b); low = None }
+-- The station of the next instruction as it is let
+abbrev pub enters_as : Flow → Instr → ℕ → Station
+enters_as flow i predicted = let_at i flow.half flow.future.pc predicted
 
--- What any oldest tenant leaves behind
+-- Its outcome
+abbrev pub outcome_in : Pipeline → Flow → Instr → Operands → Outcome
+outcome_in b flow i o = outcome_of i flow.half flow.future.pc o.a o.b (length b.program.now.bytes)
+
+-- What it comes to
+abbrev pub comes_to : Pipeline → Flow → Instr → ℕ → Operands → Station
+comes_to b flow i predicted o =
+    completed_by (enters_as flow i predicted) (outcome_in b flow i o)
+    (load_of flow.ring.stores b.committed.memory i.op (outcome_in b flow i o))
+
+-- It has completed so, or has stopped or waits
+abbrev pub Completes : Pipeline → Flow → Instr → ℕ → Operands → Option Completed → Type 0
+Completes b flow i predicted o None =
+    comes_to b flow i predicted o ≡ station_after (enters_as flow i predicted) (outcome_in b flow i o)
+Completes b flow i predicted o (Some c) =
+    (c.pc ≡ flow.future.pc) × (comes_to b flow i predicted o ≡ station_by i c)
+
+-- The stations of a flow, and one more
+abbrev pub with_last : List Station → Option Station → List Station
+with_last W None = W
+with_last W (Some w) = W ++ w ∷ []
+
+-- The fields that a flow stands for, with an instruction that has entered and has not completed, if there is one
+abbrev pub restored : Pipeline → Flow → Option Station → Pipeline
+restored b flow last = with_leaver (filled b (with_last (window_of b flow) last)) flow.told
+
+-- An instruction has entered, and has not completed
+pub record HasStayed (b : Pipeline) (flow : Flow) (w : Station) : Type 0 where
+  pub unit : StandsForSome (restored b flow (Some w))
+  pub there : AreThere b.program.now flow.ring.completed
+  pub room : length flow.ring.completed < 32
+
+-- An instruction has entered: it has completed, or this is its station
+abbrev pub HasEntered : Pipeline → Flow → Option Station → Type 0
+HasEntered b flow None = IsFull b flow
+HasEntered b flow (Some w) = HasStayed b flow w
+
+-- What the oldest tenant commits where all have completed: a first half nothing, any other with what waits for LO
+abbrev pub committed_by : Bool → Station → Option ℕ → State → State
+committed_by true w low s = s
+committed_by false w low s = with_station w (ahead_by low s)
+
+-- What waits for LO behind it
+abbrev pub low_by : Bool → Station → Option ℕ
+low_by true w = Some (unwrap_or w.made 0)
+low_by false w = None
+
+-- What it leaves behind
 abbrev pub passed_on : Station → Pipeline → Pipeline
-passed_on w b = passed_by (is_first_half w.instr.op w.half) w b
+passed_on w b =
+    record b {
+      committed = committed_by (is_first_half w.instr.op w.half) w b.low b.committed;
+      low = low_by (is_first_half w.instr.op w.half) w;
+    }
 
 -- How many retirements there are up to a limit at the most
 abbrev pub to_do : ℕ → Pipeline → ℕ

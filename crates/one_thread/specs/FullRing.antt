@@ -1,25 +1,69 @@
 -- Completed instructions in a ring of slots, and the stores among them.
-use Rattle.std.specs.Prelude.{◌≡◌, ◌<◌, ◌≤◌, ℕ, zero, suc, Bool, List, [], length, drop, Option, Some, None, if◌then◌else◌, slice_get}
-use Rattle.instructions.specs.Instruction.{kind}
+use Rattle.std.specs.Prelude.{◌≡◌, ◌<◌, ◌≤◌, ℕ, zero, suc, Bool, List, [], ◌∷◌, length, drop, Option, Some, None, if◌then◌else◌, slice_get, unwrap_or}
+use Rattle.instructions.specs.Instruction.{destination, kind}
+use Rattle.instructions.specs.Programs.{Program, instr_at}
+use Rattle.instructions.specs.declared.instr.Instr.{Instr}
+use Rattle.instructions.specs.declared.op.Kind.{Kind}
+use Rattle.instructions.specs.declared.op.Kind.TheVariants.{Jumps, Stores}
+use Rattle.instructions.specs.declared.op.Op.TheVariants.{Break}
 use Rattle.inorder.specs.Loads.{access_entry, is_store}
 use Rattle.lsq.specs.declared.entry.Entry.{Entry}
 use Rattle.one_thread.specs.Forwarding.{store_at}
 use Rattle.one_thread.specs.Loads.{address_of, with_entry}
-use Rattle.one_thread.specs.Slots.{ring_of}
-use Rattle.one_thread.specs.Window.{accesses}
+use Rattle.one_thread.specs.declared.full_ring.Completed.{Completed}
+use Rattle.one_thread.specs.declared.station.Stage.{Stage}
+use Rattle.one_thread.specs.declared.station.Stage.TheVariants.{Addr, Done}
 use Rattle.one_thread.specs.declared.station.Station.{Station}
 
--- Stations, the oldest first, and the entries of their stores
+-- Completed instructions, the oldest first, and the entries of their stores
 pub record Contents : Type 0 where
-  pub window : List Station
+  pub completed : List Completed
   pub stores : List Entry
 
--- The fields of a ring, of which so many stations reach memory
-pub record IsRing (stations : List Station) (start len counted : ℕ) : Type 0 where
+-- The fields of a ring
+pub record IsRing (slots : List Completed) (start len : ℕ) : Type 0 where
   pub begins : start < 32
   pub most : len ≤ 32
-  pub every_station : length stations ≡ 32
-  pub counts : counted ≡ accesses (ring_of stations start len) len
+  pub every_slot : length slots ≡ 32
+
+-- What a completed instruction has made, by its value
+abbrev pub made_by : Kind → ℕ → Option ℕ
+made_by Jumps v = None
+made_by Stores v = None
+made_by _ v = Some v
+
+-- How far it has come
+abbrev pub stage_by : Kind → ℕ → Stage
+stage_by Stores v = Addr v
+stage_by _ v = Done
+
+-- Its station
+abbrev pub station_by : Instr → Completed → Station
+station_by i c =
+    record {
+      instr = i;
+      half = c.half;
+      destination = destination i c.half;
+      pc = c.pc;
+      predicted = c.predicted;
+      next = c.next;
+      made = made_by (kind i.op) c.value;
+      stage = stage_by (kind i.op) c.value;
+    }
+
+-- The instruction at an address where there is one
+abbrev pub instr_there : Program → ℕ → Instr
+instr_there P pc =
+    unwrap_or (instr_at P pc) (record { op = Break; target = 0; first = 0; second = 0; number = 0 })
+
+-- The station of a completed instruction of a program
+abbrev pub station_in : Program → Completed → Station
+station_in P c = station_by (instr_there P c.pc) c
+
+-- The stations of several
+abbrev pub stations : Program → List Completed → List Station
+stations P [] = []
+stations P (c ∷ cs) = station_in P c ∷ stations P cs
 
 -- A station is that of a store
 abbrev pub is_stored : Station → Bool

@@ -94,7 +94,7 @@ impl<'a> Pipeline<'a> {
     {
         let station = self.station_at(self.window.len());
         let left = self.leaver(station);
-        let predicted = guess(predictor, left, &next);
+        let predicted = guess(predictor, left, &next.instr, next.half, next.pc);
         let Operands { a, b } = future.operands(&next.instr);
         let size = self.program.size();
         let instr = next.instr.to_instr();

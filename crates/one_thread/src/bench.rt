@@ -8,9 +8,9 @@ ghost use Rattle.inorder.specs.Unit.{empty_unit};
 ghost use Rattle.one_thread.specs.Order.{IsTurn};
 ghost use Rattle.one_thread.specs.Turns.{Falls, SizesStay, stalled_after};
 
-use crate::flow::PATIENCE;
 use crate::pipeline::Pipeline;
 use crate::station::Station;
+use crate::staying::PATIENCE;
 use instructions::{Config, End, Ending, Memory, Predictor, Program, Stop};
 use std::alloc::Global;
 use std::marker::Model;

@@ -1,6 +1,7 @@
 //! Decoded instructions.
 ghost use Rattle.std.specs.Prelude.{◌≡◌};
 ghost use Rattle.instructions.specs.Instruction.{destination as destination_of, first_of, fixed_next as fixed_next_of, fixed_next_by, is_access as is_access_of, is_first_half as first_half, kind as kind_of, second_of};
+ghost use Rattle.inorder.specs.Unit.{half_after};
 ghost use Rattle.one_thread.specs.Decoding.{goes_of as goes_in};
 
 use instructions::{Half, Instr, Kind, Op, Reg, pc_plus_4};
@@ -124,6 +125,17 @@ impl Decoded {
         ensures { result ≡ first_half self.now.op half }
     {
         self.pair && half == Half::Low
+    }
+
+    /// The half that comes behind one: behind a first half its second.
+    pub(crate) fn half_behind(&self, half: Half) -> Half
+        ensures { result ≡ half_after (first_half self.now.op half) }
+    {
+        if self.is_first_half(half) {
+            Half::High
+        } else {
+            Half::Low
+        }
     }
 
     /// The register that a half changes; register 0 where it changes none.

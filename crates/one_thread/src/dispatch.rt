@@ -1,8 +1,6 @@
 //! Dispatch.
 ghost use Rattle.std.specs.Prelude.{⊤, ◌≡◌, ◌<◌, ◌≤◌, ◌-◌, ◌+◌, ◌%◌, [], ◌∷◌, ◌++◌, length, take, slice_get, slice_set, Some, None};
-ghost use Rattle.instructions.specs.Instruction.{is_first_half};
 ghost use Rattle.instructions.specs.Programs.{instr_at};
-ghost use Rattle.inorder.specs.Unit.{half_after};
 ghost use Rattle.one_thread.specs.Ahead.{waiting_half as waiting_half_of};
 ghost use Rattle.one_thread.specs.declared.bench.Turn.TheVariants.{Let};
 ghost use Rattle.one_thread.specs.Changes.{NextOf, NoneRecovers, next_place};
@@ -19,7 +17,7 @@ use crate::decoded::Decoded;
 use crate::fetch::{fetch, fetch_known};
 use crate::leaver::guess;
 use crate::pipeline::Pipeline;
-use crate::station::{Stage, Station, made_at_let};
+use crate::station::{Stage, made_at_let};
 use inorder::wrapped;
 use instructions::{Half, Leaver, Predictor};
 
@@ -38,17 +36,6 @@ pub fn waiting_half(low: Option<u32>) -> Half
     match low {
         None => Half::Low,
         Some(_) => Half::High,
-    }
-}
-
-// The half that comes behind a station: behind a first half its second.
-pub fn half_behind(station: &Station) -> Half
-    ensures { result ≡ half_after (is_first_half station.now.instr.op station.now.half) }
-{
-    if station.instr.is_first_half(station.half) {
-        Half::High
-    } else {
-        Half::Low
     }
 }
 
@@ -83,7 +70,7 @@ impl<'a> Pipeline<'a> {
     {
         match self.window.last() {
             None => (self.committed.pc(), waiting_half(self.low)),
-            Some(station) => (station.next, half_behind(station)),
+            Some(station) => (station.next, station.instr.half_behind(station.half)),
         }
     }
 
@@ -190,7 +177,7 @@ impl<'a> Pipeline<'a> {
             record self.old { window = self.new.window; leavers = self.new.leavers } }
     {
         let left = self.leaver(station);
-        let predicted = guess(predictor, left, &next);
+        let predicted = guess(predictor, left, &next.instr, next.half, next.pc);
         self.let_out(next, station, predicted);
         predicted
     }

@@ -1,175 +1,116 @@
-//! The flow of a full ring: the next instruction is let, runs at once and has completed, and the oldest retires.
-//!
-//! Where all live tenants but for one station have completed, one instruction more fills the ring. So it is the only
-//! one that can be claimed, and what it comes to stands before anything else is let: a miss squashes nobody and is
-//! mended in place, a load is answered, and then the oldest tenant retires. These are the turns in their order.
-ghost use Rattle.std.specs.Prelude.{⊤, ◌≡◌, ◌<◌, ◌≤◌, ◌+◌, ◌-◌, ◌^◌, ℕ, length, IfSome, None};
-ghost use Rattle.one_thread.specs.Changes.{run_from};
-ghost use Rattle.one_thread.specs.Flow.{IsFlowing, WritesLow, filled, passed_on, to_do};
-ghost use Rattle.one_thread.specs.Givers.{Chosen};
-ghost use Rattle.one_thread.specs.Leaves.{HasEnded};
-ghost use Rattle.one_thread.specs.StandsFor.{StandsForSome};
+//! The flow of a full ring: completed instructions, and what the next one finds.
+ghost use Rattle.std.specs.Prelude.{◌≡◌, ◌≢◌, ◌<◌, ◌≤◌, ◌+◌, ◌-◌, ◌∷◌, ◌++◌, [], drop, length, None};
+ghost use Rattle.inorder.specs.Unit.{half_after};
+ghost use Rattle.instructions.specs.Guesses.{Guesses};
+ghost use Rattle.instructions.specs.Instruction.{is_first_half};
+ghost use Rattle.one_thread.specs.FullRing.{station_by, store_with, stores_behind};
+ghost use Rattle.one_thread.specs.Leavers.{told_at};
+ghost use Rattle.one_thread.specs.Loads.{with_entry};
+ghost use Rattle.one_thread.specs.Steady.{GoesOnBehind};
+ghost use Rattle.one_thread.specs.Window.{access_of};
 
-use crate::dispatch::{half_behind, waiting_half};
-use crate::forwarding::store_at;
-use crate::full_ring::FullRing;
+use crate::decoded::Decoded;
+use crate::full_ring::{Completed, FullRing};
 use crate::future::Future;
-use crate::leaver::told_of;
-use crate::pipeline::Pipeline;
-use crate::retire::leave_untold;
-use crate::station::Station;
-use crate::window::Window;
-use instructions::{Half, Predictor, Reg};
+use crate::leaver::{guess, leaver_of};
+use crate::window::access;
+use inorder::access_entry;
+use instructions::{Half, Kind, Leaver, Predictor};
 
-/// After so many retirements in a row from a full ring of completed instructions the unit keeps to these turns. It
-/// takes out all stations for that and puts them back, which costs as much as a few turns.
-pub const PATIENCE: u32 = 8;
-
-/// A ring that is full but for one station, and what the next instruction finds.
+/// The completed instructions of a ring that is full but for one station, and what the next one finds.
 #[derive(Drop)]
 pub struct Flow {
     pub ring: FullRing,
     pub future: Future,
     pub half: Half,
+    /// How many of its instructions reach memory.
+    pub accesses: usize,
+    /// Who has left the free station, if the predictor is to be told of it.
+    pub told: Option<Leaver>,
 }
 
-// Whether a station writes LO, if it is that of a first half.
-fn writes_low(station: &Station) -> bool
-    ensures { Chosen result (WritesLow station.now) ⊤ }
-{
-    station.destination == Reg::LO || !station.instr.is_first_half(station.half)
-}
-
-impl<'a> Pipeline<'a> {
-    // What the oldest tenant has made waits for LO, if it is a first half, and is committed else, with what waits.
+impl Flow {
+    /// The next instruction as one that has completed.
     #[inline(always)]
-    fn passes_on(&mut self, oldest: &Station)
-        requires count { self.old.committed.count < 2 ^ 64 - 1 }
-        requires can { HasEnded (length self.old.committed.memory)
-            oldest.now.instr oldest.now.stage }
-        ensures { self.new ≡ passed_on oldest.now self.old }
+    pub fn completed(&self, value: u32, predicted: u32, next: u32) -> Completed
+        ensures { result ≡ record {
+          pc = self.now.future.pc;
+          half = self.now.half;
+          predicted = predicted;
+          next = next;
+          value = value;
+        } }
     {
-        if oldest.instr.is_first_half(oldest.half) {
-            self.low = Some(oldest.made.unwrap_or(0));
-        } else {
-            self.commit(oldest);
+        Completed {
+            pc: self.future.pc,
+            half: self.half,
+            predicted,
+            next,
+            value,
         }
     }
 
-    // Retires the oldest tenant of a full ring.
+    /// Asks a predictor where the next instruction goes on, once it was told of who has left.
     #[inline(always)]
-    fn leaves_flow(&mut self, flow: &mut Flow)
-        requires unit { StandsForSome (filled self.old flow.old.ring.window) }
-        requires flowing { IsFlowing self.old flow.old }
-        requires full { length flow.old.ring.window ≡ self.old.ring }
-        requires two { 2 ≤ self.old.ring }
-        requires count { self.old.committed.count < 2 ^ 64 - 1 }
-        ensures unit { StandsForSome (filled self.new flow.new.ring.window) }
-        ensures flowing { IsFlowing self.new flow.new }
-        ensures room { length flow.new.ring.window + 1 ≡ self.new.ring }
-        ensures program { self.new.program ≡ self.old.program }
-        ensures ring { self.new.ring ≡ self.old.ring }
-        ensures more { self.old.committed.count ≤ self.new.committed.count }
-        ensures ends { (limit : ℕ) → self.old.committed.count < limit →
-            run_from self.new limit ≡ run_from self.old limit }
-        ensures less { (limit : ℕ) → self.old.committed.count < limit →
-            to_do limit self.new < to_do limit self.old }
+    pub fn guess<P: Predictor>(&mut self, predictor: &mut P, instr: &Decoded) -> u32
+        ensures guesses { Guesses P.Predicts P.Learns self.old.told instr.now self.old.half
+            self.old.future.pc result predictor.old predictor.new }
+        ensures rest { self.new ≡ record self.old { told = None } }
     {
-        let oldest = flow.ring.oldest();
-        leave_untold(&mut self.leavers, self.oldest, told_of(&oldest));
-        self.passes_on(&oldest);
-        self.oldest = self.station_behind(self.oldest);
-        flow.ring.shift(&oldest);
+        let left = self.told;
+        self.told = None;
+        guess(predictor, left, instr, self.half, self.future.pc)
     }
 
-    // Lets instructions enter a flow, and the oldest leave it, as long as each completes and the count has not
-    // reached a limit.
+    /// A completed instruction joins, with its content, if it is a store.
     #[inline(always)]
-    fn flows<P: Predictor>(&mut self, predictor: &mut P, flow: &mut Flow, limit: u64)
-        requires unit { StandsForSome (filled self.old flow.old.ring.window) }
-        requires flowing { IsFlowing self.old flow.old }
-        requires room { length flow.old.ring.window + 1 ≡ self.old.ring }
-        requires two { 2 ≤ self.old.ring }
-        ensures unit { StandsForSome (filled self.new flow.new.ring.window) }
-        ensures program { self.new.program ≡ self.old.program }
-        ensures more { self.old.committed.count ≤ self.new.committed.count }
-        ensures ends { run_from self.new limit ≡ run_from self.old limit }
+    pub fn joins(&mut self, instr: &Decoded, completed: Completed, content: u32)
+        requires room { length self.old.ring.completed < 32 }
+        requires few { length self.old.ring.stores < 32 }
+        requires all { length self.old.future.values ≡ 34 }
+        requires accesses { self.old.accesses ≤ 32 }
+        ensures completed { self.new.ring.completed ≡ self.old.ring.completed ++ completed ∷ [] }
+        ensures stores { self.new.ring.stores ≡
+            with_entry self.old.ring.stores (store_with (station_by instr.now completed) content) }
+        ensures future { GoesOnBehind self.old.future (station_by instr.now completed).destination
+            (station_by instr.now completed).made completed.next self.new.future }
+        ensures half { self.new.half ≡ half_after (is_first_half instr.now.op completed.half) }
+        ensures accesses { self.new.accesses ≡ self.old.accesses + access_of instr.now }
+        ensures told { self.new.told ≡ self.old.told }
     {
-        while self.committed.count() < limit {
-            let Some(next) = self.next_in(flow) else {
-                return;
-            };
-            if !self.enters_flow(predictor, flow, next) {
-                return;
-            }
-            self.leaves_flow(flow);
+        self.accesses += access(instr);
+        self.ring.push(completed);
+        let destination = instr.destination(completed.half);
+        self.future
+            .follows(destination, completed.value, completed.next);
+        self.half = instr.half_behind(completed.half);
+        if let Kind::Stores = instr.kind() {
+            let entry = access_entry(instr.op(), Some(completed.value), Some(content));
+            self.ring.push_store(entry);
         }
     }
 
-    // The live tenants as a flow, if all have completed.
-    fn flow(&self) -> Option<Flow>
-        requires unit { StandsForSome self.now }
-        requires goes_on { self.now.over ≡ None }
-        ensures flowing { IfSome result (IsFlowing self.now) }
-        ensures window { IfSome result (λ flow. flow.ring.window ≡ self.now.window) }
-    {
-        let mut flow = Flow {
-            ring: FullRing::new(),
-            future: Future::behind(&self.ahead()),
-            half: waiting_half(self.low),
-        };
-        for i in 0..self.window.len() {
-            let station = self.window.get(i);
-            if !writes_low(&station) || !flow.future.absorbs(&station) {
-                return None;
-            }
-            flow.ring
-                .push(&station, store_at(&self.window, &self.ahead(), i));
-            flow.half = half_behind(&station);
-        }
-        Some(flow)
-    }
-
-    // The stations of a ring are the window's.
-    fn restores(&mut self, ring: &FullRing)
-        requires { 0 < self.old.ring }
-        ensures { self.new ≡ filled self.old ring.now.window }
-    {
-        let mut window = Window::new();
-        for i in 0..ring.len() {
-            window.join(&ring.get(i));
-        }
-        self.window = window;
-        self.missed = false;
-        self.settled = self.ring - 1;
-    }
-
-    /// How many retirements in a row have left one station free and all live tenants completed, with the last one.
+    /// The oldest instruction leaves.
     #[inline(always)]
-    pub fn full_again(&self, before: u32) -> u32 {
-        if self.window.len() + 1 == self.ring && self.window.len() <= self.settled {
-            return before.saturating_add(1);
-        }
-        0
-    }
-
-    /// Turns as long as one station is free, all live tenants have completed, and the count has not reached a limit.
-    #[inline(never)]
-    pub fn stays_full<P: Predictor>(&mut self, predictor: &mut P, limit: u64)
-        requires unit { StandsForSome self.old }
-        ensures unit { StandsForSome self.new }
-        ensures program { self.new.program ≡ self.old.program }
-        ensures more { self.old.committed.count ≤ self.new.committed.count }
-        ensures ends { run_from self.new limit ≡ run_from self.old limit }
+    pub fn leaves(&mut self, instr: &Decoded, oldest: &Completed)
+        requires some { 0 < length self.old.ring.completed }
+        requires counted { access_of instr.now ≤ self.old.accesses }
+        ensures completed { self.new.ring.completed ≡ drop 1 self.old.ring.completed }
+        ensures stores { self.new.ring.stores ≡
+            stores_behind (station_by instr.now oldest.now) self.old.ring.stores }
+        ensures accesses { self.new.accesses ≡ self.old.accesses - access_of instr.now }
+        ensures told { self.new.told ≡ told_at (station_by instr.now oldest.now) }
+        ensures rest { self.new ≡ record self.old {
+          ring = self.new.ring;
+          accesses = self.new.accesses;
+          told = self.new.told;
+        } }
     {
-        if self.over.is_some() || self.ring < 2 || self.window.len() + 1 != self.ring {
-            return;
+        self.accesses -= access(instr);
+        self.told = leaver_of(instr, oldest.half, oldest.pc, oldest.next);
+        self.ring.shift();
+        if let Kind::Stores = instr.kind() {
+            self.ring.shift_store();
         }
-        let Some(flow) = self.flow() else {
-            return;
-        };
-        let mut flow = flow;
-        self.flows(predictor, &mut flow, limit);
-        self.restores(&flow.ring);
     }
 }

@@ -1,27 +1,33 @@
 //! Completed instructions of a ring that is full but for one station, and the stores among them.
 ghost use Rattle.std.specs.Prelude.{◌≡◌, ◌<◌, ◌≤◌, [], ◌∷◌, ◌++◌, length, drop, slice_get, Some};
-ghost use Rattle.one_thread.specs.FullRing.{is_stored, stores_behind};
-ghost use Rattle.one_thread.specs.Loads.{with_entry};
-ghost use Rattle.one_thread.specs.Window.{accesses as accesses_of};
 
 use crate::places::slot_of;
-use crate::station::{Station, unused};
-use crate::window::access;
 use arrayvec::ArrayVec;
-use instructions::Kind;
+use instructions::Half;
 use lsq::Entry;
 use std::marker::Model;
 
-/// At most 32 stations in a ring of slots, the oldest first, and the entries of the stores among them. Unlike a
-/// window it does not keep who makes what a tenant reads.
+/// A completed instruction. With its program this is all that its station holds.
+#[derive(Clone, Copy)]
+pub struct Completed {
+    pub pc: u32,
+    pub half: Half,
+    /// The next pc that was predicted.
+    pub predicted: u32,
+    /// Where it has gone on.
+    pub next: u32,
+    /// What it has made for its register, or where it stores; 0 for a jump that does not link.
+    pub value: u32,
+}
+
+/// At most 32 completed instructions in a ring of slots, the oldest first, and the entries of the stores among them.
+/// Unlike a window it does not keep who makes what a tenant reads.
 #[derive(Drop)]
 pub struct FullRing {
-    stations: [Station; 32],
+    slots: [Completed; 32],
     // the slot of the oldest
     start: usize,
     len: usize,
-    // how many of them reach memory
-    accesses: usize,
     stores: ArrayVec<Entry, 32>,
 }
 
@@ -32,49 +38,44 @@ impl Model for FullRing {
     ghost Value = { Contents };
 
     ghost view = { λ r. record {
-      window = ring_of r.stations r.start r.len;
+      completed = ring_of r.slots r.start r.len;
       stores = r.stores.items;
     } };
 
-    ghost invariant = { λ r. IsRing r.stations r.start r.len r.accesses };
+    ghost invariant = { λ r. IsRing r.slots r.start r.len };
 }
 
-/// The station is that of a store.
-#[inline(always)]
-pub fn is_stored(station: &Station) -> bool
-    ensures { result ≡ is_stored station.now }
-{
-    matches!(station.instr.kind(), Kind::Stores)
+// The content of a slot that nobody has used.
+fn unused() -> Completed {
+    Completed {
+        pc: 0,
+        half: Half::Low,
+        predicted: 0,
+        next: 0,
+        value: 0,
+    }
 }
 
 impl FullRing {
-    /// A ring without a tenant.
+    /// A ring without an instruction.
     pub fn new() -> FullRing
-        ensures window { result.window ≡ [] }
+        ensures completed { result.completed ≡ [] }
         ensures stores { result.stores ≡ [] }
     {
         FullRing {
-            stations: [unused(); 32],
+            slots: [unused(); 32],
             start: 0,
             len: 0,
-            accesses: 0,
             stores: ArrayVec::new(),
         }
     }
 
-    /// How many stations it holds.
+    /// How many instructions it holds.
     pub fn len(&self) -> usize
-        ensures value { result ≡ length self.now.window }
+        ensures value { result ≡ length self.now.completed }
         ensures most { result ≤ 32 }
     {
         self.len
-    }
-
-    /// How many of its instructions reach memory.
-    pub fn accesses(&self) -> usize
-        ensures { result ≡ accesses_of self.now.window (length self.now.window) }
-    {
-        self.accesses
     }
 
     /// The stores, the oldest first.
@@ -84,53 +85,60 @@ impl FullRing {
         self.stores.as_slice()
     }
 
-    /// The station at `i`.
-    pub fn get(&self, i: usize) -> Station
-        requires { i < length self.now.window }
-        ensures { slice_get self.now.window i ≡ Some result }
+    /// The instruction at `i`.
+    pub fn get(&self, i: usize) -> Completed
+        requires { i < length self.now.completed }
+        ensures { slice_get self.now.completed i ≡ Some result }
     {
         let slot = slot_of(self.start, i);
-        self.stations[slot]
+        self.slots[slot]
     }
 
-    /// The oldest station.
+    /// The oldest instruction.
     #[inline(always)]
-    pub fn oldest(&self) -> Station
-        requires { 0 < length self.now.window }
-        ensures { slice_get self.now.window 0 ≡ Some result }
+    pub fn oldest(&self) -> Completed
+        requires { 0 < length self.now.completed }
+        ensures { slice_get self.now.completed 0 ≡ Some result }
     {
-        self.stations[self.start]
+        self.slots[self.start]
     }
 
-    /// A station joins, and its entry, if it is that of a store.
+    /// An instruction joins.
     #[inline(always)]
-    pub fn push(&mut self, station: &Station, store: Option<Entry>)
-        requires room { length self.old.window < 32 }
-        requires few { length self.old.stores < 32 }
-        ensures window { self.new.window ≡ self.old.window ++ station.now ∷ [] }
-        ensures stores { self.new.stores ≡ with_entry self.old.stores store }
+    pub fn push(&mut self, completed: Completed)
+        requires { length self.old.completed < 32 }
+        ensures { self.new ≡
+            record self.old { completed = self.old.completed ++ completed ∷ [] } }
     {
-        self.accesses += access(&station.instr);
         let slot = slot_of(self.start, self.len);
-        self.stations[slot] = *station;
+        self.slots[slot] = completed;
         self.len += 1;
-        if let Some(entry) = store {
-            self.stores.push(entry);
-        }
     }
 
-    /// The oldest station leaves, and its entry.
+    /// The entry of a store joins.
     #[inline(always)]
-    pub fn shift(&mut self, oldest: &Station)
-        requires { slice_get self.old.window 0 ≡ Some oldest.now }
-        ensures window { self.new.window ≡ drop 1 self.old.window }
-        ensures stores { self.new.stores ≡ stores_behind oldest.now self.old.stores }
+    pub fn push_store(&mut self, entry: Entry)
+        requires { length self.old.stores < 32 }
+        ensures { self.new ≡ record self.old { stores = self.old.stores ++ entry ∷ [] } }
     {
-        self.accesses -= access(&oldest.instr);
+        self.stores.push(entry);
+    }
+
+    /// The oldest instruction leaves.
+    #[inline(always)]
+    pub fn shift(&mut self)
+        requires { 0 < length self.old.completed }
+        ensures { self.new ≡ record self.old { completed = drop 1 self.old.completed } }
+    {
         self.start = slot_of(self.start, 1);
         self.len -= 1;
-        if is_stored(oldest) {
-            self.stores.pop_at(0);
-        }
+    }
+
+    /// The entry of the oldest store leaves.
+    #[inline(always)]
+    pub fn shift_store(&mut self)
+        ensures { self.new ≡ record self.old { stores = drop 1 self.old.stores } }
+    {
+        self.stores.pop_at(0);
     }
 }

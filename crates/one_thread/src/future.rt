@@ -1,9 +1,8 @@
 //! What a tenant finds that is let next, where all live ones have made what they write.
-ghost use Rattle.std.specs.Prelude.{⊤, ◌≡◌, ◌≢◌, ◌<◌, [], true, false, length, slice_index};
+ghost use Rattle.std.specs.Prelude.{⊤, ◌≡◌, ◌≢◌, ◌<◌, ℕ, [], true, false, length, slice_index, Option, Some};
 ghost use Rattle.instructions.specs.Instruction.{first_of, is_first_half, kind as kind_of, second_of};
 ghost use Rattle.instructions.specs.declared.stop.Stop.{Stop as Code};
 ghost use Rattle.one_thread.specs.declared.station.Stage.TheVariants.{Stops};
-ghost use Rattle.one_thread.specs.Flow.{Absorbs};
 ghost use Rattle.one_thread.specs.Givers.{Chosen};
 ghost use Rattle.one_thread.specs.Notes.{settled_by};
 ghost use Rattle.one_thread.specs.Steady.{Follows, Foresees, GoesOnBehind};
@@ -83,6 +82,21 @@ impl Future {
         true
     }
 
+    /// Goes on behind a station that writes a register, if it is not register 0, with this value, and goes on itself at
+    /// `next`.
+    #[inline(always)]
+    pub fn follows(&mut self, destination: Reg, value: u32, next: u32)
+        requires { length self.old.values ≡ 34 }
+        ensures { (made : Option ℕ) → (destination ≢ 0 → made ≡ Some value) →
+            GoesOnBehind self.old destination made next self.new }
+    {
+        let r = destination.number() as usize;
+        if r != 0 {
+            self.values[r] = value;
+        }
+        self.pc = next;
+    }
+
     /// The values where nobody is live.
     pub fn behind(ahead: &Ahead) -> Future
         requires { length ahead.now.registers ≡ 34 }
@@ -97,16 +111,6 @@ impl Future {
             values,
             pc: ahead.committed.pc(),
         }
-    }
-
-    /// Goes on behind a station, if that has completed.
-    #[inline(always)]
-    pub fn absorbs(&mut self, station: &Station) -> bool
-        requires { length self.old.values ≡ 34 }
-        ensures absorbs { Chosen result (Absorbs self.old station.now self.new) ⊤ }
-        ensures same { Chosen result ⊤ (self.new ≡ self.old) }
-    {
-        has_ended(station) && self.goes_on(station.destination, station.made, station.next)
     }
 
     /// Goes on behind a station, if that has ended and goes on itself.

@@ -1,34 +1,46 @@
 //! Who has left a station, for the predictor.
 ghost use Rattle.std.specs.Prelude.{◌≡◌};
 ghost use Rattle.instructions.specs.Guesses.{Guesses};
-ghost use Rattle.one_thread.specs.Leavers.{told_at};
+ghost use Rattle.instructions.specs.Instruction.{fixed_next};
+ghost use Rattle.one_thread.specs.Leavers.{leaver_by, told_at};
 
-use crate::dispatch::Fetched;
+use crate::decoded::Decoded;
 use crate::station::Station;
-use instructions::{Leaver, Predictor, tell};
+use instructions::{Half, Leaver, Predictor, tell};
+
+/// What the predictor is told of a half of an instruction that has gone on at `next`, unless that was fixed.
+#[inline(always)]
+pub fn leaver_of(instr: &Decoded, half: Half, pc: u32, next: u32) -> Option<Leaver>
+    ensures { result ≡ leaver_by (fixed_next instr.now half pc) pc next }
+{
+    match instr.fixed_next(half, pc) {
+        Some(_) => None,
+        None => Some(Leaver { pc, next }),
+    }
+}
 
 /// What the predictor is told of a tenant that retires.
 pub fn told_of(station: &Station) -> Option<Leaver>
     ensures { result ≡ told_at station.now }
 {
-    match station.instr.fixed_next(station.half, station.pc) {
-        Some(_) => None,
-        None => Some(Leaver {
-            pc: station.pc,
-            next: station.next,
-        }),
-    }
+    leaver_of(&station.instr, station.half, station.pc, station.next)
 }
 
-/// Asks a predictor where the next instruction goes on, unless that is fixed, once it was told of who has left.
+/// Asks a predictor where an instruction goes on, unless that is fixed, once it was told of who has left.
 #[inline(always)]
-pub fn guess<P: Predictor>(predictor: &mut P, left: Option<Leaver>, next: &Fetched) -> u32
-    ensures { Guesses P.Predicts P.Learns left next.now.instr next.now.half next.now.pc
+pub fn guess<P: Predictor>(
+    predictor: &mut P,
+    left: Option<Leaver>,
+    instr: &Decoded,
+    half: Half,
+    pc: u32,
+) -> u32
+    ensures { Guesses P.Predicts P.Learns left instr.now half pc
         result predictor.old predictor.new }
 {
     tell(predictor, left);
-    match next.instr.fixed_next(next.half, next.pc) {
+    match instr.fixed_next(half, pc) {
         Some(fixed) => fixed,
-        None => predictor.predict(next.pc, &next.instr.to_instr()),
+        None => predictor.predict(pc, &instr.to_instr()),
     }
 }

@@ -1,48 +1,16 @@
-use Rattle.std.proofs.Common.{◌-◌, drop, sym, ap, ◌∙◌, subst, arith}
-use Rattle.std.specs.Prelude.{slice_get}
-use Rattle.one_thread.specs.FullRing.{IsRing}
+use Rattle.std.proofs.Common.{◌≡◌, ◌<◌, ◌-◌, drop, length, List, ap, ◌∙◌, arith}
+use Rattle.one_thread.specs.FullRing.{Contents}
 use Rattle.one_thread.specs.Slots.{ring_of}
-use Rattle.one_thread.proofs.Rings.{ring_counts, ring_left, ring_some}
-use Rattle.one_thread.proofs.Slots.{ring_shift}
+use Rattle.one_thread.specs.declared.full_ring.Completed.{Completed}
+use Rattle.one_thread.proofs.Slots.{ring_length, ring_shift}
 use Rattle.one_thread.proofs.full_ring.FullRing.shift.Goals as goal
 
-pub overflow_sub-self : goal.overflow_sub-self
-overflow_sub-self c =
-    let s = c.self.inside in
-    let there = ap (λ x. slice_get x.window 0) c.self.view_is ∙ c.requires in
-    let less = ring_counts s.stations s.start s.len s.accesses c.access.result c.args.oldest.now c.self.invariant there c.access.ensures.value in
-    omega (arith, less)
-
-pub invariant_of-self : goal.invariant_of-self
-invariant_of-self c =
-    let s = c.self.inside in
-    let there = ap (λ x. slice_get x.window 0) c.self.view_is ∙ c.requires in
-    subst (λ k. IsRing s.stations k (s.len - 1) (s.accesses - c.access.result)) (sym c.slot_of-self-inside.ensures.value)
-    (ring_left s.stations s.start s.len s.accesses c.access.result c.args.oldest.now c.self.invariant there c.access.ensures.value)
-
-pub invariant_of-self-else-is_stored : goal.invariant_of-self-else-is_stored
-invariant_of-self-else-is_stored c =
-    let s = c.self.inside in
-    let there = ap (λ x. slice_get x.window 0) c.self.view_is ∙ c.requires in
-    subst (λ k. IsRing s.stations k (s.len - 1) (s.accesses - c.access.result)) (sym c.slot_of-self-inside.ensures.value)
-    (ring_left s.stations s.start s.len s.accesses c.access.result c.args.oldest.now c.self.invariant there c.access.ensures.value)
-
-pub returns-then-is_stored-clause-window : goal.returns-then-is_stored-clause-window
-returns-then-is_stored-clause-window c =
+pub returns : goal.returns
+returns c =
     let s = c.self.inside in
     let h = c.self.invariant in
-    let there = ap (λ x. slice_get x.window 0) c.self.view_is ∙ c.requires in
-    let some = ring_some s.stations s.start s.len s.accesses c.args.oldest.now h there in
-    ap (λ k. ring_of s.stations k (s.len - 1)) c.slot_of-self-inside.ensures.value
-    ∙ ring_shift s.stations s.start s.len h.every_station h.begins h.most some
-    ∙ ap (λ x. drop 1 x.window) c.self.view_is
-
-pub returns-else-is_stored-clause-window : goal.returns-else-is_stored-clause-window
-returns-else-is_stored-clause-window c =
-    let s = c.self.inside in
-    let h = c.self.invariant in
-    let there = ap (λ x. slice_get x.window 0) c.self.view_is ∙ c.requires in
-    let some = ring_some s.stations s.start s.len s.accesses c.args.oldest.now h there in
-    ap (λ k. ring_of s.stations k (s.len - 1)) c.slot_of-self-inside.ensures.value
-    ∙ ring_shift s.stations s.start s.len h.every_station h.begins h.most some
-    ∙ ap (λ x. drop 1 x.window) c.self.view_is
+    let with : List Completed → Contents = λ l. record { completed = l; stores = s.stores.items } in
+    let long = ring_length s.slots s.start s.len h.every_slot h.begins h.most in
+    let some : 0 < s.len = omega (arith, c.requires, ap (λ r. length r.completed) c.self.view_is, long) in
+    ap with (ap (λ k. ring_of s.slots k (s.len - 1)) c.slot_of-self-inside.ensures.value ∙ ring_shift s.slots s.start s.len h.every_slot h.begins h.most some)
+    ∙ ap (λ (r : Contents). record r { completed = drop 1 r.completed }) c.self.view_is

@@ -1,158 +1,95 @@
-use Rattle.std.proofs.Common.{◌+◌, ◌%◌, None, length, refl, ap, ◌∙◌, arith}
-use Rattle.std.specs.Prelude.{slice_set}
-use Rattle.instructions.specs.Operations.{outcome_of}
-use Rattle.one_thread.specs.Flow.{Absorbs, IsFlowing, completed_by, filled}
-use Rattle.one_thread.specs.Window.{let_at}
+use Rattle.std.proofs.Common.{◌≡◌, ◌<◌, ◌≤◌, length, Some, None, sym, ap, ◌∙◌, subst}
+use Rattle.one_thread.specs.Flow.{Completes, HasStayed, enters_as, outcome_in}
+use Rattle.one_thread.specs.Window.{station_after}
 use Rattle.one_thread.specs.declared.flow.Flow.{Flow}
-use Rattle.one_thread.specs.declared.pipeline.Pipeline.{Pipeline}
-use Rattle.std.specs.Prelude.{⊤}
-use Rattle.one_thread.proofs.Awaiting.{chosen_as}
-use Rattle.one_thread.proofs.BenchTurns.{guess_fixed}
-use Rattle.one_thread.proofs.FlowIn.{Enters, HasEntered, flow_on, flow_unit, reached_inside}
-use Rattle.one_thread.proofs.Stores.{stores_few}
+use Rattle.one_thread.proofs.FlowIn.{Comes, HasJoined, comes, comes_full, comes_inside, comes_room, comes_stays}
 use Rattle.one_thread.proofs.pipeline.Pipeline.enters_flow.Goals as goal
 
-pub load_of-value-requires : goal.load_of-value-requires
-load_of-value-requires g c =
+pub completes-requires : goal.completes-requires
+completes-requires g c a e =
     let x = c.args.self.now in
     let flow = c.args.flow.now in
-    let next = c.args.next in
-    let predicted = c.guess-predicted.result in
-    let guess = c.guess-predicted.ensures in
-    let o = c.operands-a.result in
-    let outcome = c.outcome_of-outcome.result in
-    let enters : Enters (filled x flow.ring.window) flow.future flow.ring.stores next predicted o outcome =
-    record {
-      unit = c.requires.unit;
-      goes_on = c.requires.flowing.goes_on;
-      missed = refl;
-      completed = c.requires.flowing.completed;
-      foresees = c.requires.flowing.foresees;
-      stores = c.requires.flowing.stores;
-      can = record {
-        room = omega (arith, c.requires.room);
-        place = c.requires.can.place ∙ c.requires.flowing.foresees.path;
-        half = c.requires.can.half ∙ c.requires.flowing.half;
-        is = c.requires.can.is;
-        free = c.requires.can.free;
-      };
-      small = c.guess-predicted.type_inv;
-      fixed = guess_fixed g.P.Predictor.Predicts g.P.Predictor.Learns _ next.pc next.instr predicted guess.middle c.guess-predicted.new.predictor guess.asked;
-      first_small = c.operands-a.ensures.registers.0;
-      second_small = c.operands-a.ensures.registers.1;
-      first = c.operands-a.ensures.first;
-      second = c.operands-a.ensures.second;
-      comes = c.outcome_of-outcome.ensures.value
-          ∙ ap (λ i. outcome_of i next.half next.pc o.a o.b c.size-size.result) c.to_instr-instr.ensures
-          ∙ ap (outcome_of next.instr next.half next.pc o.a o.b) c.size-size.ensures.value;
-    } in
-    reached_inside (filled x flow.ring.window) flow.future flow.ring.stores next predicted o outcome enters
+    let i = c.args.instr.now in
+    let p = c.guess-predicted.result in
+    let o = c.operands-operands.result in
+    let rest = c.guess-predicted.ensures.rest in
+    let h : Comes x flow i p o =
+    comes x flow c.guess-predicted.new.self i p o _ _ c.requires.room c.requires.can c.guess-predicted.type_inv c.guess-predicted.ensures.guesses rest c.operands-operands.ensures.registers
+    c.operands-operands.ensures.first c.operands-operands.ensures.second in
+    comes_inside x flow i p o h a (sym (ap (λ (f : Flow). outcome_in x f i o) rest) ∙ e)
 
-pub push-requires-clause-few : goal.push-requires-clause-few
-push-requires-clause-few g c =
-    let W = c.args.flow.now.ring.window in
-    let few = stores_few (Rattle.one_thread.specs.Changes.registers_of c.args.self.now) W (length W) in
-    let same = ap length c.requires.flowing.stores in
-    omega (arith, few, same, c.requires.room, c.requires.unit.ring)
-
-pub returns-clause-unit : goal.returns-clause-unit
-returns-clause-unit g c =
+pub returns-in_default : goal.returns-in_default
+returns-in_default g c =
     let x = c.args.self.now in
     let flow = c.args.flow.now in
-    let next = c.args.next in
-    let predicted = c.guess-predicted.result in
-    let guess = c.guess-predicted.ensures in
-    let o = c.operands-a.result in
-    let outcome = c.outcome_of-outcome.result in
-    let enters : Enters (filled x flow.ring.window) flow.future flow.ring.stores next predicted o outcome =
-    record {
-      unit = c.requires.unit;
-      goes_on = c.requires.flowing.goes_on;
-      missed = refl;
-      completed = c.requires.flowing.completed;
-      foresees = c.requires.flowing.foresees;
-      stores = c.requires.flowing.stores;
-      can = record {
-        room = omega (arith, c.requires.room);
-        place = c.requires.can.place ∙ c.requires.flowing.foresees.path;
-        half = c.requires.can.half ∙ c.requires.flowing.half;
-        is = c.requires.can.is;
-        free = c.requires.can.free;
-      };
-      small = c.guess-predicted.type_inv;
-      fixed = guess_fixed g.P.Predictor.Predicts g.P.Predictor.Learns _ next.pc next.instr predicted guess.middle c.guess-predicted.new.predictor guess.asked;
-      first_small = c.operands-a.ensures.registers.0;
-      second_small = c.operands-a.ensures.registers.1;
-      first = c.operands-a.ensures.first;
-      second = c.operands-a.ensures.second;
-      comes = c.outcome_of-outcome.ensures.value
-          ∙ ap (λ i. outcome_of i next.half next.pc o.a o.b c.size-size.result) c.to_instr-instr.ensures
-          ∙ ap (outcome_of next.instr next.half next.pc o.a o.b) c.size-size.ensures.value;
-    } in
-    let y : Pipeline = record x { leavers = slice_set x.leavers c.station_at-station.result None } in
-    let after : Flow = record { ring = c.push.new.self; future = c.absorbs.new.self; half = c.half_behind-flow.result } in
-    let z = c.completed-last.result in
-    let has : HasEntered x y flow after next predicted o outcome z =
-    record {
-      enters = enters;
-      is = c.completed-last.ensures
-          ∙ ap (λ w. completed_by w outcome c.load_of-value.result) c.let_out.ensures
-          ∙ ap (completed_by (let_at next.instr next.half next.pc predicted) outcome) c.load_of-value.ensures;
-      window = c.push.ensures.window;
-      entries = c.push.ensures.stores ∙ ap (Rattle.one_thread.specs.Loads.with_entry flow.ring.stores) c.store_with.ensures;
-      half = c.half_behind-flow.ensures;
-      leavers = ap (λ k. slice_set x.leavers k None) (c.station_at-station.ensures.value ∙ ap (λ n. (x.oldest + n) % x.ring) c.len.ensures.value);
-      rest = refl;
-    } in
-    flow_unit x y flow after next predicted o outcome z has
+    let i = c.args.instr.now in
+    let p = c.guess-predicted.result in
+    let o = c.operands-operands.result in
+    let rest = c.guess-predicted.ensures.rest in
+    let h : Comes x flow i p o =
+    comes x flow c.guess-predicted.new.self i p o _ _ c.requires.room c.requires.can c.guess-predicted.type_inv c.guess-predicted.ensures.guesses rest c.operands-operands.ensures.registers
+    c.operands-operands.ensures.first c.operands-operands.ensures.second in
+    let w = c.stays.result in
+    subst (λ f. HasStayed x f w) (sym rest)
+    (comes_stays x flow i p o h w (subst (λ (f : Flow). w ≡ station_after (enters_as f i p) (outcome_in x f i o)) rest c.stays.ensures) (subst (λ f. Completes x f i p o None) rest c.in_default.ensures))
 
-pub returns-clause-flowing : goal.returns-clause-flowing
-returns-clause-flowing g c =
+pub joins-requires-clause-room : goal.joins-requires-clause-room
+joins-requires-clause-room g c =
     let x = c.args.self.now in
     let flow = c.args.flow.now in
-    let next = c.args.next in
-    let predicted = c.guess-predicted.result in
-    let guess = c.guess-predicted.ensures in
-    let o = c.operands-a.result in
-    let outcome = c.outcome_of-outcome.result in
-    let enters : Enters (filled x flow.ring.window) flow.future flow.ring.stores next predicted o outcome =
+    let i = c.args.instr.now in
+    let p = c.guess-predicted.result in
+    let o = c.operands-operands.result in
+    let rest = c.guess-predicted.ensures.rest in
+    let h : Comes x flow i p o =
+    comes x flow c.guess-predicted.new.self i p o _ _ c.requires.room c.requires.can c.guess-predicted.type_inv c.guess-predicted.ensures.guesses rest c.operands-operands.ensures.registers
+    c.operands-operands.ensures.first c.operands-operands.ensures.second in
+    subst (λ (f : Flow). length f.ring.completed < 32) (sym rest) (comes_room x flow i p o h).0
+
+pub joins-requires-clause-few : goal.joins-requires-clause-few
+joins-requires-clause-few g c =
+    let x = c.args.self.now in
+    let flow = c.args.flow.now in
+    let i = c.args.instr.now in
+    let p = c.guess-predicted.result in
+    let o = c.operands-operands.result in
+    let rest = c.guess-predicted.ensures.rest in
+    let h : Comes x flow i p o =
+    comes x flow c.guess-predicted.new.self i p o _ _ c.requires.room c.requires.can c.guess-predicted.type_inv c.guess-predicted.ensures.guesses rest c.operands-operands.ensures.registers
+    c.operands-operands.ensures.first c.operands-operands.ensures.second in
+    subst (λ (f : Flow). length f.ring.stores < 32) (sym rest) (comes_room x flow i p o h).1
+
+pub joins-requires-clause-accesses : goal.joins-requires-clause-accesses
+joins-requires-clause-accesses g c =
+    let x = c.args.self.now in
+    let flow = c.args.flow.now in
+    let i = c.args.instr.now in
+    let p = c.guess-predicted.result in
+    let o = c.operands-operands.result in
+    let rest = c.guess-predicted.ensures.rest in
+    let h : Comes x flow i p o =
+    comes x flow c.guess-predicted.new.self i p o _ _ c.requires.room c.requires.can c.guess-predicted.type_inv c.guess-predicted.ensures.guesses rest c.operands-operands.ensures.registers
+    c.operands-operands.ensures.first c.operands-operands.ensures.second in
+    subst (λ (f : Flow). f.accesses ≤ 32) (sym rest) (comes_room x flow i p o h).2
+
+pub returns : goal.returns
+returns g c =
+    let x = c.args.self.now in
+    let flow = c.args.flow.now in
+    let i = c.args.instr.now in
+    let p = c.guess-predicted.result in
+    let o = c.operands-operands.result in
+    let rest = c.guess-predicted.ensures.rest in
+    let h : Comes x flow i p o =
+    comes x flow c.guess-predicted.new.self i p o _ _ c.requires.room c.requires.can c.guess-predicted.type_inv c.guess-predicted.ensures.guesses rest c.operands-operands.ensures.registers
+    c.operands-operands.ensures.first c.operands-operands.ensures.second in
+    let y = c.in-Some.completed in
+    let j : HasJoined c.guess-predicted.new.self c.joins.new.self i y o.b =
     record {
-      unit = c.requires.unit;
-      goes_on = c.requires.flowing.goes_on;
-      missed = refl;
-      completed = c.requires.flowing.completed;
-      foresees = c.requires.flowing.foresees;
-      stores = c.requires.flowing.stores;
-      can = record {
-        room = omega (arith, c.requires.room);
-        place = c.requires.can.place ∙ c.requires.flowing.foresees.path;
-        half = c.requires.can.half ∙ c.requires.flowing.half;
-        is = c.requires.can.is;
-        free = c.requires.can.free;
-      };
-      small = c.guess-predicted.type_inv;
-      fixed = guess_fixed g.P.Predictor.Predicts g.P.Predictor.Learns _ next.pc next.instr predicted guess.middle c.guess-predicted.new.predictor guess.asked;
-      first_small = c.operands-a.ensures.registers.0;
-      second_small = c.operands-a.ensures.registers.1;
-      first = c.operands-a.ensures.first;
-      second = c.operands-a.ensures.second;
-      comes = c.outcome_of-outcome.ensures.value
-          ∙ ap (λ i. outcome_of i next.half next.pc o.a o.b c.size-size.result) c.to_instr-instr.ensures
-          ∙ ap (outcome_of next.instr next.half next.pc o.a o.b) c.size-size.ensures.value;
+      completed = c.joins.ensures.completed;
+      stores = c.joins.ensures.stores;
+      future = c.joins.ensures.future;
+      half = c.joins.ensures.half;
+      accesses = c.joins.ensures.accesses;
     } in
-    let y : Pipeline = record x { leavers = slice_set x.leavers c.station_at-station.result None } in
-    let after : Flow = record { ring = c.push.new.self; future = c.absorbs.new.self; half = c.half_behind-flow.result } in
-    let z = c.completed-last.result in
-    let has : HasEntered x y flow after next predicted o outcome z =
-    record {
-      enters = enters;
-      is = c.completed-last.ensures
-          ∙ ap (λ w. completed_by w outcome c.load_of-value.result) c.let_out.ensures
-          ∙ ap (completed_by (let_at next.instr next.half next.pc predicted) outcome) c.load_of-value.ensures;
-      window = c.push.ensures.window;
-      entries = c.push.ensures.stores ∙ ap (Rattle.one_thread.specs.Loads.with_entry flow.ring.stores) c.store_with.ensures;
-      half = c.half_behind-flow.ensures;
-      leavers = ap (λ k. slice_set x.leavers k None) (c.station_at-station.ensures.value ∙ ap (λ n. (x.oldest + n) % x.ring) c.len.ensures.value);
-      rest = refl;
-    } in
-    chosen_as c.absorbs.result (Absorbs flow.future z after.future) ⊤ (IsFlowing y after) (flow_on x y flow after next predicted o outcome z has) c.absorbs.ensures.absorbs
+    comes_full x flow i p o h y c.joins.new.self (subst (λ f. Completes x f i p o (Some y)) rest c.in-Some.ensures) (subst (λ f. HasJoined f c.joins.new.self i y o.b) rest j)

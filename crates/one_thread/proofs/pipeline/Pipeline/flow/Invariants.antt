@@ -1,17 +1,12 @@
-use Rattle.std.proofs.Common.{◌≡◌, take}
-use Rattle.one_thread.specs.Changes.{registers_of}
-use Rattle.one_thread.specs.Flow.{HaveCompleted}
-use Rattle.one_thread.specs.FullRing.{stores}
-use Rattle.one_thread.specs.Steady.{Foresees}
-use Rattle.one_thread.specs.Window.{half_in}
+use Rattle.std.proofs.Common.{◌≡◌, take, Some}
+use Rattle.std.specs.Prelude.{slice_get}
+use Rattle.one_thread.specs.Flow.{IsFlowing, free_of, window_of}
 use Rattle.one_thread.proofs.pipeline.Pipeline.flow.Given as goal
 
 abbrev pub invariant-loop-i : goal.invariant-loop-i
 invariant-loop-i l =
     record {
-      completed : HaveCompleted (take l.i l.self.window);
-      foresees : Foresees l.flow.future (registers_of l.self) l.self.committed.pc (take l.i l.self.window);
-      half : l.flow.half ≡ half_in l.self.low (take l.i l.self.window);
-      window : l.flow.ring.window ≡ take l.i l.self.window;
-      stores : l.flow.ring.stores ≡ stores (registers_of l.self) l.self.window l.i;
+      flowing : IsFlowing l.self l.flow;
+      window : window_of l.self l.flow ≡ take l.i l.self.window;
+      told : slice_get l.self.leavers (free_of l.self) ≡ Some l.flow.told;
     }

@@ -1,5 +1,6 @@
 use Rattle.std.proofs.Common.{◌≡◌, take}
+use Rattle.one_thread.specs.Flow.{window_of}
 use Rattle.one_thread.proofs.pipeline.Pipeline.restores.Given as goal
 
 abbrev pub invariant-loop-i : goal.invariant-loop-i
-invariant-loop-i l = l.window ≡ take l.i l.ring.window
+invariant-loop-i l = l.window ≡ take l.i (window_of l.self l.flow)

@@ -1,10 +1,14 @@
-use Rattle.std.proofs.Common.{length, ap, arith}
-use Rattle.one_thread.proofs.FlowOut.{filled_unit}
+use Rattle.std.proofs.Common.{◌≡◌, ◌≤◌, ◌+◌, length, None, sym, ap, ◌∙◌, subst, arith}
+use Rattle.std.specs.Prelude.{slice_set}
+use Rattle.one_thread.specs.Flow.{HasRoom}
+use Rattle.one_thread.proofs.FlowStays.{begun}
 use Rattle.one_thread.proofs.pipeline.Pipeline.stays_full.Goals as goal
 
-pub flows-requires-clause-unit : goal.flows-requires-clause-unit
-flows-requires-clause-unit g c =
+pub flows-last-requires : goal.flows-last-requires
+flows-last-requires g c =
     let b = c.args.self.now in
-    let W = c.in-Some.flow.ring.window in
-    let long = ap length c.in-Some.ensures.window in
-    filled_unit b W c.requires.unit c.in-Some.ensures.window c.in-Some.ensures.flowing.completed (omega (arith, long, c.if-len-self.false, c.len.ensures.value))
+    let flow = c.in-Some.flow in
+    let room : length b.window + 1 ≡ b.ring = omega (arith, c.if-len-self.false, c.len.ensures.value) in
+    let two : 2 ≤ b.ring = omega (arith, c.if-self-lt2.false) in
+    subst (λ k. HasRoom (record b { leavers = slice_set b.leavers k None }) flow) (sym c.station_at-free.ensures.value)
+    (begun b flow c.requires.unit room two c.in-Some.ensures.flowing c.in-Some.ensures.window c.in-Some.ensures.told)

@@ -1,0 +1,87 @@
+//! The oldest instruction leaves a full ring of completed instructions.
+ghost use Rattle.std.specs.Prelude.{◌≡◌, ◌<◌, ◌≤◌, ◌+◌, ◌-◌, ◌^◌, ℕ, [], length, unwrap_or};
+ghost use Rattle.inorder.specs.Machine.{store_bytes};
+ghost use Rattle.instructions.specs.Instruction.{is_first_half, kind as kind_of, second_of, width as width_of};
+ghost use Rattle.instructions.specs.declared.op.Kind.TheVariants.{Stores as StoreKind};
+ghost use Rattle.one_thread.specs.Changes.{run_from};
+ghost use Rattle.one_thread.specs.Flow.{HasRoom, IsFull, committed_by, low_by, to_do};
+ghost use Rattle.one_thread.specs.FullRing.{station_by};
+ghost use Rattle.one_thread.specs.Window.{source_in};
+
+use crate::decoded::Decoded;
+use crate::fetch::fetch_known;
+use crate::flow::Flow;
+use crate::full_ring::Completed;
+use crate::pipeline::Pipeline;
+use inorder::Committed;
+use instructions::{Kind, Reg};
+
+// What a register holds for the oldest instruction, where nothing waits for LO.
+#[inline(always)]
+fn held(committed: &Committed, r: Reg) -> u32
+    ensures { result ≡ unwrap_or (source_in committed.now.registers [] r) 0 }
+{
+    if r.number() == 0 {
+        return 0;
+    }
+    committed.register(r)
+}
+
+// What a store writes is committed.
+#[inline(always)]
+fn store(committed: &mut Committed, instr: &Decoded, address: u32)
+    requires { address + width_of instr.now.op ≤ length committed.old.memory }
+    ensures { committed.new ≡ record committed.old { memory =
+      store_bytes committed.old.memory address (width_of instr.now.op)
+      (unwrap_or (source_in committed.old.registers [] (second_of instr.now)) 0) } }
+{
+    let content = held(committed, instr.second());
+    let width = instr.op().width() as usize;
+    committed.store_at(address as usize, width, content);
+}
+
+// What the oldest instruction has made waits for LO, if it is a first half, and is committed else, with what waits.
+#[inline(always)]
+fn commit(committed: &mut Committed, low: &mut Option<u32>, instr: &Decoded, oldest: &Completed)
+    requires count { committed.old.count < 2 ^ 64 - 1 }
+    requires inside { kind_of instr.now.op ≡ StoreKind →
+        oldest.now.value + width_of instr.now.op ≤ length committed.old.memory }
+    ensures committed { committed.new ≡ committed_by (is_first_half instr.now.op oldest.now.half)
+        (station_by instr.now oldest.now) low.old committed.old }
+    ensures low { low.new ≡ low_by (is_first_half instr.now.op oldest.now.half)
+        (station_by instr.now oldest.now) }
+{
+    if instr.is_first_half(oldest.half) {
+        *low = Some(oldest.value);
+        return;
+    }
+    committed.settle(*low);
+    *low = None;
+    if let Kind::Stores = instr.kind() {
+        store(committed, instr, oldest.value);
+    }
+    let destination = instr.destination(oldest.half);
+    committed.advance(destination, oldest.value, oldest.next);
+}
+
+impl<'a> Pipeline<'a> {
+    /// Retires the oldest instruction of a full ring.
+    #[inline(always)]
+    pub fn leaves_flow(&mut self, flow: &mut Flow)
+        requires full { IsFull self.old flow.old }
+        requires count { self.old.committed.count < 2 ^ 64 - 1 }
+        ensures room { HasRoom self.new flow.new }
+        ensures program { self.new.program ≡ self.old.program }
+        ensures more { self.old.committed.count ≤ self.new.committed.count }
+        ensures ends { (limit : ℕ) → self.old.committed.count < limit →
+            run_from self.new limit ≡ run_from self.old limit }
+        ensures less { (limit : ℕ) → self.old.committed.count < limit →
+            to_do limit self.new < to_do limit self.old }
+    {
+        let oldest = flow.ring.oldest();
+        let instr = fetch_known(self.code.as_slice(), oldest.pc);
+        flow.leaves(instr, &oldest);
+        commit(&mut self.committed, &mut self.low, instr, &oldest);
+        self.oldest = self.station_behind(self.oldest);
+    }
+}
