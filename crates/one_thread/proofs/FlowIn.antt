@@ -14,7 +14,7 @@ use Rattle.inorder.specs.Unit.{half_after}
 use Rattle.lsq.specs.LoadRule.{answer_over}
 use Rattle.lsq.specs.declared.entry.Entry.{Entry}
 use Rattle.one_thread.specs.Changes.{CanClaim, LoadGives, LoadsAt, registers_of}
-use Rattle.one_thread.specs.Flow.{AreThere, CanEnter, Completes, HasRoom, HasStayed, HaveCompleted, IsFlowing, IsFull, comes_to, completed_by, enters_as, filled, free_of, load_of, loaded_behind, outcome_in, restored, window_of, with_leaver}
+use Rattle.one_thread.specs.Flow.{AreThere, CanEnter, Completes, CanRestore, HasRoom, HaveCompleted, IsFlowing, IsFull, comes_to, completed_as, completed_by, enters_as, filled, free_of, load_of, loaded_behind, outcome_in, window_of, with_leaver}
 use Rattle.one_thread.specs.FullRing.{made_by, station_by, stations, store_with, stores}
 use Rattle.one_thread.specs.Givers.{gives}
 use Rattle.one_thread.specs.Loads.{AreInside, entries, load_in, loaded_over, value_by, waits_by, with_entry}
@@ -24,6 +24,7 @@ use Rattle.one_thread.specs.StandsFor.{StandsForSome}
 use Rattle.one_thread.specs.Steady.{Foresees, GoesOnBehind}
 use Rattle.one_thread.specs.Window.{access_of, accesses, further_on, half_in, let_at, made_after, operands_by, operands_in, source_in, stage_after, station_after}
 use Rattle.one_thread.specs.declared.dispatch.Fetched.{Fetched}
+use Rattle.one_thread.specs.declared.entering.Done.{Done as DoneBy}
 use Rattle.one_thread.specs.declared.execute.Operands.{Operands}
 use Rattle.one_thread.specs.declared.flow.Flow.{Flow}
 use Rattle.one_thread.specs.declared.full_ring.Completed.{Completed}
@@ -206,6 +207,8 @@ module _ (b : Pipeline) (f : Future) (es : List Entry) (next : Fetched) (predict
 
 pub record HasJoined (flow after : Flow) (i : Instr) (c : Completed) (content : ℕ) : Type 0 where
   pub completed : after.ring.completed ≡ flow.ring.completed ++ c ∷ []
+  pub told : after.told ≡ flow.told
+  pub last : after.last ≡ flow.last
   pub stores : after.ring.stores ≡ with_entry flow.ring.stores (store_with (station_by i c) content)
   pub future : GoesOnBehind flow.future (destination i c.half) (made_by (kind i.op) c.value) c.next after.future
   pub half : after.half ≡ half_after (is_first_half i.op c.half)
@@ -243,6 +246,7 @@ module _ (b : Pipeline) (flow after : Flow) (i : Instr) (c : Completed) (content
             ∙ sym (ap (λ l. accesses l (length l)) all);
       }
 
+-- who has left the free station does not matter
 pub flowing_untold : (b : Pipeline) (flow : Flow) → IsFlowing b flow → IsFlowing b (record flow { told = None })
 flowing_untold b flow h =
     record { goes_on = h.goes_on; there = h.there; completed = h.completed; foresees = h.foresees; half = h.half; stores = h.stores; accesses = h.accesses }
@@ -340,24 +344,29 @@ module _ (x : Pipeline) (flow : Flow) (i : Instr) (predicted : ℕ) (o : Operand
       omega (arith, most, h.room.flowing.accesses, h.room.room, h.room.unit.ring))
 
   -- it has completed
-  pub comes_full : (c : Completed) (after : Flow) → Completes x flow i predicted o (Some c) → HasJoined (record flow { told = None }) after i c o.b → IsFull x after
-  comes_full c after completes j =
-      let is : instr_at x.program.now c.pc ≡ Some i = ap (instr_at x.program.now) completes.0 ∙ h.can.is in
-      let window : window_of x after ≡ all ++ station_by i c ∷ [] = joined_window x untold after i c o.b j is in
+  pub comes_full : (d : DoneBy) (after : Flow) → Completes x flow i predicted o (Some d) → HasJoined untold after i (completed_as flow predicted d) o.b → IsFull x after
+  comes_full d after completes j =
+      let c = completed_as flow predicted d in
+      let window : window_of x after ≡ all ++ station_by i c ∷ [] = joined_window x untold after i c o.b j h.can.is in
       let same : filled x (all ++ comes_to x flow i predicted o ∷ []) ≡ filled x (window_of x after) =
-      ap (λ w. filled x (all ++ w ∷ [])) completes.1 ∙ sym (ap (filled x) window) in
+      ap (λ w. filled x (all ++ w ∷ [])) completes ∙ sym (ap (filled x) window) in
       record {
         unit = subst StandsForSome same comes_unit;
-        flowing = joined x untold after i c o.b j is (flowing_untold x flow h.room.flowing) h.second_small h.second;
+        complete = j.last ∙ h.room.complete;
+        told = j.told;
+        flowing = joined x untold after i c o.b j h.can.is (flowing_untold x flow h.room.flowing) h.second_small h.second;
         full = ap length window ∙ omega (arith, length-append all (station_by i c ∷ []), h.room.room);
         two = h.room.two;
       }
 
   -- or not
-  pub comes_stays : (w : Station) → w ≡ station_after (enters_as flow i predicted) (outcome_in x flow i o) → Completes x flow i predicted o None →
-      HasStayed x (record flow { told = None }) w
-  comes_stays w e completes =
-      let same : filled x (all ++ comes_to x flow i predicted o ∷ []) ≡ filled x (all ++ w ∷ []) = ap (λ y. filled x (all ++ y ∷ [])) (completes ∙ sym e) in
+  abbrev kept : Flow
+  kept = record untold { last = Some (station_after (enters_as flow i predicted) (outcome_in x flow i o)) }
+
+  pub comes_stays : Completes x flow i predicted o None → CanRestore x kept
+  comes_stays completes =
+      let w = station_after (enters_as flow i predicted) (outcome_in x flow i o) in
+      let same : filled x (all ++ comes_to x flow i predicted o ∷ []) ≡ filled x (all ++ w ∷ []) = ap (λ y. filled x (all ++ y ∷ [])) completes in
       let long = stations_long x.program.now flow.ring.completed in
       record {
         unit = subst StandsForSome (same ∙ ap (λ l. record (filled x (all ++ w ∷ [])) { leavers = l }) (sym (set_as_is x.leavers (free_of x) None h.room.untold))) comes_unit;

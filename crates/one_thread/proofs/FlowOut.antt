@@ -243,6 +243,7 @@ pub record HasLeft (x y : Pipeline) (flow after : Flow) (i : Instr) (c : Complet
   pub stores : after.ring.stores ≡ stores_behind (station_by i c) flow.ring.stores
   pub accesses : after.accesses ≡ flow.accesses - access_of i
   pub told : after.told ≡ told_at (station_by i c)
+  pub last : after.last ≡ flow.last
   pub future : after.future ≡ flow.future
   pub half : after.half ≡ flow.half
   pub commits : y.committed ≡ committed_by (is_first_half i.op c.half) (station_by i c) x.low x.committed
@@ -342,6 +343,7 @@ module _ (x y : Pipeline) (flow after : Flow) (i : Instr) (c : Completed) (l : H
       let ring : y.ring ≡ x.ring = ap (λ (p : Pipeline). p.ring) l.rest in
       record {
         unit = shows.unit;
+        complete = l.last ∙ full.complete;
         flowing = flows_on;
         room = omega (arith, ap length rest_is, length-drop 1 W, full.full, full.two, ring);
         two = omega (arith, ring, full.two);

@@ -4,7 +4,7 @@ use Rattle.std.specs.Prelude.{slice_get, slice_set}
 use Rattle.circular_buffer.proofs.Places.{slice_get-set_same}
 use Rattle.instructions.specs.declared.guessing.Leaver.{Leaver}
 use Rattle.one_thread.specs.Changes.{registers_of}
-use Rattle.one_thread.specs.Flow.{HasRoom, IsFlowing, filled, free_of, window_of, with_leaver}
+use Rattle.one_thread.specs.Flow.{CanRestore, HasRoom, IsFlowing, filled, free_of, window_of, with_last, with_leaver}
 use Rattle.one_thread.specs.FullRing.{station_in, stations}
 use Rattle.one_thread.specs.StandsFor.{StandsForSome}
 use Rattle.one_thread.specs.declared.flow.Flow.{Flow}
@@ -30,12 +30,16 @@ room_among b flow n h is less most =
     let counted = accesses_most W (length W) in
     (omega (arith, long, taken, less, most), omega (arith, few, ap length h.stores, taken, less, most), omega (arith, counted, h.accesses, taken, less, most))
 
-pub room_left : (b : Pipeline) (flow : Flow) → HasRoom b flow → length flow.ring.completed < 32
-room_left b flow h =
+pub can_restore : (b : Pipeline) (flow : Flow) → HasRoom b flow → CanRestore b flow
+can_restore b flow h =
     let long = stations_long b.program.now flow.ring.completed in
     let room = h.room in
     let ring = h.unit.ring in
-    omega (arith, long, room, ring)
+    record {
+      unit = subst StandsForSome (sym (ap (λ o. with_leaver (filled b (with_last (window_of b flow) o)) flow.told) h.complete)) h.unit;
+      there = h.flowing.there;
+      room = omega (arith, long, room, ring);
+    }
 
 -- A station is taken
 
@@ -52,9 +56,9 @@ put_back b flow W i c w is there same = taken W (window_of b flow) i (station_in
 -- All are
 
 pub begun : (b : Pipeline) (flow : Flow) → StandsForSome b → length b.window + 1 ≡ b.ring → 2 ≤ b.ring → IsFlowing b flow → window_of b flow ≡ b.window →
-    slice_get b.leavers (free_of b) ≡ Some flow.told →
+    slice_get b.leavers (free_of b) ≡ Some flow.told → flow.last ≡ None →
     HasRoom (record b { leavers = slice_set b.leavers (free_of b) None }) flow
-begun b flow h room two flows is told =
+begun b flow h room two flows is told complete =
     let W = window_of b flow in
     let f = free_of b in
     let back : slice_set (slice_set b.leavers f None) f flow.told ≡ b.leavers = set_again b.leavers f None flow.told ∙ set_as_is b.leavers f flow.told told in
@@ -63,6 +67,7 @@ begun b flow h room two flows is told =
     let inside : f < length b.leavers = omega (arith, mod-lt (b.oldest + (b.ring - 1)) some, h.ring, h.leavers) in
     record {
       unit = subst StandsForSome (ap (λ l. record (filled b W) { leavers = l }) (sym back)) (filled_unit b W h is flows.completed more);
+      complete = complete;
       flowing = record { goes_on = flows.goes_on; there = flows.there; completed = flows.completed; foresees = flows.foresees; half = flows.half; stores = flows.stores; accesses = flows.accesses };
       room = more;
       two = two;

@@ -24,12 +24,13 @@ use Rattle.one_thread.specs.Notes.{settled_by}
 use Rattle.one_thread.specs.StandsFor.{StandsForSome}
 use Rattle.one_thread.specs.Steady.{Foresees, GoesOnBehind}
 use Rattle.one_thread.specs.Window.{accesses, further_on, half_in, let_at, reaches_memory, station_after}
+use Rattle.one_thread.specs.declared.entering.Done.{Done}
 use Rattle.one_thread.specs.declared.execute.Operands.{Operands}
 use Rattle.one_thread.specs.declared.flow.Flow.{Flow}
 use Rattle.one_thread.specs.declared.full_ring.Completed.{Completed}
 use Rattle.one_thread.specs.declared.future.Future.{Future}
 use Rattle.one_thread.specs.declared.pipeline.Pipeline.{Pipeline}
-use Rattle.one_thread.specs.declared.station.Stage.TheVariants.{Done, Stops}
+use Rattle.one_thread.specs.declared.station.Stage.TheVariants.{Done as IsDone, Stops}
 use Rattle.one_thread.specs.declared.station.Station.{Station}
 
 -- What a load of an address gets behind these stores, if none blocks it
@@ -45,8 +46,8 @@ load_of es memory op _ = None
 -- What a station comes to by its outcome and what that loads, where it is the only one that has not completed:
 -- a miss is mended
 abbrev pub completed_by : Station → Outcome → Option ℕ → Station
-completed_by w (Next x) value = record w { stage = Done; next = x }
-completed_by w (Address a) (Some v) = further_on w Done (Some v)
+completed_by w (Next x) value = record w { stage = IsDone; next = x }
+completed_by w (Address a) (Some v) = further_on w IsDone (Some v)
 completed_by w o value = station_after w o
 
 -- A station has completed: it has ended, and by no stop, and has made what it writes
@@ -96,6 +97,7 @@ with_leaver b told = record b { leavers = slice_set b.leavers (free_of b) told }
 -- One station is free, and the predictor is told of who has left that by the flow
 pub record HasRoom (b : Pipeline) (flow : Flow) : Type 0 where
   pub unit : StandsForSome (with_leaver (filled b (window_of b flow)) flow.told)
+  pub complete : flow.last ≡ None
   pub flowing : IsFlowing b flow
   pub room : length (window_of b flow) + 1 ≡ b.ring
   pub two : 2 ≤ b.ring
@@ -104,6 +106,8 @@ pub record HasRoom (b : Pipeline) (flow : Flow) : Type 0 where
 -- No station is free
 pub record IsFull (b : Pipeline) (flow : Flow) : Type 0 where
   pub unit : StandsForSome (filled b (window_of b flow))
+  pub complete : flow.last ≡ None
+  pub told : flow.told ≡ None
   pub flowing : IsFlowing b flow
   pub full : length (window_of b flow) ≡ b.ring
   pub two : 2 ≤ b.ring
@@ -112,6 +116,11 @@ pub record IsFull (b : Pipeline) (flow : Flow) : Type 0 where
 pub record CanEnter (b : Pipeline) (flow : Flow) (i : Instr) : Type 0 where
   pub is : instr_at b.program.now flow.future.pc ≡ Some i
   pub free : reaches_memory i.op ≡ true → flow.accesses < b.queue
+
+-- The next instruction as one that has completed
+abbrev pub completed_as : Flow → ℕ → Done → Completed
+completed_as flow predicted d =
+    record { pc = flow.future.pc; half = flow.half; predicted = predicted; next = d.next; value = d.value }
 
 -- The station of the next instruction as it is let
 abbrev pub enters_as : Flow → Instr → ℕ → Station
@@ -128,31 +137,31 @@ comes_to b flow i predicted o =
     (load_of flow.ring.stores b.committed.memory i.op (outcome_in b flow i o))
 
 -- It has completed so, or has stopped or waits
-abbrev pub Completes : Pipeline → Flow → Instr → ℕ → Operands → Option Completed → Type 0
+abbrev pub Completes : Pipeline → Flow → Instr → ℕ → Operands → Option Done → Type 0
 Completes b flow i predicted o None =
     comes_to b flow i predicted o ≡ station_after (enters_as flow i predicted) (outcome_in b flow i o)
-Completes b flow i predicted o (Some c) =
-    (c.pc ≡ flow.future.pc) × (comes_to b flow i predicted o ≡ station_by i c)
+Completes b flow i predicted o (Some d) =
+    comes_to b flow i predicted o ≡ station_by i (completed_as flow predicted d)
 
 -- The stations of a flow, and one more
 abbrev pub with_last : List Station → Option Station → List Station
 with_last W None = W
 with_last W (Some w) = W ++ w ∷ []
 
--- The fields that a flow stands for, with an instruction that has entered and has not completed, if there is one
-abbrev pub restored : Pipeline → Flow → Option Station → Pipeline
-restored b flow last = with_leaver (filled b (with_last (window_of b flow) last)) flow.told
+-- The fields that a flow stands for
+abbrev pub restored : Pipeline → Flow → Pipeline
+restored b flow = with_leaver (filled b (with_last (window_of b flow) flow.last)) flow.told
 
--- An instruction has entered, and has not completed
-pub record HasStayed (b : Pipeline) (flow : Flow) (w : Station) : Type 0 where
-  pub unit : StandsForSome (restored b flow (Some w))
+-- What they have to be for that
+pub record CanRestore (b : Pipeline) (flow : Flow) : Type 0 where
+  pub unit : StandsForSome (restored b flow)
   pub there : AreThere b.program.now flow.ring.completed
   pub room : length flow.ring.completed < 32
 
--- An instruction has entered: it has completed, or this is its station
-abbrev pub HasEntered : Pipeline → Flow → Option Station → Type 0
-HasEntered b flow None = IsFull b flow
-HasEntered b flow (Some w) = HasStayed b flow w
+-- An instruction has entered, and has completed or not
+abbrev pub HasEntered : Pipeline → Flow → Bool → Type 0
+HasEntered b flow true = IsFull b flow
+HasEntered b flow false = CanRestore b flow
 
 -- What the oldest tenant commits where all have completed: a first half nothing, any other with what waits for LO
 abbrev pub committed_by : Bool → Station → Option ℕ → State → State

@@ -205,12 +205,10 @@ impl<'a, P: Predictor + Drop> Bench<'a, P> {
         let mut again = 0;
         let mut full = 0;
         loop {
+            full = self.stays_full(limit, full);
             let before = self.pipeline.committed.count();
             if again <= before {
                 again = self.streams(limit);
-            }
-            if before < self.pipeline.committed.count() {
-                full = 0;
             }
             if limit <= self.pipeline.committed.count() {
                 return Ending::Limit;
@@ -218,7 +216,6 @@ impl<'a, P: Predictor + Drop> Bench<'a, P> {
             if let Some(code) = self.retires_one() {
                 return Ending::Stop(code);
             }
-            full = self.stays_full(limit, full);
         }
     }
 

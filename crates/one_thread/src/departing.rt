@@ -55,8 +55,10 @@ fn commit(committed: &mut Committed, low: &mut Option<u32>, instr: &Decoded, old
         *low = Some(oldest.value);
         return;
     }
-    committed.settle(*low);
-    *low = None;
+    if low.is_some() {
+        committed.settle(*low);
+        *low = None;
+    }
     if let Kind::Stores = instr.kind() {
         store(committed, instr, oldest.value);
     }

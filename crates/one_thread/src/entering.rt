@@ -1,5 +1,5 @@
 //! An instruction enters a ring of completed instructions: it is let, and runs as far as it comes.
-ghost use Rattle.std.specs.Prelude.{◌≡◌, ◌≤◌, ◌+◌, ℕ, length, IfSome};
+ghost use Rattle.std.specs.Prelude.{◌≡◌, ◌≤◌, ◌+◌, ℕ, length, IfSome, Some};
 ghost use Rattle.instructions.specs.Instruction.{width as width_in};
 ghost use Rattle.instructions.specs.declared.stop.Outcome.TheVariants.{Address};
 ghost use Rattle.lsq.specs.LoadRule.{answer_over as answer_of};
@@ -12,12 +12,18 @@ use crate::decoded::Decoded;
 use crate::execute::Operands;
 use crate::fetch::fetch;
 use crate::flow::Flow;
-use crate::full_ring::Completed;
 use crate::pipeline::Pipeline;
 use crate::station::{Stage, Station, made_at_let};
 use inorder::access_width;
 use instructions::{Kind, Op, Outcome, Predictor, loaded, outcome_of, pc_plus_4};
 use lsq::{Answer, Entry, answer_over};
+
+/// What an instruction completes with: what it has made, or where it stores, and where it goes on.
+#[derive(Clone, Copy)]
+pub struct Done {
+    pub value: u32,
+    pub next: u32,
+}
 
 impl<'a> Pipeline<'a> {
     // The value of a load of an address behind these stores, unless one blocks it.
@@ -57,41 +63,36 @@ impl<'a> Pipeline<'a> {
         instr: &Decoded,
         predicted: u32,
         operands: &Operands,
-    ) -> Option<Completed>
+    ) -> Option<Done>
         requires { (a : ℕ) → outcome_in self.now flow.now instr.now operands.now ≡ Address a →
             a + width_in instr.now.op ≤ length self.now.committed.memory }
         ensures { Completes self.now flow.now instr.now predicted operands.now result }
     {
-        let pc = flow.future.pc;
-        match self.outcome(flow, instr, operands) {
-            Outcome::Value(v) | Outcome::Pair(v, _) => Some(flow.completed(v, predicted, predicted)),
+        let (value, next) = match self.outcome(flow, instr, operands) {
+            Outcome::Value(v) | Outcome::Pair(v, _) => (v, predicted),
             Outcome::Next(x) => match instr.kind() {
-                Kind::Links => Some(flow.completed(pc_plus_4(pc), predicted, x)),
-                _ => Some(flow.completed(0, predicted, x)),
+                Kind::Links => (pc_plus_4(flow.future.pc), x),
+                _ => (0, x),
             },
             Outcome::Address(a) => match instr.kind() {
                 Kind::Loads => {
                     let v = self.value_behind(flow.ring.stores(), instr.op(), a)?;
-                    Some(flow.completed(v, predicted, predicted))
+                    (v, predicted)
                 }
-                _ => Some(flow.completed(a, predicted, predicted)),
+                _ => (a, predicted),
             },
-            Outcome::Stop(_) => None,
-        }
+            Outcome::Stop(_) => return None,
+        };
+        Some(Done { value, next })
     }
 
-    // The station of the next instruction where that stops or waits.
+    // The next instruction stops or waits: its station is kept.
     #[cold]
     #[inline(never)]
-    fn stays(
-        &self,
-        flow: &Flow,
-        instr: &Decoded,
-        predicted: u32,
-        operands: &Operands,
-    ) -> Station
-        ensures { result ≡ station_after (enters_as flow.now instr.now predicted)
-            (outcome_in self.now flow.now instr.now operands.now) }
+    fn stays(&self, flow: &mut Flow, instr: &Decoded, predicted: u32, operands: &Operands)
+        ensures { flow.new ≡ record flow.old {
+          last = Some (station_after (enters_as flow.old instr.now predicted)
+            (outcome_in self.now flow.old instr.now operands.now)) } }
     {
         let pc = flow.future.pc;
         let made = made_at_let(instr.kind(), pc);
@@ -102,7 +103,7 @@ impl<'a> Pipeline<'a> {
             Outcome::Address(a) => (Stage::Addr(a), made),
             Outcome::Stop(c) => (Stage::Stops(c), made),
         };
-        Station {
+        flow.last = Some(Station {
             instr: *instr,
             half: flow.half,
             destination: instr.destination(flow.half),
@@ -111,7 +112,7 @@ impl<'a> Pipeline<'a> {
             next: predicted,
             made,
             stage,
-        }
+        });
     }
 
     /// The next instruction, if it can enter.
@@ -127,24 +128,25 @@ impl<'a> Pipeline<'a> {
         Some(instr)
     }
 
-    /// Lets the next instruction, and runs it as far as it comes. Answers its station, if it has not completed.
+    /// Lets the next instruction, and runs it as far as it comes. Answers whether it has completed.
     #[inline(always)]
     pub fn enters_flow<P: Predictor>(
         &self,
         predictor: &mut P,
         flow: &mut Flow,
         instr: &Decoded,
-    ) -> Option<Station>
+    ) -> bool
         requires room { HasRoom self.now flow.old }
         requires can { CanEnter self.now flow.old instr.now }
         ensures { HasEntered self.now flow.new result }
     {
         let predicted = flow.guess(predictor, instr);
         let operands = flow.future.operands(instr);
-        let Some(completed) = self.completes(flow, instr, predicted, &operands) else {
-            return Some(self.stays(flow, instr, predicted, &operands));
+        let Some(done) = self.completes(flow, instr, predicted, &operands) else {
+            self.stays(flow, instr, predicted, &operands);
+            return false;
         };
-        flow.joins(instr, completed, operands.b);
-        None
+        flow.joins(instr, flow.completed(predicted, done), operands.b);
+        true
     }
 }

@@ -3,6 +3,7 @@ ghost use Rattle.std.specs.Prelude.{◌≡◌, ◌≢◌, ◌<◌, ◌≤◌, �
 ghost use Rattle.inorder.specs.Unit.{half_after};
 ghost use Rattle.instructions.specs.Guesses.{Guesses};
 ghost use Rattle.instructions.specs.Instruction.{is_first_half};
+ghost use Rattle.one_thread.specs.Flow.{completed_as};
 ghost use Rattle.one_thread.specs.FullRing.{station_by, store_with, stores_behind};
 ghost use Rattle.one_thread.specs.Leavers.{told_at};
 ghost use Rattle.one_thread.specs.Loads.{with_entry};
@@ -10,9 +11,11 @@ ghost use Rattle.one_thread.specs.Steady.{GoesOnBehind};
 ghost use Rattle.one_thread.specs.Window.{access_of};
 
 use crate::decoded::Decoded;
+use crate::entering::Done;
 use crate::full_ring::{Completed, FullRing};
 use crate::future::Future;
 use crate::leaver::{guess, leaver_of};
+use crate::station::Station;
 use crate::window::access;
 use inorder::access_entry;
 use instructions::{Half, Kind, Leaver, Predictor};
@@ -27,26 +30,22 @@ pub struct Flow {
     pub accesses: usize,
     /// Who has left the free station, if the predictor is to be told of it.
     pub told: Option<Leaver>,
+    /// The station of the last instruction that has entered, if it has not completed.
+    pub last: Option<Station>,
 }
 
 impl Flow {
     /// The next instruction as one that has completed.
     #[inline(always)]
-    pub fn completed(&self, value: u32, predicted: u32, next: u32) -> Completed
-        ensures { result ≡ record {
-          pc = self.now.future.pc;
-          half = self.now.half;
-          predicted = predicted;
-          next = next;
-          value = value;
-        } }
+    pub fn completed(&self, predicted: u32, done: Done) -> Completed
+        ensures { result ≡ completed_as self.now predicted done }
     {
         Completed {
             pc: self.future.pc,
             half: self.half,
             predicted,
-            next,
-            value,
+            next: done.next,
+            value: done.value,
         }
     }
 
@@ -58,7 +57,9 @@ impl Flow {
         ensures rest { self.new ≡ record self.old { told = None } }
     {
         let left = self.told;
-        self.told = None;
+        if left.is_some() {
+            self.told = None;
+        }
         guess(predictor, left, instr, self.half, self.future.pc)
     }
 
@@ -77,6 +78,7 @@ impl Flow {
         ensures half { self.new.half ≡ half_after (is_first_half instr.now.op completed.half) }
         ensures accesses { self.new.accesses ≡ self.old.accesses + access_of instr.now }
         ensures told { self.new.told ≡ self.old.told }
+        ensures last { self.new.last ≡ self.old.last }
     {
         self.accesses += access(instr);
         self.ring.push(completed);
@@ -95,6 +97,7 @@ impl Flow {
     pub fn leaves(&mut self, instr: &Decoded, oldest: &Completed)
         requires some { 0 < length self.old.ring.completed }
         requires counted { access_of instr.now ≤ self.old.accesses }
+        requires untold { self.old.told ≡ None }
         ensures completed { self.new.ring.completed ≡ drop 1 self.old.ring.completed }
         ensures stores { self.new.ring.stores ≡
             stores_behind (station_by instr.now oldest.now) self.old.ring.stores }
@@ -107,7 +110,10 @@ impl Flow {
         } }
     {
         self.accesses -= access(instr);
-        self.told = leaver_of(instr, oldest.half, oldest.pc, oldest.next);
+        let told = leaver_of(instr, oldest.half, oldest.pc, oldest.next);
+        if told.is_some() {
+            self.told = told;
+        }
         self.ring.shift();
         if let Kind::Stores = instr.kind() {
             self.ring.shift_store();

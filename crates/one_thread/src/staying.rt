@@ -8,7 +8,7 @@ ghost use Rattle.instructions.specs.Instruction.{kind as kind_of};
 ghost use Rattle.instructions.specs.Programs.{instr_at};
 ghost use Rattle.one_thread.specs.Changes.{run_from};
 ghost use Rattle.one_thread.specs.Decoding.{IsDecoded};
-ghost use Rattle.one_thread.specs.Flow.{AreThere, HasRoom, IsFlowing, free_of, restored, window_of};
+ghost use Rattle.one_thread.specs.Flow.{AreThere, CanRestore, HasRoom, IsFlowing, free_of, restored, window_of};
 ghost use Rattle.one_thread.specs.FullRing.{made_by, stage_by, station_in};
 ghost use Rattle.one_thread.specs.StandsFor.{StandsForSome};
 
@@ -24,7 +24,7 @@ use instructions::{Kind, Predictor};
 
 /// After so many retirements in a row from a full ring of completed instructions the unit keeps to these turns. It
 /// takes out all stations for that and puts them back, which costs as much as a few turns.
-pub const PATIENCE: u32 = 8;
+pub const PATIENCE: u32 = 1;
 
 // What a station has made, or where it stores, if it has completed.
 fn value_of(station: &Station) -> Option<u32>
@@ -74,6 +74,7 @@ impl<'a> Pipeline<'a> {
         ensures window { IfSome result (λ flow. window_of self.now flow ≡ self.now.window) }
         ensures told { IfSome result (λ flow.
             slice_get self.now.leavers (free_of self.now) ≡ Some flow.told) }
+        ensures complete { IfSome result (λ flow. flow.last ≡ None) }
     {
         let free = self.station_at(self.ring - 1);
         let mut flow = Flow {
@@ -82,6 +83,7 @@ impl<'a> Pipeline<'a> {
             half: waiting_half(self.low),
             accesses: 0,
             told: self.leaver(free),
+            last: None,
         };
         for i in 0..self.window.len() {
             let station = self.window.get(i);
@@ -116,21 +118,20 @@ impl<'a> Pipeline<'a> {
         }
     }
 
-    // The stations of a flow, and of an instruction that has entered and has not completed, if there is one, are the
-    // window's again.
-    fn restores(&mut self, flow: &Flow, last: Option<Station>)
+    // The stations of a flow are the window's again.
+    fn restores(&mut self, flow: &Flow)
         requires code { IsDecoded self.old.code.items self.old.program.now }
         requires there { AreThere self.old.program.now flow.now.ring.completed }
         requires room { length flow.now.ring.completed < 32 }
         requires oldest { self.old.oldest < self.old.ring }
         requires most { self.old.ring ≤ 32 }
-        ensures { self.new ≡ restored self.old flow.now last }
+        ensures { self.new ≡ restored self.old flow.now }
     {
         let mut window = Window::new();
         for i in 0..flow.ring.len() {
             window.join(&self.station_of(&flow.ring.get(i)));
         }
-        if let Some(station) = last {
+        if let Some(station) = flow.last {
             window.join(&station);
         }
         self.window = window;
@@ -141,30 +142,24 @@ impl<'a> Pipeline<'a> {
     }
 
     // Lets instructions enter a flow, and the oldest leave it, as long as each completes and the count has not
-    // reached a limit. Answers the station of one that has not completed.
+    // reached a limit.
     #[inline(always)]
-    fn flows<P: Predictor>(
-        &mut self,
-        predictor: &mut P,
-        flow: &mut Flow,
-        limit: u64,
-    ) -> Option<Station>
+    fn flows<P: Predictor>(&mut self, predictor: &mut P, flow: &mut Flow, limit: u64)
         requires { HasRoom self.old flow.old }
-        ensures unit { StandsForSome (restored self.new flow.new result) }
-        ensures there { AreThere self.new.program.now flow.new.ring.completed }
-        ensures room { length flow.new.ring.completed < 32 }
+        ensures flow { CanRestore self.new flow.new }
         ensures program { self.new.program ≡ self.old.program }
         ensures more { self.old.committed.count ≤ self.new.committed.count }
         ensures ends { run_from self.new limit ≡ run_from self.old limit }
     {
         while self.committed.count() < limit {
-            let instr = self.next_in(flow)?;
-            if let Some(last) = self.enters_flow(predictor, flow, instr) {
-                return Some(last);
+            let Some(instr) = self.next_in(flow) else {
+                return;
+            };
+            if !self.enters_flow(predictor, flow, instr) {
+                return;
             }
             self.leaves_flow(flow);
         }
-        None
     }
 
     /// How many retirements in a row have left one station free and all live tenants completed, with the last one.
@@ -194,7 +189,7 @@ impl<'a> Pipeline<'a> {
         let mut flow = flow;
         let free = self.station_at(self.ring - 1);
         self.leavers[free] = None;
-        let last = self.flows(predictor, &mut flow, limit);
-        self.restores(&flow, last);
+        self.flows(predictor, &mut flow, limit);
+        self.restores(&flow);
     }
 }

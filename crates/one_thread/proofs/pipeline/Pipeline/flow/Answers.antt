@@ -40,6 +40,8 @@ loop-i-preserved c =
     let j : HasJoined c.loop-i.flow c.joins.new.self i x content =
     record {
       completed = c.joins.ensures.completed;
+      told = c.joins.ensures.told;
+      last = c.joins.ensures.last;
       stores = c.joins.ensures.stores;
       future = c.joins.ensures.future;
       half = c.joins.ensures.half;
@@ -49,5 +51,6 @@ loop-i-preserved c =
       flowing = joined b c.loop-i.flow c.joins.new.self i x content j there h.flowing c.operands-content.ensures.registers.1 c.operands-content.ensures.second;
       window = joined_window b c.loop-i.flow c.joins.new.self i x content j there
           ∙ taken _ b.window c.loop-i.i c.get-station.result _ h.window c.get-station.ensures (sym (station_is b.program.now x i there) ∙ c.in_ok-completed.ensures.same);
+      complete = c.joins.ensures.last ∙ h.complete;
       told = h.told ∙ ap Rattle.std.proofs.Common.Some (sym c.joins.ensures.told);
     }

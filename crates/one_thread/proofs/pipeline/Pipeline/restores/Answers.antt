@@ -20,9 +20,9 @@ returns c =
     let long = stations_long b.program.now flow.ring.completed in
     let all : c.loop-i.window ≡ W = c.loop-i.invariant ∙ take_all c.loop-i.i W (omega (arith, long, c.loop-i-test.false, c.len-i-end.ensures.value)) in
     let with : List Station → Pipeline = λ V. record b { window = V; missed = false; settled = b.ring - 1; leavers = slice_set b.leavers c.station_at-free.result flow.told } in
-    let same : c.match-last.window ≡ with_last W c.args.last =
-    elim c.match-last.branch [
+    let same : c.match-flow.window ≡ with_last W flow.last =
+    elim c.match-flow.branch [
       | in-Some w ↦ w.window-is ∙ w.join-in-Some.ensures ∙ ap (λ l. l ++ w.in-Some.station ∷ []) all ∙ sym (ap (with_last W) w.in-Some.is)
       | in_default w ↦ w.window-is ∙ all ∙ sym (ap (with_last W) w.in_default.is)
     ] in
-    ap with same ∙ ap (λ k. record (with (with_last W c.args.last)) { leavers = slice_set b.leavers k flow.told }) c.station_at-free.ensures.value
+    ap with same ∙ ap (λ k. record (with (with_last W flow.last)) { leavers = slice_set b.leavers k flow.told }) c.station_at-free.ensures.value
