@@ -1,8 +1,9 @@
--- An instruction enters a ring where all others have completed, and is run as far as it comes.
+-- An instruction enters a flow, and is run as far as it comes.
 use Rattle.std.proofs.Common.{◌≡◌, ◌<◌, ◌≤◌, ◌^◌, ℕ, ◌+◌, ◌-◌, ◌%◌, Bool, true, false, cond, eqb, List, [], ◌∷◌, ◌++◌, length, Option, Some, None, refl, sym, ap, ◌∙◌, subst, suc, arith, eqb-true, length-append}
 use Rattle.std.specs.Prelude.{IfSome, slice_get, slice_index, slice_set}
 use Rattle.instructions.specs.Instruction.{destination, first_of, fixed_next, is_first_half, kind, second_of, width}
 use Rattle.instructions.specs.Guesses.{Guesses}
+use Rattle.instructions.specs.declared.guessing.Leaver.{Leaver}
 use Rattle.instructions.specs.Operations.{outcome_of}
 use Rattle.instructions.specs.Programs.{instr_at}
 use Rattle.instructions.specs.declared.instr.Instr.{Instr}
@@ -14,15 +15,17 @@ use Rattle.inorder.specs.Unit.{half_after}
 use Rattle.lsq.specs.LoadRule.{answer_over}
 use Rattle.lsq.specs.declared.entry.Entry.{Entry}
 use Rattle.one_thread.specs.Changes.{CanClaim, LoadGives, LoadsAt, registers_of}
-use Rattle.one_thread.specs.Flow.{AreThere, CanEnter, Completes, CanRestore, HasRoom, HaveCompleted, IsFlowing, IsFull, comes_to, completed_as, completed_by, enters_as, filled, free_of, load_of, loaded_behind, outcome_in, window_of, with_leaver}
+use Rattle.one_thread.specs.Decoding.{IsDecoded}
+use Rattle.one_thread.specs.Flow.{AreThere, CanRestore, Completes, HasPlace, HaveCompleted, IsFlow, IsFlowing, comes_to, completed_as, completed_by, enters_as, filled, load_of, loaded_behind, outcome_in, window_of}
 use Rattle.one_thread.specs.FullRing.{made_by, station_by, stations, store_with, stores}
 use Rattle.one_thread.specs.Givers.{gives}
 use Rattle.one_thread.specs.Loads.{AreInside, entries, load_in, loaded_over, value_by, waits_by, with_entry}
 use Rattle.one_thread.specs.Notes.{AreNoted, miss_in, missed_after}
 use Rattle.one_thread.specs.Stages.{CanLet, RecoversTo}
 use Rattle.one_thread.specs.StandsFor.{StandsForSome}
-use Rattle.one_thread.specs.Steady.{Foresees, GoesOnBehind}
-use Rattle.one_thread.specs.Window.{access_of, accesses, further_on, half_in, let_at, made_after, operands_by, operands_in, source_in, stage_after, station_after}
+use Rattle.one_thread.specs.Futures.{Foresees, GoesOnBehind}
+use Rattle.one_thread.specs.Reopened.{as_let, reopened, with_reopened}
+use Rattle.one_thread.specs.Window.{access_of, accesses, further_on, half_in, let_at, made_after, operands_by, operands_in, reaches_memory, source_in, stage_after, station_after}
 use Rattle.one_thread.specs.declared.dispatch.Fetched.{Fetched}
 use Rattle.one_thread.specs.declared.entering.Done.{Done as DoneBy}
 use Rattle.one_thread.specs.declared.execute.Operands.{Operands}
@@ -37,16 +40,15 @@ use Rattle.one_thread.proofs.BenchTurns.{guess_fixed, let_shows, recovered_shows
 use Rattle.one_thread.proofs.CanLeave.{both_there}
 use Rattle.one_thread.proofs.Completions.{has_completed, station_is, stations_long, stations_more, there_more}
 use Rattle.one_thread.proofs.Flowing.{completed_more, completed_no_miss, half_end}
-use Rattle.one_thread.proofs.FreeStation.{set_again, set_as_is}
-use Rattle.one_thread.proofs.Idle.{ran_unit}
+use Rattle.one_thread.proofs.Idle.{loaded_unit, noted_unit, ran_unit}
 use Rattle.one_thread.proofs.Inside.{are_inside}
 use Rattle.one_thread.proofs.Noted.{miss_gives, noted_more, noted_ran}
+use Rattle.one_thread.proofs.Reopened.{none_reopened, open_settled, reopened_end, reopened_let}
 use Rattle.one_thread.proofs.Scan.{get_end, get_left, set_middle, take_middle}
 use Rattle.one_thread.proofs.Stores.{stores_answer, stores_few, stores_more}
-use Rattle.one_thread.proofs.StreamsLoads.{loaded_youngest}
 use Rattle.one_thread.proofs.Tests.{gives_here}
 
-pub record Enters (b : Pipeline) (f : Future) (es : List Entry) (next : Fetched) (predicted : ℕ) (o : Operands) (outcome : Outcome) : Type 0 where
+pub record Runs (b : Pipeline) (f : Future) (es : List Entry) (next : Fetched) (predicted : ℕ) (o : Operands) (outcome : Outcome) : Type 0 where
   pub unit : StandsForSome b
   pub goes_on : b.over ≡ None
   pub missed : b.missed ≡ false
@@ -62,7 +64,7 @@ pub record Enters (b : Pipeline) (f : Future) (es : List Entry) (next : Fetched)
   pub second : o.b ≡ slice_index f.values (second_of next.instr)
   pub comes : outcome ≡ outcome_of next.instr next.half next.pc o.a o.b (length b.program.now.bytes)
 
-module _ (b : Pipeline) (f : Future) (es : List Entry) (next : Fetched) (predicted : ℕ) (o : Operands) (outcome : Outcome) (h : Enters b f es next predicted o outcome) where
+module _ (b : Pipeline) (f : Future) (es : List Entry) (next : Fetched) (predicted : ℕ) (o : Operands) (outcome : Outcome) (h : Runs b f es next predicted o outcome) where
   -- it is let
 
   abbrev pub last : Station
@@ -168,7 +170,7 @@ module _ (b : Pipeline) (f : Future) (es : List Entry) (next : Fetched) (predict
       let turned : further_on u Done (Some v) ≡ y = ap (λ x. further_on x Done (Some v)) (sym same) ∙ ap (λ x. further_on (station_after last x) Done (Some v)) e in
       sym (ap (slice_set (W ++ ran ∷ []) (length W)) turned ∙ set_middle W [] ran y) in
       let noted : AreNoted middle.missed b.settled middle.window = subst (λ m. AreNoted m b.settled (W ++ y ∷ [])) (sym (missed ∙ h.missed)) (noted_last y refl) in
-      let unit = loaded_youngest ran_fields middle (length W) v ran_is h.goes_on (omega (arith, length-append W (ran ∷ []))) answered sets refl noted in
+      let unit = loaded_unit ran_fields middle (length W) ran v ran_is h.goes_on answered (get_end W [] ran) (sets ran (get_end W [] ran)) refl noted in
       subst StandsForSome (ap (λ m. record let_fields { window = W ++ y ∷ []; missed = m }) (missed ∙ h.missed)) unit
 
   entered : (x : Outcome) → outcome ≡ x → StandsForSome (entered_fields (completed_by last x (load_of es b.committed.memory next.instr.op x)))
@@ -207,7 +209,7 @@ module _ (b : Pipeline) (f : Future) (es : List Entry) (next : Fetched) (predict
 
 pub record HasJoined (flow after : Flow) (i : Instr) (c : Completed) (content : ℕ) : Type 0 where
   pub completed : after.ring.completed ≡ flow.ring.completed ++ c ∷ []
-  pub told : after.told ≡ flow.told
+  pub from : after.from ≡ flow.from
   pub last : after.last ≡ flow.last
   pub stores : after.ring.stores ≡ with_entry flow.ring.stores (store_with (station_by i c) content)
   pub future : GoesOnBehind flow.future (destination i c.half) (made_by (kind i.op) c.value) c.next after.future
@@ -246,66 +248,88 @@ module _ (b : Pipeline) (flow after : Flow) (i : Instr) (c : Completed) (content
             ∙ sym (ap (λ l. accesses l (length l)) all);
       }
 
--- who has left the free station does not matter
-pub flowing_untold : (b : Pipeline) (flow : Flow) → IsFlowing b flow → IsFlowing b (record flow { told = None })
-flowing_untold b flow h =
+-- how many have completed for good does not matter
+pub flowing_from : (b : Pipeline) (flow : Flow) (n : ℕ) → IsFlowing b flow → IsFlowing b (record flow { from = n })
+flowing_from b flow n h =
     record { goes_on = h.goes_on; there = h.there; completed = h.completed; foresees = h.foresees; half = h.half; stores = h.stores; accesses = h.accesses }
+
+-- nor who has left which station
+pub flowing_later : (b later : Pipeline) (flow : Flow) → later ≡ record b { leavers = later.leavers } → IsFlowing b flow → IsFlowing later flow
+flowing_later b later flow rest h =
+    subst (λ (p : Pipeline). IsFlowing p flow) (sym rest)
+    (record { goes_on = h.goes_on; there = h.there; completed = h.completed; foresees = h.foresees; half = h.half; stores = h.stores; accesses = h.accesses })
 
 -- The next instruction enters
 
-pub record Comes (x : Pipeline) (flow : Flow) (i : Instr) (predicted : ℕ) (o : Operands) : Type 0 where
-  pub room : HasRoom x flow
-  pub can : CanEnter x flow i
+pub record Enters (x later : Pipeline) (flow : Flow) (i : Instr) (predicted : ℕ) (o : Operands) : Type 0 where
+  pub flows : IsFlow x flow
+  pub is : instr_at x.program.now flow.future.pc ≡ Some i
+  pub free : reaches_memory i.op ≡ true → flow.accesses < x.queue
+  pub room : length (window_of x flow) < x.ring
   pub small : predicted < 2 ^ 32
   pub fixed : IfSome (fixed_next i flow.half flow.future.pc) (λ n. predicted ≡ n)
   pub first_small : first_of i < 34
   pub second_small : second_of i < 34
   pub first : o.a ≡ slice_index flow.future.values (first_of i)
   pub second : o.b ≡ slice_index flow.future.values (second_of i)
+  pub leavers : later.leavers ≡ slice_set x.leavers ((x.oldest + length (window_of x flow)) % x.ring) None
+  pub rest : later ≡ record x { leavers = later.leavers }
 
--- what the predictor answers, and what the next instruction reads then
-pub comes : {S : Type 0} {Predicts : S → ℕ → Instr → ℕ → S → Type 0} {Learns : S → ℕ → ℕ → S → Type 0} (x : Pipeline) (flow later : Flow) (i : Instr) (predicted : ℕ) (o : Operands) (old new : S) →
-    HasRoom x flow → CanEnter x flow i → predicted < 2 ^ 32 → Guesses Predicts Learns flow.told i flow.half flow.future.pc predicted old new → later ≡ record flow { told = None } →
-    (first_of i < 34) × (second_of i < 34) → o.a ≡ slice_index later.future.values (first_of i) → o.b ≡ slice_index later.future.values (second_of i) → Comes x flow i predicted o
-comes {S} {Predicts} {Learns} x flow later i predicted o old new room can small guess same registers first second =
+-- by what the predictor answers, and what the next instruction reads
+pub enters : {S : Type 0} {Predicts : S → ℕ → Instr → ℕ → S → Type 0} {Learns : S → ℕ → ℕ → S → Type 0} (later : Pipeline) (flow : Flow) (i : Instr) (predicted : ℕ) (o : Operands) (left : Option Leaver) (old new : S) →
+    (p : HasPlace later flow) → instr_at p.before.program.now flow.future.pc ≡ Some i → predicted < 2 ^ 32 → Guesses Predicts Learns left i flow.half flow.future.pc predicted old new →
+    (first_of i < 34) × (second_of i < 34) → o.a ≡ slice_index flow.future.values (first_of i) → o.b ≡ slice_index flow.future.values (second_of i) → Enters p.before later flow i predicted o
+enters {S} {Predicts} {Learns} later flow i predicted o left old new p is small guess registers first second =
+    let same : p.can.instr ≡ i = cc (sym p.can.is ∙ is) in
     record {
-      room = room;
-      can = can;
+      flows = p.flows;
+      is = is;
+      free = λ e. p.can.free (ap (λ (j : Instr). reaches_memory j.op) same ∙ e);
+      room = p.can.room;
       small = small;
       fixed = guess_fixed Predicts Learns (fixed_next i flow.half flow.future.pc) flow.future.pc i predicted guess.middle new guess.asked;
       first_small = registers.0;
       second_small = registers.1;
-      first = first ∙ ap (λ (f : Flow). slice_index f.future.values (first_of i)) same;
-      second = second ∙ ap (λ (f : Flow). slice_index f.future.values (second_of i)) same;
+      first = first;
+      second = second;
+      leavers = p.leavers;
+      rest = p.rest;
     }
 
-module _ (x : Pipeline) (flow : Flow) (i : Instr) (predicted : ℕ) (o : Operands) (h : Comes x flow i predicted o) where
+pub place_decoded : (later : Pipeline) (flow : Flow) (code : List Instr) (p : HasPlace later flow) → code ≡ later.code.items → IsDecoded code p.before.program.now
+place_decoded later flow code p e =
+    subst (λ l. IsDecoded l p.before.program.now) (sym (e ∙ ap (λ (b : Pipeline). b.code.items) p.rest)) p.flows.unit.code
+
+module _ (x later : Pipeline) (flow : Flow) (i : Instr) (predicted : ℕ) (o : Operands) (h : Enters x later flow i predicted o) where
   abbrev all : List Station
   all = window_of x flow
 
-  abbrev with_it : Pipeline
-  with_it = with_leaver (filled x all) flow.told
+  abbrev b : Pipeline
+  b = filled x all
 
   abbrev next : Fetched
   next = record { instr = i; half = flow.half; pc = flow.future.pc }
 
-  enters : Enters with_it flow.future flow.ring.stores next predicted o (outcome_in x flow i o)
-  enters =
-      let room : length all < x.ring = omega (arith, h.room.room) in
+  can : CanLet x.program.now x.ring x.queue x.committed.pc x.low all next
+  can =
       record {
-        unit = h.room.unit;
-        goes_on = h.room.flowing.goes_on;
+        room = h.room;
+        place = h.flows.flowing.foresees.path;
+        half = h.flows.flowing.half;
+        is = h.is;
+        free = λ e. subst (λ n. n < x.queue) h.flows.flowing.accesses (h.free e);
+      }
+
+  runs : Runs b flow.future flow.ring.stores next predicted o (outcome_in x flow i o)
+  runs =
+      record {
+        unit = h.flows.unit;
+        goes_on = h.flows.flowing.goes_on;
         missed = refl;
-        completed = h.room.flowing.completed;
-        foresees = h.room.flowing.foresees;
-        stores = h.room.flowing.stores;
-        can = record {
-          room = room;
-          place = h.room.flowing.foresees.path;
-          half = h.room.flowing.half;
-          is = h.can.is;
-          free = λ e. subst (λ n. n < x.queue) h.room.flowing.accesses (h.can.free e);
-        };
+        completed = h.flows.flowing.completed;
+        foresees = h.flows.flowing.foresees;
+        stores = h.flows.flowing.stores;
+        can = can;
         small = h.small;
         fixed = h.fixed;
         first_small = h.first_small;
@@ -315,61 +339,98 @@ module _ (x : Pipeline) (flow : Flow) (i : Instr) (predicted : ℕ) (o : Operand
         comes = refl;
       }
 
-  pub comes_inside : (a : ℕ) → outcome_in x flow i o ≡ Address a → a + width i.op ≤ length x.committed.memory
-  comes_inside = reached_inside with_it flow.future flow.ring.stores next predicted o (outcome_in x flow i o) enters
+  pub entered_inside : (a : ℕ) → outcome_in x flow i o ≡ Address a → a + width i.op ≤ length x.committed.memory
+  entered_inside = reached_inside b flow.future flow.ring.stores next predicted o (outcome_in x flow i o) runs
 
-  leavers_as : slice_set (slice_set x.leavers (free_of x) flow.told) ((x.oldest + length all) % x.ring) None ≡ x.leavers
-  leavers_as =
-      let last : length all ≡ x.ring - 1 = omega (arith, h.room.room) in
-      ap (λ n. slice_set (slice_set x.leavers (free_of x) flow.told) ((x.oldest + n) % x.ring) None) last
-      ∙ set_again x.leavers (free_of x) flow.told None
-      ∙ set_as_is x.leavers (free_of x) None h.room.untold
+  -- the fields where these stations are the window's
+  as_later : (V : List Station) → record b { window = V; leavers = slice_set x.leavers ((x.oldest + length all) % x.ring) None } ≡ filled later V
+  as_later V =
+      ap (λ l. record b { window = V; leavers = l }) (sym h.leavers) ∙ sym (ap (λ (p : Pipeline). filled p V) h.rest)
 
-  pub comes_unit : StandsForSome (filled x (all ++ comes_to x flow i predicted o ∷ []))
+  comes_unit : StandsForSome (filled later (all ++ comes_to x flow i predicted o ∷ []))
   comes_unit =
-      subst StandsForSome (ap (λ l. record (filled x (all ++ comes_to x flow i predicted o ∷ [])) { leavers = l }) leavers_as)
-      (entered_unit with_it flow.future flow.ring.stores next predicted o (outcome_in x flow i o) enters)
+      subst StandsForSome (as_later (all ++ comes_to x flow i predicted o ∷ []))
+      (entered_unit b flow.future flow.ring.stores next predicted o (outcome_in x flow i o) runs)
 
-  abbrev untold : Flow
-  untold = record flow { told = None }
+  -- so many can be as they were let, with it
+  open_with : (y : Station) → as_let y ≡ enters_as flow i predicted → StandsForSome (with_reopened flow.from (filled later (all ++ y ∷ [])))
+  open_with y same =
+      reopened_let b (filled later (all ++ y ∷ [])) next predicted flow.from y h.flows.from h.flows.reopens h.flows.flowing.goes_on (completed_no_miss all h.flows.flowing.completed) can h.small h.fixed refl same
+      (ap (λ (p : Pipeline). p.leavers) (sym (as_later (all ++ y ∷ [])))) (sym (as_later (all ++ y ∷ [])) ∙ ap (λ l. record b { window = all ++ y ∷ []; leavers = l }) (ap (λ (p : Pipeline). p.leavers) (as_later (all ++ y ∷ []))))
 
   -- there is room for it
-  pub comes_room : (length flow.ring.completed < 32) × (length flow.ring.stores < 32) × (flow.accesses ≤ 32)
-  comes_room =
+  pub entered_room : (length flow.ring.completed < 32) × (length flow.ring.stores < 32) × (flow.accesses ≤ 32)
+  entered_room =
       let long = stations_long x.program.now flow.ring.completed in
       let few = stores_few (registers_of x) all (length all) in
       let most = accesses_most all (length all) in
-      (omega (arith, long, h.room.room, h.room.unit.ring),
-      omega (arith, few, ap length h.room.flowing.stores, h.room.room, h.room.unit.ring),
-      omega (arith, most, h.room.flowing.accesses, h.room.room, h.room.unit.ring))
+      (omega (arith, long, h.room, h.flows.unit.ring),
+      omega (arith, few, ap length h.flows.flowing.stores, h.room, h.flows.unit.ring),
+      omega (arith, most, h.flows.flowing.accesses, h.room, h.flows.unit.ring))
 
   -- it has completed
-  pub comes_full : (d : DoneBy) (after : Flow) → Completes x flow i predicted o (Some d) → HasJoined untold after i (completed_as flow predicted d) o.b → IsFull x after
-  comes_full d after completes j =
-      let c = completed_as flow predicted d in
-      let window : window_of x after ≡ all ++ station_by i c ∷ [] = joined_window x untold after i c o.b j h.can.is in
-      let same : filled x (all ++ comes_to x flow i predicted o ∷ []) ≡ filled x (window_of x after) =
-      ap (λ w. filled x (all ++ w ∷ [])) completes ∙ sym (ap (filled x) window) in
-      record {
-        unit = subst StandsForSome same comes_unit;
-        complete = j.last ∙ h.room.complete;
-        told = j.told;
-        flowing = joined x untold after i c o.b j h.can.is (flowing_untold x flow h.room.flowing) h.second_small h.second;
-        full = ap length window ∙ omega (arith, length-append all (station_by i c ∷ []), h.room.room);
-        two = h.room.two;
-      }
+  module _ (d : DoneBy) (after : Flow) (completes : Completes x flow i predicted o (Some d)) (j : HasJoined flow after i (completed_as flow predicted d) o.b) where
+    abbrev y : Station
+    y = station_by i (completed_as flow predicted d)
 
-  -- or not
+    window_is : window_of later after ≡ all ++ y ∷ []
+    window_is = ap (λ (p : Pipeline). stations p.program.now after.ring.completed) h.rest ∙ joined_window x flow after i (completed_as flow predicted d) o.b j h.is
+
+    unit_is : StandsForSome (filled later (window_of later after))
+    unit_is = subst StandsForSome (ap (λ w. filled later (all ++ w ∷ [])) completes ∙ sym (ap (filled later) window_is)) comes_unit
+
+    long_is : length (window_of later after) ≡ suc (length all)
+    long_is = ap length window_is ∙ omega (arith, length-append all (y ∷ []))
+
+    ring_is : later.ring ≡ x.ring
+    ring_is = ap (λ (p : Pipeline). p.ring) h.rest
+
+    flows_on : IsFlowing later after
+    flows_on = flowing_later x later after h.rest (joined x flow after i (completed_as flow predicted d) o.b j h.is h.flows.flowing h.second_small h.second)
+
+    -- as predicted
+    pub entered_hit : d.next ≡ predicted → IsFlow later after
+    entered_hit hit =
+        record {
+          unit = unit_is;
+          flowing = flows_on;
+          last = j.last ∙ h.flows.last;
+          most = omega (arith, long_is, h.room, ring_is);
+          two = omega (arith, h.flows.two, ring_is);
+          from = omega (arith, long_is, h.flows.from, j.from);
+          reopens = subst StandsForSome (ap (λ V. with_reopened flow.from (filled later V)) (sym window_is) ∙ ap (λ n. with_reopened n (filled later (window_of later after))) (sym j.from))
+              (open_with y (ap (λ n. record (enters_as flow i predicted) { next = n }) hit));
+        }
+
+    -- or it was mended
+    pub entered_miss : (n : ℕ) → n ≡ length after.ring.completed → IsFlow later (record after { from = n })
+    entered_miss n all_of =
+        let same : n ≡ length (window_of later after) = all_of ∙ sym (stations_long later.program.now after.ring.completed) in
+        record {
+          unit = unit_is;
+          flowing = flowing_from later after n flows_on;
+          last = j.last ∙ h.flows.last;
+          most = omega (arith, long_is, h.room, ring_is);
+          two = omega (arith, h.flows.two, ring_is);
+          from = omega (arith, same);
+          reopens = none_reopened (filled later (window_of later after)) n same unit_is;
+        }
+
+  -- or it is left as it was let
   abbrev kept : Flow
-  kept = record untold { last = Some (station_after (enters_as flow i predicted) (outcome_in x flow i o)) }
+  kept = record flow { last = Some (enters_as flow i predicted) }
 
-  pub comes_stays : Completes x flow i predicted o None → CanRestore x kept
-  comes_stays completes =
-      let w = station_after (enters_as flow i predicted) (outcome_in x flow i o) in
-      let same : filled x (all ++ comes_to x flow i predicted o ∷ []) ≡ filled x (all ++ w ∷ []) = ap (λ y. filled x (all ++ y ∷ [])) completes in
+  pub entered_stays : CanRestore later kept
+  entered_stays =
+      let y = enters_as flow i predicted in
+      let unit = open_with y refl in
+      let end : reopened flow.from (all ++ y ∷ []) ≡ reopened flow.from all ++ y ∷ [] = reopened_end flow.from all y h.flows.from in
+      let same : reopened flow.from all ≡ reopened flow.from (window_of later kept) = ap (λ (p : Pipeline). reopened flow.from (stations p.program.now flow.ring.completed)) (sym h.rest) in
       let long = stations_long x.program.now flow.ring.completed in
       record {
-        unit = subst StandsForSome (same ∙ ap (λ l. record (filled x (all ++ w ∷ [])) { leavers = l }) (sym (set_as_is x.leavers (free_of x) None h.room.untold))) comes_unit;
-        there = h.room.flowing.there;
-        room = omega (arith, long, h.room.room, h.room.unit.ring);
+        unit = subst StandsForSome (ap (λ V. record later { window = V; missed = false; settled = flow.from }) (end ∙ ap (λ V. V ++ y ∷ []) same))
+            (noted_unit (with_reopened flow.from (filled later (all ++ y ∷ []))) false flow.from unit
+            (record { no_miss = unit.noted.no_miss; are_settled = open_settled flow.from all y h.flows.from h.flows.flowing.completed }));
+        there = subst (λ (p : Pipeline). AreThere p.program.now flow.ring.completed) (sym h.rest) h.flows.flowing.there;
+        room = λ w e. omega (arith, long, h.room, h.flows.unit.ring);
       }

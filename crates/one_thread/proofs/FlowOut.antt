@@ -11,16 +11,15 @@ use Rattle.inorder.specs.Committed.{with_low}
 use Rattle.inorder.specs.Machine.{write}
 use Rattle.inorder.specs.Runs.{end_from}
 use Rattle.one_thread.specs.Changes.{registers_of, run_from}
-use Rattle.one_thread.specs.Flow.{AreThere, HasRoom, HaveCompleted, IsFlowing, IsFull, committed_by, filled, free_of, low_by, to_do, window_of, with_leaver}
+use Rattle.one_thread.specs.Flow.{AreThere, HaveCompleted, IsFlow, IsFlowing, IsStuck, committed_by, filled, low_by, to_do, window_of}
 use Rattle.one_thread.specs.FullRing.{stage_by, station_by, stations, stores, stores_behind}
 use Rattle.one_thread.specs.Givers.{NoneGives}
 use Rattle.one_thread.specs.Leaves.{HasEnded, LeavesTo, OldestHasEnded, PassesTo, RetiresTo, halved, leavers_with, left}
-use Rattle.one_thread.specs.Leavers.{told_at}
 use Rattle.one_thread.specs.Loads.{load_in}
 use Rattle.one_thread.specs.Notes.{AreNoted}
-use Rattle.one_thread.specs.Stages.{NoRoom}
+use Rattle.one_thread.specs.Stages.{CannotLet}
 use Rattle.one_thread.specs.StandsFor.{StandsForSome}
-use Rattle.one_thread.specs.Steady.{Foresees}
+use Rattle.one_thread.specs.Futures.{Foresees}
 use Rattle.one_thread.specs.Window.{access_of, accesses, half_in}
 use Rattle.one_thread.specs.declared.bench.Turn.{Turn}
 use Rattle.one_thread.specs.declared.bench.Turn.TheVariants.{Halved, Retired}
@@ -31,22 +30,21 @@ use Rattle.one_thread.specs.declared.station.Stage.{Stage}
 use Rattle.one_thread.specs.declared.station.Stage.TheVariants.{Open, Addr, Done, Miss, Stops}
 use Rattle.one_thread.specs.declared.station.Station.{Station}
 use Rattle.one_thread.proofs.Accesses.{accesses_drop}
-use Rattle.one_thread.proofs.Completions.{station_is, stations_get, stations_less, there_less}
+use Rattle.one_thread.proofs.Completions.{station_is, stations_get, stations_less, stations_long, there_less}
 use Rattle.one_thread.proofs.Ends.{one_retired}
 use Rattle.one_thread.proofs.Flowing.{completed_less, completed_no_miss, completed_settled, half_less, path_any, registers_all}
-use Rattle.one_thread.proofs.FreeStation.{freed}
 use Rattle.one_thread.proofs.Futures.{foresees_left, made_value}
-use Rattle.one_thread.proofs.Idle.{Idle, Shows, idle, leaves_after, noted_unit, retired_shows}
+use Rattle.one_thread.proofs.Idle.{Idle, Shows, idle, leaves_after, retired_shows}
 use Rattle.one_thread.proofs.LookBack.{settled_unanswered}
 use Rattle.one_thread.proofs.Moved.{moves_first}
+use Rattle.one_thread.proofs.Reopened.{none_reopened}
 use Rattle.one_thread.proofs.Settled.{settled_closed}
 use Rattle.one_thread.proofs.Stores.{stores_passed}
-use Rattle.one_thread.proofs.Untold.{oldest_untold}
 
 pub record IsFilled (b : Pipeline) : Type 0 where
   pub unit : StandsForSome b
   pub goes_on : b.over ≡ None
-  pub full : b.ring ≤ length b.window
+  pub full : CannotLet b.program.now b.ring b.queue b.committed.pc b.window
   pub completed : HaveCompleted b.window
   pub settled : b.settled < length b.window
 
@@ -60,7 +58,7 @@ filled_noted b d =
 
 filled_idle : (b now : Pipeline) → IsFilled b → now ≡ record b { settled = suc b.settled } → Idle b now
 filled_idle b now d e =
-    idle b now d.unit d.goes_on (completed_no_miss b.window d.completed) (NoRoom d.full)
+    idle b now d.unit d.goes_on (completed_no_miss b.window d.completed) d.full
     (λ k l. settled_closed (registers_of b) b.window k (completed_settled b.window d.completed k l)) (ap (λ x. x.window) e)
     (subst (λ x. x ≡ record b { window = x.window; missed = x.missed; settled = x.settled }) (sym e) refl)
     (subst (λ x. AreNoted x.missed x.settled x.window) (sym e) (filled_noted b d))
@@ -115,20 +113,6 @@ passed_shows b later w d is e =
     let p = d.completed 0 w is in
     retired_shows b now later (answer_by h) (filled_idle b now d refl) (no_loads b d)
     (subst (λ o. RetiresTo now o (answer_by h) later) (sym is) (leaves_as now later w (answer_by h) w.stage p.0.goes_on (passes h b later w e)))
-
--- A ring that is full but for one station
-
-pub filled_unit : (b : Pipeline) (W : List Station) → StandsForSome b → W ≡ b.window → HaveCompleted W → length W + 1 ≡ b.ring → StandsForSome (filled b W)
-filled_unit b W h is completed room =
-    let same : filled b W ≡ record b { missed = false; settled = b.ring - 1 } = ap (filled b) is in
-    let all : HaveCompleted b.window = subst HaveCompleted is completed in
-    let long = ap length is in
-    subst StandsForSome (sym same)
-    (noted_unit b false (b.ring - 1) h
-    (record {
-      no_miss = λ e. completed_no_miss b.window all;
-      are_settled = record { inside = omega (arith, room, long); each = λ k l. completed_settled b.window all k (omega (arith, l, room, long)) };
-    }))
 
 -- What the run comes to is as before
 
@@ -200,22 +184,23 @@ registers_by false b later w low s e = sym (ap registers_of e)
 -- The oldest instruction of a flow
 
 pub record IsOldest (x : Pipeline) (flow : Flow) (i : Instr) (c : Completed) : Type 0 where
-  pub full : IsFull x flow
+  pub flows : IsFlow x flow
+  pub stuck : IsStuck x flow
   pub is : slice_get flow.ring.completed 0 ≡ Some c
   pub instr : instr_at x.program.now c.pc ≡ Some i
 
 module _ (x : Pipeline) (flow : Flow) (i : Instr) (c : Completed) (here : IsOldest x flow i c) where
-  oldest_is : slice_get (window_of x flow) 0 ≡ Some (station_by i c)
+  pub oldest_is : slice_get (window_of x flow) 0 ≡ Some (station_by i c)
   oldest_is = stations_get x.program.now flow.ring.completed 0 c here.is ∙ ap Some (station_is x.program.now c i here.instr)
 
   fills : IsFilled (filled x (window_of x flow))
   fills =
       record {
-        unit = here.full.unit;
-        goes_on = here.full.flowing.goes_on;
-        full = omega (arith, here.full.full);
-        completed = here.full.flowing.completed;
-        settled = omega (arith, here.full.full, here.full.two);
+        unit = here.flows.unit;
+        goes_on = here.flows.flowing.goes_on;
+        full = here.stuck.stuck;
+        completed = here.flows.flowing.completed;
+        settled = omega (arith, here.stuck.some);
       }
 
   -- a store is inside the memory
@@ -232,7 +217,7 @@ module _ (x : Pipeline) (flow : Flow) (i : Instr) (c : Completed) (here : IsOlde
       go [] q = let no : Some (station_by i c) ≡ None = sym oldest_is ∙ ap (λ V. slice_get V 0) q in absurd (cc)
       go (u ∷ V) q =
           let counts : flow.accesses ≡ access_of i + accesses V (length V) =
-          here.full.flowing.accesses ∙ ap (λ V. accesses V (length V)) q ∙ accesses_drop (u ∷ V) (station_by i c) (length V) (sym (ap (λ V. slice_get V 0) q) ∙ oldest_is) in
+          here.flows.flowing.accesses ∙ ap (λ V. accesses V (length V)) q ∙ accesses_drop (u ∷ V) (station_by i c) (length V) (sym (ap (λ V. slice_get V 0) q) ∙ oldest_is) in
           omega (arith, counts)
 
 -- It has left
@@ -242,14 +227,15 @@ pub record HasLeft (x y : Pipeline) (flow after : Flow) (i : Instr) (c : Complet
   pub completed : after.ring.completed ≡ drop 1 flow.ring.completed
   pub stores : after.ring.stores ≡ stores_behind (station_by i c) flow.ring.stores
   pub accesses : after.accesses ≡ flow.accesses - access_of i
-  pub told : after.told ≡ told_at (station_by i c)
+  pub from : after.from ≡ length after.ring.completed
   pub last : after.last ≡ flow.last
   pub future : after.future ≡ flow.future
   pub half : after.half ≡ flow.half
   pub commits : y.committed ≡ committed_by (is_first_half i.op c.half) (station_by i c) x.low x.committed
   pub low : y.low ≡ low_by (is_first_half i.op c.half) (station_by i c)
   pub oldest : y.oldest ≡ (x.oldest + 1) % x.ring
-  pub rest : y ≡ record x { committed = y.committed; low = y.low; oldest = y.oldest }
+  pub leavers : y.leavers ≡ leavers_with x (station_by i c)
+  pub rest : y ≡ record x { committed = y.committed; low = y.low; oldest = y.oldest; leavers = y.leavers }
 
 module _ (x y : Pipeline) (flow after : Flow) (i : Instr) (c : Completed) (l : HasLeft x y flow after i c) where
   abbrev w : Station
@@ -265,10 +251,10 @@ module _ (x y : Pipeline) (flow after : Flow) (i : Instr) (c : Completed) (l : H
   f = is_first_half i.op c.half
 
   abbrev later : Pipeline
-  later = with_leaver (filled y (window_of y after)) after.told
+  later = filled y (window_of y after)
 
-  abbrev full : IsFull x flow
-  full = l.here.full
+  abbrev flows : IsFlow x flow
+  flows = l.here.flows
 
   first : slice_get W 0 ≡ Some w
   first = oldest_is x flow i c l.here
@@ -282,22 +268,14 @@ module _ (x y : Pipeline) (flow after : Flow) (i : Instr) (c : Completed) (l : H
       ∙ ap (stations x.program.now) l.completed
       ∙ stations_less x.program.now flow.ring.completed
 
-  -- the free station is the one that it leaves
-  free_is : free_of y ≡ x.oldest
-  free_is =
-      ap (λ (p : Pipeline). (y.oldest + (p.ring - 1)) % p.ring) l.rest
-      ∙ ap (λ n. (n + (x.ring - 1)) % x.ring) l.oldest
-      ∙ freed x.oldest x.ring full.unit.oldest
-
   later_is : later ≡ passed_from f b w
   later_is =
-      ap (λ n. record (filled y (window_of y after)) { leavers = slice_set y.leavers n after.told }) free_is
-      ∙ ap (λ (p : Pipeline). record (filled p (window_of y after)) { leavers = slice_set p.leavers x.oldest after.told }) l.rest
-      ∙ ap (λ V. record x { committed = y.committed; low = y.low; oldest = y.oldest; window = V; missed = false; settled = x.ring - 1; leavers = slice_set x.leavers x.oldest after.told }) rest_is
-      ∙ ap (λ t. record x { committed = y.committed; low = y.low; oldest = y.oldest; window = drop 1 W; missed = false; settled = x.ring - 1; leavers = slice_set x.leavers x.oldest t }) l.told
-      ∙ ap (λ s. record x { committed = s; low = y.low; oldest = y.oldest; window = drop 1 W; missed = false; settled = x.ring - 1; leavers = leavers_with x w }) l.commits
-      ∙ ap (λ v. record x { committed = committed_by f w x.low x.committed; low = v; oldest = y.oldest; window = drop 1 W; missed = false; settled = x.ring - 1; leavers = leavers_with x w }) l.low
-      ∙ ap (λ n. record x { committed = committed_by f w x.low x.committed; low = low_by f w; oldest = n; window = drop 1 W; missed = false; settled = x.ring - 1; leavers = leavers_with x w }) l.oldest
+      ap (λ (p : Pipeline). filled p (window_of y after)) l.rest
+      ∙ ap (λ V. record x { committed = y.committed; low = y.low; oldest = y.oldest; leavers = y.leavers; window = V; missed = false; settled = 0 }) rest_is
+      ∙ ap (λ t. record x { committed = y.committed; low = y.low; oldest = y.oldest; leavers = t; window = drop 1 W; missed = false; settled = 0 }) l.leavers
+      ∙ ap (λ s. record x { committed = s; low = y.low; oldest = y.oldest; leavers = leavers_with x w; window = drop 1 W; missed = false; settled = 0 }) l.commits
+      ∙ ap (λ v. record x { committed = committed_by f w x.low x.committed; low = v; oldest = y.oldest; leavers = leavers_with x w; window = drop 1 W; missed = false; settled = 0 }) l.low
+      ∙ ap (λ n. record x { committed = committed_by f w x.low x.committed; low = low_by f w; oldest = n; leavers = leavers_with x w; window = drop 1 W; missed = false; settled = 0 }) l.oldest
 
   flows_on : IsFlowing y after
   flows_on = go W refl
@@ -307,18 +285,17 @@ module _ (x y : Pipeline) (flow after : Flow) (i : Instr) (c : Completed) (l : H
 
       go : (V : List Station) → W ≡ V → IsFlowing y after
       go [] q = let no : Some w ≡ None = sym first ∙ ap (λ V. slice_get V 0) q in absurd (cc)
-      go (u ∷ []) q = let long = ap length q in let all = full.full in let two = full.two in absurd (omega (arith, long, all, two))
+      go (u ∷ []) q = let long = ap length q in let some = l.here.stuck.some in absurd (omega (arith, long, some))
       go (u ∷ a ∷ V) q =
           let this : u ≡ w = cc (sym (ap (λ V. slice_get V 0) q) ∙ first) in
           let there : W ≡ w ∷ a ∷ V = q ∙ ap (λ z. z ∷ a ∷ V) this in
           let behind : window_of y after ≡ a ∷ V = rest_is ∙ ap (λ V. drop 1 V) there in
-          let h = full.flowing in
+          let h = flows.flowing in
           let p = h.completed 0 w first in
           let regs : write (registers_of x) w.destination v ≡ registers_of y = registers_by f b later w p.1 (passed_shows b later w whole first later_is) later_is in
           let seen : Foresees flow.future (registers_of x) x.committed.pc (w ∷ a ∷ V) = subst (Foresees flow.future (registers_of x) x.committed.pc) there h.foresees in
-          let long = registers_all b full.unit in
+          let long = registers_all b flows.unit in
           let past = foresees_left flow.future (registers_of x) x.committed.pc w (a ∷ V) long p.0.made seen in
-          let one : length (w ∷ a ∷ V) ≡ suc (length (a ∷ V)) = refl in
           record {
             goes_on = ap (λ (z : Pipeline). z.over) l.rest ∙ h.goes_on;
             there = subst (λ (z : Pipeline). AreThere z.program.now after.ring.completed) (sym l.rest) (subst (AreThere x.program.now) (sym l.completed) (there_less x.program.now flow.ring.completed h.there));
@@ -337,17 +314,19 @@ module _ (x y : Pipeline) (flow after : Flow) (i : Instr) (c : Completed) (l : H
                 (h.accesses ∙ ap (λ V. accesses V (length V)) there ∙ accesses_drop (w ∷ a ∷ V) w (length (a ∷ V)) refl) (ap (λ V. accesses V (length V)) behind);
           }
 
-  pub left_room : HasRoom y after
-  left_room =
+  pub left_flow : IsFlow y after
+  left_flow =
       let shows = passed_shows b later w whole first later_is in
       let ring : y.ring ≡ x.ring = ap (λ (p : Pipeline). p.ring) l.rest in
+      let all : after.from ≡ length (window_of y after) = l.from ∙ sym (stations_long y.program.now after.ring.completed) in
       record {
         unit = shows.unit;
-        complete = l.last ∙ full.complete;
         flowing = flows_on;
-        room = omega (arith, ap length rest_is, length-drop 1 W, full.full, full.two, ring);
-        two = omega (arith, ring, full.two);
-        untold = ap (slice_get y.leavers) free_is ∙ ap (λ (p : Pipeline). slice_get p.leavers x.oldest) l.rest ∙ oldest_untold b w full.unit first;
+        last = l.last ∙ flows.last;
+        most = omega (arith, ap length rest_is, length-drop 1 W, flows.most, ring);
+        two = omega (arith, flows.two, ring);
+        from = omega (arith, all);
+        reopens = none_reopened later after.from all shows.unit;
       }
 
   pub left_program : y.program ≡ x.program

@@ -1,21 +1,26 @@
 -- The live tenants are taken into a flow, and put back.
-use Rattle.std.proofs.Common.{◌≡◌, ◌<◌, ◌≤◌, ◌+◌, ◌-◌, ◌%◌, ℕ, suc, List, [], ◌∷◌, ◌++◌, length, take, Option, Some, None, refl, sym, ap, ◌∙◌, subst, arith, length-take, mod-lt}
-use Rattle.std.specs.Prelude.{slice_get, slice_set}
-use Rattle.circular_buffer.proofs.Places.{slice_get-set_same}
-use Rattle.instructions.specs.declared.guessing.Leaver.{Leaver}
+use Rattle.std.proofs.Common.{◌≡◌, ◌<◌, ◌≤◌, ◌+◌, ◌-◌, ℕ, zero, suc, Bool, true, false, List, [], ◌∷◌, ◌++◌, length, take, Option, Some, None, refl, sym, ap, ◌∙◌, subst, ⊎_elim, arith, length-take}
+use Rattle.std.proofs.lemmas.Bool.{cases_lt}
+use Rattle.std.specs.Prelude.{slice_get}
+use Rattle.instructions.specs.declared.instr.Instr.{Instr}
+use Rattle.instructions.specs.Programs.{instr_at}
 use Rattle.one_thread.specs.Changes.{registers_of}
-use Rattle.one_thread.specs.Flow.{CanRestore, HasRoom, IsFlowing, filled, free_of, window_of, with_last, with_leaver}
+use Rattle.one_thread.specs.Flow.{CanEnter, CanRestore, IsFlow, IsFlowing, IsStuck, filled, restored, window_of, with_last}
 use Rattle.one_thread.specs.FullRing.{station_in, stations}
+use Rattle.one_thread.specs.Notes.{AreNoted}
+use Rattle.one_thread.specs.Reopened.{as_let, reopened, with_reopened}
+use Rattle.one_thread.specs.Stages.{CannotLet, NoRoom, QueueFull}
 use Rattle.one_thread.specs.StandsFor.{StandsForSome}
+use Rattle.one_thread.specs.Window.{reaches_memory}
 use Rattle.one_thread.specs.declared.flow.Flow.{Flow}
 use Rattle.one_thread.specs.declared.full_ring.Completed.{Completed}
 use Rattle.one_thread.specs.declared.pipeline.Pipeline.{Pipeline}
 use Rattle.one_thread.specs.declared.station.Station.{Station}
 use Rattle.one_thread.proofs.Accesses.{accesses_most}
-use Rattle.one_thread.proofs.Awaiting.{take_next}
 use Rattle.one_thread.proofs.Completions.{stations_get, stations_long}
-use Rattle.one_thread.proofs.FlowOut.{filled_unit}
-use Rattle.one_thread.proofs.FreeStation.{set_again, set_as_is}
+use Rattle.one_thread.proofs.Flowing.{completed_no_miss}
+use Rattle.one_thread.proofs.Idle.{noted_unit}
+use Rattle.one_thread.proofs.Reopened.{none_reopened, older_settled, reopened_older, reopened_younger}
 use Rattle.one_thread.proofs.Stores.{stores_few}
 
 -- There is room in a flow
@@ -30,46 +35,72 @@ room_among b flow n h is less most =
     let counted = accesses_most W (length W) in
     (omega (arith, long, taken, less, most), omega (arith, few, ap length h.stores, taken, less, most), omega (arith, counted, h.accesses, taken, less, most))
 
-pub can_restore : (b : Pipeline) (flow : Flow) → HasRoom b flow → CanRestore b flow
-can_restore b flow h =
-    let long = stations_long b.program.now flow.ring.completed in
-    let room = h.room in
-    let ring = h.unit.ring in
-    record {
-      unit = subst StandsForSome (sym (ap (λ o. with_leaver (filled b (with_last (window_of b flow) o)) flow.told) h.complete)) h.unit;
-      there = h.flowing.there;
-      room = omega (arith, long, room, ring);
-    }
-
 -- A station is taken
+
+pub take_next : {X : Type 0} → (W : List X) (i : ℕ) (w : X) → slice_get W i ≡ Some w → take (suc i) W ≡ take i W ++ w ∷ []
+take_next [] i w e = absurd (cc)
+take_next (x ∷ W) zero w e = let same : x ≡ w = cc in ap (λ y. y ∷ []) same
+take_next (x ∷ W) (suc i) w e = ap (λ l. x ∷ l) (take_next W i w e)
 
 pub taken : (W all : List Station) (i : ℕ) (w z : Station) → W ≡ take i all → slice_get all i ≡ Some w → z ≡ w → W ++ z ∷ [] ≡ take (i + 1) all
 taken W all i w z is there same =
     let one : i + 1 ≡ suc i = omega arith in
     ap (λ x. W ++ x ∷ []) same ∙ ap (λ l. l ++ w ∷ []) is ∙ sym (take_next all i w there) ∙ sym (ap (λ n. take n all) one)
 
--- and put back
-pub put_back : (b : Pipeline) (flow : Flow) (W : List Station) (i : ℕ) (c : Completed) (w : Station) → W ≡ take i (window_of b flow) → slice_get flow.ring.completed i ≡ Some c →
-    w ≡ station_in b.program.now c → W ++ w ∷ [] ≡ take (i + 1) (window_of b flow)
-put_back b flow W i c w is there same = taken W (window_of b flow) i (station_in b.program.now c) w is (stations_get b.program.now flow.ring.completed i c there) same
+-- and put back as it was let, or not
+pub put_back : (n i : ℕ) (W : List Station) (w z : Station) → slice_get W i ≡ Some w → (i < n → z ≡ w) → (n ≤ i → z ≡ as_let w) → slice_get (reopened n W) i ≡ Some z
+put_back n i W w z there older younger =
+    ⊎_elim (λ l. reopened_older n i W l ∙ there ∙ ap Some (sym (older l))) (λ l. reopened_younger n i W w l there ∙ ap Some (sym (younger l))) (cases_lt i n)
 
 -- All are
 
-pub begun : (b : Pipeline) (flow : Flow) → StandsForSome b → length b.window + 1 ≡ b.ring → 2 ≤ b.ring → IsFlowing b flow → window_of b flow ≡ b.window →
-    slice_get b.leavers (free_of b) ≡ Some flow.told → flow.last ≡ None →
-    HasRoom (record b { leavers = slice_set b.leavers (free_of b) None }) flow
-begun b flow h room two flows is told complete =
+pub begun : (b : Pipeline) (flow : Flow) (n : ℕ) → StandsForSome b → 2 ≤ b.ring → length b.window ≤ b.ring → IsFlowing b flow → window_of b flow ≡ b.window → flow.last ≡ None → n ≡ length flow.ring.completed →
+    IsFlow b (record flow { from = n })
+begun b flow n h two most flows is last all =
     let W = window_of b flow in
-    let f = free_of b in
-    let back : slice_set (slice_set b.leavers f None) f flow.told ≡ b.leavers = set_again b.leavers f None flow.told ∙ set_as_is b.leavers f flow.told told in
-    let more : length W + 1 ≡ b.ring = omega (arith, room, ap length is) in
-    let some : 0 < b.ring = h.room in
-    let inside : f < length b.leavers = omega (arith, mod-lt (b.oldest + (b.ring - 1)) some, h.ring, h.leavers) in
+    let long = stations_long b.program.now flow.ring.completed in
+    let same : n ≡ length W = all ∙ sym long in
+    let unit : StandsForSome (filled b W) =
+    subst StandsForSome (sym (ap (filled b) is))
+    (noted_unit b false 0 h
+    (record {
+      no_miss = λ e. subst (Rattle.one_thread.specs.Givers.NoneGives Rattle.one_thread.specs.Notes.miss_in) is (completed_no_miss W flows.completed);
+      are_settled = record { inside = omega arith; each = λ k l. absurd (omega (arith, l)) };
+    })) in
     record {
-      unit = subst StandsForSome (ap (λ l. record (filled b W) { leavers = l }) (sym back)) (filled_unit b W h is flows.completed more);
-      complete = complete;
+      unit = unit;
       flowing = record { goes_on = flows.goes_on; there = flows.there; completed = flows.completed; foresees = flows.foresees; half = flows.half; stores = flows.stores; accesses = flows.accesses };
-      room = more;
+      last = last;
+      most = omega (arith, ap length is, most);
       two = two;
-      untold = slice_get-set_same b.leavers f None inside;
+      from = omega (arith, same);
+      reopens = none_reopened (filled b W) n same unit;
+    }
+
+-- Nothing can enter
+
+pub no_room : (b : Pipeline) (flow : Flow) → IsFlow b flow → length flow.ring.completed ≡ b.ring → IsStuck b flow
+no_room b flow h full =
+    let long = stations_long b.program.now flow.ring.completed in
+    record { stuck = NoRoom (omega (arith, long, full)); some = omega (arith, long, full, h.two) }
+
+pub no_place : (b : Pipeline) (flow : Flow) (i : Instr) → IsFlow b flow → instr_at b.program.now flow.future.pc ≡ Some i → reaches_memory i.op ≡ true → b.queue ≤ flow.accesses → IsStuck b flow
+no_place b flow i h is reaches full =
+    let W = window_of b flow in
+    let few = accesses_most W (length W) in
+    record {
+      stuck = QueueFull (record { instr = i; is = ap (instr_at b.program.now) (sym h.flowing.foresees.path) ∙ is; reaches = reaches; full = omega (arith, full, h.flowing.accesses) });
+      some = omega (arith, few, full, h.flowing.accesses, h.unit.least);
+    }
+
+-- What a flow leaves
+
+pub can_restore : (b : Pipeline) (flow : Flow) → IsFlow b flow → CanRestore b flow
+can_restore b flow h =
+    let W = window_of b flow in
+    record {
+      unit = subst StandsForSome (sym (ap (λ o. record b { window = with_last (reopened flow.from W) o; missed = false; settled = flow.from }) h.last))
+          (noted_unit (with_reopened flow.from (filled b W)) false flow.from h.reopens (record { no_miss = h.reopens.noted.no_miss; are_settled = older_settled flow.from W h.from h.flowing.completed }));
+      there = h.flowing.there;
+      room = λ w e. absurd (cc (e, h.last));
     }

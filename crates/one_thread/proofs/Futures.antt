@@ -9,7 +9,7 @@ use Rattle.inorder.specs.Machine.{write}
 use Rattle.inorder.proofs.Basics.{read_same, read_other}
 use Rattle.one_thread.specs.declared.future.Future.{Future}
 use Rattle.one_thread.specs.declared.station.Station.{Station}
-use Rattle.one_thread.specs.Steady.{Foresees, GoesOnBehind}
+use Rattle.one_thread.specs.Futures.{Foresees, GoesOnBehind}
 use Rattle.one_thread.specs.Window.{next_after, next_in, register_after, register_in, source_in}
 use Rattle.one_thread.proofs.Scan.{get_end, register_end}
 use Rattle.one_thread.proofs.Sources.{source_by}

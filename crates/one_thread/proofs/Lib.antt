@@ -47,12 +47,6 @@ pub mod OrderedTurns
 pub mod Stalls
 pub mod BenchTurns
 pub mod Ends
-pub mod Awaiting
-pub mod StreamsFill
-pub mod StreamsIn
-pub mod StreamsLoads
-pub mod StreamsOut
-pub mod Mended
 pub mod Stores
 pub mod FlowIn
 pub mod FlowOut

@@ -1,6 +1,6 @@
 -- Tenants that were let in a row are again as they were let.
-use Rattle.std.proofs.Common.{◌≡◌, ◌<◌, ◌≤◌, ℕ, zero, suc, ◌+◌, ◌-◌, ◌%◌, ◌^◌, List, [], ◌∷◌, ◌++◌, length, Option, Some, None, refl, sym, ap, ◌∙◌, subst, arith}
-use Rattle.std.specs.Prelude.{IfSome, slice_get, slice_set}
+use Rattle.std.proofs.Common.{◌≡◌, ◌<◌, ◌≤◌, ℕ, zero, suc, ◌+◌, ◌-◌, ◌%◌, ◌^◌, List, [], ◌∷◌, ◌++◌, length, Option, Some, None, refl, sym, ap, ◌∙◌, subst, arith, length-append}
+use Rattle.std.specs.Prelude.{IfSome, slice_get, slice_set, unwrap_or}
 use Rattle.instructions.specs.Instruction.{fixed_next, kind}
 use Rattle.inorder.specs.Tenants.{made_at_let}
 use Rattle.one_thread.specs.declared.dispatch.Fetched.{Fetched}
@@ -9,11 +9,14 @@ use Rattle.one_thread.specs.declared.station.Stage.TheVariants.{Open}
 use Rattle.one_thread.specs.declared.station.Station.{Station}
 use Rattle.one_thread.specs.Changes.{NextOf}
 use Rattle.one_thread.specs.Givers.{NoneGives, given_at}
-use Rattle.one_thread.specs.Notes.{miss_in}
+use Rattle.one_thread.specs.Flow.{HaveCompleted}
+use Rattle.one_thread.specs.Notes.{AreSettled, miss_in, settled_at}
 use Rattle.one_thread.specs.StandsFor.{StandsForSome}
-use Rattle.one_thread.specs.Steady.{as_let, reopened, with_reopened}
+use Rattle.one_thread.specs.Reopened.{as_let, reopened, with_reopened}
 use Rattle.one_thread.specs.Window.{access_at, accesses, further_on, half_behind, let_at, next_after}
 use Rattle.one_thread.proofs.BenchTurns.{let_shows}
+use Rattle.one_thread.proofs.Flowing.{completed_settled}
+use Rattle.one_thread.proofs.Scan.{get_left}
 
 -- The list
 
@@ -32,14 +35,6 @@ reopened_end (suc n) [] y l = absurd (omega (arith, l))
 reopened_end zero (w ∷ W) y l = ap (λ l. as_let w ∷ l) (reopened_end zero W y (omega arith))
 reopened_end (suc n) (w ∷ W) y l = ap (λ l. w ∷ l) (reopened_end n W y (omega (arith, l)))
 
--- another stage of one of them makes no difference
-pub reopened_set : (n i : ℕ) (W : List Station) (w y : Station) → n ≤ i → slice_get W i ≡ Some w → as_let y ≡ as_let w → reopened n (slice_set W i y) ≡ reopened n W
-reopened_set n i [] w y l e a = absurd (cc)
-reopened_set zero zero (x ∷ W) w y l e a = let same : x ≡ w = cc in ap (λ z. z ∷ reopened zero W) (a ∙ ap as_let (sym same))
-reopened_set zero (suc i) (x ∷ W) w y l e a = ap (λ l. as_let x ∷ l) (reopened_set zero i W w y (omega arith) e a)
-reopened_set (suc n) zero (x ∷ W) w y l e a = absurd (omega (arith, l))
-reopened_set (suc n) (suc i) (x ∷ W) w y l e a = ap (λ l. x ∷ l) (reopened_set n i W w y (omega (arith, l)) e a)
-
 -- one more is as it was let
 pub reopened_older : (n i : ℕ) (W : List Station) → i < n → slice_get (reopened n W) i ≡ slice_get W i
 reopened_older n i [] l = refl
@@ -47,10 +42,12 @@ reopened_older zero i (w ∷ W) l = absurd (omega (arith, l))
 reopened_older (suc n) zero (w ∷ W) l = refl
 reopened_older (suc n) (suc i) (w ∷ W) l = reopened_older n i W (omega (arith, l))
 
-pub reopened_next : (i : ℕ) (W : List Station) (w : Station) → slice_get W i ≡ Some w → slice_set (reopened (suc i) W) i (as_let w) ≡ reopened i W
-reopened_next i [] w e = absurd (cc)
-reopened_next zero (x ∷ W) w e = let same : x ≡ w = cc in ap (λ z. as_let z ∷ reopened zero W) (sym same)
-reopened_next (suc i) (x ∷ W) w e = ap (λ l. x ∷ l) (reopened_next i W w e)
+pub reopened_younger : (n i : ℕ) (W : List Station) (w : Station) → n ≤ i → slice_get W i ≡ Some w → slice_get (reopened n W) i ≡ Some (as_let w)
+reopened_younger n i [] w l e = absurd (cc)
+reopened_younger zero zero (x ∷ W) w l e = ap (λ o. Some (as_let (unwrap_or o x))) e
+reopened_younger zero (suc i) (x ∷ W) w l e = reopened_younger zero i W w (omega arith) e
+reopened_younger (suc n) zero (x ∷ W) w l e = absurd (omega (arith, l))
+reopened_younger (suc n) (suc i) (x ∷ W) w l e = reopened_younger n i W w (omega (arith, l)) e
 
 -- what no stage changes
 reopened_same : {X : Type 0} → (g : Option Station → X) → ((w : Station) → g (Some (as_let w)) ≡ g (Some w)) → (n : ℕ) (W : List Station) (k : ℕ) →
@@ -99,21 +96,25 @@ reopened_let b later f guess n y l h none miss can small fixed wl is ll rest =
     (ll ∙ ap (λ m. slice_set b.leavers ((b.oldest + m) % b.ring) None) (sym (reopened_long n b.window))) on in
     shows.unit
 
--- From the youngest on, one after another
-
-pub reopened_step : (W now later : List Station) (at : ℕ) (w : Station) (made : Option ℕ) → 0 < at → now ≡ reopened at W → slice_get now (at - 1) ≡ Some w → made ≡ made_at_let (kind w.instr.op) w.pc →
-    later ≡ slice_set now (at - 1) (further_on w Open made) → later ≡ reopened (at - 1) W
-reopened_step W now later at w made some is there makes new =
-    let one : suc (at - 1) ≡ at = omega (arith, some) in
-    let before : slice_get W (at - 1) ≡ Some w = sym (reopened_older at (at - 1) W (omega (arith, some))) ∙ ap (λ l. slice_get l (at - 1)) (sym is) ∙ there in
-    new
-    ∙ ap (λ l. slice_set l (at - 1) (further_on w Open made)) (is ∙ ap (λ n. reopened n W) (sym one))
-    ∙ ap (λ m. slice_set (reopened (suc (at - 1)) W) (at - 1) (further_on w Open m)) makes
-    ∙ reopened_next (at - 1) W w before
-
 -- None of them
 
 pub none_reopened : (b : Pipeline) (n : ℕ) → n ≡ length b.window → StandsForSome b → StandsForSome (with_reopened n b)
 none_reopened b n e h =
     let all : with_reopened n b ≡ b = ap (λ W. record b { window = W }) (ap (λ m. reopened m b.window) e ∙ reopened_all b.window) in
     subst StandsForSome (sym all) h
+
+-- The older ones are settled as before
+
+pub open_settled : (n : ℕ) (W : List Station) (y : Station) → n ≤ length W → HaveCompleted W → AreSettled n (reopened n (W ++ y ∷ []))
+open_settled n W y l h =
+    record {
+      inside = omega (arith, reopened_long n (W ++ y ∷ []), length-append W (y ∷ []), l);
+      each = λ k less. ap settled_at (reopened_older n k (W ++ y ∷ []) less ∙ get_left W (y ∷ []) k (omega (arith, less, l))) ∙ completed_settled W h k (omega (arith, less, l));
+    }
+
+pub older_settled : (n : ℕ) (W : List Station) → n ≤ length W → HaveCompleted W → AreSettled n (reopened n W)
+older_settled n W l h =
+    record {
+      inside = omega (arith, reopened_long n W, l);
+      each = λ k less. ap settled_at (reopened_older n k W less) ∙ completed_settled W h k (omega (arith, less, l));
+    }

@@ -1,10 +1,9 @@
 -- The flow of a full ring: how the next instruction enters it and completes, and the oldest leaves it.
-use Rattle.std.specs.Prelude.{◌≡◌, ◌≢◌, ◌≤◌, ◌<◌, ℕ, ◌+◌, ◌-◌, ◌*◌, ◌%◌, Bool, true, false, List, [], ◌∷◌, ◌++◌, length, Option, Some, None, is_some, is_none, unwrap_or, if◌then◌else◌, slice_get, slice_set}
+use Rattle.std.specs.Prelude.{⊤, ◌≡◌, ◌≢◌, ◌≤◌, ◌<◌, ℕ, ◌+◌, ◌-◌, ◌*◌, ◌%◌, Bool, true, false, List, [], ◌∷◌, ◌++◌, length, Option, Some, None, is_some, is_none, unwrap_or, if◌then◌else◌, slice_get, slice_set}
 use Rattle.instructions.specs.Instruction.{is_first_half, kind, width}
 use Rattle.instructions.specs.Operations.{outcome_of}
 use Rattle.instructions.specs.Programs.{Program, instr_at}
 use Rattle.instructions.specs.Registers.{lo}
-use Rattle.instructions.specs.declared.guessing.Leaver.{Leaver}
 use Rattle.instructions.specs.declared.instr.Instr.{Instr}
 use Rattle.instructions.specs.declared.op.Kind.{Kind}
 use Rattle.instructions.specs.declared.op.Kind.TheVariants.{Loads as LoadKind}
@@ -22,7 +21,9 @@ use Rattle.one_thread.specs.Leaves.{with_station}
 use Rattle.one_thread.specs.Loads.{value_by}
 use Rattle.one_thread.specs.Notes.{settled_by}
 use Rattle.one_thread.specs.StandsFor.{StandsForSome}
-use Rattle.one_thread.specs.Steady.{Foresees, GoesOnBehind}
+use Rattle.one_thread.specs.Futures.{Foresees}
+use Rattle.one_thread.specs.Reopened.{reopened, with_reopened}
+use Rattle.one_thread.specs.Stages.{CannotLet}
 use Rattle.one_thread.specs.Window.{accesses, further_on, half_in, let_at, reaches_memory, station_after}
 use Rattle.one_thread.specs.declared.entering.Done.{Done}
 use Rattle.one_thread.specs.declared.execute.Operands.{Operands}
@@ -64,9 +65,9 @@ WritesLow w = is_first_half w.instr.op w.half ≡ true → w.destination ≡ lo
 abbrev pub HaveCompleted : List Station → Type 0
 HaveCompleted W = (k : ℕ) (w : Station) → slice_get W k ≡ Some w → HasCompleted w × WritesLow w
 
--- The fields with these stations in the window, of which all but the youngest have completed
+-- The fields with these stations in the window, of which none is a miss
 abbrev pub filled : Pipeline → List Station → Pipeline
-filled b W = record b { window = W; missed = false; settled = b.ring - 1 }
+filled b W = record b { window = W; missed = false; settled = 0 }
 
 -- The stations of a flow
 abbrev pub window_of : Pipeline → Flow → List Station
@@ -86,36 +87,42 @@ pub record IsFlowing (b : Pipeline) (flow : Flow) : Type 0 where
   pub stores : flow.ring.stores ≡ stores (registers_of b) (window_of b flow) (length (window_of b flow))
   pub accesses : flow.accesses ≡ accesses (window_of b flow) (length (window_of b flow))
 
--- The station that is free where all others are taken
-abbrev pub free_of : Pipeline → ℕ
-free_of b = (b.oldest + (b.ring - 1)) % b.ring
-
--- The fields where this has left the free station
-abbrev pub with_leaver : Pipeline → Option Leaver → Pipeline
-with_leaver b told = record b { leavers = slice_set b.leavers (free_of b) told }
-
--- One station is free, and the predictor is told of who has left that by the flow
-pub record HasRoom (b : Pipeline) (flow : Flow) : Type 0 where
-  pub unit : StandsForSome (with_leaver (filled b (window_of b flow)) flow.told)
-  pub complete : flow.last ≡ None
-  pub flowing : IsFlowing b flow
-  pub room : length (window_of b flow) + 1 ≡ b.ring
-  pub two : 2 ≤ b.ring
-  pub untold : slice_get b.leavers (free_of b) ≡ Some None
-
--- No station is free
-pub record IsFull (b : Pipeline) (flow : Flow) : Type 0 where
+-- A flow stands for the window. All but its oldest `from` can also be taken to be let alone
+pub record IsFlow (b : Pipeline) (flow : Flow) : Type 0 where
   pub unit : StandsForSome (filled b (window_of b flow))
-  pub complete : flow.last ≡ None
-  pub told : flow.told ≡ None
   pub flowing : IsFlowing b flow
-  pub full : length (window_of b flow) ≡ b.ring
+  pub last : flow.last ≡ None
+  pub most : length (window_of b flow) ≤ b.ring
   pub two : 2 ≤ b.ring
+  pub from : flow.from ≤ length (window_of b flow)
+  pub reopens : StandsForSome (with_reopened flow.from (filled b (window_of b flow)))
 
 -- The next instruction can enter
-pub record CanEnter (b : Pipeline) (flow : Flow) (i : Instr) : Type 0 where
-  pub is : instr_at b.program.now flow.future.pc ≡ Some i
-  pub free : reaches_memory i.op ≡ true → flow.accesses < b.queue
+pub record CanEnter (b : Pipeline) (flow : Flow) : Type 0 where
+  pub instr : Instr
+  pub is : instr_at b.program.now flow.future.pc ≡ Some instr
+  pub free : reaches_memory instr.op ≡ true → flow.accesses < b.queue
+  pub room : length (window_of b flow) < b.ring
+
+-- It can, and nothing more is told of who has left its station
+pub record HasPlace (b : Pipeline) (flow : Flow) : Type 0 where
+  pub before : Pipeline
+  pub flows : IsFlow before flow
+  pub can : CanEnter before flow
+  pub leavers :
+      b.leavers ≡ slice_set before.leavers ((before.oldest + length (window_of before flow)) % before.ring) None
+  pub rest : b ≡ record before { leavers = b.leavers }
+
+-- Nothing can enter before the oldest leaves
+pub record IsStuck (b : Pipeline) (flow : Flow) : Type 0 where
+  pub stuck : CannotLet b.program.now b.ring b.queue b.committed.pc (window_of b flow)
+  pub some : 2 ≤ length (window_of b flow)
+
+-- What can be done next, if there is an instruction
+abbrev pub Upcoming : Pipeline → Flow → Option Bool → Type 0
+Upcoming b flow None = ⊤
+Upcoming b flow (Some true) = CanEnter b flow
+Upcoming b flow (Some false) = IsStuck b flow
 
 -- The next instruction as one that has completed
 abbrev pub completed_as : Flow → ℕ → Done → Completed
@@ -138,8 +145,7 @@ comes_to b flow i predicted o =
 
 -- It has completed so, or has stopped or waits
 abbrev pub Completes : Pipeline → Flow → Instr → ℕ → Operands → Option Done → Type 0
-Completes b flow i predicted o None =
-    comes_to b flow i predicted o ≡ station_after (enters_as flow i predicted) (outcome_in b flow i o)
+Completes b flow i predicted o None = ⊤
 Completes b flow i predicted o (Some d) =
     comes_to b flow i predicted o ≡ station_by i (completed_as flow predicted d)
 
@@ -148,19 +154,24 @@ abbrev pub with_last : List Station → Option Station → List Station
 with_last W None = W
 with_last W (Some w) = W ++ w ∷ []
 
--- The fields that a flow stands for
+-- The fields that a flow leaves
 abbrev pub restored : Pipeline → Flow → Pipeline
-restored b flow = with_leaver (filled b (with_last (window_of b flow) flow.last)) flow.told
+restored b flow =
+    record b {
+      window = with_last (reopened flow.from (window_of b flow)) flow.last;
+      missed = false;
+      settled = flow.from;
+    }
 
--- What they have to be for that
+-- They are those of some unit
 pub record CanRestore (b : Pipeline) (flow : Flow) : Type 0 where
   pub unit : StandsForSome (restored b flow)
   pub there : AreThere b.program.now flow.ring.completed
-  pub room : length flow.ring.completed < 32
+  pub room : (w : Station) → flow.last ≡ Some w → length flow.ring.completed < 32
 
--- An instruction has entered, and has completed or not
+-- An instruction has entered, and has completed or is left as it was let
 abbrev pub HasEntered : Pipeline → Flow → Bool → Type 0
-HasEntered b flow true = IsFull b flow
+HasEntered b flow true = IsFlow b flow
 HasEntered b flow false = CanRestore b flow
 
 -- What the oldest tenant commits where all have completed: a first half nothing, any other with what waits for LO

@@ -21,5 +21,6 @@ pub mod Steps
 pub mod Ordered
 pub mod Seeds
 pub mod FullRing
-pub mod Steady
+pub mod Futures
+pub mod Reopened
 pub mod Flow

@@ -10,7 +10,6 @@ ghost use Rattle.one_thread.specs.Turns.{Falls, SizesStay, stalled_after};
 
 use crate::pipeline::Pipeline;
 use crate::station::Station;
-use crate::staying::PATIENCE;
 use instructions::{Config, End, Ending, Memory, Predictor, Program, Stop};
 use std::alloc::Global;
 use std::marker::Model;
@@ -171,7 +170,7 @@ impl<'a, P: Predictor + Drop> Bench<'a, P> {
         }
     }
 
-    // Turns as long as the pipeline is in its steady state. Answers at which count that is to be looked for again.
+    // Turns as long as all live tenants have completed. Answers at which count that is to be looked for again.
     #[inline(always)]
     fn streams(&mut self, limit: u64) -> u64
         ensures program { self.new.pipeline.program ≡ self.old.pipeline.program }
@@ -182,30 +181,12 @@ impl<'a, P: Predictor + Drop> Bench<'a, P> {
         self.pipeline.streams(&mut self.predictor, limit)
     }
 
-    // Turns as long as its ring stays full. Answers how many retirements in a row have left it so, none behind these.
-    #[inline(always)]
-    fn stays_full(&mut self, limit: u64, before: u32) -> u32
-        ensures program { self.new.pipeline.program ≡ self.old.pipeline.program }
-        ensures more { self.old.pipeline.committed.count ≤ self.new.pipeline.committed.count }
-        ensures ends { run_from self.new.pipeline limit ≡ run_from self.old.pipeline limit }
-    {
-        let full = self.pipeline.full_again(before);
-        if full < PATIENCE {
-            return full;
-        }
-        self.stalled = false;
-        self.pipeline.stays_full(&mut self.predictor, limit);
-        0
-    }
-
     // Turns until it stops, or its count has reached a limit.
     fn run_to(&mut self, limit: u64) -> Ending
         ensures { (result, self.new.pipeline.committed) ≡ run_from self.old.pipeline limit }
     {
         let mut again = 0;
-        let mut full = 0;
         loop {
-            full = self.stays_full(limit, full);
             let before = self.pipeline.committed.count();
             if again <= before {
                 again = self.streams(limit);

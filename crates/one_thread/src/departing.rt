@@ -1,10 +1,10 @@
-//! The oldest instruction leaves a full ring of completed instructions.
+//! The oldest instruction of a flow retires.
 ghost use Rattle.std.specs.Prelude.{◌≡◌, ◌<◌, ◌≤◌, ◌+◌, ◌-◌, ◌^◌, ℕ, [], length, unwrap_or};
 ghost use Rattle.inorder.specs.Machine.{store_bytes};
 ghost use Rattle.instructions.specs.Instruction.{is_first_half, kind as kind_of, second_of, width as width_of};
 ghost use Rattle.instructions.specs.declared.op.Kind.TheVariants.{Stores as StoreKind};
 ghost use Rattle.one_thread.specs.Changes.{run_from};
-ghost use Rattle.one_thread.specs.Flow.{HasRoom, IsFull, committed_by, low_by, to_do};
+ghost use Rattle.one_thread.specs.Flow.{IsFlow, IsStuck, committed_by, low_by, to_do};
 ghost use Rattle.one_thread.specs.FullRing.{station_by};
 ghost use Rattle.one_thread.specs.Window.{source_in};
 
@@ -12,7 +12,9 @@ use crate::decoded::Decoded;
 use crate::fetch::fetch_known;
 use crate::flow::Flow;
 use crate::full_ring::Completed;
+use crate::leaver::leaver_of;
 use crate::pipeline::Pipeline;
+use crate::retire::leave_untold;
 use inorder::Committed;
 use instructions::{Kind, Reg};
 
@@ -67,12 +69,14 @@ fn commit(committed: &mut Committed, low: &mut Option<u32>, instr: &Decoded, old
 }
 
 impl<'a> Pipeline<'a> {
-    /// Retires the oldest instruction of a full ring.
+    /// Retires the oldest instruction of a flow where nothing can enter before.
     #[inline(always)]
     pub fn leaves_flow(&mut self, flow: &mut Flow)
-        requires full { IsFull self.old flow.old }
+        requires flow { IsFlow self.old flow.old }
+        requires stuck { IsStuck self.old flow.old }
         requires count { self.old.committed.count < 2 ^ 64 - 1 }
-        ensures room { HasRoom self.new flow.new }
+        ensures flow { IsFlow self.new flow.new }
+        ensures code { self.new.code ≡ self.old.code }
         ensures program { self.new.program ≡ self.old.program }
         ensures more { self.old.committed.count ≤ self.new.committed.count }
         ensures ends { (limit : ℕ) → self.old.committed.count < limit →
@@ -82,6 +86,8 @@ impl<'a> Pipeline<'a> {
     {
         let oldest = flow.ring.oldest();
         let instr = fetch_known(self.code.as_slice(), oldest.pc);
+        let told = leaver_of(instr, oldest.half, oldest.pc, oldest.next);
+        leave_untold(&mut self.leavers, self.oldest, told);
         flow.leaves(instr, &oldest);
         commit(&mut self.committed, &mut self.low, instr, &oldest);
         self.oldest = self.station_behind(self.oldest);

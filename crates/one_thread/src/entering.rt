@@ -1,21 +1,22 @@
-//! An instruction enters a ring of completed instructions: it is let, and runs as far as it comes.
-ghost use Rattle.std.specs.Prelude.{◌≡◌, ◌≤◌, ◌+◌, ℕ, length, IfSome, Some};
+//! An instruction enters a flow: it is let, and runs as far as it comes.
+ghost use Rattle.std.specs.Prelude.{⊤, ◌≡◌, ◌<◌, ◌≤◌, ◌+◌, ℕ, suc, length, slice_get, slice_set, IsTrue, None, Some};
 ghost use Rattle.instructions.specs.Instruction.{width as width_in};
 ghost use Rattle.instructions.specs.declared.stop.Outcome.TheVariants.{Address};
 ghost use Rattle.lsq.specs.LoadRule.{answer_over as answer_of};
 ghost use Rattle.one_thread.specs.Decoding.{IsDecoded};
-ghost use Rattle.one_thread.specs.Flow.{CanEnter, Completes, HasEntered, HasRoom, enters_as, outcome_in};
+ghost use Rattle.one_thread.specs.Flow.{CanEnter, Completes, HasEntered, HasPlace, IsFlow, Upcoming, enters_as, outcome_in};
+ghost use Rattle.one_thread.specs.Givers.{Chosen};
 ghost use Rattle.one_thread.specs.Loads.{value_by};
-ghost use Rattle.one_thread.specs.Window.{station_after};
 
 use crate::decoded::Decoded;
 use crate::execute::Operands;
-use crate::fetch::fetch;
+use crate::fetch::{fetch, fetch_known};
 use crate::flow::Flow;
+use crate::leaver::guess;
 use crate::pipeline::Pipeline;
 use crate::station::{Stage, Station, made_at_let};
 use inorder::access_width;
-use instructions::{Kind, Op, Outcome, Predictor, loaded, outcome_of, pc_plus_4};
+use instructions::{Kind, Leaver, Op, Outcome, Predictor, loaded, outcome_of, pc_plus_4};
 use lsq::{Answer, Entry, answer_over};
 
 /// What an instruction completes with: what it has made, or where it stores, and where it goes on.
@@ -23,6 +24,20 @@ use lsq::{Answer, Entry, answer_over};
 pub struct Done {
     pub value: u32,
     pub next: u32,
+}
+
+// Who has left a station, if the predictor is told of it: it is told once.
+#[inline(always)]
+fn take_leaver(leavers: &mut [Option<Leaver>; 32], station: usize) -> Option<Leaver>
+    requires { station < length leavers.old }
+    ensures is { slice_get leavers.old station ≡ Some result }
+    ensures none { leavers.new ≡ slice_set leavers.old station None }
+{
+    let left = leavers[station];
+    if left.is_some() {
+        leavers[station] = None;
+    }
+    left
 }
 
 impl<'a> Pipeline<'a> {
@@ -86,23 +101,14 @@ impl<'a> Pipeline<'a> {
         Some(Done { value, next })
     }
 
-    // The next instruction stops or waits: its station is kept.
+    // The next instruction is left as it was let.
     #[cold]
     #[inline(never)]
-    fn stays(&self, flow: &mut Flow, instr: &Decoded, predicted: u32, operands: &Operands)
+    fn stays(flow: &mut Flow, instr: &Decoded, predicted: u32)
         ensures { flow.new ≡ record flow.old {
-          last = Some (station_after (enters_as flow.old instr.now predicted)
-            (outcome_in self.now flow.old instr.now operands.now)) } }
+          last = Some (enters_as flow.old instr.now predicted) } }
     {
         let pc = flow.future.pc;
-        let made = made_at_let(instr.kind(), pc);
-        let (stage, made) = match self.outcome(flow, instr, operands) {
-            Outcome::Value(v) | Outcome::Pair(v, _) => (Stage::Done, Some(v)),
-            Outcome::Next(x) if x == predicted => (Stage::Done, made),
-            Outcome::Next(x) => (Stage::Miss(x), made),
-            Outcome::Address(a) => (Stage::Addr(a), made),
-            Outcome::Stop(c) => (Stage::Stops(c), made),
-        };
         flow.last = Some(Station {
             instr: *instr,
             half: flow.half,
@@ -110,43 +116,84 @@ impl<'a> Pipeline<'a> {
             pc,
             predicted,
             next: predicted,
-            made,
-            stage,
+            made: made_at_let(instr.kind(), pc),
+            stage: Stage::Open,
         });
     }
 
-    /// The next instruction, if it can enter.
-    #[inline(always)]
-    pub fn next_in(&self, flow: &Flow) -> Option<&Decoded>
-        requires { IsDecoded self.now.code.items self.now.program.now }
-        ensures { IfSome result (λ instr. CanEnter self.now flow.now instr.now) }
+    // The next instruction is let alone, and nothing can be let behind it.
+    fn is_alone(&self, flow: &Flow) -> bool
+        ensures from { IsTrue result → flow.now.from ≡ length flow.now.ring.completed }
+        ensures full { IsTrue result → length flow.now.ring.completed + 1 ≡ self.now.ring }
     {
+        let len = flow.ring.len();
+        flow.from == len && len + 1 == self.ring
+    }
+
+    /// Whether the next instruction can enter, if there is one; else nothing can be done before the oldest leaves.
+    #[inline(always)]
+    pub fn upcoming(&self, flow: &Flow) -> Option<bool>
+        requires flow { IsFlow self.now flow.now }
+        requires code { IsDecoded self.now.code.items self.now.program.now }
+        ensures { Upcoming self.now flow.now result }
+    {
+        if flow.ring.len() == self.ring {
+            return Some(false);
+        }
         let instr = fetch(self.code.as_slice(), flow.future.pc)?;
         if instr.is_access() && self.queue <= flow.accesses {
-            return None;
+            return Some(false);
         }
-        Some(instr)
+        Some(true)
+    }
+
+    // Lets the next instruction where its station is its own, and runs it as far as it comes. Answers whether it has
+    // completed: else it is left as it was let. A miss is mended where no other was let with it and nothing can be let
+    // behind it.
+    #[inline(always)]
+    fn runs_next<P: Predictor>(
+        &self,
+        predictor: &mut P,
+        flow: &mut Flow,
+        left: Option<Leaver>,
+    ) -> bool
+        requires { HasPlace self.now flow.old }
+        ensures entered { HasEntered self.now flow.new result }
+        ensures longer { Chosen result (length flow.new.ring.completed ≡
+            suc (length flow.old.ring.completed)) ⊤ }
+    {
+        let pc = flow.future.pc;
+        let instr = fetch_known(self.code.as_slice(), pc);
+        let predicted = guess(predictor, left, instr, flow.half, pc);
+        let operands = flow.future.operands(instr);
+        let Some(done) = self.completes(flow, instr, predicted, &operands) else {
+            Self::stays(flow, instr, predicted);
+            return false;
+        };
+        let is_miss = done.next != predicted;
+        if is_miss && !self.is_alone(flow) {
+            Self::stays(flow, instr, predicted);
+            return false;
+        }
+        flow.joins(instr, flow.completed(predicted, done), operands.b);
+        if is_miss {
+            flow.from = flow.ring.len();
+        }
+        true
     }
 
     /// Lets the next instruction, and runs it as far as it comes. Answers whether it has completed.
     #[inline(always)]
-    pub fn enters_flow<P: Predictor>(
-        &self,
-        predictor: &mut P,
-        flow: &mut Flow,
-        instr: &Decoded,
-    ) -> bool
-        requires room { HasRoom self.now flow.old }
-        requires can { CanEnter self.now flow.old instr.now }
-        ensures { HasEntered self.now flow.new result }
+    pub fn enters_flow<P: Predictor>(&mut self, predictor: &mut P, flow: &mut Flow) -> bool
+        requires flow { IsFlow self.old flow.old }
+        requires can { CanEnter self.old flow.old }
+        ensures entered { HasEntered self.new flow.new result }
+        ensures longer { Chosen result (length flow.new.ring.completed ≡
+            suc (length flow.old.ring.completed)) ⊤ }
+        ensures rest { self.new ≡ record self.old { leavers = self.new.leavers } }
     {
-        let predicted = flow.guess(predictor, instr);
-        let operands = flow.future.operands(instr);
-        let Some(done) = self.completes(flow, instr, predicted, &operands) else {
-            self.stays(flow, instr, predicted, &operands);
-            return false;
-        };
-        flow.joins(instr, flow.completed(predicted, done), operands.b);
-        true
+        let station = self.station_at(flow.ring.len());
+        let left = take_leaver(&mut self.leavers, station);
+        self.runs_next(predictor, flow, left)
     }
 }

@@ -1,26 +1,23 @@
-//! The flow of a full ring: completed instructions, and what the next one finds.
-ghost use Rattle.std.specs.Prelude.{◌≡◌, ◌≢◌, ◌<◌, ◌≤◌, ◌+◌, ◌-◌, ◌∷◌, ◌++◌, [], drop, length, None};
+//! The flow: live tenants that have all completed, and what the next instruction finds.
+ghost use Rattle.std.specs.Prelude.{◌≡◌, ◌<◌, ◌≤◌, ◌+◌, ◌-◌, ◌∷◌, ◌++◌, [], drop, length};
 ghost use Rattle.inorder.specs.Unit.{half_after};
-ghost use Rattle.instructions.specs.Guesses.{Guesses};
 ghost use Rattle.instructions.specs.Instruction.{is_first_half};
 ghost use Rattle.one_thread.specs.Flow.{completed_as};
 ghost use Rattle.one_thread.specs.FullRing.{station_by, store_with, stores_behind};
-ghost use Rattle.one_thread.specs.Leavers.{told_at};
+ghost use Rattle.one_thread.specs.Futures.{GoesOnBehind};
 ghost use Rattle.one_thread.specs.Loads.{with_entry};
-ghost use Rattle.one_thread.specs.Steady.{GoesOnBehind};
 ghost use Rattle.one_thread.specs.Window.{access_of};
 
 use crate::decoded::Decoded;
 use crate::entering::Done;
 use crate::full_ring::{Completed, FullRing};
 use crate::future::Future;
-use crate::leaver::{guess, leaver_of};
 use crate::station::Station;
 use crate::window::access;
 use inorder::access_entry;
-use instructions::{Half, Kind, Leaver, Predictor};
+use instructions::{Half, Kind};
 
-/// The completed instructions of a ring that is full but for one station, and what the next one finds.
+/// Completed instructions, and what the next one finds.
 #[derive(Drop)]
 pub struct Flow {
     pub ring: FullRing,
@@ -28,9 +25,10 @@ pub struct Flow {
     pub half: Half,
     /// How many of its instructions reach memory.
     pub accesses: usize,
-    /// Who has left the free station, if the predictor is to be told of it.
-    pub told: Option<Leaver>,
-    /// The station of the last instruction that has entered, if it has not completed.
+    /// How many were completed when an instruction last left. Those behind them were let in a row, and may be again as
+    /// they were let.
+    pub from: usize,
+    /// The station of the last instruction that was let, if it is left as it was let.
     pub last: Option<Station>,
 }
 
@@ -49,20 +47,6 @@ impl Flow {
         }
     }
 
-    /// Asks a predictor where the next instruction goes on, once it was told of who has left.
-    #[inline(always)]
-    pub fn guess<P: Predictor>(&mut self, predictor: &mut P, instr: &Decoded) -> u32
-        ensures guesses { Guesses P.Predicts P.Learns self.old.told instr.now self.old.half
-            self.old.future.pc result predictor.old predictor.new }
-        ensures rest { self.new ≡ record self.old { told = None } }
-    {
-        let left = self.told;
-        if left.is_some() {
-            self.told = None;
-        }
-        guess(predictor, left, instr, self.half, self.future.pc)
-    }
-
     /// A completed instruction joins, with its content, if it is a store.
     #[inline(always)]
     pub fn joins(&mut self, instr: &Decoded, completed: Completed, content: u32)
@@ -77,7 +61,7 @@ impl Flow {
             (station_by instr.now completed).made completed.next self.new.future }
         ensures half { self.new.half ≡ half_after (is_first_half instr.now.op completed.half) }
         ensures accesses { self.new.accesses ≡ self.old.accesses + access_of instr.now }
-        ensures told { self.new.told ≡ self.old.told }
+        ensures from { self.new.from ≡ self.old.from }
         ensures last { self.new.last ≡ self.old.last }
     {
         self.accesses += access(instr);
@@ -92,31 +76,27 @@ impl Flow {
         }
     }
 
-    /// The oldest instruction leaves.
+    /// The oldest instruction leaves: those behind it have completed for good.
     #[inline(always)]
     pub fn leaves(&mut self, instr: &Decoded, oldest: &Completed)
         requires some { 0 < length self.old.ring.completed }
         requires counted { access_of instr.now ≤ self.old.accesses }
-        requires untold { self.old.told ≡ None }
         ensures completed { self.new.ring.completed ≡ drop 1 self.old.ring.completed }
         ensures stores { self.new.ring.stores ≡
             stores_behind (station_by instr.now oldest.now) self.old.ring.stores }
         ensures accesses { self.new.accesses ≡ self.old.accesses - access_of instr.now }
-        ensures told { self.new.told ≡ told_at (station_by instr.now oldest.now) }
+        ensures from { self.new.from ≡ length self.new.ring.completed }
         ensures rest { self.new ≡ record self.old {
           ring = self.new.ring;
           accesses = self.new.accesses;
-          told = self.new.told;
+          from = self.new.from;
         } }
     {
         self.accesses -= access(instr);
-        let told = leaver_of(instr, oldest.half, oldest.pc, oldest.next);
-        if told.is_some() {
-            self.told = told;
-        }
         self.ring.shift();
         if let Kind::Stores = instr.kind() {
             self.ring.shift_store();
         }
+        self.from = self.ring.len();
     }
 }

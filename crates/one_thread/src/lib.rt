@@ -2,7 +2,6 @@
 #![tactic(auto)]
 
 mod ahead;
-mod arrival;
 mod bench;
 mod choices;
 mod chooser;
@@ -19,7 +18,6 @@ mod full_ring;
 mod future;
 mod leaver;
 mod memory_port;
-mod mending;
 mod order;
 mod pipeline;
 mod places;
@@ -28,8 +26,7 @@ mod recovery;
 mod retire;
 mod source;
 mod station;
-mod staying;
-mod steady;
+mod streaming;
 mod window;
 mod writers;
 

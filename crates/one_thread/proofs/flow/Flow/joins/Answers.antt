@@ -1,6 +1,6 @@
 use Rattle.std.proofs.Common.{◌≢◌, sym, ◌∙◌, subst}
 use Rattle.one_thread.specs.FullRing.{made_by}
-use Rattle.one_thread.specs.Steady.{GoesOnBehind}
+use Rattle.one_thread.specs.Futures.{GoesOnBehind}
 use Rattle.instructions.specs.Instruction.{kind}
 use Rattle.one_thread.proofs.Completions.{made_where}
 use Rattle.one_thread.proofs.flow.Flow.joins.Goals as goal

@@ -1,7 +1,7 @@
 use Rattle.std.proofs.Common.{◌≡◌, ◌≢◌, ◌<◌, ℕ, sym, ap, ◌∙◌, subst, arith}
 use Rattle.std.specs.Prelude.{slice_set}
 use Rattle.one_thread.specs.declared.future.Future.{Future}
-use Rattle.one_thread.specs.Steady.{GoesOnBehind}
+use Rattle.one_thread.specs.Futures.{GoesOnBehind}
 use Rattle.one_thread.proofs.Futures.{behind_none, behind_writes}
 use Rattle.one_thread.proofs.future.Future.follows.Goals.{then-r-ne0, else-r-ne0}
 use Rattle.one_thread.proofs.future.Future.follows.Goals as goal

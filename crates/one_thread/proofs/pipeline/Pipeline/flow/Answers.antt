@@ -1,7 +1,8 @@
 use Rattle.std.proofs.Common.{◌≡◌, ◌<◌, ◌≤◌, length, sym, ap, ◌∙◌, arith}
+use Rattle.std.proofs.lemmas.List.{take_all}
 use Rattle.one_thread.proofs.Completions.{station_is}
 use Rattle.one_thread.proofs.FlowIn.{HasJoined, joined, joined_window}
-use Rattle.one_thread.proofs.FlowStays.{room_among, taken}
+use Rattle.one_thread.proofs.FlowStays.{begun, room_among, taken}
 use Rattle.one_thread.proofs.Flowing.{registers_all}
 use Rattle.one_thread.proofs.pipeline.Pipeline.flow.Goals as goal
 
@@ -40,7 +41,7 @@ loop-i-preserved c =
     let j : HasJoined c.loop-i.flow c.joins.new.self i x content =
     record {
       completed = c.joins.ensures.completed;
-      told = c.joins.ensures.told;
+      from = c.joins.ensures.from;
       last = c.joins.ensures.last;
       stores = c.joins.ensures.stores;
       future = c.joins.ensures.future;
@@ -51,6 +52,12 @@ loop-i-preserved c =
       flowing = joined b c.loop-i.flow c.joins.new.self i x content j there h.flowing c.operands-content.ensures.registers.1 c.operands-content.ensures.second;
       window = joined_window b c.loop-i.flow c.joins.new.self i x content j there
           ∙ taken _ b.window c.loop-i.i c.get-station.result _ h.window c.get-station.ensures (sym (station_is b.program.now x i there) ∙ c.in_ok-completed.ensures.same);
-      complete = c.joins.ensures.last ∙ h.complete;
-      told = h.told ∙ ap Rattle.std.proofs.Common.Some (sym c.joins.ensures.told);
+      last = c.joins.ensures.last ∙ h.last;
     }
+
+pub returns : goal.returns
+returns c =
+    let b = c.args.self.now in
+    let h = c.loop-i.invariant in
+    let whole = h.window ∙ take_all c.loop-i.i b.window (omega (arith, c.loop-i-test.false, c.len-i-end.ensures.value)) in
+    begun b c.loop-i.flow c.len-2.result c.requires.unit c.requires.two (omega (arith, c.if-self-len.false, c.len.ensures.value)) h.flowing whole h.last c.len-2.ensures.value

@@ -1,6 +1,7 @@
 use Rattle.std.proofs.Common.{◌≡◌, take}
 use Rattle.one_thread.specs.Flow.{window_of}
+use Rattle.one_thread.specs.Reopened.{reopened}
 use Rattle.one_thread.proofs.pipeline.Pipeline.restores.Given as goal
 
 abbrev pub invariant-loop-i : goal.invariant-loop-i
-invariant-loop-i l = l.window ≡ take l.i (window_of l.self l.flow)
+invariant-loop-i l = l.window ≡ take l.i (reopened l.flow.from (window_of l.self l.flow))

@@ -1,83 +1,138 @@
-use Rattle.std.proofs.Common.{◌+◌, ◌%◌, ◌++◌, ◌∷◌, [], None, refl, ap, ◌∙◌, arith}
-use Rattle.std.specs.Prelude.{slice_set}
-use Rattle.instructions.specs.Operations.{outcome_of}
+use Rattle.std.proofs.Common.{◌≡◌, ◌<◌, ◌≤◌, ◌+◌, ℕ, length, Some, None, sym, ap, ◌∙◌, subst}
+use Rattle.instructions.specs.Instruction.{width}
+use Rattle.instructions.specs.declared.stop.Outcome.TheVariants.{Address}
+use Rattle.one_thread.specs.Flow.{CanRestore, Completes, completed_as, outcome_in}
 use Rattle.one_thread.specs.declared.pipeline.Pipeline.{Pipeline}
-use Rattle.one_thread.specs.declared.station.Station.{Station}
-use Rattle.one_thread.specs.Steady.{Follows, FollowsYoungest, arrives}
-use Rattle.one_thread.specs.Window.{let_at}
-use Rattle.one_thread.proofs.Awaiting.{chosen_as, passed_no_miss}
-use Rattle.one_thread.proofs.BenchTurns.{guess_fixed, let_shows}
-use Rattle.one_thread.proofs.Reopened.{reopened_let}
-use Rattle.one_thread.proofs.StreamsIn.{HasArrived, arrived_ends, arrived_follows, arrived_unit, arrives_let}
+use Rattle.one_thread.proofs.Completions.{has_instr}
+use Rattle.one_thread.proofs.FlowIn.{Enters, HasJoined, entered_hit, entered_inside, entered_miss, entered_room, entered_stays, enters, place_decoded}
 use Rattle.one_thread.proofs.pipeline.Pipeline.runs_next.Goals as goal
 
-pub leaver-left-requires : goal.leaver-left-requires
-leaver-left-requires g c =
-    let b = c.args.self.now in
-    omega (arith, c.station_at-station.ensures.small, c.requires.unit.ring)
+pub completes-requires : goal.completes-requires
+completes-requires g c =
+    let x = c.args.self.now in
+    let b = c.requires.before in
+    let flow = c.args.flow.now in
+    let i = c.fetch_known-instr.result.now in
+    let p = c.guess-predicted.result in
+    let o = c.operands-operands.result in
+    let is = c.fetch_known-instr.ensures b.program.now (place_decoded x flow c.as_slice.result.now c.requires c.as_slice.ensures.value) in
+    let h : Enters b x flow i p o =
+    enters x flow i p o c.args.left _ _ c.requires is c.guess-predicted.type_inv c.guess-predicted.ensures c.operands-operands.ensures.registers c.operands-operands.ensures.first c.operands-operands.ensures.second in
+    subst (λ (q : Pipeline). (a : ℕ) → outcome_in q flow i o ≡ Address a → a + width i.op ≤ length q.committed.memory) (sym c.requires.rest) (entered_inside b x flow i p o h)
 
-pub finishes-requires-clause-small : goal.finishes-requires-clause-small
-finishes-requires-clause-small g c =
-    let b = c.args.self.now in
-    omega (arith, c.station_at-station.ensures.small, c.requires.unit.ring)
+pub returns-in_default-clause-entered : goal.returns-in_default-clause-entered
+returns-in_default-clause-entered g c =
+    let x = c.args.self.now in
+    let b = c.requires.before in
+    let flow = c.args.flow.now in
+    let i = c.fetch_known-instr.result.now in
+    let p = c.guess-predicted.result in
+    let o = c.operands-operands.result in
+    let is = c.fetch_known-instr.ensures b.program.now (place_decoded x flow c.as_slice.result.now c.requires c.as_slice.ensures.value) in
+    let h : Enters b x flow i p o =
+    enters x flow i p o c.args.left _ _ c.requires is c.guess-predicted.type_inv c.guess-predicted.ensures c.operands-operands.ensures.registers c.operands-operands.ensures.first c.operands-operands.ensures.second in
+    subst (CanRestore x) (sym c.stays.ensures) (entered_stays b x flow i p o h)
 
--- the state between the let and the claim
-pub returns-clause-unit : goal.returns-clause-unit
-returns-clause-unit g c =
-    let b = c.args.self.now in
-    let f = c.args.future.now in
-    let next = c.args.next in
-    let predicted = c.guess-predicted.result in
-    let later = c.finishes.new.self in
-    let w : Station = let_at next.instr next.half next.pc predicted in
-    let mid : Pipeline = record b { window = b.window ++ w ∷ []; leavers = slice_set b.leavers c.station_at-station.result None } in
-    let guess = c.guess-predicted.ensures in
-    let fixed = guess_fixed g.P.Predictor.Predicts g.P.Predictor.Learns _ next.pc next.instr predicted guess.middle c.guess-predicted.new.predictor guess.asked in
-    let lets = let_shows b mid next predicted c.requires.unit c.requires.steady.goes_on c.requires.next c.guess-predicted.type_inv fixed refl
-    (ap (λ k. slice_set b.leavers k None) (c.station_at-station.ensures.value ∙ ap (λ n. (b.oldest + n) % b.ring) c.len.ensures.value)) refl in
-    let reads = c.operands-a.ensures in
-    let outcome = c.outcome_of-outcome.result in
-    let h : HasArrived b mid later f next predicted c.operands-a.result outcome =
-    record {
-      steady = c.requires.steady;
-      entered = record { unit = lets.unit; window = refl; rest = refl };
-      first_small = reads.registers.0;
-      second_small = reads.registers.1;
-      first = reads.first;
-      second = reads.second;
-      comes = c.outcome_of-outcome.ensures.value
-          ∙ ap (λ i. outcome_of i next.half next.pc c.operands-a.result.a c.operands-a.result.b c.size-size.result) c.to_instr-instr.ensures
-          ∙ ap (outcome_of next.instr next.half next.pc c.operands-a.result.a c.operands-a.result.b) c.size-size.ensures.value;
-      window = c.finishes.ensures.window;
-      rest = c.finishes.ensures.rest ∙ ap (λ l. record b { window = later.window; leavers = l }) c.finishes.ensures.leavers;
-    } in
-    arrived_unit b mid later f next predicted c.operands-a.result outcome h
+pub returns-then-not-is_alone-clause-entered : goal.returns-then-not-is_alone-clause-entered
+returns-then-not-is_alone-clause-entered g c =
+    let x = c.args.self.now in
+    let b = c.requires.before in
+    let flow = c.args.flow.now in
+    let i = c.fetch_known-instr.result.now in
+    let p = c.guess-predicted.result in
+    let o = c.operands-operands.result in
+    let is = c.fetch_known-instr.ensures b.program.now (place_decoded x flow c.as_slice.result.now c.requires c.as_slice.ensures.value) in
+    let h : Enters b x flow i p o =
+    enters x flow i p o c.args.left _ _ c.requires is c.guess-predicted.type_inv c.guess-predicted.ensures c.operands-operands.ensures.registers c.operands-operands.ensures.first c.operands-operands.ensures.second in
+    subst (CanRestore x) (sym c.stays-then-not-is_alone.ensures) (entered_stays b x flow i p o h)
 
-pub returns-clause-window : goal.returns-clause-window
-returns-clause-window g c =
-    let next = c.args.next in
-    arrived_ends c.args.self.now.window c.finishes.new.self.window next c.guess-predicted.result c.outcome_of-outcome.result c.finishes.ensures.window
+pub joins-requires-clause-room : goal.joins-requires-clause-room
+joins-requires-clause-room g c =
+    let x = c.args.self.now in
+    let b = c.requires.before in
+    let flow = c.args.flow.now in
+    let i = c.fetch_known-instr.result.now in
+    let p = c.guess-predicted.result in
+    let o = c.operands-operands.result in
+    let is = c.fetch_known-instr.ensures b.program.now (place_decoded x flow c.as_slice.result.now c.requires c.as_slice.ensures.value) in
+    let h : Enters b x flow i p o =
+    enters x flow i p o c.args.left _ _ c.requires is c.guess-predicted.type_inv c.guess-predicted.ensures c.operands-operands.ensures.registers c.operands-operands.ensures.first c.operands-operands.ensures.second in
+    (entered_room b x flow i p o h).0
 
-pub returns-clause-follows : goal.returns-clause-follows
-returns-clause-follows g c =
-    let b = c.args.self.now in
-    let f = c.args.future.now in
-    let later = c.finishes.new.self in
-    let next = c.args.next in
-    let w : Station = arrives (let_at next.instr next.half next.pc c.guess-predicted.result) c.outcome_of-outcome.result in
-    chosen_as c.finishes.result (Follows f w c.finishes.new.future) _ (FollowsYoungest f b.window later.window c.finishes.new.future)
-    (arrived_follows f c.finishes.new.future b.window later.window w c.finishes.ensures.window) c.finishes.ensures.follows
+pub joins-requires-clause-few : goal.joins-requires-clause-few
+joins-requires-clause-few g c =
+    let x = c.args.self.now in
+    let b = c.requires.before in
+    let flow = c.args.flow.now in
+    let i = c.fetch_known-instr.result.now in
+    let p = c.guess-predicted.result in
+    let o = c.operands-operands.result in
+    let is = c.fetch_known-instr.ensures b.program.now (place_decoded x flow c.as_slice.result.now c.requires c.as_slice.ensures.value) in
+    let h : Enters b x flow i p o =
+    enters x flow i p o c.args.left _ _ c.requires is c.guess-predicted.type_inv c.guess-predicted.ensures c.operands-operands.ensures.registers c.operands-operands.ensures.first c.operands-operands.ensures.second in
+    (entered_room b x flow i p o h).1
 
-pub returns-clause-stays : goal.returns-clause-stays
-returns-clause-stays g c n l h =
-    let b = c.args.self.now in
-    let next = c.args.next in
-    let predicted = c.guess-predicted.result in
-    let later = c.finishes.new.self in
-    let w : Station = let_at next.instr next.half next.pc predicted in
-    let y : Station = arrives w c.outcome_of-outcome.result in
-    let guess = c.guess-predicted.ensures in
-    let fixed = guess_fixed g.P.Predictor.Predicts g.P.Predictor.Learns _ next.pc next.instr predicted guess.middle c.guess-predicted.new.predictor guess.asked in
-    reopened_let b later next predicted n y l h c.requires.steady.goes_on (passed_no_miss b.window c.requires.steady.passed) c.requires.next c.guess-predicted.type_inv fixed
-    c.finishes.ensures.window (arrives_let w c.outcome_of-outcome.result)
-    (c.finishes.ensures.leavers ∙ ap (λ k. slice_set b.leavers k None) (c.station_at-station.ensures.value ∙ ap (λ n. (b.oldest + n) % b.ring) c.len.ensures.value)) c.finishes.ensures.rest
+pub joins-requires-clause-accesses : goal.joins-requires-clause-accesses
+joins-requires-clause-accesses g c =
+    let x = c.args.self.now in
+    let b = c.requires.before in
+    let flow = c.args.flow.now in
+    let i = c.fetch_known-instr.result.now in
+    let p = c.guess-predicted.result in
+    let o = c.operands-operands.result in
+    let is = c.fetch_known-instr.ensures b.program.now (place_decoded x flow c.as_slice.result.now c.requires c.as_slice.ensures.value) in
+    let h : Enters b x flow i p o =
+    enters x flow i p o c.args.left _ _ c.requires is c.guess-predicted.type_inv c.guess-predicted.ensures c.operands-operands.ensures.registers c.operands-operands.ensures.first c.operands-operands.ensures.second in
+    (entered_room b x flow i p o h).2
+
+pub returns-then-is_miss-2-clause-entered : goal.returns-then-is_miss-2-clause-entered
+returns-then-is_miss-2-clause-entered g c =
+    let x = c.args.self.now in
+    let b = c.requires.before in
+    let flow = c.args.flow.now in
+    let i = c.fetch_known-instr.result.now in
+    let p = c.guess-predicted.result in
+    let o = c.operands-operands.result in
+    let is = c.fetch_known-instr.ensures b.program.now (place_decoded x flow c.as_slice.result.now c.requires c.as_slice.ensures.value) in
+    let h : Enters b x flow i p o =
+    enters x flow i p o c.args.left _ _ c.requires is c.guess-predicted.type_inv c.guess-predicted.ensures c.operands-operands.ensures.registers c.operands-operands.ensures.first c.operands-operands.ensures.second in
+    let d = c.in-Some.done in
+    let done : Completes b flow i p o (Some d) = subst (λ (q : Pipeline). Completes q flow i p o (Some d)) c.requires.rest c.in-Some.ensures in
+    let j : HasJoined flow c.joins.new.self i (completed_as flow p d) o.b =
+    subst (λ y. HasJoined flow c.joins.new.self i y o.b) c.completed.ensures
+    (record {
+      completed = c.joins.ensures.completed;
+      from = c.joins.ensures.from;
+      last = c.joins.ensures.last;
+      stores = c.joins.ensures.stores;
+      future = c.joins.ensures.future;
+      half = c.joins.ensures.half;
+      accesses = c.joins.ensures.accesses;
+    }) in
+    entered_miss b x flow i p o h d c.joins.new.self done j c.len-flow.result c.len-flow.ensures.value
+
+pub returns-else-is_miss-2-clause-entered : goal.returns-else-is_miss-2-clause-entered
+returns-else-is_miss-2-clause-entered g c =
+    let x = c.args.self.now in
+    let b = c.requires.before in
+    let flow = c.args.flow.now in
+    let i = c.fetch_known-instr.result.now in
+    let p = c.guess-predicted.result in
+    let o = c.operands-operands.result in
+    let is = c.fetch_known-instr.ensures b.program.now (place_decoded x flow c.as_slice.result.now c.requires c.as_slice.ensures.value) in
+    let h : Enters b x flow i p o =
+    enters x flow i p o c.args.left _ _ c.requires is c.guess-predicted.type_inv c.guess-predicted.ensures c.operands-operands.ensures.registers c.operands-operands.ensures.first c.operands-operands.ensures.second in
+    let d = c.in-Some.done in
+    let done : Completes b flow i p o (Some d) = subst (λ (q : Pipeline). Completes q flow i p o (Some d)) c.requires.rest c.in-Some.ensures in
+    let j : HasJoined flow c.joins.new.self i (completed_as flow p d) o.b =
+    subst (λ y. HasJoined flow c.joins.new.self i y o.b) c.completed.ensures
+    (record {
+      completed = c.joins.ensures.completed;
+      from = c.joins.ensures.from;
+      last = c.joins.ensures.last;
+      stores = c.joins.ensures.stores;
+      future = c.joins.ensures.future;
+      half = c.joins.ensures.half;
+      accesses = c.joins.ensures.accesses;
+    }) in
+    entered_hit b x flow i p o h d c.joins.new.self done j c.if-is_miss-2.false

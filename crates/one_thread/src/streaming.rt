@@ -1,15 +1,20 @@
-//! The unit keeps to a full ring: the next instruction is let, runs at once and has completed, and the oldest retires.
+//! The turns of a run where all live tenants have completed: what is let next can be claimed at once, and has completed
+//! then, unless it was mispredicted, stops or is blocked; no station is searched for it.
 //!
-//! Where all live tenants but for one station have completed, one instruction more fills the ring. So it is the only
-//! one that can be claimed, and what it comes to stands before anything else is let: a miss squashes nobody and is
-//! mended in place, a load is answered, and then the oldest tenant retires. These are the turns in their order.
-ghost use Rattle.std.specs.Prelude.{◌≡◌, ◌<◌, ◌≤◌, ◌+◌, ◌-◌, length, slice_get, is_some, true, IfSome, None, Some};
+//! Nearly always one station is free, so that one instruction more fills the ring. That is the only one that can be
+//! claimed, and what it comes to stands before anything else is let: a miss squashes nobody and is mended in place, and
+//! the oldest tenant retires. Where more can be let before any is claimed, each runs as it is let; should one of them
+//! not complete then, all of these are again as they were let. So what stands in the stations behind each retirement
+//! is meant to be the same as if all turns were made one by one, in their order; the contracts promise a unit that
+//! legal steps reach, and the end of the run.
+ghost use Rattle.std.specs.Prelude.{◌≡◌, ◌<◌, ◌≤◌, length, slice_get, is_some, true, IfSome, None, Some};
 ghost use Rattle.instructions.specs.Instruction.{kind as kind_of};
 ghost use Rattle.instructions.specs.Programs.{instr_at};
 ghost use Rattle.one_thread.specs.Changes.{run_from};
 ghost use Rattle.one_thread.specs.Decoding.{IsDecoded};
-ghost use Rattle.one_thread.specs.Flow.{AreThere, CanRestore, HasRoom, IsFlowing, free_of, restored, window_of};
+ghost use Rattle.one_thread.specs.Flow.{AreThere, CanRestore, IsFlow, restored, window_of};
 ghost use Rattle.one_thread.specs.FullRing.{made_by, stage_by, station_in};
+ghost use Rattle.one_thread.specs.Reopened.{reopened};
 ghost use Rattle.one_thread.specs.StandsFor.{StandsForSome};
 
 use crate::dispatch::waiting_half;
@@ -18,13 +23,9 @@ use crate::flow::Flow;
 use crate::full_ring::{Completed, FullRing};
 use crate::future::Future;
 use crate::pipeline::Pipeline;
-use crate::station::{Stage, Station};
+use crate::station::{Stage, Station, made_at_let};
 use crate::window::Window;
 use instructions::{Kind, Predictor};
-
-/// After so many retirements in a row from a full ring of completed instructions the unit keeps to these turns. It
-/// takes out all stations for that and puts them back, which costs as much as a few turns.
-pub const PATIENCE: u32 = 1;
 
 // What a station has made, or where it stores, if it has completed.
 fn value_of(station: &Station) -> Option<u32>
@@ -70,19 +71,18 @@ impl<'a> Pipeline<'a> {
     fn flow(&self) -> Option<Flow>
         requires unit { StandsForSome self.now }
         requires goes_on { self.now.over ≡ None }
-        ensures flowing { IfSome result (IsFlowing self.now) }
-        ensures window { IfSome result (λ flow. window_of self.now flow ≡ self.now.window) }
-        ensures told { IfSome result (λ flow.
-            slice_get self.now.leavers (free_of self.now) ≡ Some flow.told) }
-        ensures complete { IfSome result (λ flow. flow.last ≡ None) }
+        requires two { 2 ≤ self.now.ring }
+        ensures { IfSome result (IsFlow self.now) }
     {
-        let free = self.station_at(self.ring - 1);
+        if self.ring < self.window.len() {
+            return None;
+        }
         let mut flow = Flow {
             ring: FullRing::new(),
             future: Future::behind(&self.ahead()),
             half: waiting_half(self.low),
             accesses: 0,
-            told: self.leaver(free),
+            from: 0,
             last: None,
         };
         for i in 0..self.window.len() {
@@ -91,6 +91,7 @@ impl<'a> Pipeline<'a> {
             let content = flow.future.operands(&station.instr).b;
             flow.joins(&station.instr, completed, content);
         }
+        flow.from = flow.ring.len();
         Some(flow)
     }
 
@@ -118,78 +119,89 @@ impl<'a> Pipeline<'a> {
         }
     }
 
-    // The stations of a flow are the window's again.
+    // The station at `i`, as it was let, if it is behind those that have completed for good.
+    fn station_at_exit(&self, flow: &Flow, i: usize) -> Station
+        requires code { IsDecoded self.now.code.items self.now.program.now }
+        requires there { AreThere self.now.program.now flow.now.ring.completed }
+        requires inside { i < length flow.now.ring.completed }
+        ensures { slice_get (reopened flow.now.from (window_of self.now flow.now)) i ≡ Some result }
+    {
+        let station = self.station_of(&flow.ring.get(i));
+        if i < flow.from {
+            return station;
+        }
+        Station {
+            made: made_at_let(station.instr.kind(), station.pc),
+            stage: Stage::Open,
+            ..station
+        }
+    }
+
+    // The window is what a flow leaves.
     fn restores(&mut self, flow: &Flow)
         requires code { IsDecoded self.old.code.items self.old.program.now }
-        requires there { AreThere self.old.program.now flow.now.ring.completed }
-        requires room { length flow.now.ring.completed < 32 }
-        requires oldest { self.old.oldest < self.old.ring }
-        requires most { self.old.ring ≤ 32 }
+        requires flow { CanRestore self.old flow.now }
         ensures { self.new ≡ restored self.old flow.now }
     {
         let mut window = Window::new();
         for i in 0..flow.ring.len() {
-            window.join(&self.station_of(&flow.ring.get(i)));
+            window.join(&self.station_at_exit(flow, i));
         }
         if let Some(station) = flow.last {
             window.join(&station);
         }
         self.window = window;
         self.missed = false;
-        self.settled = self.ring - 1;
-        let free = self.station_at(self.ring - 1);
-        self.leavers[free] = flow.told;
+        self.settled = flow.from;
     }
 
     // Lets instructions enter a flow, and the oldest leave it, as long as each completes and the count has not
     // reached a limit.
     #[inline(always)]
     fn flows<P: Predictor>(&mut self, predictor: &mut P, flow: &mut Flow, limit: u64)
-        requires { HasRoom self.old flow.old }
+        requires { IsFlow self.old flow.old }
         ensures flow { CanRestore self.new flow.new }
+        ensures code { self.new.code ≡ self.old.code }
         ensures program { self.new.program ≡ self.old.program }
         ensures more { self.old.committed.count ≤ self.new.committed.count }
         ensures ends { run_from self.new limit ≡ run_from self.old limit }
     {
         while self.committed.count() < limit {
-            let Some(instr) = self.next_in(flow) else {
+            let Some(fits) = self.upcoming(flow) else {
                 return;
             };
-            if !self.enters_flow(predictor, flow, instr) {
+            if !fits {
+                self.leaves_flow(flow);
+                continue;
+            }
+            if !self.enters_flow(predictor, flow) {
                 return;
             }
-            self.leaves_flow(flow);
+            if flow.ring.len() == self.ring {
+                self.leaves_flow(flow);
+            }
         }
     }
 
-    /// How many retirements in a row have left one station free and all live tenants completed, with the last one.
-    #[inline(always)]
-    pub fn full_again(&self, before: u32) -> u32 {
-        if self.window.len() + 1 == self.ring && self.window.len() <= self.settled {
-            return before.saturating_add(1);
-        }
-        0
-    }
-
-    /// Turns as long as one station is free, all live tenants have completed, and the count has not reached a limit.
+    /// Turns as long as all live tenants have completed and the count has not reached a limit. Answers at which count
+    /// that is to be looked for again: what keeps the unit out of it leaves within a ring of instructions.
     #[inline(never)]
-    pub fn stays_full<P: Predictor>(&mut self, predictor: &mut P, limit: u64)
+    pub fn streams<P: Predictor>(&mut self, predictor: &mut P, limit: u64) -> u64
         requires unit { StandsForSome self.old }
         ensures unit { StandsForSome self.new }
         ensures program { self.new.program ≡ self.old.program }
         ensures more { self.old.committed.count ≤ self.new.committed.count }
         ensures ends { run_from self.new limit ≡ run_from self.old limit }
     {
-        if self.over.is_some() || self.ring < 2 || self.window.len() + 1 != self.ring {
-            return;
+        if self.over.is_some() || self.ring < 2 || self.settled < self.window.len() {
+            return 0;
         }
         let Some(flow) = self.flow() else {
-            return;
+            return self.committed.count().saturating_add(self.ring as u64);
         };
         let mut flow = flow;
-        let free = self.station_at(self.ring - 1);
-        self.leavers[free] = None;
         self.flows(predictor, &mut flow, limit);
         self.restores(&flow);
+        0
     }
 }
