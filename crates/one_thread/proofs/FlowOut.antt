@@ -329,6 +329,13 @@ module _ (x y : Pipeline) (flow after : Flow) (i : Instr) (c : Completed) (l : H
         reopens = none_reopened later after.from all shows.unit;
       }
 
+  -- there is room for another
+  pub left_shorter : length after.ring.completed < y.ring
+  left_shorter =
+      let ring : y.ring ≡ x.ring = ap (λ (p : Pipeline). p.ring) l.rest in
+      let long = stations_long y.program.now after.ring.completed in
+      omega (arith, ap length rest_is, length-drop 1 W, flows.most, l.here.stuck.some, ring, long)
+
   pub left_program : y.program ≡ x.program
   left_program = ap (λ (p : Pipeline). p.program) l.rest
 

@@ -1,6 +1,6 @@
 //! Decoded instructions.
 ghost use Rattle.std.specs.Prelude.{◌≡◌};
-ghost use Rattle.instructions.specs.Instruction.{destination as destination_of, first_of, fixed_next as fixed_next_of, fixed_next_by, is_access as is_access_of, is_first_half as first_half, kind as kind_of, second_of};
+ghost use Rattle.instructions.specs.Instruction.{destination as destination_of, first_of, fixed_next as fixed_next_of, fixed_next_by, is_access as is_access_of, is_first_half as first_half, is_pair as is_pair_of, kind as kind_of, second_of};
 ghost use Rattle.inorder.specs.Unit.{half_after};
 ghost use Rattle.one_thread.specs.Decoding.{goes_of as goes_in};
 
@@ -118,6 +118,13 @@ impl Decoded {
         ensures { result ≡ second_of self.now }
     {
         self.second
+    }
+
+    /// The operation is a multiplication or division, of two halves.
+    pub(crate) fn is_pair(&self) -> bool
+        ensures { result ≡ is_pair_of self.now.op }
+    {
+        self.pair
     }
 
     /// This half is the first of two.

@@ -1,22 +1,23 @@
 //! The oldest instruction of a flow retires.
-ghost use Rattle.std.specs.Prelude.{◌≡◌, ◌<◌, ◌≤◌, ◌+◌, ◌-◌, ◌^◌, ℕ, [], length, unwrap_or};
+ghost use Rattle.std.specs.Prelude.{◌≡◌, ◌<◌, ◌≤◌, ◌+◌, ◌-◌, ◌^◌, ℕ, [], length, unwrap_or, true, None};
+ghost use Rattle.inorder.specs.Committed.{ahead_by};
 ghost use Rattle.inorder.specs.Machine.{store_bytes};
-ghost use Rattle.instructions.specs.Instruction.{is_first_half, kind as kind_of, second_of, width as width_of};
+ghost use Rattle.instructions.specs.Instruction.{is_first_half, is_pair, kind as kind_of, second_of, width as width_of};
 ghost use Rattle.instructions.specs.declared.op.Kind.TheVariants.{Stores as StoreKind};
 ghost use Rattle.one_thread.specs.Changes.{run_from};
 ghost use Rattle.one_thread.specs.Flow.{IsFlow, IsStuck, committed_by, low_by, to_do};
-ghost use Rattle.one_thread.specs.FullRing.{station_by};
+ghost use Rattle.one_thread.specs.FullRing.{station_by, stores_behind};
 ghost use Rattle.one_thread.specs.Window.{source_in};
 
 use crate::decoded::Decoded;
 use crate::fetch::fetch_known;
 use crate::flow::Flow;
-use crate::full_ring::Completed;
+use crate::full_ring::{Completed, FullRing};
 use crate::leaver::leaver_of;
 use crate::pipeline::Pipeline;
 use crate::retire::leave_untold;
 use inorder::Committed;
-use instructions::{Kind, Reg};
+use instructions::{Half, Kind, Reg};
 
 // What a register holds for the oldest instruction, where nothing waits for LO.
 #[inline(always)]
@@ -42,12 +43,25 @@ fn store(committed: &mut Committed, instr: &Decoded, address: u32)
     committed.store_at(address as usize, width, content);
 }
 
-// What the oldest instruction has made waits for LO, if it is a first half, and is committed else, with what waits.
+// What waits for LO is committed.
 #[inline(always)]
-fn commit(committed: &mut Committed, low: &mut Option<u32>, instr: &Decoded, oldest: &Completed)
+fn settle(committed: &mut Committed, low: &mut Option<u32>)
+    ensures committed { committed.new ≡ ahead_by low.old committed.old }
+    ensures low { low.new ≡ None }
+{
+    if low.is_some() {
+        committed.settle(*low);
+        *low = None;
+    }
+}
+
+// The oldest instruction is half of a pair: what a first half has made waits for LO, and a second half is committed
+// with that.
+#[cold]
+#[inline(never)]
+fn commit_half(committed: &mut Committed, low: &mut Option<u32>, instr: &Decoded, oldest: &Completed)
     requires count { committed.old.count < 2 ^ 64 - 1 }
-    requires inside { kind_of instr.now.op ≡ StoreKind →
-        oldest.now.value + width_of instr.now.op ≤ length committed.old.memory }
+    requires pair { is_pair instr.now.op ≡ true }
     ensures committed { committed.new ≡ committed_by (is_first_half instr.now.op oldest.now.half)
         (station_by instr.now oldest.now) low.old committed.old }
     ensures low { low.new ≡ low_by (is_first_half instr.now.op oldest.now.half)
@@ -57,14 +71,40 @@ fn commit(committed: &mut Committed, low: &mut Option<u32>, instr: &Decoded, old
         *low = Some(oldest.value);
         return;
     }
-    if low.is_some() {
-        committed.settle(*low);
-        *low = None;
+    settle(committed, low);
+    let destination = instr.destination(oldest.half);
+    committed.advance(destination, oldest.value, oldest.next);
+}
+
+// What the oldest instruction has made or stored is committed, and its entry leaves, if it is a store.
+#[inline(always)]
+fn commit(
+    committed: &mut Committed,
+    low: &mut Option<u32>,
+    ring: &mut FullRing,
+    instr: &Decoded,
+    oldest: &Completed,
+)
+    requires count { committed.old.count < 2 ^ 64 - 1 }
+    requires inside { kind_of instr.now.op ≡ StoreKind →
+        oldest.now.value + width_of instr.now.op ≤ length committed.old.memory }
+    ensures committed { committed.new ≡ committed_by (is_first_half instr.now.op oldest.now.half)
+        (station_by instr.now oldest.now) low.old committed.old }
+    ensures low { low.new ≡ low_by (is_first_half instr.now.op oldest.now.half)
+        (station_by instr.now oldest.now) }
+    ensures ring { ring.new ≡ record ring.old { stores =
+      stores_behind (station_by instr.now oldest.now) ring.old.stores } }
+{
+    if instr.is_pair() {
+        commit_half(committed, low, instr, oldest);
+        return;
     }
+    settle(committed, low);
     if let Kind::Stores = instr.kind() {
+        ring.shift_store();
         store(committed, instr, oldest.value);
     }
-    let destination = instr.destination(oldest.half);
+    let destination = instr.destination(Half::Low);
     committed.advance(destination, oldest.value, oldest.next);
 }
 
@@ -76,6 +116,7 @@ impl<'a> Pipeline<'a> {
         requires stuck { IsStuck self.old flow.old }
         requires count { self.old.committed.count < 2 ^ 64 - 1 }
         ensures flow { IsFlow self.new flow.new }
+        ensures room { length flow.new.ring.completed < self.new.ring }
         ensures code { self.new.code ≡ self.old.code }
         ensures program { self.new.program ≡ self.old.program }
         ensures more { self.old.committed.count ≤ self.new.committed.count }
@@ -88,8 +129,14 @@ impl<'a> Pipeline<'a> {
         let instr = fetch_known(self.code.as_slice(), oldest.pc);
         let told = leaver_of(instr, oldest.half, oldest.pc, oldest.next);
         leave_untold(&mut self.leavers, self.oldest, told);
-        flow.leaves(instr, &oldest);
-        commit(&mut self.committed, &mut self.low, instr, &oldest);
+        flow.leaves(instr);
+        commit(
+            &mut self.committed,
+            &mut self.low,
+            &mut flow.ring,
+            instr,
+            &oldest,
+        );
         self.oldest = self.station_behind(self.oldest);
     }
 }

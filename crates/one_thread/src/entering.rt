@@ -1,9 +1,10 @@
 //! An instruction enters a flow: it is let, and runs as far as it comes.
-ghost use Rattle.std.specs.Prelude.{⊤, ◌≡◌, ◌<◌, ◌≤◌, ◌+◌, ℕ, suc, length, slice_get, slice_set, IsTrue, None, Some};
+ghost use Rattle.std.specs.Prelude.{⊤, ◌≡◌, ◌<◌, ◌≤◌, ◌+◌, ℕ, suc, length, slice_get, slice_set, IsFalse, IsTrue, None, Some};
 ghost use Rattle.instructions.specs.Instruction.{width as width_in};
 ghost use Rattle.instructions.specs.declared.stop.Outcome.TheVariants.{Address};
 ghost use Rattle.lsq.specs.LoadRule.{answer_over as answer_of};
-ghost use Rattle.one_thread.specs.Decoding.{IsDecoded};
+ghost use Rattle.instructions.specs.declared.op.Half.TheVariants.{Low};
+ghost use Rattle.one_thread.specs.Decoding.{HasInstr, IsDecoded};
 ghost use Rattle.one_thread.specs.Flow.{CanEnter, Completes, HasEntered, HasPlace, IsFlow, Upcoming, enters_as, outcome_in};
 ghost use Rattle.one_thread.specs.Givers.{Chosen};
 ghost use Rattle.one_thread.specs.Loads.{value_by};
@@ -16,7 +17,7 @@ use crate::leaver::guess;
 use crate::pipeline::Pipeline;
 use crate::station::{Stage, Station, made_at_let};
 use inorder::access_width;
-use instructions::{Kind, Leaver, Op, Outcome, Predictor, loaded, outcome_of, pc_plus_4};
+use instructions::{Half, Kind, Leaver, Op, Outcome, Predictor, loaded, outcome_of, pc_plus_4};
 use lsq::{Answer, Entry, answer_over};
 
 /// What an instruction completes with: what it has made, or where it stores, and where it goes on.
@@ -62,12 +63,13 @@ impl<'a> Pipeline<'a> {
 
     // The outcome of the next instruction.
     #[inline(always)]
-    fn outcome(&self, flow: &Flow, instr: &Decoded, operands: &Operands) -> Outcome
+    fn outcome(&self, flow: &Flow, instr: &Decoded, half: Half, operands: &Operands) -> Outcome
+        requires { half ≡ flow.now.half }
         ensures { result ≡ outcome_in self.now flow.now instr.now operands.now }
     {
         let Operands { a, b } = *operands;
         let size = self.program.size();
-        outcome_of(&instr.to_instr(), flow.half, flow.future.pc, a, b, size)
+        outcome_of(&instr.to_instr(), half, flow.future.pc, a, b, size)
     }
 
     // What the next instruction completes with, unless it stops or waits.
@@ -76,14 +78,16 @@ impl<'a> Pipeline<'a> {
         &self,
         flow: &Flow,
         instr: &Decoded,
+        half: Half,
         predicted: u32,
         operands: &Operands,
     ) -> Option<Done>
-        requires { (a : ℕ) → outcome_in self.now flow.now instr.now operands.now ≡ Address a →
+        requires half { half ≡ flow.now.half }
+        requires inside { (a : ℕ) → outcome_in self.now flow.now instr.now operands.now ≡ Address a →
             a + width_in instr.now.op ≤ length self.now.committed.memory }
         ensures { Completes self.now flow.now instr.now predicted operands.now result }
     {
-        let (value, next) = match self.outcome(flow, instr, operands) {
+        let (value, next) = match self.outcome(flow, instr, half, operands) {
             Outcome::Value(v) | Outcome::Pair(v, _) => (v, predicted),
             Outcome::Next(x) => match instr.kind() {
                 Kind::Links => (pc_plus_4(flow.future.pc), x),
@@ -134,12 +138,10 @@ impl<'a> Pipeline<'a> {
     #[inline(always)]
     pub fn upcoming(&self, flow: &Flow) -> Option<bool>
         requires flow { IsFlow self.now flow.now }
+        requires room { length flow.now.ring.completed < self.now.ring }
         requires code { IsDecoded self.now.code.items self.now.program.now }
         ensures { Upcoming self.now flow.now result }
     {
-        if flow.ring.len() == self.ring {
-            return Some(false);
-        }
         let instr = fetch(self.code.as_slice(), flow.future.pc)?;
         if instr.is_access() && self.queue <= flow.accesses {
             return Some(false);
@@ -147,11 +149,46 @@ impl<'a> Pipeline<'a> {
         Some(true)
     }
 
-    // Lets the next instruction where its station is its own, and runs it as far as it comes. Answers whether it has
-    // completed: else it is left as it was let. A miss is mended where no other was let with it and nothing can be let
-    // behind it.
+    // Lets the next instruction, and runs it as far as it comes. Answers whether it has completed: else it is left as it
+    // was let. A miss is mended where no other was let with it and nothing can be let behind it.
     #[inline(always)]
     fn runs_next<P: Predictor>(
+        &self,
+        predictor: &mut P,
+        flow: &mut Flow,
+        left: Option<Leaver>,
+        half: Half,
+    ) -> bool
+        requires place { HasPlace self.now flow.old }
+        requires half { half ≡ flow.old.half }
+        ensures entered { HasEntered self.now flow.new result }
+        ensures longer { Chosen result (length flow.new.ring.completed ≡
+            suc (length flow.old.ring.completed)) ⊤ }
+    {
+        let pc = flow.future.pc;
+        let instr = fetch_known(self.code.as_slice(), pc);
+        let predicted = guess(predictor, left, instr, half, pc);
+        let operands = flow.future.operands(instr);
+        let Some(done) = self.completes(flow, instr, half, predicted, &operands) else {
+            Self::stays(flow, instr, predicted);
+            return false;
+        };
+        let is_miss = done.next != predicted;
+        if is_miss && !self.is_alone(flow) {
+            Self::stays(flow, instr, predicted);
+            return false;
+        }
+        flow.joins(instr, flow.completed(half, predicted, done), operands.b);
+        if is_miss {
+            flow.from = flow.ring.len();
+        }
+        true
+    }
+
+    // A half of a pair enters: apart from the way that nearly every instruction takes.
+    #[cold]
+    #[inline(never)]
+    fn runs_half<P: Predictor>(
         &self,
         predictor: &mut P,
         flow: &mut Flow,
@@ -162,24 +199,17 @@ impl<'a> Pipeline<'a> {
         ensures longer { Chosen result (length flow.new.ring.completed ≡
             suc (length flow.old.ring.completed)) ⊤ }
     {
-        let pc = flow.future.pc;
-        let instr = fetch_known(self.code.as_slice(), pc);
-        let predicted = guess(predictor, left, instr, flow.half, pc);
-        let operands = flow.future.operands(instr);
-        let Some(done) = self.completes(flow, instr, predicted, &operands) else {
-            Self::stays(flow, instr, predicted);
-            return false;
-        };
-        let is_miss = done.next != predicted;
-        if is_miss && !self.is_alone(flow) {
-            Self::stays(flow, instr, predicted);
-            return false;
-        }
-        flow.joins(instr, flow.completed(predicted, done), operands.b);
-        if is_miss {
-            flow.from = flow.ring.len();
-        }
-        true
+        let half = flow.half;
+        self.runs_next(predictor, flow, left, half)
+    }
+
+    // Whether the next instruction is half of a pair.
+    #[inline(always)]
+    fn is_half(&self, flow: &Flow) -> bool
+        requires { HasInstr self.now.code.items flow.now.future.pc }
+        ensures { IsFalse result → flow.now.half ≡ Low }
+    {
+        flow.half != Half::Low || fetch_known(self.code.as_slice(), flow.future.pc).is_pair()
     }
 
     /// Lets the next instruction, and runs it as far as it comes. Answers whether it has completed.
@@ -194,6 +224,9 @@ impl<'a> Pipeline<'a> {
     {
         let station = self.station_at(flow.ring.len());
         let left = take_leaver(&mut self.leavers, station);
-        self.runs_next(predictor, flow, left)
+        if self.is_half(flow) {
+            return self.runs_half(predictor, flow, left);
+        }
+        self.runs_next(predictor, flow, left, Half::Low)
     }
 }

@@ -3,7 +3,7 @@ ghost use Rattle.std.specs.Prelude.{◌≡◌, ◌<◌, ◌≤◌, ◌+◌, ◌-
 ghost use Rattle.inorder.specs.Unit.{half_after};
 ghost use Rattle.instructions.specs.Instruction.{is_first_half};
 ghost use Rattle.one_thread.specs.Flow.{completed_as};
-ghost use Rattle.one_thread.specs.FullRing.{station_by, store_with, stores_behind};
+ghost use Rattle.one_thread.specs.FullRing.{station_by, store_with};
 ghost use Rattle.one_thread.specs.Futures.{GoesOnBehind};
 ghost use Rattle.one_thread.specs.Loads.{with_entry};
 ghost use Rattle.one_thread.specs.Window.{access_of};
@@ -35,12 +35,13 @@ pub struct Flow {
 impl Flow {
     /// The next instruction as one that has completed.
     #[inline(always)]
-    pub fn completed(&self, predicted: u32, done: Done) -> Completed
+    pub fn completed(&self, half: Half, predicted: u32, done: Done) -> Completed
+        requires { half ≡ self.now.half }
         ensures { result ≡ completed_as self.now predicted done }
     {
         Completed {
             pc: self.future.pc,
-            half: self.half,
+            half,
             predicted,
             next: done.next,
             value: done.value,
@@ -76,14 +77,13 @@ impl Flow {
         }
     }
 
-    /// The oldest instruction leaves: those behind it have completed for good.
+    /// The oldest instruction leaves, without its entry: those behind it have completed for good.
     #[inline(always)]
-    pub fn leaves(&mut self, instr: &Decoded, oldest: &Completed)
+    pub fn leaves(&mut self, instr: &Decoded)
         requires some { 0 < length self.old.ring.completed }
         requires counted { access_of instr.now ≤ self.old.accesses }
         ensures completed { self.new.ring.completed ≡ drop 1 self.old.ring.completed }
-        ensures stores { self.new.ring.stores ≡
-            stores_behind (station_by instr.now oldest.now) self.old.ring.stores }
+        ensures stores { self.new.ring.stores ≡ self.old.ring.stores }
         ensures accesses { self.new.accesses ≡ self.old.accesses - access_of instr.now }
         ensures from { self.new.from ≡ length self.new.ring.completed }
         ensures rest { self.new ≡ record self.old {
@@ -94,9 +94,6 @@ impl Flow {
     {
         self.accesses -= access(instr);
         self.ring.shift();
-        if let Kind::Stores = instr.kind() {
-            self.ring.shift_store();
-        }
         self.from = self.ring.len();
     }
 }

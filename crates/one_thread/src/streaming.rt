@@ -72,9 +72,10 @@ impl<'a> Pipeline<'a> {
         requires unit { StandsForSome self.now }
         requires goes_on { self.now.over ≡ None }
         requires two { 2 ≤ self.now.ring }
-        ensures { IfSome result (IsFlow self.now) }
+        ensures flow { IfSome result (IsFlow self.now) }
+        ensures room { IfSome result (λ flow. length flow.ring.completed < self.now.ring) }
     {
-        if self.ring < self.window.len() {
+        if self.ring <= self.window.len() {
             return None;
         }
         let mut flow = Flow {
@@ -159,7 +160,8 @@ impl<'a> Pipeline<'a> {
     // reached a limit.
     #[inline(always)]
     fn flows<P: Predictor>(&mut self, predictor: &mut P, flow: &mut Flow, limit: u64)
-        requires { IsFlow self.old flow.old }
+        requires flow { IsFlow self.old flow.old }
+        requires room { length flow.old.ring.completed < self.old.ring }
         ensures flow { CanRestore self.new flow.new }
         ensures code { self.new.code ≡ self.old.code }
         ensures program { self.new.program ≡ self.old.program }

@@ -1,6 +1,6 @@
 use Rattle.std.proofs.Common.{◌≡◌, ◌<◌, ◌≤◌, length, sym, ap, ◌∙◌, arith}
 use Rattle.std.proofs.lemmas.List.{take_all}
-use Rattle.one_thread.proofs.Completions.{station_is}
+use Rattle.one_thread.proofs.Completions.{station_is, stations_long}
 use Rattle.one_thread.proofs.FlowIn.{HasJoined, joined, joined_window}
 use Rattle.one_thread.proofs.FlowStays.{begun, room_among, taken}
 use Rattle.one_thread.proofs.Flowing.{registers_all}
@@ -55,9 +55,17 @@ loop-i-preserved c =
       last = c.joins.ensures.last ∙ h.last;
     }
 
-pub returns : goal.returns
-returns c =
+pub returns-clause-flow : goal.returns-clause-flow
+returns-clause-flow c =
     let b = c.args.self.now in
     let h = c.loop-i.invariant in
     let whole = h.window ∙ take_all c.loop-i.i b.window (omega (arith, c.loop-i-test.false, c.len-i-end.ensures.value)) in
     begun b c.loop-i.flow c.len-2.result c.requires.unit c.requires.two (omega (arith, c.if-self-len.false, c.len.ensures.value)) h.flowing whole h.last c.len-2.ensures.value
+
+pub returns-clause-room : goal.returns-clause-room
+returns-clause-room c =
+    let b = c.args.self.now in
+    let h = c.loop-i.invariant in
+    let whole = h.window ∙ take_all c.loop-i.i b.window (omega (arith, c.loop-i-test.false, c.len-i-end.ensures.value)) in
+    let long = stations_long b.program.now c.loop-i.flow.ring.completed in
+    omega (arith, ap length whole, long, c.if-self-len.false, c.len.ensures.value)

@@ -18,6 +18,7 @@ loop-self-preserved-then-not-fits g c =
     let less : c.loop-self.self.committed.count < c.args.limit = omega (arith, c.loop-self-test.true, c.count.ensures) in
     record {
       flow = left.flow;
+      room = left.room;
       code = left.code ∙ before.code;
       program = left.program ∙ before.program;
       more = omega (arith, left.more, before.more);
@@ -41,6 +42,7 @@ loop-self-preserved-then-len-self g c =
     let less : mid.committed.count < limit = omega (arith, c.loop-self-test.true, c.count.ensures, ap (λ s. s.count) same) in
     record {
       flow = left.flow;
+      room = left.room;
       code = left.code ∙ ap (λ (p : Pipeline). p.code) c.enters_flow.ensures.rest ∙ before.code;
       program = left.program ∙ program ∙ before.program;
       more = omega (arith, left.more, ap (λ s. s.count) same, before.more);

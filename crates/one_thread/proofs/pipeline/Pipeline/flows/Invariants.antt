@@ -1,4 +1,4 @@
-use Rattle.std.proofs.Common.{◌≡◌, ◌≤◌, ◌+◌, ◌-◌, ◌*◌, length}
+use Rattle.std.proofs.Common.{◌≡◌, ◌<◌, ◌≤◌, ◌+◌, ◌-◌, ◌*◌, length}
 use Rattle.one_thread.specs.Changes.{run_from}
 use Rattle.one_thread.specs.Flow.{IsFlow, to_do}
 use Rattle.one_thread.proofs.pipeline.Pipeline.flows.Given as goal
@@ -7,6 +7,7 @@ abbrev pub invariant-loop-self : goal.invariant-loop-self
 invariant-loop-self g l =
     record {
       flow : IsFlow l.self l.flow;
+      room : length l.flow.ring.completed < l.self.ring;
       code : l.self.code ≡ l.fn.self.code;
       program : l.self.program ≡ l.fn.self.program;
       more : l.fn.self.committed.count ≤ l.self.committed.count;

@@ -1,12 +1,12 @@
-use Rattle.std.proofs.Common.{refl, sym, ap, ◌∙◌, subst}
+use Rattle.std.proofs.Common.{length, refl, sym, ap, ◌∙◌, subst, arith}
 use Rattle.std.specs.Prelude.{slice_set}
 use Rattle.one_thread.specs.Decoding.{IsDecoded}
 use Rattle.one_thread.specs.Flow.{filled, window_of}
-use Rattle.one_thread.specs.FullRing.{station_by}
+use Rattle.one_thread.specs.FullRing.{Contents, station_by, stores_behind}
 use Rattle.one_thread.specs.declared.flow.Flow.{Flow}
 use Rattle.one_thread.specs.declared.pipeline.Pipeline.{Pipeline}
 use Rattle.one_thread.proofs.Completions.{has_instr}
-use Rattle.one_thread.proofs.FlowOut.{HasLeft, IsOldest, left_flow, left_less, left_runs, oldest_counted, oldest_inside, oldest_is}
+use Rattle.one_thread.proofs.FlowOut.{HasLeft, IsOldest, left_flow, left_less, left_runs, left_shorter, oldest_counted, oldest_inside, oldest_is}
 use Rattle.one_thread.proofs.Untold.{oldest_untold}
 use Rattle.one_thread.proofs.pipeline.Pipeline.leaves_flow.Goals as goal
 
@@ -75,13 +75,14 @@ returns-clause-flow c =
       instr = c.fetch_known-instr.ensures x.program.now (subst (λ l. IsDecoded l x.program.now) (sym c.as_slice.ensures.value) c.requires.flow.unit.code);
     } in
     let y : Pipeline = record x { committed = c.commit.new.committed; low = c.commit.new.low; oldest = c.station_behind-self.result; leavers = c.leave_untold.new.leavers } in
-    let left : HasLeft x y flow c.leaves.new.self i oldest =
+    let after : Flow = record c.leaves.new.self { ring = c.commit.new.ring } in
+    let left : HasLeft x y flow after i oldest =
     record {
       here = here;
-      completed = c.leaves.ensures.completed;
-      stores = c.leaves.ensures.stores;
+      completed = ap (λ (r : Contents). r.completed) c.commit.ensures.ring ∙ c.leaves.ensures.completed;
+      stores = ap (λ (r : Contents). r.stores) c.commit.ensures.ring ∙ ap (stores_behind (station_by i oldest)) c.leaves.ensures.stores;
       accesses = c.leaves.ensures.accesses;
-      from = c.leaves.ensures.from;
+      from = c.leaves.ensures.from ∙ sym (ap (λ (r : Contents). length r.completed) c.commit.ensures.ring);
       last = ap (λ (f : Flow). f.last) c.leaves.ensures.rest;
       future = ap (λ (f : Flow). f.future) c.leaves.ensures.rest;
       half = ap (λ (f : Flow). f.half) c.leaves.ensures.rest;
@@ -91,7 +92,7 @@ returns-clause-flow c =
       leavers = c.leave_untold.ensures ∙ ap (slice_set x.leavers x.oldest) c.leaver_of-told.ensures;
       rest = refl;
     } in
-    left_flow x y flow c.leaves.new.self i oldest left
+    left_flow x y flow after i oldest left
 
 pub returns-clause-ends : goal.returns-clause-ends
 returns-clause-ends c =
@@ -107,13 +108,14 @@ returns-clause-ends c =
       instr = c.fetch_known-instr.ensures x.program.now (subst (λ l. IsDecoded l x.program.now) (sym c.as_slice.ensures.value) c.requires.flow.unit.code);
     } in
     let y : Pipeline = record x { committed = c.commit.new.committed; low = c.commit.new.low; oldest = c.station_behind-self.result; leavers = c.leave_untold.new.leavers } in
-    let left : HasLeft x y flow c.leaves.new.self i oldest =
+    let after : Flow = record c.leaves.new.self { ring = c.commit.new.ring } in
+    let left : HasLeft x y flow after i oldest =
     record {
       here = here;
-      completed = c.leaves.ensures.completed;
-      stores = c.leaves.ensures.stores;
+      completed = ap (λ (r : Contents). r.completed) c.commit.ensures.ring ∙ c.leaves.ensures.completed;
+      stores = ap (λ (r : Contents). r.stores) c.commit.ensures.ring ∙ ap (stores_behind (station_by i oldest)) c.leaves.ensures.stores;
       accesses = c.leaves.ensures.accesses;
-      from = c.leaves.ensures.from;
+      from = c.leaves.ensures.from ∙ sym (ap (λ (r : Contents). length r.completed) c.commit.ensures.ring);
       last = ap (λ (f : Flow). f.last) c.leaves.ensures.rest;
       future = ap (λ (f : Flow). f.future) c.leaves.ensures.rest;
       half = ap (λ (f : Flow). f.half) c.leaves.ensures.rest;
@@ -123,7 +125,7 @@ returns-clause-ends c =
       leavers = c.leave_untold.ensures ∙ ap (slice_set x.leavers x.oldest) c.leaver_of-told.ensures;
       rest = refl;
     } in
-    left_runs x y flow c.leaves.new.self i oldest left
+    left_runs x y flow after i oldest left
 
 pub returns-clause-less : goal.returns-clause-less
 returns-clause-less c =
@@ -139,13 +141,14 @@ returns-clause-less c =
       instr = c.fetch_known-instr.ensures x.program.now (subst (λ l. IsDecoded l x.program.now) (sym c.as_slice.ensures.value) c.requires.flow.unit.code);
     } in
     let y : Pipeline = record x { committed = c.commit.new.committed; low = c.commit.new.low; oldest = c.station_behind-self.result; leavers = c.leave_untold.new.leavers } in
-    let left : HasLeft x y flow c.leaves.new.self i oldest =
+    let after : Flow = record c.leaves.new.self { ring = c.commit.new.ring } in
+    let left : HasLeft x y flow after i oldest =
     record {
       here = here;
-      completed = c.leaves.ensures.completed;
-      stores = c.leaves.ensures.stores;
+      completed = ap (λ (r : Contents). r.completed) c.commit.ensures.ring ∙ c.leaves.ensures.completed;
+      stores = ap (λ (r : Contents). r.stores) c.commit.ensures.ring ∙ ap (stores_behind (station_by i oldest)) c.leaves.ensures.stores;
       accesses = c.leaves.ensures.accesses;
-      from = c.leaves.ensures.from;
+      from = c.leaves.ensures.from ∙ sym (ap (λ (r : Contents). length r.completed) c.commit.ensures.ring);
       last = ap (λ (f : Flow). f.last) c.leaves.ensures.rest;
       future = ap (λ (f : Flow). f.future) c.leaves.ensures.rest;
       half = ap (λ (f : Flow). f.half) c.leaves.ensures.rest;
@@ -155,4 +158,37 @@ returns-clause-less c =
       leavers = c.leave_untold.ensures ∙ ap (slice_set x.leavers x.oldest) c.leaver_of-told.ensures;
       rest = refl;
     } in
-    left_less x y flow c.leaves.new.self i oldest left
+    left_less x y flow after i oldest left
+
+pub returns-clause-room : goal.returns-clause-room
+returns-clause-room c =
+    let x = c.args.self.now in
+    let flow = c.args.flow.now in
+    let i = c.fetch_known-instr.result.now in
+    let oldest = c.oldest-oldest.result in
+    let here : IsOldest x flow i oldest =
+    record {
+      flows = c.requires.flow;
+      stuck = c.requires.stuck;
+      is = c.oldest-oldest.ensures;
+      instr = c.fetch_known-instr.ensures x.program.now (subst (λ l. IsDecoded l x.program.now) (sym c.as_slice.ensures.value) c.requires.flow.unit.code);
+    } in
+    let y : Pipeline = record x { committed = c.commit.new.committed; low = c.commit.new.low; oldest = c.station_behind-self.result; leavers = c.leave_untold.new.leavers } in
+    let after : Flow = record c.leaves.new.self { ring = c.commit.new.ring } in
+    let left : HasLeft x y flow after i oldest =
+    record {
+      here = here;
+      completed = ap (λ (r : Contents). r.completed) c.commit.ensures.ring ∙ c.leaves.ensures.completed;
+      stores = ap (λ (r : Contents). r.stores) c.commit.ensures.ring ∙ ap (stores_behind (station_by i oldest)) c.leaves.ensures.stores;
+      accesses = c.leaves.ensures.accesses;
+      from = c.leaves.ensures.from ∙ sym (ap (λ (r : Contents). length r.completed) c.commit.ensures.ring);
+      last = ap (λ (f : Flow). f.last) c.leaves.ensures.rest;
+      future = ap (λ (f : Flow). f.future) c.leaves.ensures.rest;
+      half = ap (λ (f : Flow). f.half) c.leaves.ensures.rest;
+      commits = c.commit.ensures.committed;
+      low = c.commit.ensures.low;
+      oldest = c.station_behind-self.ensures.value;
+      leavers = c.leave_untold.ensures ∙ ap (slice_set x.leavers x.oldest) c.leaver_of-told.ensures;
+      rest = refl;
+    } in
+    left_shorter x y flow after i oldest left

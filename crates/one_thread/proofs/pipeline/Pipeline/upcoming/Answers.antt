@@ -2,12 +2,9 @@ use Rattle.std.proofs.Common.{◌≡◌, ◌<◌, ◌≤◌, length, true, refl,
 use Rattle.one_thread.specs.Decoding.{IsDecoded}
 use Rattle.one_thread.specs.Window.{reaches_memory}
 use Rattle.one_thread.proofs.Completions.{stations_long}
-use Rattle.one_thread.proofs.FlowStays.{no_place, no_room}
+use Rattle.one_thread.proofs.FlowStays.{no_place}
 use Rattle.one_thread.proofs.pipeline.Pipeline.upcoming.Goals.{else-is_access-via-then-is_access+else-self-flow, else-is_access-via-else-is_access}
 use Rattle.one_thread.proofs.pipeline.Pipeline.upcoming.Goals as goal
-
-pub returns-then-len-self : goal.returns-then-len-self
-returns-then-len-self c = no_room c.args.self.now c.args.flow.now c.requires.flow (sym c.len.ensures.value ∙ c.if-len-self.true)
 
 pub returns : goal.returns
 returns c =
@@ -22,5 +19,5 @@ returns c =
         | else-is_access-via-then-is_access+else-self-flow w ↦ w.if-self-flow.false
         | else-is_access-via-else-is_access w ↦ absurd (true≢false (sym e ∙ sym c.is_access.ensures ∙ w.if-is_access.false))
       ];
-      room = omega (arith, long, c.len.ensures.value, c.if-len-self.false, c.requires.flow.most);
+      room = omega (arith, long, c.requires.room);
     }
