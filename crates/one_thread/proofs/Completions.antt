@@ -1,5 +1,5 @@
 -- Completed instructions, and the stations that they stand for.
-use Rattle.std.proofs.Common.{◌≡◌, ◌≢◌, ◌<◌, ℕ, zero, suc, true, List, [], ◌∷◌, ◌++◌, length, drop, Option, Some, None, refl, sym, ap, ◌∙◌, ⊎_elim}
+use Rattle.std.proofs.Common.{◌≡◌, ◌≢◌, ℕ, zero, suc, true, List, [], ◌∷◌, ◌++◌, length, drop, Option, Some, None, refl, sym, ap, ◌∙◌, ⊎_elim}
 use Rattle.std.specs.Prelude.{is_some, slice_get, unwrap_or}
 use Rattle.instructions.specs.Instruction.{destination, destination_by, is_first_half, is_low, is_pair, kind, target_by, target_of}
 use Rattle.instructions.specs.Programs.{Program, instr_at}
@@ -13,11 +13,10 @@ use Rattle.instructions.specs.declared.stop.Stop.{Stop}
 use Rattle.inorder.proofs.Pairs.{and_left, and_right, pair_computes}
 use Rattle.one_thread.specs.Decoding.{HasInstr, IsDecoded}
 use Rattle.one_thread.specs.Flow.{AreThere, HasCompleted, WritesLow}
-use Rattle.one_thread.specs.FullRing.{instr_there, made_by, stage_by, station_by, station_in, stations}
+use Rattle.one_thread.specs.CompletedRing.{made_by, stage_by, station_by, station_in, stations}
 use Rattle.one_thread.specs.Notes.{settled_by}
-use Rattle.one_thread.specs.declared.full_ring.Completed.{Completed}
+use Rattle.one_thread.specs.declared.completed_ring.Completed.{Completed}
 use Rattle.one_thread.specs.declared.station.Stage.TheVariants.{Stops}
-use Rattle.one_thread.specs.declared.station.Station.{Station}
 use Rattle.one_thread.proofs.Found.{get_append}
 
 -- What they have made
@@ -59,12 +58,14 @@ low_destination i half e =
     ∙ low_target half i.target (and_right (is_pair i.op) (is_low half) e)
 
 pub has_completed : (i : Instr) (c : Completed) → HasCompleted (station_by i c) × WritesLow (station_by i c)
-has_completed i c =
-    (record {
-      settled = settled_as (kind i.op) c.value;
-      goes_on = goes_on_as (kind i.op) c.value;
-      made = λ n. ap is_some (made_where i c.half c.value n);
-    }, low_destination i c.half)
+has_completed i c = (
+  record {
+    settled = settled_as (kind i.op) c.value;
+    goes_on = goes_on_as (kind i.op) c.value;
+    made = λ n. ap is_some (made_where i c.half c.value n);
+  },
+  low_destination i c.half,
+)
 
 -- Their stations
 

@@ -1,23 +1,21 @@
 -- The live tenants are taken into a flow, and put back.
-use Rattle.std.proofs.Common.{◌≡◌, ◌<◌, ◌≤◌, ◌+◌, ◌-◌, ℕ, zero, suc, Bool, true, false, List, [], ◌∷◌, ◌++◌, length, take, Option, Some, None, refl, sym, ap, ◌∙◌, subst, ⊎_elim, arith, length-take}
+use Rattle.std.proofs.Common.{◌≡◌, ◌<◌, ◌≤◌, ◌+◌, ℕ, zero, suc, true, false, List, [], ◌∷◌, ◌++◌, length, take, Some, None, sym, ap, ◌∙◌, subst, ⊎_elim, arith, length-take}
 use Rattle.std.proofs.lemmas.Bool.{cases_lt}
 use Rattle.std.specs.Prelude.{slice_get}
 use Rattle.instructions.specs.declared.instr.Instr.{Instr}
 use Rattle.instructions.specs.Programs.{instr_at}
 use Rattle.one_thread.specs.Changes.{registers_of}
-use Rattle.one_thread.specs.Flow.{CanEnter, CanRestore, IsFlow, IsFlowing, IsStuck, filled, restored, window_of, with_last}
-use Rattle.one_thread.specs.FullRing.{station_in, stations}
+use Rattle.one_thread.specs.Flow.{CanRestore, IsFlow, IsFlowing, IsStuck, filled, window_of, with_last}
 use Rattle.one_thread.specs.Notes.{AreNoted}
 use Rattle.one_thread.specs.Reopened.{as_let, reopened, with_reopened}
-use Rattle.one_thread.specs.Stages.{CannotLet, NoRoom, QueueFull}
+use Rattle.one_thread.specs.Stages.{NoRoom, QueueFull}
 use Rattle.one_thread.specs.StandsFor.{StandsForSome}
 use Rattle.one_thread.specs.Window.{reaches_memory}
 use Rattle.one_thread.specs.declared.flow.Flow.{Flow}
-use Rattle.one_thread.specs.declared.full_ring.Completed.{Completed}
 use Rattle.one_thread.specs.declared.pipeline.Pipeline.{Pipeline}
 use Rattle.one_thread.specs.declared.station.Station.{Station}
 use Rattle.one_thread.proofs.Accesses.{accesses_most}
-use Rattle.one_thread.proofs.Completions.{stations_get, stations_long}
+use Rattle.one_thread.proofs.Completions.{stations_long}
 use Rattle.one_thread.proofs.Flowing.{completed_no_miss}
 use Rattle.one_thread.proofs.Idle.{noted_unit}
 use Rattle.one_thread.proofs.Reopened.{none_reopened, older_settled, reopened_older, reopened_younger}

@@ -48,7 +48,10 @@ pub mod Stalls
 pub mod BenchTurns
 pub mod Ends
 pub mod Stores
+pub mod FlowRuns
+pub mod FlowJoins
 pub mod FlowIn
+pub mod FlowPassed
 pub mod FlowOut
 pub mod FlowStays
 pub mod Flowing

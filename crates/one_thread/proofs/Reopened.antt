@@ -1,11 +1,9 @@
 -- Tenants that were let in a row are again as they were let.
 use Rattle.std.proofs.Common.{◌≡◌, ◌<◌, ◌≤◌, ℕ, zero, suc, ◌+◌, ◌-◌, ◌%◌, ◌^◌, List, [], ◌∷◌, ◌++◌, length, Option, Some, None, refl, sym, ap, ◌∙◌, subst, arith, length-append}
 use Rattle.std.specs.Prelude.{IfSome, slice_get, slice_set, unwrap_or}
-use Rattle.instructions.specs.Instruction.{fixed_next, kind}
-use Rattle.inorder.specs.Tenants.{made_at_let}
+use Rattle.instructions.specs.Instruction.{fixed_next}
 use Rattle.one_thread.specs.declared.dispatch.Fetched.{Fetched}
 use Rattle.one_thread.specs.declared.pipeline.Pipeline.{Pipeline}
-use Rattle.one_thread.specs.declared.station.Stage.TheVariants.{Open}
 use Rattle.one_thread.specs.declared.station.Station.{Station}
 use Rattle.one_thread.specs.Changes.{NextOf}
 use Rattle.one_thread.specs.Givers.{NoneGives, given_at}
@@ -13,7 +11,7 @@ use Rattle.one_thread.specs.Flow.{HaveCompleted}
 use Rattle.one_thread.specs.Notes.{AreSettled, miss_in, settled_at}
 use Rattle.one_thread.specs.StandsFor.{StandsForSome}
 use Rattle.one_thread.specs.Reopened.{as_let, reopened, with_reopened}
-use Rattle.one_thread.specs.Window.{access_at, accesses, further_on, half_behind, let_at, next_after}
+use Rattle.one_thread.specs.Window.{access_at, accesses, half_behind, let_at, next_after}
 use Rattle.one_thread.proofs.BenchTurns.{let_shows}
 use Rattle.one_thread.proofs.Flowing.{completed_settled}
 use Rattle.one_thread.proofs.Scan.{get_left}

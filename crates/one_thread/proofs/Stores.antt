@@ -12,7 +12,7 @@ use Rattle.lsq.specs.Entries.{bytes}
 use Rattle.lsq.specs.LoadRule.{answer_over}
 use Rattle.lsq.specs.declared.entry.Entry.{Entry}
 use Rattle.one_thread.specs.Forwarding.{joined_if, older_of, store_at}
-use Rattle.one_thread.specs.FullRing.{store_with, stores, stores_behind}
+use Rattle.one_thread.specs.CompletedRing.{store_with, stores, stores_behind}
 use Rattle.one_thread.specs.Loads.{address_of, entries, entry_behind, value_by, with_entry}
 use Rattle.one_thread.specs.Window.{source_in}
 use Rattle.one_thread.specs.declared.station.Station.{Station}

@@ -16,7 +16,7 @@ use Rattle.inorder.specs.Machine.{State}
 use Rattle.lsq.specs.LoadRule.{answer_over}
 use Rattle.lsq.specs.declared.entry.Entry.{Entry}
 use Rattle.one_thread.specs.Changes.{registers_of}
-use Rattle.one_thread.specs.FullRing.{station_by, stations, stores}
+use Rattle.one_thread.specs.CompletedRing.{station_by, stations, stores}
 use Rattle.one_thread.specs.Leaves.{with_station}
 use Rattle.one_thread.specs.Loads.{value_by}
 use Rattle.one_thread.specs.Notes.{settled_by}
@@ -28,8 +28,7 @@ use Rattle.one_thread.specs.Window.{accesses, further_on, half_in, let_at, reach
 use Rattle.one_thread.specs.declared.entering.Done.{Done}
 use Rattle.one_thread.specs.declared.execute.Operands.{Operands}
 use Rattle.one_thread.specs.declared.flow.Flow.{Flow}
-use Rattle.one_thread.specs.declared.full_ring.Completed.{Completed}
-use Rattle.one_thread.specs.declared.future.Future.{Future}
+use Rattle.one_thread.specs.declared.completed_ring.Completed.{Completed}
 use Rattle.one_thread.specs.declared.pipeline.Pipeline.{Pipeline}
 use Rattle.one_thread.specs.declared.station.Stage.TheVariants.{Done as IsDone, Stops}
 use Rattle.one_thread.specs.declared.station.Station.{Station}

@@ -20,7 +20,7 @@ pub mod Choices
 pub mod Steps
 pub mod Ordered
 pub mod Seeds
-pub mod FullRing
+pub mod CompletedRing
 pub mod Futures
 pub mod Reopened
 pub mod Flow

@@ -6,13 +6,13 @@ ghost use Rattle.instructions.specs.Instruction.{is_first_half, is_pair, kind as
 ghost use Rattle.instructions.specs.declared.op.Kind.TheVariants.{Stores as StoreKind};
 ghost use Rattle.one_thread.specs.Changes.{run_from};
 ghost use Rattle.one_thread.specs.Flow.{IsFlow, IsStuck, committed_by, low_by, to_do};
-ghost use Rattle.one_thread.specs.FullRing.{station_by, stores_behind};
+ghost use Rattle.one_thread.specs.CompletedRing.{station_by, stores_behind};
 ghost use Rattle.one_thread.specs.Window.{source_in};
 
+use crate::completed_ring::{Completed, CompletedRing};
 use crate::decoded::Decoded;
 use crate::fetch::fetch_known;
 use crate::flow::Flow;
-use crate::full_ring::{Completed, FullRing};
 use crate::leaver::leaver_of;
 use crate::pipeline::Pipeline;
 use crate::retire::leave_untold;
@@ -34,9 +34,11 @@ fn held(committed: &Committed, r: Reg) -> u32
 #[inline(always)]
 fn store(committed: &mut Committed, instr: &Decoded, address: u32)
     requires { address + width_of instr.now.op ≤ length committed.old.memory }
-    ensures { committed.new ≡ record committed.old { memory =
-      store_bytes committed.old.memory address (width_of instr.now.op)
-      (unwrap_or (source_in committed.old.registers [] (second_of instr.now)) 0) } }
+    ensures { committed.new ≡ record committed.old {
+      memory =
+          store_bytes committed.old.memory address (width_of instr.now.op)
+          (unwrap_or (source_in committed.old.registers [] (second_of instr.now)) 0);
+    } }
 {
     let content = held(committed, instr.second());
     let width = instr.op().width() as usize;
@@ -59,7 +61,12 @@ fn settle(committed: &mut Committed, low: &mut Option<u32>)
 // with that.
 #[cold]
 #[inline(never)]
-fn commit_half(committed: &mut Committed, low: &mut Option<u32>, instr: &Decoded, oldest: &Completed)
+fn commit_half(
+    committed: &mut Committed,
+    low: &mut Option<u32>,
+    instr: &Decoded,
+    oldest: &Completed,
+)
     requires count { committed.old.count < 2 ^ 64 - 1 }
     requires pair { is_pair instr.now.op ≡ true }
     ensures committed { committed.new ≡ committed_by (is_first_half instr.now.op oldest.now.half)
@@ -81,7 +88,7 @@ fn commit_half(committed: &mut Committed, low: &mut Option<u32>, instr: &Decoded
 fn commit(
     committed: &mut Committed,
     low: &mut Option<u32>,
-    ring: &mut FullRing,
+    ring: &mut CompletedRing,
     instr: &Decoded,
     oldest: &Completed,
 )
@@ -92,8 +99,10 @@ fn commit(
         (station_by instr.now oldest.now) low.old committed.old }
     ensures low { low.new ≡ low_by (is_first_half instr.now.op oldest.now.half)
         (station_by instr.now oldest.now) }
-    ensures ring { ring.new ≡ record ring.old { stores =
-      stores_behind (station_by instr.now oldest.now) ring.old.stores } }
+    ensures ring { ring.new ≡ record ring.old {
+      stores =
+          stores_behind (station_by instr.now oldest.now) ring.old.stores;
+    } }
 {
     if instr.is_pair() {
         commit_half(committed, low, instr, oldest);

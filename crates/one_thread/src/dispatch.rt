@@ -11,13 +11,12 @@ ghost use Rattle.one_thread.specs.Order.{IsTurn};
 ghost use Rattle.one_thread.specs.Steps.{Makes};
 ghost use Rattle.one_thread.specs.Turns.{Falls, IsStalled, SizesStay, fields};
 ghost use Rattle.one_thread.specs.declared.possible.Step.TheVariants.{Let as LetStep};
-ghost use Rattle.one_thread.specs.Window.{further_on, half_in, let_at, next_in};
+ghost use Rattle.one_thread.specs.Window.{half_in, let_at, next_in};
 
 use crate::decoded::Decoded;
 use crate::fetch::{fetch, fetch_known};
 use crate::leaver::guess;
 use crate::pipeline::Pipeline;
-use crate::station::{Stage, made_at_let};
 use inorder::wrapped;
 use instructions::{Half, Leaver, Predictor};
 
@@ -115,32 +114,6 @@ impl<'a> Pipeline<'a> {
         self.leavers[station]
     }
 
-    /// Lets the next instruction, which has made this and has reached this stage at once.
-    #[inline(always)]
-    pub fn let_as(
-        &mut self,
-        next: Fetched,
-        station: usize,
-        predicted: u32,
-        made: Option<u32>,
-        stage: Stage,
-    )
-        requires small { station < 32 }
-        requires room { length self.old.window < 32 }
-        requires code { IsDecoded self.old.code.items self.old.program.now }
-        requires is { instr_at self.old.program.now next.pc ≡ Some next.instr }
-        ensures window { self.new.window ≡ self.old.window ++
-            further_on (let_at next.instr next.half next.pc predicted) stage made ∷ [] }
-        ensures leavers { self.new.leavers ≡ slice_set self.old.leavers station None }
-        ensures rest { self.new ≡
-            record self.old { window = self.new.window; leavers = self.new.leavers } }
-    {
-        self.leavers[station] = None;
-        let instr = fetch_known(self.code.as_slice(), next.pc);
-        self.window
-            .push(instr, next.half, next.pc, predicted, made, stage);
-    }
-
     /// Lets the next instruction.
     #[inline(always)]
     pub fn let_out(&mut self, next: Fetched, station: usize, predicted: u32)
@@ -154,8 +127,9 @@ impl<'a> Pipeline<'a> {
         ensures rest { self.new ≡
             record self.old { window = self.new.window; leavers = self.new.leavers } }
     {
-        let made = made_at_let(next.instr.kind(), next.pc);
-        self.let_as(next, station, predicted, made, Stage::Open);
+        self.leavers[station] = None;
+        let instr = fetch_known(self.code.as_slice(), next.pc);
+        self.window.push(instr, next.half, next.pc, predicted);
     }
 
     /// Lets an instruction that can be let: a predictor is told of who has left its station, and asked. Answers

@@ -110,7 +110,8 @@ impl<'a> Pipeline<'a> {
     #[inline(never)]
     fn stays(flow: &mut Flow, instr: &Decoded, predicted: u32)
         ensures { flow.new ≡ record flow.old {
-          last = Some (enters_as flow.old instr.now predicted) } }
+          last = Some (enters_as flow.old instr.now predicted);
+        } }
     {
         let pc = flow.future.pc;
         flow.last = Some(Station {

@@ -3,14 +3,14 @@ ghost use Rattle.std.specs.Prelude.{◌≡◌, ◌<◌, ◌≤◌, ◌+◌, ◌-
 ghost use Rattle.inorder.specs.Unit.{half_after};
 ghost use Rattle.instructions.specs.Instruction.{is_first_half};
 ghost use Rattle.one_thread.specs.Flow.{completed_as};
-ghost use Rattle.one_thread.specs.FullRing.{station_by, store_with};
+ghost use Rattle.one_thread.specs.CompletedRing.{station_by, store_with};
 ghost use Rattle.one_thread.specs.Futures.{GoesOnBehind};
 ghost use Rattle.one_thread.specs.Loads.{with_entry};
 ghost use Rattle.one_thread.specs.Window.{access_of};
 
+use crate::completed_ring::{Completed, CompletedRing};
 use crate::decoded::Decoded;
 use crate::entering::Done;
-use crate::full_ring::{Completed, FullRing};
 use crate::future::Future;
 use crate::station::Station;
 use crate::window::access;
@@ -20,7 +20,7 @@ use instructions::{Half, Kind};
 /// Completed instructions, and what the next one finds.
 #[derive(Drop)]
 pub struct Flow {
-    pub ring: FullRing,
+    pub ring: CompletedRing,
     pub future: Future,
     pub half: Half,
     /// How many of its instructions reach memory.

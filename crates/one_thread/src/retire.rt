@@ -68,18 +68,6 @@ impl<'a> Pipeline<'a> {
         self.commits_whole(oldest);
     }
 
-    // The oldest station is free again. As many are known to be settled as before.
-    #[inline(always)]
-    fn frees(&mut self, oldest: &Station)
-        requires oldest { self.old.oldest < self.old.ring }
-        requires most { self.old.ring ≤ 32 }
-        requires is { slice_get self.old.window 0 ≡ Some oldest.now }
-        ensures { self.new ≡ record (shifted self.old) { settled = self.old.settled } }
-    {
-        self.oldest = self.station_behind(self.oldest);
-        self.window.shift(oldest);
-    }
-
     // The oldest station is free again.
     #[inline(always)]
     fn shift(&mut self, oldest: &Station)
@@ -88,7 +76,8 @@ impl<'a> Pipeline<'a> {
         requires is { slice_get self.old.window 0 ≡ Some oldest.now }
         ensures { self.new ≡ shifted self.old }
     {
-        self.frees(oldest);
+        self.oldest = self.station_behind(self.oldest);
+        self.window.shift(oldest);
         self.settled = self.settled.saturating_sub(1);
     }
 
@@ -136,24 +125,6 @@ impl<'a> Pipeline<'a> {
         self.commit(&oldest);
         self.shift(&oldest);
         Turn::Retired
-    }
-
-    /// Retires the oldest tenant in the steady state: no value waits for LO, and as many are settled behind it as before.
-    #[inline(always)]
-    pub fn leaves_settled(&mut self, oldest: Station)
-        requires oldest { self.old.oldest < self.old.ring }
-        requires most { self.old.ring ≤ 32 }
-        requires leavers { length self.old.leavers ≡ 32 }
-        requires whole { self.old.low ≡ None }
-        requires count { self.old.committed.count < 2 ^ 64 - 1 }
-        requires can { HasEnded (length self.old.committed.memory) oldest.instr oldest.stage }
-        requires is { slice_get self.old.window 0 ≡ Some oldest }
-        requires untold { slice_get self.old.leavers self.old.oldest ≡ Some None }
-        ensures { self.new ≡ left (record self.old { settled = suc self.old.settled }) oldest }
-    {
-        leave_untold(&mut self.leavers, self.oldest, told_of(&oldest));
-        self.commits_whole(&oldest);
-        self.frees(&oldest);
     }
 
     /// Retires the oldest tenant.

@@ -13,14 +13,14 @@ ghost use Rattle.instructions.specs.Programs.{instr_at};
 ghost use Rattle.one_thread.specs.Changes.{run_from};
 ghost use Rattle.one_thread.specs.Decoding.{IsDecoded};
 ghost use Rattle.one_thread.specs.Flow.{AreThere, CanRestore, IsFlow, restored, window_of};
-ghost use Rattle.one_thread.specs.FullRing.{made_by, stage_by, station_in};
+ghost use Rattle.one_thread.specs.CompletedRing.{made_by, stage_by, station_in};
 ghost use Rattle.one_thread.specs.Reopened.{reopened};
 ghost use Rattle.one_thread.specs.StandsFor.{StandsForSome};
 
+use crate::completed_ring::{Completed, CompletedRing};
 use crate::dispatch::waiting_half;
 use crate::fetch::{fetch, fetch_known};
 use crate::flow::Flow;
-use crate::full_ring::{Completed, FullRing};
 use crate::future::Future;
 use crate::pipeline::Pipeline;
 use crate::station::{Stage, Station, made_at_let};
@@ -79,7 +79,7 @@ impl<'a> Pipeline<'a> {
             return None;
         }
         let mut flow = Flow {
-            ring: FullRing::new(),
+            ring: CompletedRing::new(),
             future: Future::behind(&self.ahead()),
             half: waiting_half(self.low),
             accesses: 0,

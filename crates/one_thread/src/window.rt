@@ -1,14 +1,14 @@
 //! The stations of the live tenants, the oldest first, and who makes what they read.
 ghost use Rattle.std.specs.Prelude.{◌≡◌, ◌<◌, ◌≤◌, ◌-◌, [], ◌∷◌, ◌++◌, length, take, drop, slice_get, slice_set, option_copied, Some};
 ghost use Rattle.one_thread.specs.Creators.{CreatorsAt, IsCreator, IsOfSame};
-ghost use Rattle.one_thread.specs.Window.{HasReached, IsAdvanced, access_of, accesses as accesses_of, further_on, let_at};
+ghost use Rattle.one_thread.specs.Window.{HasReached, IsAdvanced, access_of, accesses as accesses_of, let_at};
 
 mod joining;
 
 use crate::creators::Creators;
 use crate::decoded::Decoded;
 use crate::places::{place_of, slot_of};
-use crate::station::{Stage, Station, unused};
+use crate::station::{Stage, Station, made_at_let, unused};
 use instructions::{Half, Reg};
 use std::marker::Model;
 
@@ -182,20 +182,11 @@ impl Window {
         self.stations[slot].stage = stage;
     }
 
-    /// Lets a half of an instruction at a pc, which has made this and has reached this stage at once.
+    /// Lets a half of an instruction at a pc.
     #[inline(always)]
-    pub fn push(
-        &mut self,
-        instr: &Decoded,
-        half: Half,
-        pc: u32,
-        predicted: u32,
-        made: Option<u32>,
-        stage: Stage,
-    )
+    pub fn push(&mut self, instr: &Decoded, half: Half, pc: u32, predicted: u32)
         requires { length self.old < 32 }
-        ensures { self.new ≡ self.old ++
-            further_on (let_at instr.now half pc predicted) stage made ∷ [] }
+        ensures { self.new ≡ self.old ++ let_at instr.now half pc predicted ∷ [] }
     {
         self.accesses += access(instr);
         let slot = slot_of(self.start, self.len);
@@ -214,8 +205,8 @@ impl Window {
             pc,
             predicted,
             next: predicted,
-            made,
-            stage,
+            made: made_at_let(instr.kind(), pc),
+            stage: Stage::Open,
         };
         self.len += 1;
     }

@@ -1,5 +1,5 @@
-use Rattle.std.proofs.Common.{◌≢◌, sym, ◌∙◌, subst}
-use Rattle.one_thread.specs.FullRing.{made_by}
+use Rattle.std.proofs.Common.{◌∙◌, subst}
+use Rattle.one_thread.specs.CompletedRing.{made_by}
 use Rattle.one_thread.specs.Futures.{GoesOnBehind}
 use Rattle.instructions.specs.Instruction.{kind}
 use Rattle.one_thread.proofs.Completions.{made_where}

@@ -1,7 +1,7 @@
-use Rattle.std.proofs.Common.{◌≡◌, ◌<◌, ◌≤◌, length, sym, ap, ◌∙◌, arith}
+use Rattle.std.proofs.Common.{◌<◌, ◌≤◌, length, sym, ap, ◌∙◌, arith}
 use Rattle.std.proofs.lemmas.List.{take_all}
 use Rattle.one_thread.proofs.Completions.{station_is, stations_long}
-use Rattle.one_thread.proofs.FlowIn.{HasJoined, joined, joined_window}
+use Rattle.one_thread.proofs.FlowJoins.{HasJoined, joined, joined_window}
 use Rattle.one_thread.proofs.FlowStays.{begun, room_among, taken}
 use Rattle.one_thread.proofs.Flowing.{registers_all}
 use Rattle.one_thread.proofs.pipeline.Pipeline.flow.Goals as goal

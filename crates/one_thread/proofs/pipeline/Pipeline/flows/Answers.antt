@@ -1,4 +1,4 @@
-use Rattle.std.proofs.Common.{◌≡◌, ◌<◌, ◌≤◌, ◌-◌, length, sym, ap, ◌∙◌, arith}
+use Rattle.std.proofs.Common.{◌≡◌, ◌<◌, ◌-◌, sym, ap, ◌∙◌, arith}
 use Rattle.inorder.specs.Runs.{end_from}
 use Rattle.one_thread.specs.Changes.{run_from}
 use Rattle.one_thread.specs.declared.pipeline.Pipeline.{Pipeline}

@@ -1,8 +1,8 @@
-use Rattle.std.proofs.Common.{length, refl, sym, ap, ◌∙◌, subst, arith}
+use Rattle.std.proofs.Common.{length, refl, sym, ap, ◌∙◌, subst}
 use Rattle.std.specs.Prelude.{slice_set}
 use Rattle.one_thread.specs.Decoding.{IsDecoded}
 use Rattle.one_thread.specs.Flow.{filled, window_of}
-use Rattle.one_thread.specs.FullRing.{Contents, station_by, stores_behind}
+use Rattle.one_thread.specs.CompletedRing.{Contents, station_by, stores_behind}
 use Rattle.one_thread.specs.declared.flow.Flow.{Flow}
 use Rattle.one_thread.specs.declared.pipeline.Pipeline.{Pipeline}
 use Rattle.one_thread.proofs.Completions.{has_instr}

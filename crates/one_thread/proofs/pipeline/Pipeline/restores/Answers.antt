@@ -1,6 +1,6 @@
-use Rattle.std.proofs.Common.{◌≡◌, ◌++◌, ◌∷◌, [], List, length, take, Some, None, refl, sym, ap, ◌∙◌, arith, false, length-take}
+use Rattle.std.proofs.Common.{◌≡◌, ◌++◌, ◌∷◌, [], List, length, refl, sym, ap, ◌∙◌, arith, false, length-take}
 use Rattle.std.proofs.lemmas.List.{take_all}
-use Rattle.one_thread.specs.Flow.{restored, window_of, with_last}
+use Rattle.one_thread.specs.Flow.{window_of, with_last}
 use Rattle.one_thread.specs.Reopened.{reopened}
 use Rattle.one_thread.specs.declared.pipeline.Pipeline.{Pipeline}
 use Rattle.one_thread.specs.declared.station.Station.{Station}

@@ -1,11 +1,11 @@
-use Rattle.std.proofs.Common.{◌≡◌, ◌<◌, ◌≤◌, ◌+◌, ℕ, length, Some, None, sym, ap, ◌∙◌, subst}
+use Rattle.std.proofs.Common.{◌≡◌, ◌≤◌, ◌+◌, ℕ, length, Some, sym, subst}
 use Rattle.instructions.specs.Guesses.{Guesses}
 use Rattle.instructions.specs.Instruction.{width}
 use Rattle.instructions.specs.declared.stop.Outcome.TheVariants.{Address}
 use Rattle.one_thread.specs.Flow.{CanRestore, Completes, completed_as, outcome_in}
 use Rattle.one_thread.specs.declared.pipeline.Pipeline.{Pipeline}
-use Rattle.one_thread.proofs.Completions.{has_instr}
-use Rattle.one_thread.proofs.FlowIn.{Enters, HasJoined, entered_hit, entered_inside, entered_miss, entered_room, entered_stays, enters, place_decoded}
+use Rattle.one_thread.proofs.FlowJoins.{HasJoined}
+use Rattle.one_thread.proofs.FlowIn.{Enters, entered_hit, entered_inside, entered_miss, entered_room, entered_stays, enters, place_decoded}
 use Rattle.one_thread.proofs.pipeline.Pipeline.runs_next.Goals as goal
 
 pub completes-requires-clause-inside : goal.completes-requires-clause-inside

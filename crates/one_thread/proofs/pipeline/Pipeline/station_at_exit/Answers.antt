@@ -1,10 +1,9 @@
-use Rattle.std.proofs.Common.{◌≡◌, ◌<◌, ◌≤◌, refl, sym, ap, ◌∙◌, arith}
+use Rattle.std.proofs.Common.{◌≡◌, ap, ◌∙◌, arith}
 use Rattle.inorder.specs.Tenants.{made_at_let}
 use Rattle.one_thread.specs.Flow.{window_of}
-use Rattle.one_thread.specs.FullRing.{station_in}
+use Rattle.one_thread.specs.CompletedRing.{station_in}
 use Rattle.one_thread.specs.Reopened.{as_let}
 use Rattle.one_thread.specs.declared.station.Stage.TheVariants.{Open}
-use Rattle.one_thread.specs.declared.station.Station.{Station}
 use Rattle.one_thread.proofs.Completions.{stations_get}
 use Rattle.one_thread.proofs.FlowStays.{put_back}
 use Rattle.one_thread.proofs.pipeline.Pipeline.station_at_exit.Goals as goal

@@ -1,8 +1,6 @@
-use Rattle.std.proofs.Common.{◌≡◌, ◌<◌, ◌≤◌, length, true, refl, sym, ap, ◌∙◌, subst, arith, true≢false}
+use Rattle.std.proofs.Common.{sym, ◌∙◌, subst, arith, true≢false}
 use Rattle.one_thread.specs.Decoding.{IsDecoded}
-use Rattle.one_thread.specs.Window.{reaches_memory}
 use Rattle.one_thread.proofs.Completions.{stations_long}
-use Rattle.one_thread.proofs.FlowStays.{no_place}
 use Rattle.one_thread.proofs.pipeline.Pipeline.upcoming.Goals.{else-is_access-via-then-is_access+else-self-flow, else-is_access-via-else-is_access}
 use Rattle.one_thread.proofs.pipeline.Pipeline.upcoming.Goals as goal
 

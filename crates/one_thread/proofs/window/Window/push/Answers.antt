@@ -1,12 +1,12 @@
-use Rattle.std.proofs.Common.{◌≡◌, ◌<◌, ◌+◌, ◌++◌, ◌∷◌, [], length, set, sym, ap, ◌∙◌, subst, arith}
+use Rattle.std.proofs.Common.{◌≡◌, ◌+◌, set, sym, ap, ◌∙◌, subst, arith}
 use Rattle.std.specs.Prelude.{slice_index}
 use Rattle.instructions.specs.Instruction.{first_of, second_of}
 use Rattle.one_thread.specs.declared.creators.Creators.{Creators}
 use Rattle.one_thread.specs.Creators.{IsWindow}
 use Rattle.one_thread.specs.Slots.{ring_of, slot_of}
-use Rattle.one_thread.specs.Window.{accesses, further_on, let_at}
+use Rattle.inorder.specs.Tenants.{made_at_let}
+use Rattle.one_thread.specs.Window.{accesses, let_at}
 use Rattle.one_thread.proofs.Accesses.{accesses_most, count_push}
-use Rattle.one_thread.proofs.Slots.{ring_length}
 use Rattle.one_thread.proofs.WindowKept.{view_let, window_let, window_room}
 use Rattle.one_thread.proofs.window.Window.push.Goals as goal
 
@@ -14,8 +14,8 @@ pub invariant_of-self : goal.invariant_of-self
 invariant_of-self c =
     let s = c.self.inside in
     let h = c.self.invariant.0 in
-    let w = further_on (let_at c.args.instr.now c.args.half c.args.pc c.args.predicted) c.args.stage c.args.made in
-    let is = ap (λ d. record w { destination = d }) c.destination-destination.ensures in
+    let w = let_at c.args.instr.now c.args.half c.args.pc c.args.predicted in
+    let is = ap (λ d. record w { destination = d; made = c.made_at_let.result }) c.destination-destination.ensures ∙ ap (λ m. record w { made = m }) (c.made_at_let.ensures ∙ ap (λ k. made_at_let k c.args.pc) c.kind.ensures) in
     let made : Creators = record { first = slice_index s.newest c.number.result; second = slice_index s.newest c.number-2.result; replaced = slice_index s.newest c.number-r.result } in
     let room = window_room s.stations s.creators s.newest s.start s.len c.args.self.now h c.self.view_is c.requires in
     let first : c.number.result ≡ first_of w.instr = c.number.ensures.value ∙ c.first.ensures in
@@ -47,7 +47,8 @@ pub returns : goal.returns
 returns c =
     let s = c.self.inside in
     let h = c.self.invariant.0 in
-    let w = further_on (let_at c.args.instr.now c.args.half c.args.pc c.args.predicted) c.args.stage c.args.made in
+    let w = let_at c.args.instr.now c.args.half c.args.pc c.args.predicted in
     let room = window_room s.stations s.creators s.newest s.start s.len c.args.self.now h c.self.view_is c.requires in
-    ap (λ d. ring_of (set s.stations c.slot_of-slot.result (record w { destination = d })) s.start (s.len + 1)) c.destination-destination.ensures
+    let is = ap (λ d. record w { destination = d; made = c.made_at_let.result }) c.destination-destination.ensures ∙ ap (λ m. record w { made = m }) (c.made_at_let.ensures ∙ ap (λ k. made_at_let k c.args.pc) c.kind.ensures) in
+    ap (λ x. ring_of (set s.stations c.slot_of-slot.result x) s.start (s.len + 1)) is
     ∙ view_let s.stations s.creators s.newest s.start s.len c.slot_of-slot.result c.args.self.now w h c.self.view_is c.requires c.slot_of-slot.ensures.value

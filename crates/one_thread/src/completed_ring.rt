@@ -1,4 +1,4 @@
-//! Completed instructions of a ring that is full but for one station, and the stores among them.
+//! Completed instructions in a ring of slots, and the stores among them.
 ghost use Rattle.std.specs.Prelude.{◌≡◌, ◌<◌, ◌≤◌, [], ◌∷◌, ◌++◌, length, drop, slice_get, Some};
 
 use crate::places::slot_of;
@@ -23,7 +23,7 @@ pub struct Completed {
 /// At most 32 completed instructions in a ring of slots, the oldest first, and the entries of the stores among them.
 /// Unlike a window it does not keep who makes what a tenant reads.
 #[derive(Drop)]
-pub struct FullRing {
+pub struct CompletedRing {
     slots: [Completed; 32],
     // the slot of the oldest
     start: usize,
@@ -31,8 +31,8 @@ pub struct FullRing {
     stores: ArrayVec<Entry, 32>,
 }
 
-impl Model for FullRing {
-    ghost use Rattle.one_thread.specs.FullRing.{Contents, IsRing};
+impl Model for CompletedRing {
+    ghost use Rattle.one_thread.specs.CompletedRing.{Contents, IsRing};
     ghost use Rattle.one_thread.specs.Slots.{ring_of};
 
     ghost Value = { Contents };
@@ -56,13 +56,13 @@ fn unused() -> Completed {
     }
 }
 
-impl FullRing {
+impl CompletedRing {
     /// A ring without an instruction.
-    pub fn new() -> FullRing
+    pub fn new() -> CompletedRing
         ensures completed { result.completed ≡ [] }
         ensures stores { result.stores ≡ [] }
     {
-        FullRing {
+        CompletedRing {
             slots: [unused(); 32],
             start: 0,
             len: 0,

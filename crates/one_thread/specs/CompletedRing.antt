@@ -10,7 +10,7 @@ use Rattle.inorder.specs.Loads.{access_entry, is_store}
 use Rattle.lsq.specs.declared.entry.Entry.{Entry}
 use Rattle.one_thread.specs.Forwarding.{store_at}
 use Rattle.one_thread.specs.Loads.{address_of, with_entry}
-use Rattle.one_thread.specs.declared.full_ring.Completed.{Completed}
+use Rattle.one_thread.specs.declared.completed_ring.Completed.{Completed}
 use Rattle.one_thread.specs.declared.station.Stage.{Stage}
 use Rattle.one_thread.specs.declared.station.Stage.TheVariants.{Addr, Done}
 use Rattle.one_thread.specs.declared.station.Station.{Station}

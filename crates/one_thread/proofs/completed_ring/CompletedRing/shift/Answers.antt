@@ -1,9 +1,9 @@
-use Rattle.std.proofs.Common.{◌≡◌, ◌<◌, ◌-◌, drop, length, List, ap, ◌∙◌, arith}
-use Rattle.one_thread.specs.FullRing.{Contents}
+use Rattle.std.proofs.Common.{◌<◌, ◌-◌, drop, length, List, ap, ◌∙◌, arith}
+use Rattle.one_thread.specs.CompletedRing.{Contents}
 use Rattle.one_thread.specs.Slots.{ring_of}
-use Rattle.one_thread.specs.declared.full_ring.Completed.{Completed}
+use Rattle.one_thread.specs.declared.completed_ring.Completed.{Completed}
 use Rattle.one_thread.proofs.Slots.{ring_length, ring_shift}
-use Rattle.one_thread.proofs.full_ring.FullRing.shift.Goals as goal
+use Rattle.one_thread.proofs.completed_ring.CompletedRing.shift.Goals as goal
 
 pub returns : goal.returns
 returns c =

@@ -1,10 +1,10 @@
-use Rattle.std.proofs.Common.{◌≡◌, ◌<◌, ◌+◌, ◌++◌, ◌∷◌, [], length, List, ap, ◌∙◌, arith}
+use Rattle.std.proofs.Common.{◌<◌, ◌+◌, ◌++◌, ◌∷◌, [], length, List, ap, ◌∙◌, arith}
 use Rattle.std.specs.Prelude.{slice_set}
-use Rattle.one_thread.specs.FullRing.{Contents}
+use Rattle.one_thread.specs.CompletedRing.{Contents}
 use Rattle.one_thread.specs.Slots.{ring_of}
-use Rattle.one_thread.specs.declared.full_ring.Completed.{Completed}
+use Rattle.one_thread.specs.declared.completed_ring.Completed.{Completed}
 use Rattle.one_thread.proofs.Slots.{ring_length, ring_push}
-use Rattle.one_thread.proofs.full_ring.FullRing.push.Goals as goal
+use Rattle.one_thread.proofs.completed_ring.CompletedRing.push.Goals as goal
 
 pub returns : goal.returns
 returns c =
