@@ -103,7 +103,7 @@ pub record CanEnter (b : Pipeline) (flow : Flow) : Type 0 where
   pub free : reaches_memory instr.op ≡ true → flow.accesses < b.queue
   pub room : length (window_of b flow) < b.ring
 
--- It can, and nothing more is told of who has left its station
+-- The next instruction can enter, and who has left its station was told of
 pub record HasPlace (b : Pipeline) (flow : Flow) : Type 0 where
   pub before : Pipeline
   pub flows : IsFlow before flow
@@ -142,7 +142,7 @@ comes_to b flow i predicted o =
     completed_by (enters_as flow i predicted) (outcome_in b flow i o)
     (load_of flow.ring.stores b.committed.memory i.op (outcome_in b flow i o))
 
--- It has completed so, or has stopped or waits
+-- What an instruction completes with, if it does
 abbrev pub Completes : Pipeline → Flow → Instr → ℕ → Operands → Option Done → Type 0
 Completes b flow i predicted o None = ⊤
 Completes b flow i predicted o (Some d) =

@@ -3,8 +3,6 @@ ghost use Rattle.std.specs.Prelude.{◌≡◌, ◌<◌, ◌≤◌, ◌-◌, [], 
 ghost use Rattle.one_thread.specs.Creators.{CreatorsAt, IsCreator, IsOfSame};
 ghost use Rattle.one_thread.specs.Window.{HasReached, IsAdvanced, access_of, accesses as accesses_of, let_at};
 
-mod joining;
-
 use crate::creators::Creators;
 use crate::decoded::Decoded;
 use crate::places::{place_of, slot_of};
@@ -182,33 +180,41 @@ impl Window {
         self.stations[slot].stage = stage;
     }
 
-    /// Lets a half of an instruction at a pc.
-    #[inline(always)]
-    pub fn push(&mut self, instr: &Decoded, half: Half, pc: u32, predicted: u32)
+    /// A tenant joins behind the youngest as it stands.
+    pub fn join(&mut self, station: &Station)
         requires { length self.old < 32 }
-        ensures { self.new ≡ self.old ++ let_at instr.now half pc predicted ∷ [] }
+        ensures { self.new ≡ self.old ++ station.now ∷ [] }
     {
+        let instr = &station.instr;
         self.accesses += access(instr);
         let slot = slot_of(self.start, self.len);
-        let destination = instr.destination(half);
-        let r = destination.number() as usize;
+        let r = station.destination.number() as usize;
         self.creators[slot] = Creators {
             first: self.newest[instr.first().number() as usize],
             second: self.newest[instr.second().number() as usize],
             replaced: self.newest[r],
         };
         self.newest[r] = slot as u8;
-        self.stations[slot] = Station {
+        self.stations[slot] = *station;
+        self.len += 1;
+    }
+
+    /// Lets a half of an instruction at a pc.
+    #[inline(always)]
+    pub fn push(&mut self, instr: &Decoded, half: Half, pc: u32, predicted: u32)
+        requires { length self.old < 32 }
+        ensures { self.new ≡ self.old ++ let_at instr.now half pc predicted ∷ [] }
+    {
+        self.join(&Station {
             instr: *instr,
             half,
-            destination,
+            destination: instr.destination(half),
             pc,
             predicted,
             next: predicted,
             made: made_at_let(instr.kind(), pc),
             stage: Stage::Open,
-        };
-        self.len += 1;
+        });
     }
 
     // Takes the youngest out: the one that it replaced is the newest writer again.
