@@ -16,7 +16,7 @@ use Rattle.one_thread.specs.StandsFor.{StandsForSome}
 use Rattle.one_thread.specs.Reopened.{as_let, reopened, with_reopened}
 use Rattle.one_thread.specs.Window.{reaches_memory}
 use Rattle.one_thread.specs.declared.dispatch.Fetched.{Fetched}
-use Rattle.one_thread.specs.declared.entering.Done.{Done as DoneBy}
+use Rattle.one_thread.specs.declared.completing.Done.{Done as DoneBy}
 use Rattle.one_thread.specs.declared.execute.Operands.{Operands}
 use Rattle.one_thread.specs.declared.flow.Flow.{Flow}
 use Rattle.one_thread.specs.declared.pipeline.Pipeline.{Pipeline}

@@ -50,6 +50,7 @@ pub mod Ends
 pub mod Stores
 pub mod FlowRuns
 pub mod FlowJoins
+pub mod FlowLast
 pub mod FlowIn
 pub mod FlowPassed
 pub mod FlowOut

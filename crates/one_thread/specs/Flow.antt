@@ -25,7 +25,7 @@ use Rattle.one_thread.specs.Futures.{Foresees}
 use Rattle.one_thread.specs.Reopened.{reopened, with_reopened}
 use Rattle.one_thread.specs.Stages.{CannotLet}
 use Rattle.one_thread.specs.Window.{accesses, further_on, half_in, let_at, reaches_memory, station_after}
-use Rattle.one_thread.specs.declared.entering.Done.{Done}
+use Rattle.one_thread.specs.declared.completing.Done.{Done}
 use Rattle.one_thread.specs.declared.execute.Operands.{Operands}
 use Rattle.one_thread.specs.declared.flow.Flow.{Flow}
 use Rattle.one_thread.specs.declared.completed_ring.Completed.{Completed}
@@ -131,6 +131,11 @@ completed_as flow predicted d =
 -- The station of the next instruction as it is let
 abbrev pub enters_as : Flow → Instr → ℕ → Station
 enters_as flow i predicted = let_at i flow.half flow.future.pc predicted
+
+-- Nothing can be let behind the next instruction, as that is let
+abbrev pub IsLast : Pipeline → Flow → Instr → ℕ → Type 0
+IsLast b flow i predicted =
+    CannotLet b.program.now b.ring b.queue b.committed.pc (window_of b flow ++ enters_as flow i predicted ∷ [])
 
 -- Its outcome
 abbrev pub outcome_in : Pipeline → Flow → Instr → Operands → Outcome

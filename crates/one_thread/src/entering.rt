@@ -1,31 +1,18 @@
 //! An instruction enters a flow: it is let, and runs as far as it comes.
-ghost use Rattle.std.specs.Prelude.{⊤, ◌≡◌, ◌<◌, ◌≤◌, ◌+◌, ℕ, suc, length, slice_get, slice_set, IsFalse, IsTrue, None, Some};
-ghost use Rattle.instructions.specs.Instruction.{width as width_in};
-ghost use Rattle.instructions.specs.declared.stop.Outcome.TheVariants.{Address};
-ghost use Rattle.lsq.specs.LoadRule.{answer_over as answer_of};
+ghost use Rattle.std.specs.Prelude.{⊤, ◌≡◌, ◌<◌, suc, length, slice_get, slice_set, IsFalse, IsTrue, None, Some};
 ghost use Rattle.instructions.specs.declared.op.Half.TheVariants.{Low};
 ghost use Rattle.one_thread.specs.Decoding.{HasInstr, IsDecoded};
-ghost use Rattle.one_thread.specs.Flow.{CanEnter, Completes, HasEntered, HasPlace, IsFlow, Upcoming, enters_as, outcome_in};
+ghost use Rattle.one_thread.specs.Flow.{CanEnter, HasEntered, HasPlace, IsFlow, IsLast, Upcoming, enters_as};
 ghost use Rattle.one_thread.specs.Givers.{Chosen};
-ghost use Rattle.one_thread.specs.Loads.{value_by};
 
 use crate::decoded::Decoded;
-use crate::execute::Operands;
 use crate::fetch::{fetch, fetch_known};
 use crate::flow::Flow;
 use crate::leaver::guess;
 use crate::pipeline::Pipeline;
 use crate::station::{Stage, Station, made_at_let};
-use inorder::access_width;
-use instructions::{Half, Kind, Leaver, Op, Outcome, Predictor, loaded, outcome_of, pc_plus_4};
-use lsq::{Answer, Entry, answer_over};
-
-/// What an instruction completes with: what it has made, or where it stores, and where it goes on.
-#[derive(Clone, Copy)]
-pub struct Done {
-    pub value: u32,
-    pub next: u32,
-}
+use crate::window::access;
+use instructions::{Half, Leaver, Predictor};
 
 // Who has left a station, if the predictor is told of it: it is told once.
 #[inline(always)]
@@ -42,69 +29,6 @@ fn take_leaver(leavers: &mut [Option<Leaver>; 32], station: usize) -> Option<Lea
 }
 
 impl<'a> Pipeline<'a> {
-    // The value of a load of an address behind these stores, unless one blocks it.
-    #[inline(always)]
-    fn value_behind(&self, stores: &[Entry], op: Op, address: u32) -> Option<u32>
-        requires { address + width_in op ≤ length self.now.committed.memory }
-        ensures { result ≡
-            value_by (answer_of stores.now address (width_in op)) self.now.committed.memory op address }
-    {
-        match answer_over(stores, address, access_width(op)) {
-            Answer::Forward(raw) => Some(loaded(op, raw)),
-            Answer::Memory => {
-                let raw = self
-                    .committed
-                    .number_at(address as usize, op.width() as usize);
-                Some(loaded(op, raw))
-            }
-            Answer::Blocked(_) => None,
-        }
-    }
-
-    // The outcome of the next instruction.
-    #[inline(always)]
-    fn outcome(&self, flow: &Flow, instr: &Decoded, half: Half, operands: &Operands) -> Outcome
-        requires { half ≡ flow.now.half }
-        ensures { result ≡ outcome_in self.now flow.now instr.now operands.now }
-    {
-        let Operands { a, b } = *operands;
-        let size = self.program.size();
-        outcome_of(&instr.to_instr(), half, flow.future.pc, a, b, size)
-    }
-
-    // What the next instruction completes with, unless it stops or waits.
-    #[inline(always)]
-    fn completes(
-        &self,
-        flow: &Flow,
-        instr: &Decoded,
-        half: Half,
-        predicted: u32,
-        operands: &Operands,
-    ) -> Option<Done>
-        requires half { half ≡ flow.now.half }
-        requires inside { (a : ℕ) → outcome_in self.now flow.now instr.now operands.now ≡ Address a →
-            a + width_in instr.now.op ≤ length self.now.committed.memory }
-        ensures { Completes self.now flow.now instr.now predicted operands.now result }
-    {
-        let (value, next) = match self.outcome(flow, instr, half, operands) {
-            Outcome::Value(v) | Outcome::Pair(v, _) => (v, predicted),
-            Outcome::Next(x) => match instr.kind() {
-                Kind::Links => (pc_plus_4(flow.future.pc), x),
-                _ => (0, x),
-            },
-            Outcome::Address(a) => match instr.kind() {
-                Kind::Loads => {
-                    let v = self.value_behind(flow.ring.stores(), instr.op(), a)?;
-                    (v, predicted)
-                }
-                _ => (a, predicted),
-            },
-            Outcome::Stop(_) => return None,
-        };
-        Some(Done { value, next })
-    }
-
     // The next instruction is left as it was let.
     #[cold]
     #[inline(never)]
@@ -126,13 +50,32 @@ impl<'a> Pipeline<'a> {
         });
     }
 
-    // The next instruction is let alone, and nothing can be let behind it.
-    fn is_alone(&self, flow: &Flow) -> bool
-        ensures from { IsTrue result → flow.now.from ≡ length flow.now.ring.completed }
-        ensures full { IsTrue result → length flow.now.ring.completed + 1 ≡ self.now.ring }
+    // Nothing can be let behind the next instruction, where that was predicted.
+    fn is_last(&self, flow: &Flow, instr: &Decoded, predicted: u32) -> bool
+        requires place { HasPlace self.now flow.now }
+        ensures { IsTrue result → IsLast self.now flow.now instr.now predicted }
     {
-        let len = flow.ring.len();
-        flow.from == len && len + 1 == self.ring
+        if flow.ring.len() + 1 == self.ring {
+            return true;
+        }
+        let Some(next) = fetch(self.code.as_slice(), predicted) else {
+            return true;
+        };
+        if next.is_access() && self.queue <= flow.accesses + access(instr) {
+            return true;
+        }
+        false
+    }
+
+    // The next instruction is let alone, and nothing can be let behind it.
+    #[cold]
+    #[inline(never)]
+    fn is_alone(&self, flow: &Flow, instr: &Decoded, predicted: u32) -> bool
+        requires place { HasPlace self.now flow.now }
+        ensures from { IsTrue result → flow.now.from ≡ length flow.now.ring.completed }
+        ensures last { IsTrue result → IsLast self.now flow.now instr.now predicted }
+    {
+        flow.from == flow.ring.len() && self.is_last(flow, instr, predicted)
     }
 
     /// Whether the next instruction can enter, if there is one; else nothing can be done before the oldest leaves.
@@ -175,7 +118,7 @@ impl<'a> Pipeline<'a> {
             return false;
         };
         let is_miss = done.next != predicted;
-        if is_miss && !self.is_alone(flow) {
+        if is_miss && !self.is_alone(flow, instr, predicted) {
             Self::stays(flow, instr, predicted);
             return false;
         }

@@ -9,8 +9,8 @@ ghost use Rattle.one_thread.specs.Loads.{with_entry};
 ghost use Rattle.one_thread.specs.Window.{access_of};
 
 use crate::completed_ring::{Completed, CompletedRing};
+use crate::completing::Done;
 use crate::decoded::Decoded;
-use crate::entering::Done;
 use crate::future::Future;
 use crate::station::Station;
 use crate::window::access;

@@ -6,6 +6,7 @@ mod bench;
 mod choices;
 mod chooser;
 mod completed_ring;
+mod completing;
 mod creators;
 mod decoded;
 mod departing;

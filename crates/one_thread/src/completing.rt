@@ -1,0 +1,87 @@
+//! What the next instruction of a flow completes with.
+ghost use Rattle.std.specs.Prelude.{◌≡◌, ◌≤◌, ◌+◌, ℕ, length};
+ghost use Rattle.instructions.specs.Instruction.{width as width_in};
+ghost use Rattle.instructions.specs.declared.stop.Outcome.TheVariants.{Address};
+ghost use Rattle.lsq.specs.LoadRule.{answer_over as answer_of};
+ghost use Rattle.one_thread.specs.Flow.{Completes, outcome_in};
+ghost use Rattle.one_thread.specs.Loads.{value_by};
+
+use crate::decoded::Decoded;
+use crate::execute::Operands;
+use crate::flow::Flow;
+use crate::pipeline::Pipeline;
+use inorder::access_width;
+use instructions::{Half, Kind, Op, Outcome, loaded, outcome_of, pc_plus_4};
+use lsq::{Answer, Entry, answer_over};
+
+/// What an instruction completes with: what it has made, or where it stores, and where it goes on.
+#[derive(Clone, Copy)]
+pub struct Done {
+    pub value: u32,
+    pub next: u32,
+}
+
+impl<'a> Pipeline<'a> {
+    // The value of a load of an address behind these stores, unless one blocks it.
+    #[inline(always)]
+    fn value_behind(&self, stores: &[Entry], op: Op, address: u32) -> Option<u32>
+        requires { address + width_in op ≤ length self.now.committed.memory }
+        ensures { result ≡
+            value_by (answer_of stores.now address (width_in op)) self.now.committed.memory op address }
+    {
+        match answer_over(stores, address, access_width(op)) {
+            Answer::Forward(raw) => Some(loaded(op, raw)),
+            Answer::Memory => {
+                let raw = self
+                    .committed
+                    .number_at(address as usize, op.width() as usize);
+                Some(loaded(op, raw))
+            }
+            Answer::Blocked(_) => None,
+        }
+    }
+
+    // The outcome of the next instruction.
+    #[inline(always)]
+    fn outcome(&self, flow: &Flow, instr: &Decoded, half: Half, operands: &Operands) -> Outcome
+        requires { half ≡ flow.now.half }
+        ensures { result ≡ outcome_in self.now flow.now instr.now operands.now }
+    {
+        let Operands { a, b } = *operands;
+        let size = self.program.size();
+        outcome_of(&instr.to_instr(), half, flow.future.pc, a, b, size)
+    }
+
+    /// What the next instruction completes with, unless it stops or waits.
+    #[inline(always)]
+    pub fn completes(
+        &self,
+        flow: &Flow,
+        instr: &Decoded,
+        half: Half,
+        predicted: u32,
+        operands: &Operands,
+    ) -> Option<Done>
+        requires half { half ≡ flow.now.half }
+        requires inside { (a : ℕ) → outcome_in self.now flow.now instr.now operands.now ≡ Address a →
+            a + width_in instr.now.op ≤ length self.now.committed.memory }
+        ensures { Completes self.now flow.now instr.now predicted operands.now result }
+    {
+        let (value, next) = match self.outcome(flow, instr, half, operands) {
+            Outcome::Value(v) | Outcome::Pair(v, _) => (v, predicted),
+            Outcome::Next(x) => match instr.kind() {
+                Kind::Links => (pc_plus_4(flow.future.pc), x),
+                _ => (0, x),
+            },
+            Outcome::Address(a) => match instr.kind() {
+                Kind::Loads => {
+                    let v = self.value_behind(flow.ring.stores(), instr.op(), a)?;
+                    (v, predicted)
+                }
+                _ => (a, predicted),
+            },
+            Outcome::Stop(_) => return None,
+        };
+        Some(Done { value, next })
+    }
+}
