@@ -1,5 +1,5 @@
 //! What a session answers.
-use crate::commands::Which;
+use crate::operands::Which;
 use crate::producers::Producer;
 use crate::units::Claimed;
 use back::{Commit, Mark, Refresh, Snap};
