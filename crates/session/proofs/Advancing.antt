@@ -4,10 +4,11 @@ use Rattle.std.proofs.lemmas.List.{drop_more}
 use Rattle.session.specs.declared.advance.Progress.{Progress}
 use Rattle.session.specs.declared.advance.Progress.TheVariants.{Moved, Retired}
 use Rattle.session.specs.declared.commands.Command.{Command}
+use Rattle.session.specs.declared.commands.Command.TheVariants.{Commit}
 use Rattle.session.specs.declared.reading.Goal.{Goal}
 use Rattle.session.specs.declared.replies.Reply.{Reply}
 use Rattle.instructions.specs.Programs.{Program}
-use Rattle.session.specs.Advances.{AreTurnsTaken, TurnComesTo, HasAddedTold, HasAdvanced, HasToldCommit, HasToldMove, WasTried, has_moved, is_met, is_over, retired_in}
+use Rattle.session.specs.Advances.{AreTurnsTaken, TurnComesTo, HasAddedTold, HasAdvanced, HasToldCommit, HasToldMove, WasTried, has_moved, is_met, progress_by, is_over, retired_in}
 use Rattle.session.specs.Order.{IsReplied}
 use Rattle.session.specs.Sessions.{TheSession}
 use Rattle.session.specs.Texts.{reply_line}
@@ -34,6 +35,16 @@ pub leads_to_commit : (whole rest : List Command) (here next first : TheSession)
     rest ≡ [] → Leads rest whole here first number → HasToldCommit here next number come text → TurnComesTo whole first next number come text
 leads_to_commit whole rest here next first number come text none leads committed =
     leads next come text (subst (λ (cs : List Command). TurnComesTo cs here next number come text) (sym none) committed)
+
+-- A commit, which is told
+pub committed_here : (here next : TheSession) (number : ℕ) (reply : Reply) (come : Progress) (P : Program) (before after : List ℕ) →
+    IsReplied here next Commit reply → come ≡ progress_by reply → P ≡ next.core.program → after ≡ before ++ reply_line P number reply →
+    HasAddedTold (HasToldCommit here next number come) before after
+committed_here here next number reply come P before after replied is program written = record {
+  text = reply_line P number reply;
+  fact = record { reply = reply; replied = replied; come_is = is; text_is = ap (λ (Q : Program). reply_line Q number reply) program };
+  written = written;
+}
 
 -- One did something, which is told
 pub moved_here : (whole : List Command) (at : ℕ) (d : Command) (here next first : TheSession) (number : ℕ) (reply : Reply) (P : Program) (before middle after : List ℕ) →

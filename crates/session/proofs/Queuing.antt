@@ -1,8 +1,8 @@
 -- Loads and stores in flight, station by station.
-use Rattle.std.proofs.Common.{◌≡◌, ◌≢◌, ◌⊎◌, inl, inr, ℕ, ◌+◌, ◌%◌, ◌<◌, Bool, true, false, cond, List, length, take, get_or, Option, Some, None, refl, sym, ap, ◌∙◌, subst, add-one}
+use Rattle.std.proofs.Common.{◌≡◌, ℕ, ◌+◌, ◌%◌, ◌<◌, Bool, true, false, cond, List, length, take, get_or, Option, Some, None, refl, sym, ap, ◌∙◌, subst, add-one}
 use Rattle.lsq.specs.declared.entry.Entry.{Entry}
 use Rattle.lsq.specs.LoadRule.{or_older, overlaps, youngest}
-use Rattle.lsq.proofs.Youngest.{this_one, youngest_step}
+use Rattle.lsq.proofs.Youngest.{youngest_step}
 use Rattle.session.specs.Queues.{AreQueued, HasQueued, TheQueue, met_at, place_found}
 use Rattle.session.specs.Sessions.{TheSession}
 

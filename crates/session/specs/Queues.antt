@@ -1,6 +1,5 @@
 -- The loads and stores in flight, as they are told: the oldest first.
-use Rattle.std.specs.Prelude.{◌≡◌, ◌⊎◌, ℕ, zero, suc, ◌+◌, ◌%◌, Bool, true, false, List, [], ◌∷◌, ◌++◌, Option, None, Some, codes, decimal, slice_get, string_bytes, if◌then◌else◌}
-use Rattle.std.specs.Option.{option_map}
+use Rattle.std.specs.Prelude.{◌≡◌, ℕ, zero, suc, ◌+◌, ◌%◌, Bool, true, false, List, [], ◌∷◌, ◌++◌, Option, None, Some, codes, decimal, slice_get, string_bytes, if◌then◌else◌}
 use Rattle.inorder.specs.Loads.{access_entry, access_width, is_store}
 use Rattle.instructions.specs.Instruction.{kind}
 use Rattle.instructions.specs.Operations.{sum}

@@ -45,7 +45,8 @@ fn turn_in(words: &Words<'_>) -> Option<Command>
     if words.first.is_empty() {
         Some(Command::Turn(None))
     } else {
-        only_pc(words).map(|next| Command::Turn(Some(next)))
+        let next = only_pc(words)?;
+        Some(Command::Turn(Some(next)))
     }
 }
 
@@ -57,25 +58,38 @@ pub(crate) fn command_in(verb: Verb, words: &Words<'_>) -> Option<Command>
     match verb {
         Verb::Turn => turn_in(words),
         Verb::Recover => bare(words, Command::Recover),
-        Verb::Claim => unit_and_number(words).map(|(unit, station)| Command::Claim(unit, station)),
-        Verb::Finish => unit_and_number(words).map(|(unit, station)| Command::Finish(
-            unit, station,
-        )),
+        Verb::Claim => {
+            let (unit, station) = unit_and_number(words)?;
+            Some(Command::Claim(unit, station))
+        }
+        Verb::Finish => {
+            let (unit, station) = unit_and_number(words)?;
+            Some(Command::Finish(unit, station))
+        }
         Verb::Refresh => bare(words, Command::Refresh),
         Verb::Commit => bare(words, Command::Commit),
         Verb::Show => bare(words, Command::Show),
         Verb::Take => bare(words, Command::Take),
         Verb::Learn => bare(words, Command::Learn),
-        Verb::Look => only_number(words).map(Command::Look),
-        Verb::Creator => only_register(words).map(Command::Creator),
+        Verb::Look => Some(Command::Look(only_number(words)?)),
+        Verb::Creator => Some(Command::Creator(only_register(words)?)),
         Verb::Touched => bare(words, Command::Touched),
-        Verb::Info => only_number(words).map(Command::Info),
-        Verb::Operand => station_and_source(words).map(|(station, k)| Command::Operand(station, k)),
-        Verb::Link => station_and_source(words).map(|(station, k)| Command::Link(station, k)),
-        Verb::Station => only_number(words).map(Command::Station),
+        Verb::Info => Some(Command::Info(only_number(words)?)),
+        Verb::Operand => {
+            let (station, k) = station_and_source(words)?;
+            Some(Command::Operand(station, k))
+        }
+        Verb::Link => {
+            let (station, k) = station_and_source(words)?;
+            Some(Command::Link(station, k))
+        }
+        Verb::Station => Some(Command::Station(only_number(words)?)),
         Verb::Ring => bare(words, Command::Ring),
         Verb::Rest => bare(words, Command::Rest),
-        Verb::Meet => two_parties(words).map(|(one, other)| Command::Meet(one, other)),
+        Verb::Meet => {
+            let (one, other) = two_parties(words)?;
+            Some(Command::Meet(one, other))
+        }
         Verb::Report => bare(words, Command::Report),
         Verb::Renew => bare(words, Command::Renew),
         Verb::Table | Verb::Queue | Verb::Step | Verb::Until => None,

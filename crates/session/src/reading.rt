@@ -48,12 +48,12 @@ fn line_by(verb: Verb, words: &Words<'_>) -> Option<Line>
     match verb {
         Verb::Table => bare(words, Line::Table),
         Verb::Queue => bare(words, Line::Queue),
-        Verb::Step => only_number(words).map(|count| Line::Turns(Goal::Retired(count))),
-        Verb::Until => only_pc(words).map(|pc| Line::Turns(Goal::Next(pc))),
+        Verb::Step => Some(Line::Turns(Goal::Retired(only_number(words)?))),
+        Verb::Until => Some(Line::Turns(Goal::Next(only_pc(words)?))),
         Verb::Help => bare(words, Line::Help),
         Verb::List => bare(words, Line::List),
         Verb::Quit => bare(words, Line::Quit),
-        _ => command_in(verb, words).map(Line::Asks),
+        _ => Some(Line::Asks(command_in(verb, words)?)),
     }
 }
 

@@ -8,7 +8,7 @@ use instructions::{End, Half};
 use station::{Finish, Seen, SourceState, StationState};
 
 /// Why a command is not allowed. Nothing is done then.
-#[derive(Clone, Copy, Debug, PartialEq, Eq)]
+#[derive(Clone, Copy)]
 pub enum Refusal {
     /// There can be no such unit.
     NoUnit,

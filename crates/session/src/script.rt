@@ -18,7 +18,7 @@ use std::io::{BufRead, ErrorKind, Write};
 use std::sync::Wait;
 
 /// Why a script was not answered to its end. There is no second try.
-#[derive(Clone, Copy, Debug, PartialEq, Eq)]
+#[derive(Clone, Copy)]
 pub enum Fault {
     /// The script could not be read.
     Read,
