@@ -124,7 +124,7 @@ echo 'seeds choose commands, whose lines are scripts'
 
 # each allocation is refused in turn: the refusal is named behind a beginning of the answers, or a snapshot was not
 # shown or the core not renewed, or all is told as before
-for name in relet snapshot renewed renewed_twice; do
+for name in relet queue steps snapshot renewed renewed_twice; do
   words_of "examples/drive/$name.txt"
   n=0 refused=0 kept=0
   while :; do
