@@ -8,7 +8,7 @@ use Rattle.session.specs.declared.commands.Command.TheVariants.{Commit}
 use Rattle.session.specs.declared.reading.Goal.{Goal}
 use Rattle.session.specs.declared.replies.Reply.{Reply}
 use Rattle.instructions.specs.Programs.{Program}
-use Rattle.session.specs.Advances.{AreTurnsTaken, TurnComesTo, HasAddedTold, HasAdvanced, HasToldCommit, HasToldMove, WasTried, has_moved, is_met, progress_by, is_over, retired_in}
+use Rattle.session.specs.Advances.{AreTurnsTaken, TurnComesTo, HasAddedText, HasAdvanced, HasToldCommit, HasToldMove, WasTried, has_moved, is_met, progress_by, is_over, retired_in}
 use Rattle.session.specs.Order.{IsReplied}
 use Rattle.session.specs.Sessions.{TheSession}
 use Rattle.session.specs.Texts.{reply_line}
@@ -39,7 +39,7 @@ leads_to_commit whole rest here next first number come text none leads committed
 -- A commit, which is told
 pub committed_here : (here next : TheSession) (number : ℕ) (reply : Reply) (come : Progress) (P : Program) (before after : List ℕ) →
     IsReplied here next Commit reply → come ≡ progress_by reply → P ≡ next.core.program → after ≡ before ++ reply_line P number reply →
-    HasAddedTold (HasToldCommit here next number come) before after
+    HasAddedText (HasToldCommit here next number come) before after
 committed_here here next number reply come P before after replied is program written = record {
   text = reply_line P number reply;
   fact = record { reply = reply; replied = replied; come_is = is; text_is = ap (λ (Q : Program). reply_line Q number reply) program };
@@ -49,7 +49,7 @@ committed_here here next number reply come P before after replied is program wri
 -- One did something, which is told
 pub moved_here : (whole : List Command) (at : ℕ) (d : Command) (here next first : TheSession) (number : ℕ) (reply : Reply) (P : Program) (before middle after : List ℕ) →
     at < length whole → Leads (drop at whole) whole here first number → IsReplied here next (get_or whole at d) reply → has_moved reply ≡ true →
-    P ≡ next.core.program → middle ≡ before → after ≡ middle ++ reply_line P number reply → HasAddedTold (TurnComesTo whole first next number Moved) before after
+    P ≡ next.core.program → middle ≡ before → after ≡ middle ++ reply_line P number reply → HasAddedText (TurnComesTo whole first next number Moved) before after
 moved_here whole at d here next first number reply P before middle after within leads replied moves program same written = record {
   text = reply_line P number reply;
   fact = moves_at whole at d within here next first number leads (reply_line P number reply)
@@ -60,7 +60,7 @@ moved_here whole at d here next first number reply P before middle after within 
 -- One more turn
 module _ (goal : Goal) (number n retired : ℕ) (first here next : TheSession) (before text : List ℕ) (come : Progress)
     (taken : AreTurnsTaken goal number first n retired before here) (unmet : is_met goal here retired ≡ false)
-    (turn : HasAddedTold (HasAdvanced here next number come) before text) where
+    (turn : HasAddedText (HasAdvanced here next number come) before text) where
   one_more_turn : (after : ℕ) → is_over come ≡ false → after ≡ retired + retired_in come → AreTurnsTaken goal number first (n + 1) after text next
   one_more_turn after goes count = subst (λ k. AreTurnsTaken goal number first k after text next) (sym (add-one n))
       (here, before, turn.text, retired, come, taken, unmet, turn.fact, goes, count, turn.written)

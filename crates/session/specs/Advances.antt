@@ -41,7 +41,7 @@ progress_by (say.Commit (Half pc) oldest) = progress.Moved
 progress_by reply = progress.Over
 
 -- A text was added of which this is true
-pub record HasAddedTold (Fact : List ℕ → Type 0) (before after : List ℕ) : Type 0 where
+pub record HasAddedText (Fact : List ℕ → Type 0) (before after : List ℕ) : Type 0 where
   pub text : List ℕ
   pub fact : Fact text
   pub written : after ≡ before ++ text
@@ -82,7 +82,7 @@ pub record HasAdvanced (old new : TheSession) (number : ℕ) (come : Progress) (
   pub order : IsTurnOrder asked oldest commands
   pub goes : TurnComesTo commands asked new number come text
 
--- The turns that are asked for are over, by how many instructions have retired in them
+-- The goal is met, where so many instructions have retired in the turns
 abbrev pub is_met : Goal → TheSession → (retired : ℕ) → Bool
 is_met (goal.Retired count) s retired = nat_le count retired
 is_met (goal.Next pc) s retired = (back_state s.commits).pc == pc

@@ -13,7 +13,7 @@ use std::sync::Wait;
 /// The most turns that one line takes.
 pub const MOST_TURNS: u32 = 1_000_000;
 
-// The turns are over, by how many instructions have retired in them.
+// The goal is met, where so many instructions have retired in the turns.
 fn is_met<P: Predictor + Drop, J: Naming>(
     session: &Session<'_, P, J>,
     goal: Goal,
