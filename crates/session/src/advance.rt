@@ -1,6 +1,6 @@
 //! A turn in the order of the unit on one thread, told by the command that it comes to.
 ghost use Rattle.std.specs.Prelude.{◌≡◌, ◌++◌, IfOk, OnOk, string_bytes};
-ghost use Rattle.session.specs.Advances.{TurnComesTo, HasAddedText, HasAdvanced, HasToldCommit, progress_by, has_loaded, has_moved};
+ghost use Rattle.session.specs.Advances.{HasAddedText, HasAdvanced, HasToldCommit, TurnComesTo, has_loaded, has_moved, progress_by};
 ghost use Rattle.session.specs.Texts.{reply_line};
 
 use crate::commands::Command;
@@ -97,7 +97,8 @@ fn go<P: Predictor + Drop, J: Naming, R: Wait>(
     commands: &[Command],
     out: &mut String,
 ) -> Result<Progress, AllocError>
-    ensures { IfOk result (λ come. HasAddedText (TurnComesTo commands.now session.old session.new number come)
+    ensures { IfOk result (λ come.
+        HasAddedText (TurnComesTo commands.now session.old session.new number come)
         (string_bytes out.old) (string_bytes out.new)) }
 {
     for at in 0..commands.len() {
