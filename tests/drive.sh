@@ -76,13 +76,30 @@ for line in 'look 99' '# hello' 'quit'; do
   drive "$work/script" examples/double.s
   [ $status -eq 0 ] || fail "$line: status $status"
 done
-for line in hello 'look' 'quit now' 'list 1'; do
+for line in hello look 'quit now' 'list 1' step 'step 0x1' 'step 1 2' until 'until A' 'queue 1'; do
   printf 'turn\n%s\nturn\nquit\n' "$line" > "$work/script"
   drive "$work/script" examples/double.s
   [ $status -eq 1 ] || fail "$line: status $status"
   grep -q '^line 2: ' "$work/out" && [ "$(grep -c '^Let station' "$work/out")" -eq 2 ] || fail "$line is told otherwise"
 done
 echo 'what goes wrong has its word and its status'
+
+# turns to the end, in one step or in many, come to the report of a run; so does an end that nobody waits for
+for name in double wrong_path forwarding fibonacci; do
+  printf 'step 4294967295\nreport\n' > "$work/script"
+  drive "$work/script" "examples/$name.s" --ruu-size 8
+  [ $status -eq 0 ] || fail "$name, steps to the end: status $status"
+  cp "$work/out" "$work/steps"
+  sed '1,/^Ended/d' "$work/out" | cmp -s - "examples/$name.report" || fail "$name, steps to the end: another report"
+  count=$(grep -c '^Retired' "$work/out")
+  { yes 'step 1' | head -n $((count + 1)); echo report; } > "$work/script"
+  drive "$work/script" "examples/$name.s" --ruu-size 8
+  is_told "$name, step by step" "$work/steps" 0 ''
+  printf 'until 0\nreport\n' > "$work/script"
+  drive "$work/script" "examples/$name.s" --ruu-size 8
+  is_told "$name, until a pc that is none" "$work/steps" 0 ''
+done
+echo 'steps come to the end of a run'
 
 # each line is told before its answer where that is wanted, and nothing else changes
 drive "$script" examples/drive/relet.s --ruu-size 4 --bpred nottaken --echo
@@ -107,7 +124,7 @@ echo 'seeds choose commands, whose lines are scripts'
 
 # each allocation is refused in turn: the refusal is named behind a beginning of the answers, or a snapshot was not
 # shown or the core not renewed, or all is told as before
-for name in relet snapshot renewed renewed_twice; do
+for name in relet queue steps snapshot renewed renewed_twice; do
   words_of "examples/drive/$name.txt"
   n=0 refused=0 kept=0
   while :; do

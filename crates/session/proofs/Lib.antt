@@ -12,3 +12,5 @@ pub mod Renewing
 pub mod Looks
 pub mod Played
 pub mod Woken
+pub mod Advancing
+pub mod Queuing

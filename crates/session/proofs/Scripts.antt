@@ -5,8 +5,8 @@ use Rattle.std.specs.Io.KnownBytes.{Appends}
 use Rattle.std.proofs.KnownBytes.{Appends-trans}
 use Rattle.session.specs.declared.script.Fault.{Fault}
 use Rattle.session.specs.declared.script.Fault.TheVariants.{Write}
-use Rattle.session.specs.Commands.{ends_script, is_command}
-use Rattle.session.specs.declared.commands.Line.{Line}
+use Rattle.session.specs.Lines.{ends_script, is_command}
+use Rattle.session.specs.declared.reading.Line.{Line}
 use Rattle.session.specs.Scripts.{AreTold, HasBroken, HasDriven, LineIsCut, NothingWasLeft, LineIsTold, ReadsScript, line_of}
 use Rattle.session.specs.Sessions.{TheSession}
 use Rattle.session.specs.Transcripts.{IsWrittenOfLine}

@@ -85,6 +85,9 @@ one_more_none core old last new c tag n k seen s t none look other p inside = go
     go (inl e) = subst (λ q. IsNotFrom core old new q c tag k) (sym e) (record { seen = seen; is = later_link core old last new new s (starts_same new) n c k seen look; other = other })
     go (inr ne) = let below : p < n = omega (arith, inside, ne) in later_none core old old last new (starts_same old) t p c tag k (none p below)
 
-pub few_more : (h : Head) (s n : ℕ) (free : Bool) → h.free ≤ n → (head_with h s free).free ≤ n + 1
+few_more : (h : Head) (s n : ℕ) (free : Bool) → h.free ≤ n → (head_with h s free).free ≤ n + 1
 few_more h s n true few = omega (arith, few)
 few_more h s n false few = omega (arith, few)
+
+pub few_after : (h after : Head) (s n : ℕ) (free : Bool) → after ≡ head_with h s free → h.free ≤ n → after.free ≤ n + 1
+few_after h after s n free is few = subst (λ (x : Head). x.free ≤ n + 1) (sym is) (few_more h s n free few)

@@ -1,5 +1,5 @@
--- The commands of a script, and the texts that stand for them.
-use Rattle.std.specs.Prelude.{◌≡◌, ◌≢◌, ◌==◌, ◌&&◌, ℕ, Bool, true, false, not, List, [], length, codes, Option, Some, None, Result, Ok, Err, if◌then◌else◌}
+-- The commands that make one call, and the texts that stand for them.
+use Rattle.std.specs.Prelude.{◌==◌, ◌&&◌, ℕ, Bool, not, List, length, codes, Option, Some, None, Result, Ok, Err, if◌then◌else◌}
 use Rattle.std.specs.Option.{option_map}
 use Rattle.std.specs.Str.{bytes_eq}
 use Rattle.isa.specs.RegisterNames.{first_some, register}
@@ -7,12 +7,10 @@ use Rattle.isa.specs.declared.listing.fault.FaultKind.{FaultKind}
 use Rattle.lexical.specs.Number.{decimal_in, number_in}
 use Rattle.session.specs.declared.commands.Command.{Command}
 use Rattle.session.specs.declared.commands.Command.TheVariants as call
-use Rattle.session.specs.declared.commands.Line.{Line}
-use Rattle.session.specs.declared.commands.Line.TheVariants.{Asks, Help as AsksHelp, List as AsksList, Nothing, Quit as AsksQuit, Table as AsksTable, Unknown, Wants}
-use Rattle.session.specs.declared.commands.Verb.{Verb}
-use Rattle.session.specs.declared.commands.Verb.TheVariants.{Claim, Commit, Creator, Finish, Help, Info, Learn, Link, List as Listing, Look, Meet, Operand, Quit, Recover, Refresh, Renew, Report, Rest, Ring, Show, Station, Table, Take, Touched, Turn}
-use Rattle.session.specs.declared.commands.Which.{Which}
-use Rattle.session.specs.declared.commands.Which.TheVariants.{First, Second}
+use Rattle.session.specs.declared.verbs.Verb.{Verb}
+use Rattle.session.specs.declared.verbs.Verb.TheVariants.{Claim, Commit, Creator, Finish, Help, Info, Learn, Link, List as Listing, Look, Meet, Operand, Queue, Quit, Recover, Refresh, Renew, Report, Rest, Ring, Show, Station, Step, Table, Take, Touched, Turn, Until}
+use Rattle.session.specs.declared.operands.Which.{Which}
+use Rattle.session.specs.declared.operands.Which.TheVariants.{First, Second}
 use Rattle.session.specs.declared.parties.Party.{Party}
 use Rattle.session.specs.declared.parties.Party.TheVariants as party
 use Rattle.session.specs.Units.{unit_named}
@@ -42,6 +40,9 @@ verb_name Meet = codes "meet"
 verb_name Report = codes "report"
 verb_name Renew = codes "renew"
 verb_name Table = codes "table"
+verb_name Queue = codes "queue"
+verb_name Step = codes "step"
+verb_name Until = codes "until"
 verb_name Help = codes "help"
 verb_name Listing = codes "list"
 verb_name Quit = codes "quit"
@@ -58,9 +59,9 @@ has_one w = not (is_empty w.first) && is_empty w.second
 abbrev pub has_two : Texts → Bool
 has_two w = not (is_empty w.second) && is_empty w.rest
 
--- The command that has no operands
-abbrev pub without_operands : Texts → Command → Option Command
-without_operands w c = if is_empty w.first then Some c else None
+-- What a word without operands asks for
+abbrev pub without_operands : {A : Type 0} → Texts → A → Option A
+without_operands w asked = if is_empty w.first then Some asked else None
 
 -- The number of a station or a register
 abbrev pub number_of : List ℕ → Option ℕ
@@ -150,53 +151,9 @@ command_of Meet w = option_map (λ p. call.Meet p.0 p.1) (two_parties w)
 command_of Report w = without_operands w call.Report
 command_of Renew w = without_operands w call.Renew
 command_of Table w = None
+command_of Queue w = None
+command_of Step w = None
+command_of Until w = None
 command_of Help w = None
 command_of Listing w = None
 command_of Quit w = None
-
--- The command that these words are
-pub record AreWordsOf (w : Texts) (c : Command) : Type 0 where
-  pub verb : Verb
-  pub named : w.verb ≡ verb_name verb
-  pub is : command_of verb w ≡ Some c
-
--- These words are the word of a command alone
-pub record AsksFor (v : Verb) (w : Texts) : Type 0 where
-  pub named : w.verb ≡ verb_name v
-  pub bare : is_empty w.first ≡ true
-
--- The word is that of a command, and its operands are none of it
-pub record IsMistaken (w : Texts) (v : Verb) : Type 0 where
-  pub named : w.verb ≡ verb_name v
-  pub none : command_of v w ≡ None
-  pub no_table : v ≡ Table → is_empty w.first ≡ false
-  pub no_help : v ≡ Help → is_empty w.first ≡ false
-  pub no_list : v ≡ Listing → is_empty w.first ≡ false
-  pub no_quit : v ≡ Quit → is_empty w.first ≡ false
-
--- The word is none of a command
-pub record IsUnknown (w : Texts) : Type 0 where
-  pub some : w.verb ≢ []
-  pub none : (v : Verb) → w.verb ≢ verb_name v
-
--- The line that these words are. A line without words asks for nothing
-abbrev pub IsLine : Texts → Line → Type 0
-IsLine w Nothing = w.verb ≡ []
-IsLine w Unknown = IsUnknown w
-IsLine w (Wants v) = IsMistaken w v
-IsLine w (Asks c) = AreWordsOf w c
-IsLine w AsksTable = AsksFor Table w
-IsLine w AsksHelp = AsksFor Help w
-IsLine w AsksList = AsksFor Listing w
-IsLine w AsksQuit = AsksFor Quit w
-
--- The line is a command, or asks for nothing
-abbrev pub is_command : Line → Bool
-is_command Unknown = false
-is_command (Wants v) = false
-is_command line = true
-
--- The line ends its script
-abbrev pub ends_script : Line → Bool
-ends_script AsksQuit = true
-ends_script line = false

@@ -1,6 +1,7 @@
 pub mod Words
 pub mod Units
 pub mod Commands
+pub mod Lines
 pub mod Moments
 pub mod Replies
 pub mod Renewals
@@ -11,6 +12,9 @@ pub mod Rows
 pub mod Retiring
 pub mod Sessions
 pub mod Texts
+pub mod Order
+pub mod Advances
+pub mod Queues
 pub mod Tables
 pub mod Listed
 pub mod Help

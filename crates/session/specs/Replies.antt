@@ -32,8 +32,8 @@ use Rattle.station.specs.Looking.{SeesInfo, SeesLink, SeesOperand, SeesStation}
 use Rattle.station.specs.Moments.{WasOnce}
 use Rattle.station.specs.Claiming.{ClaimAnswers, Holds}
 use Rattle.station.specs.Seats.{Caller, TheCore}
-use Rattle.session.specs.declared.commands.Which.{Which}
-use Rattle.session.specs.declared.commands.Which.TheVariants as which
+use Rattle.session.specs.declared.operands.Which.{Which}
+use Rattle.session.specs.declared.operands.Which.TheVariants as which
 use Rattle.session.specs.declared.replies.Info.{Info}
 use Rattle.session.specs.declared.replies.Refreshed.{Refreshed}
 use Rattle.ruu_words.specs.declared.link.LinkWord.{LinkWord}

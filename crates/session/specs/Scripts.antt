@@ -2,11 +2,11 @@
 use Rattle.std.specs.Prelude.{◌≡◌, ◌⊎◌, ◌&&◌, ℕ, ◌+◌, ◌<◌, Bool, true, false, List, [], ◌∷◌, map, length, take, Option, Some, IfSome}
 use Rattle.std.specs.Io.BufRead.{drop_through, strip_last, take_through}
 use Rattle.std.specs.Io.KnownBytes.{Appends, IsAtEnd}
-use Rattle.session.specs.Commands.{IsLine, ends_script, is_command}
+use Rattle.session.specs.Lines.{IsLine, ends_script, is_command}
 use Rattle.session.specs.Sessions.{TheSession}
 use Rattle.session.specs.Transcripts.{IsTranscript, IsWrittenOfLine}
 use Rattle.session.specs.Words.{words_of}
-use Rattle.session.specs.declared.commands.Line.{Line}
+use Rattle.session.specs.declared.reading.Line.{Line}
 use Rattle.session.specs.declared.script.Fault.{Fault}
 use Rattle.session.specs.declared.script.Fault.TheVariants.{Read, Memory, Write}
 

@@ -35,8 +35,8 @@ use Rattle.station.specs.declared.answers.Seen.{Seen}
 use Rattle.station.specs.declared.answers.SourceState.{SourceState}
 use Rattle.station.specs.declared.answers.SourceState.TheVariants as source
 use Rattle.session.specs.declared.producers.Producer.{Producer}
-use Rattle.session.specs.declared.commands.Which.{Which}
-use Rattle.session.specs.declared.commands.Which.TheVariants as which_of
+use Rattle.session.specs.declared.operands.Which.{Which}
+use Rattle.session.specs.declared.operands.Which.TheVariants as which_of
 use Rattle.session.specs.declared.replies.Ahead.{Ahead}
 use Rattle.session.specs.declared.replies.Finished.{Finished}
 use Rattle.session.specs.declared.replies.Head.{Head}

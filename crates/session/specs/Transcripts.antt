@@ -2,15 +2,18 @@
 use Rattle.std.specs.Prelude.{◌≡◌, ℕ, suc, Bool, true, false, List, [], ◌∷◌, ◌++◌, length, codes, decimal}
 use Rattle.isa.specs.Report.{newline}
 use Rattle.session.specs.declared.commands.Command.{Command}
-use Rattle.session.specs.declared.commands.Line.{Line}
-use Rattle.session.specs.declared.commands.Line.TheVariants.{Asks, Help, List as AsksList, Nothing, Quit, Table, Unknown, Wants}
-use Rattle.session.specs.declared.commands.Verb.{Verb}
-use Rattle.session.specs.declared.commands.Verb.TheVariants as verb
+use Rattle.session.specs.declared.reading.Line.{Line}
+use Rattle.session.specs.declared.reading.Line.TheVariants.{Asks, Help, List as AsksList, Nothing, Queue, Quit, Table, Turns, Unknown, Wants}
+use Rattle.session.specs.declared.verbs.Verb.{Verb}
+use Rattle.session.specs.declared.verbs.Verb.TheVariants as verb
 use Rattle.session.specs.declared.replies.Reply.{Reply}
+use Rattle.session.specs.Advances.{HasTurnedUpTo}
 use Rattle.session.specs.Help.{help_text}
 use Rattle.session.specs.Listed.{list_text}
+use Rattle.session.specs.Queues.{IsQueueTold}
 use Rattle.session.specs.Tables.{IsTable}
-use Rattle.session.specs.Commands.{IsLine, verb_name}
+use Rattle.session.specs.Commands.{verb_name}
+use Rattle.session.specs.Lines.{IsLine}
 use Rattle.session.specs.Moments.{GrowsLegally}
 use Rattle.session.specs.Sessions.{Answers, TheSession, after_command}
 use Rattle.session.specs.Texts.{reply_line}
@@ -19,6 +22,8 @@ use Rattle.session.specs.Words.{words_of}
 -- The text that names the operands of a command
 abbrev pub operands_text : Verb → List ℕ
 operands_text verb.Turn = codes "no operand, or a pc"
+operands_text verb.Step = codes "a number of instructions"
+operands_text verb.Until = codes "a pc"
 operands_text verb.Claim = codes "a unit and a station"
 operands_text verb.Finish = codes "a unit and a station"
 operands_text verb.Look = codes "a station"
@@ -55,6 +60,8 @@ LineSays old new number Unknown text = (text ≡ unknown_text number) × (new �
 LineSays old new number (Wants v) text = (text ≡ wants_text number v) × (new ≡ old)
 LineSays old new number (Asks command) text = IsAnswered old new number command text
 LineSays old new number Table text = IsTable old new text
+LineSays old new number Queue text = IsQueueTold old new text
+LineSays old new number (Turns goal) text = HasTurnedUpTo goal number old new text
 LineSays old new number Help text = (text ≡ help_text) × (new ≡ old)
 LineSays old new number AsksList text = (text ≡ list_text old.core.program) × (new ≡ old)
 LineSays old new number Quit text = (text ≡ []) × (new ≡ old)

@@ -8,8 +8,9 @@ ghost use Rattle.station.specs.Seats.{IsSameSeat};
 
 use crate::producers::{Producer, producer_of};
 use crate::replies::{Info, Operand};
-use crate::units::{Claimed, Worker, claim_by};
-use crate::{calls, reads};
+use crate::units::{Claimed, Worker};
+use crate::working::claim_by;
+use crate::{front_calls, reads};
 use back::{Back, Naming};
 use front::{Front, Turn};
 use instructions::Predictor;
@@ -60,7 +61,7 @@ pub(crate) fn turn<P: Predictor + Drop, J: Naming>(
     ensures grows { GrowsLegally core.now all.old.seen all.new.seen }
     ensures reply { HasTurned core.now given all.old.seen all.new.seen result.0 result.1 }
 {
-    let answer = calls::turn(core, all, front, given);
+    let answer = front_calls::turn(core, all, front, given);
     let info = info_of_let(core, all, back, answer);
     (answer, info)
 }

@@ -20,6 +20,9 @@ look S        the word of station S
 info S        the info word of station S
 creator R     who makes register R: a name of listings, or its number, 32 for lo, 33 for hi
 ring          the oldest tenant's station, the next one's, and the next pc
+queue         the loads and stores in flight: address, data, and what blocks a load
+step N        turns of the one-thread unit, until N instructions have retired
+until PC      turns, until the instruction at PC is the next to retire
 table         a line for each station that is not free, the create vector, the ring
 report        the committed state, as a run reports it
 show          the back shows a snapshot

@@ -1,56 +1,28 @@
 //! What is told of a line of a script.
 ghost use Rattle.std.specs.Prelude.{◌≡◌, IfOk, string_bytes};
-ghost use Rattle.session.specs.Commands.{verb_name};
 ghost use Rattle.session.specs.Transcripts.{LineSays, operands_text, unknown_text, wants_text};
 
-use crate::commands::{Line, Verb};
+use crate::advances::advances;
 use crate::help::help;
 use crate::listed::list;
+use crate::queue::queue;
+use crate::reading::Line;
 use crate::session::Session;
 use crate::tables::table;
 use crate::texts::line_of;
+use crate::verbs::{Verb, word};
 use back::Naming;
 use instructions::Predictor;
 use std::alloc::{AllocError, Global};
 use std::sync::Wait;
-
-fn word(verb: Verb) -> &'static str
-    ensures { result.now ≡ verb_name verb }
-{
-    match verb {
-        Verb::Turn => "turn",
-        Verb::Recover => "recover",
-        Verb::Claim => "claim",
-        Verb::Finish => "finish",
-        Verb::Refresh => "refresh",
-        Verb::Commit => "commit",
-        Verb::Show => "show",
-        Verb::Take => "take",
-        Verb::Learn => "learn",
-        Verb::Look => "look",
-        Verb::Creator => "creator",
-        Verb::Touched => "touched",
-        Verb::Info => "info",
-        Verb::Operand => "operand",
-        Verb::Link => "link",
-        Verb::Station => "station",
-        Verb::Ring => "ring",
-        Verb::Rest => "rest",
-        Verb::Meet => "meet",
-        Verb::Report => "report",
-        Verb::Renew => "renew",
-        Verb::Table => "table",
-        Verb::Help => "help",
-        Verb::List => "list",
-        Verb::Quit => "quit",
-    }
-}
 
 fn operands(verb: Verb) -> &'static str
     ensures { result.now ≡ operands_text verb }
 {
     match verb {
         Verb::Turn => "no operand, or a pc",
+        Verb::Step => "a number of instructions",
+        Verb::Until => "a pc",
         Verb::Claim | Verb::Finish => "a unit and a station",
         Verb::Look | Verb::Info | Verb::Station => "a station",
         Verb::Operand | Verb::Link => "a station and a source",
@@ -94,6 +66,8 @@ pub fn told<P: Predictor + Drop, J: Naming, R: Wait>(
             line_of(alloc, session.program(), number, &reply)
         }
         Line::Table => table(wait, alloc, session),
+        Line::Queue => queue(wait, alloc, session),
+        Line::Turns(goal) => advances(wait, alloc, session, number, goal),
         Line::Help => help(alloc),
         Line::List => list(alloc, session.program()),
     }

@@ -5,7 +5,7 @@ ghost use Rattle.session.specs.Commands.{party_of};
 use crate::names::unit_in;
 
 /// One that can meet another: the front, the back, or a unit by its place.
-#[derive(Clone, Copy, Debug, PartialEq, Eq)]
+#[derive(Clone, Copy, PartialEq, Eq)]
 pub enum Party {
     Front,
     Back,
@@ -21,6 +21,6 @@ pub(crate) fn party_in(name: &[u8]) -> Option<Party>
     } else if name == b"back".as_slice() {
         Some(Party::Back)
     } else {
-        unit_in(name).map(Party::Unit)
+        Some(Party::Unit(unit_in(name)?))
     }
 }

@@ -4,7 +4,8 @@ ghost use Rattle.counted_io.specs.Counted.{failures_of, known_by};
 ghost use Rattle.session.specs.Plays.{ArePlayed, HasPlayed, HasPlayedPart, IsNamed, IsPlayed, IsWrittenBehind, MayHaveLooked, command_text, unit_command};
 ghost use Rattle.session.specs.Scripts.{failed_writes};
 
-use crate::commands::{Command, line_in};
+use crate::commands::Command;
+use crate::reading::line_in;
 use crate::row_texts::push_unit;
 use crate::script::{Fault, written};
 use crate::session::Session;

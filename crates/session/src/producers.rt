@@ -10,7 +10,7 @@ use back::{Back, Naming};
 use station::{Core, LinkWord, Source, UnitSeat, what_is_seen_is_legal};
 
 /// A tenant whose value another one waits for, by its station and tag.
-#[derive(Clone, Copy, Debug, PartialEq, Eq)]
+#[derive(Clone, Copy)]
 pub struct Producer {
     pub station: usize,
     pub tag: u32,

@@ -1,5 +1,5 @@
 //! What a session answers.
-use crate::commands::Which;
+use crate::operands::Which;
 use crate::producers::Producer;
 use crate::units::Claimed;
 use back::{Commit, Mark, Refresh, Snap};
@@ -8,7 +8,7 @@ use instructions::{End, Half};
 use station::{Finish, Seen, SourceState, StationState};
 
 /// Why a command is not allowed. Nothing is done then.
-#[derive(Clone, Copy, Debug, PartialEq, Eq)]
+#[derive(Clone, Copy)]
 pub enum Refusal {
     /// There can be no such unit.
     NoUnit,

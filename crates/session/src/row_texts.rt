@@ -2,7 +2,7 @@
 ghost use Rattle.std.specs.Prelude.{◌≡◌, ◌++◌, ◌<◌, IfOk, OnOk, string_bytes};
 ghost use Rattle.session.specs.Texts.{holder_text, letter_text, ring_text, some_station, station_text, unit_text, word_text};
 
-use crate::commands::Which;
+use crate::operands::Which;
 use crate::replies::{Ahead, Head, Row};
 use crate::texts::state;
 use crate::word_texts::{push_operand, push_tenant};
@@ -97,7 +97,8 @@ pub(crate) fn station_text(
     Ok(out)
 }
 
-fn push_some_station(out: &mut String, station: Option<usize>) -> Result<(), AllocError>
+/// Adds a station, if there is one.
+pub(crate) fn push_some_station(out: &mut String, station: Option<usize>) -> Result<(), AllocError>
     ensures { OnOk result (string_bytes out.new ≡ string_bytes out.old ++ some_station station) }
 {
     match station {

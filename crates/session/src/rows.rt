@@ -6,7 +6,7 @@ ghost use Rattle.session.specs.Rows.{IsHead, IsHolder, IsOldestTold, IsRingTold,
 ghost use Rattle.station.specs.Seats.{IsSameSeat};
 
 use crate::accounts::operand;
-use crate::calls;
+use crate::front_calls;
 use crate::reads::look;
 use crate::replies::{Ahead, Head, Row};
 use crate::units::Worker;
@@ -136,7 +136,7 @@ pub(crate) fn ring<P: Predictor + Drop, J: Naming>(
     ensures grows { GrowsLegally core.now all.old.seen all.new.seen }
     ensures reply { IsRingTold core.now all.old.seen all.new.seen result.0 result.1 }
 {
-    let ahead = calls::ahead(core, all, front);
+    let ahead = front_calls::ahead(core, all, front);
     let oldest = head(core, all, back, ahead.station);
     (oldest, ahead)
 }

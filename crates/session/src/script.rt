@@ -2,13 +2,13 @@
 ghost use Rattle.std.specs.Prelude.{◌≡◌, ◌≢◌, ◌+◌, ◌-◌, ◌^◌, ◌<◌, ◌++◌, ◌&&◌, IfErr, IfNone, IfOk, IfSome, OnOk};
 ghost use Rattle.std.specs.Io.BufRead.{strip_last};
 ghost use Rattle.counted_io.specs.Counted.{failures_of, known_by};
-ghost use Rattle.session.specs.Commands.{IsLine, is_command};
+ghost use Rattle.session.specs.Lines.{IsLine, is_command};
 ghost use Rattle.session.specs.Words.{words_of};
 ghost use Rattle.session.specs.Transcripts.{IsWrittenOfLine, echo_text};
 ghost use Rattle.session.specs.Scripts.{HasBroken, HasDriven, HasTold, LineIsCut, LineIsTold, NothingWasLeft, failed_writes, line_of};
 
-use crate::commands::{Line, ends_script, is_command, line_in};
 use crate::lines::told;
+use crate::reading::{Line, ends_script, is_command, line_in};
 use crate::session::Session;
 use back::Naming;
 use counted_io::{Counted, WriteFailed, write_whole};
@@ -18,7 +18,7 @@ use std::io::{BufRead, ErrorKind, Write};
 use std::sync::Wait;
 
 /// Why a script was not answered to its end. There is no second try.
-#[derive(Clone, Copy, Debug, PartialEq, Eq)]
+#[derive(Clone, Copy)]
 pub enum Fault {
     /// The script could not be read.
     Read,

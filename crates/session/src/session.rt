@@ -1,18 +1,17 @@
 //! A session: a core with all its seats in one hand.
 mod choosing;
+mod driving;
 mod looking;
 mod meeting;
+mod ordering;
 mod renewing;
 mod reporting;
 mod resting;
 mod showing;
 
 use crate::commands::Command;
-use crate::names::UNITS;
-use crate::replies::{Refusal, Reply};
-use crate::retiring::commit;
-use crate::units::{Worker, end_units, finish_by, held_station, no_units};
-use crate::{accounts, calls};
+use crate::replies::Reply;
+use crate::units::{Worker, end_units, no_units};
 use back::{Back, Mark, Naming, Snapper};
 use front::Front;
 use instructions::{Config, End, Memory, Predictor, Program};
@@ -100,95 +99,6 @@ impl<'a, P: Predictor + Drop, J: Naming> Session<'a, P, J> {
         }
     }
 
-    fn turn(&mut self, given: Option<u32>) -> Reply
-        ensures core { self.new.core ≡ self.old.core }
-        ensures grows { GrowsLegally self.old.core self.old.seen self.new.seen }
-        ensures kept { self.new ≡ after_command (Command.Turn given) self.old self.new }
-        ensures reply { Answers self.old self.new (Command.Turn given) result }
-    {
-        self.rested = false;
-        let (core, all, back) = (&self.core, &mut self.all, &mut self.back);
-        let (turn, info) = accounts::turn(core, all, &mut self.front, back, given);
-        Reply::Turn(turn, info)
-    }
-
-    fn recover(&mut self) -> Reply
-        ensures core { self.new.core ≡ self.old.core }
-        ensures grows { GrowsLegally self.old.core self.old.seen self.new.seen }
-        ensures kept { self.new ≡ after_command Command.Recover self.old self.new }
-        ensures reply { Answers self.old self.new Command.Recover result }
-    {
-        self.rested = false;
-        Reply::Recovery(calls::recover(&self.core, &mut self.all, &mut self.front))
-    }
-
-    fn claim(&mut self, unit: usize, station: u32) -> Reply
-        ensures core { self.new.core ≡ self.old.core }
-        ensures grows { GrowsLegally self.old.core self.old.seen self.new.seen }
-        ensures kept { self.new ≡ after_command (Command.Claim unit station) self.old self.new }
-        ensures reply { Answers self.old self.new (Command.Claim unit station) result }
-    {
-        let ring = self.core.ring();
-        if UNITS <= unit {
-            return Reply::Refused(Refusal::NoUnit);
-        }
-        if ring <= station as usize {
-            return Reply::Refused(Refusal::NoStation);
-        }
-        if held_station(&self.units, unit).is_some() {
-            return Reply::Refused(Refusal::HoldsJob);
-        }
-        let (core, all, back) = (&self.core, &mut self.all, &mut self.back);
-        let units = &mut self.units;
-        let (answer, from) = accounts::claim(core, all, back, units, unit, station as usize);
-        Reply::Claim(answer, from)
-    }
-
-    fn finish(&mut self, unit: usize, station: u32) -> Reply
-        ensures core { self.new.core ≡ self.old.core }
-        ensures grows { GrowsLegally self.old.core self.old.seen self.new.seen }
-        ensures kept { self.new ≡ after_command (Command.Finish unit station) self.old self.new }
-        ensures reply { Answers self.old self.new (Command.Finish unit station) result }
-    {
-        let (units, ring) = (&self.units, self.core.ring());
-        if units.len() <= unit {
-            return Reply::Refused(Refusal::NoUnit);
-        }
-        if ring <= station as usize {
-            return Reply::Refused(Refusal::NoStation);
-        }
-        match held_station(units, unit) {
-            Some(held) if held == station as usize => {
-                let (core, all, units) = (&self.core, &mut self.all, &mut self.units);
-                Reply::Finish(finish_by(core, self.program, all, units, unit, held))
-            }
-            _ => Reply::Refused(Refusal::HoldsNone),
-        }
-    }
-
-    fn refresh(&mut self) -> Reply
-        ensures core { self.new.core ≡ self.old.core }
-        ensures grows { GrowsLegally self.old.core self.old.seen self.new.seen }
-        ensures kept { self.new ≡ after_command Command.Refresh self.old self.new }
-        ensures reply { Answers self.old self.new Command.Refresh result }
-    {
-        Reply::Refresh(calls::refresh(&self.core, &mut self.all, &mut self.back))
-    }
-
-    fn commit(&mut self) -> Reply
-        ensures core { self.new.core ≡ self.old.core }
-        ensures grows { GrowsLegally self.old.core self.old.seen self.new.seen }
-        ensures kept { self.new ≡ after_command Command.Commit self.old self.new }
-        ensures reply { Answers self.old self.new Command.Commit result }
-    {
-        if self.back.n() == u64::MAX {
-            return Reply::Refused(Refusal::NoCount);
-        }
-        let (core, all, back) = (&self.core, &mut self.all, &mut self.back);
-        let (answer, oldest) = commit(core, all, &mut self.front, back, &self.units);
-        Reply::Commit(answer, oldest)
-    }
-
     /// Makes the call that a command asks for, if that is allowed. The core stays, unless it is renewed.
     pub fn answer<R: Wait>(&mut self, wait: &R, alloc: Global, command: Command) -> Reply
         ensures grows { GrowsLegally self.old.core self.old.seen self.new.seen }
@@ -231,6 +141,7 @@ impl<'a, P: Predictor + Drop, J: Naming> Session<'a, P, J> {
     /// How many stations there are.
     pub fn ring(&self) -> usize
         ensures value { result ≡ self.now.core.sizes.ring }
+        ensures least { 2 ≤ result }
         ensures most { result ≤ 32 }
     {
         self.core.ring()

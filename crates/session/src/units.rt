@@ -1,17 +1,13 @@
 //! The units of a session, and the jobs that they hold.
 ghost use Rattle.std.specs.Prelude.{◌≡◌, ◌<◌, IfOk, None, Some, slice_set, vec_len};
 ghost use Rattle.station.specs.Seats.{IsSameSeat};
-ghost use Rattle.session.specs.Held.{claim_of, held_job};
-ghost use Rattle.session.specs.Moments.{GrowsLegally};
-ghost use Rattle.session.specs.Workers.{AreAtWork, AreWorkers, HasClaimed, HasNone, IsAtWork, IsWorker, UnitHasFinished, job_at, job_from, station_held, worker_at};
+ghost use Rattle.session.specs.Workers.{AreAtWork, AreWorkers, HasNone, IsAtWork, IsWorker, job_at, station_held, worker_at};
 ghost use Rattle.session.specs.declared.units.Worker.{Worker};
 
-use crate::calls;
 use crate::names::UNITS;
-use crate::replies::Finished;
 use core::mem::replace_with;
-use instructions::{Half, Memory, Program};
-use station::{Claim, Core, Job, Source, UnitSeat, abandon};
+use instructions::{Half, Memory};
+use station::{Core, Job, Source, UnitSeat, abandon};
 use std::alloc::Global;
 
 /// What is told of a job.
@@ -40,35 +36,6 @@ pub enum Claimed {
 pub struct Worker {
     pub(crate) seat: UnitSeat,
     pub(crate) job: Option<Job>,
-}
-
-// What a job says.
-fn fields_of(job: &Job) -> Held
-    ensures { held_job result ≡ job.now }
-{
-    Held {
-        station: job.station(),
-        tag: job.tag(),
-        index: job.index(),
-        half: job.half(),
-        pc: job.pc(),
-        predicted: job.predicted(),
-        a: job.a(),
-        b: job.b(),
-    }
-}
-
-// The answer of a claim, and its job.
-fn answer_of(claim: Claim) -> (Claimed, Option<Job>)
-    ensures answer { claim_of result.0 ≡ claim }
-    ensures job { result.1 ≡ job_from result.0 }
-{
-    match claim {
-        Claim::Job(job) => (Claimed::Job(fields_of(&job)), Some(job)),
-        Claim::NotOpen => (Claimed::NotOpen, None),
-        Claim::Waiting { tag, k } => (Claimed::Waiting { tag, k }, None),
-        Claim::Moved { tag } => (Claimed::Moved { tag }, None),
-    }
 }
 
 /// The station of the job that the unit at a place holds, if it was made and holds one.
@@ -149,7 +116,7 @@ fn part(seat: UnitSeat, core: &Core) -> (UnitSeat, UnitSeat)
     core.split(seat)
 }
 
-// Takes the unit at a place, which is made if it is not there yet.
+/// Takes the unit at a place, which is made if it is not there yet.
 pub(crate) fn take_worker(
     core: &Core,
     all: &mut UnitSeat,
@@ -175,7 +142,7 @@ pub(crate) fn take_worker(
     }
 }
 
-// Puts a unit to its place, where none is.
+/// Puts a unit to its place, where none is.
 pub(crate) fn put_worker(units: &mut Vec<Option<Worker>>, unit: usize, worker: Worker)
     requires unit { unit < vec_len units.old }
     requires free { worker_at units.old.items unit ≡ None }
@@ -184,74 +151,4 @@ pub(crate) fn put_worker(units: &mut Vec<Option<Worker>>, unit: usize, worker: W
     if let Some(other) = units[unit].replace(worker) {
         give_up(other);
     }
-}
-
-// The seat of a unit that holds no job.
-fn free_seat(worker: Worker) -> UnitSeat
-    requires { worker.job ≡ None }
-    ensures { result ≡ worker.seat }
-{
-    let Worker { seat, job } = worker;
-    match job {
-        None => seat,
-        Some(job) => {
-            abandon(seat, job);
-            unreachable!()
-        }
-    }
-}
-
-/// A claim by the unit at a place, which holds no job.
-pub(crate) fn claim_by(
-    core: &Core,
-    all: &mut UnitSeat,
-    units: &mut Vec<Option<Worker>>,
-    unit: usize,
-    station: usize,
-) -> Claimed
-    requires all { all.old.core ≡ core.now }
-    requires unit { unit < vec_len units.old }
-    requires workers { AreWorkers core.now units.old.items }
-    requires station { station < core.now.sizes.ring }
-    requires free { job_at units.old.items unit ≡ None }
-    ensures all { IsSameSeat all.old all.new }
-    ensures grows { GrowsLegally core.now all.old.seen all.new.seen }
-    ensures workers { AreWorkers core.now units.new.items }
-    ensures places { vec_len units.new ≡ vec_len units.old }
-    ensures reply { HasClaimed core.now all.old.seen all.new.seen units.old.items units.new.items
-        unit station result }
-{
-    let mut seat = free_seat(take_worker(core, all, units, unit));
-    let (answer, job) = answer_of(calls::claim(core, all, &mut seat, station));
-    put_worker(units, unit, Worker { seat, job });
-    answer
-}
-
-/// The finish of the job of a station that the unit at a place holds.
-pub(crate) fn finish_by(
-    core: &Core,
-    program: &Program,
-    all: &mut UnitSeat,
-    units: &mut Vec<Option<Worker>>,
-    unit: usize,
-    station: usize,
-) -> Finished
-    requires all { all.old.core ≡ core.now }
-    requires program { program.now ≡ core.now.program }
-    requires unit { unit < vec_len units.old }
-    requires workers { AreWorkers core.now units.old.items }
-    requires holds { station_held units.old.items unit ≡ Some station }
-    requires station { station < core.now.sizes.ring }
-    ensures all { IsSameSeat all.old all.new }
-    ensures grows { GrowsLegally core.now all.old.seen all.new.seen }
-    ensures workers { AreWorkers core.now units.new.items }
-    ensures places { vec_len units.new ≡ vec_len units.old }
-    ensures reply { UnitHasFinished core.now all.old.seen all.new.seen
-        units.old.items units.new.items unit station result }
-{
-    let Worker { mut seat, job } = take_worker(core, all, units, unit);
-    let Some(job) = job else { unreachable!() };
-    let answer = calls::finish(core, program, all, &mut seat, job);
-    put_worker(units, unit, Worker { seat, job: None });
-    answer
 }

@@ -2,8 +2,8 @@
 ghost use Rattle.std.specs.Prelude.{◌≡◌, ◌++◌, IfOk, OnOk, string_bytes};
 ghost use Rattle.session.specs.Texts.{info_text, info_words, link_text, operand_state_text, operand_text, reads, rest_text, seen_operand_text, tenant_text, told_operand_text, which_number};
 
-use crate::commands::Which;
 use crate::instruction_texts::{indexed, push_from, push_instr};
+use crate::operands::Which;
 use crate::producers::Producer;
 use crate::replies::{Info, Operand};
 use crate::texts::half;

@@ -3,10 +3,10 @@ ghost use Rattle.std.specs.Prelude.{◌≡◌};
 ghost use Rattle.session.specs.Replies.{source_at};
 
 use super::Session;
-use crate::commands::Which;
 use crate::names::register_of;
+use crate::operands::Which;
 use crate::replies::{Refusal, Reply};
-use crate::{accounts, calls, reads, rows};
+use crate::{accounts, front_calls, reads, rows};
 use back::Naming;
 use instructions::Predictor;
 use station::Source;
@@ -36,7 +36,7 @@ impl<'a, P: Predictor + Drop, J: Naming> Session<'a, P, J> {
             return Reply::Refused(Refusal::NoStation);
         }
         let (core, all, front) = (&self.core, &mut self.all, &mut self.front);
-        Reply::Look(calls::look(core, all, front, station as usize))
+        Reply::Look(front_calls::look(core, all, front, station as usize))
     }
 
     pub(super) fn creator(&mut self, register: u32) -> Reply
@@ -49,7 +49,7 @@ impl<'a, P: Predictor + Drop, J: Naming> Session<'a, P, J> {
         let Some(named) = register_of(register) else {
             return Reply::Refused(Refusal::NoRegister);
         };
-        Reply::Creator(calls::creator(core, &mut self.all, &mut self.front, named))
+        Reply::Creator(front_calls::creator(core, &mut self.all, &mut self.front, named))
     }
 
     pub(super) fn touched(&mut self) -> Reply

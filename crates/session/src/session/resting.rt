@@ -1,6 +1,6 @@
 //! Rests of a session.
 use super::Session;
-use crate::calls;
+use crate::front_calls;
 use crate::replies::Reply;
 use back::Naming;
 use instructions::Predictor;
@@ -17,7 +17,7 @@ impl<'a, P: Predictor + Drop, J: Naming> Session<'a, P, J> {
         ensures kept { self.new ≡ after_command Rest self.old self.new }
         ensures reply { Answers self.old self.new Rest result }
     {
-        let rest = calls::rest(&self.core, &mut self.all, &mut self.front);
+        let rest = front_calls::rest(&self.core, &mut self.all, &mut self.front);
         if let front::Rest::Idle = rest {
             self.rested = true;
         }

@@ -1,7 +1,6 @@
-use Rattle.std.proofs.Common.{◌+◌, ◌%◌, ◌≤◌, rules, sym, subst}
-use Rattle.session.specs.declared.replies.Head.{Head}
+use Rattle.std.proofs.Common.{◌+◌, ◌%◌, rules}
 use Rattle.session.proofs.Histories.{grows_on}
-use Rattle.session.proofs.WordsRead.{few_more, one_more_look}
+use Rattle.session.proofs.WordsRead.{few_after, one_more_look}
 use Rattle.session.proofs.rows.head.Goals as goal
 
 pub loop-at-preserved : goal.loop-at-preserved
@@ -17,5 +16,5 @@ loop-at-preserved g c =
       grows = grows_on core old at.all.seen new so_far.grows c.look-seen.ensures.grows;
       looked = one_more_look core old at.all.seen new c.args.tail at.at c.ring-ring.result at.head c.with-head.result c.look-seen.result c.is_free.result
           so_far.grows.begins c.look-seen.ensures.grows.begins c.ring-ring.ensures.value so_far.looked c.look-seen.ensures.reply c.is_free.ensures c.with-head.ensures;
-      few = subst (λ (h : Head). h.free ≤ at.at + 1) (sym c.with-head.ensures) (few_more at.head ((c.args.tail + at.at) % c.ring-ring.result) at.at c.is_free.result so_far.few);
+      few = few_after at.head c.with-head.result ((c.args.tail + at.at) % c.ring-ring.result) at.at c.is_free.result c.with-head.ensures so_far.few;
     }

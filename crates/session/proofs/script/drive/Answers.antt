@@ -2,7 +2,8 @@ use Rattle.std.proofs.Common.{◌≡◌, ◌+◌, ◌∙◌, false, sym, subst, 
 use Rattle.std.proofs.lemmas.Grind.{common_steps}
 use Rattle.counted_io.specs.Counted.{known_by}
 use Rattle.session.specs.Scripts.{LineIsTold}
-use Rattle.session.proofs.Scripts.{one_more_told}
+use Rattle.std.proofs.lemmas.Result.{err_from_is_err_and}
+use Rattle.session.proofs.Scripts.{broken, one_more_told}
 use Rattle.session.proofs.script.drive.Goals as goal
 
 pub loop-number-preserved : goal.loop-number-preserved
@@ -20,3 +21,12 @@ loop-number-preserved g c =
           (sent c.args.writer.now) (sent at.writer) (sent next.writer) at.number at.each c.is_each-each.result c.in-Some.line
           at.invariant.told told (sym c.ends_script.ensures ∙ goes) c.is_each-each.ensures;
     }
+
+pub returns-in_err-told-clause-broken : goal.returns-in_err-told-clause-broken
+returns-in_err-told-clause-broken g c =
+    let at = c.loop-number in
+    let sent = known_by g.W.Write.contents in
+    let from = g.I.Read.remaining in
+    let p = err_from_is_err_and c.from_residual.result c.from_residual.ensures.1 in
+    rw (p.1, p.2) (λ is. broken c.args.echo (from c.args.reader.now) (from at.reader) c.args.session.now at.session
+    (sent c.args.writer.now) (sent at.writer) (sent c.tell_line.new.writer) at.number at.each at.invariant.told (c.in_err-told.ensures.cut is))

@@ -1,6 +1,6 @@
 use Rattle.std.proofs.Common.{◌∙◌, ℕ, List, ap, subst}
 use Rattle.std.specs.Io.KnownBytes.{Appends}
-use Rattle.session.specs.Commands.{IsLine}
+use Rattle.session.specs.Lines.{IsLine}
 use Rattle.session.specs.Scripts.{line_of}
 use Rattle.session.specs.Transcripts.{IsWrittenOfLine}
 use Rattle.session.specs.Words.{words_of}

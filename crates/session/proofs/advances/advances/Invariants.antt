@@ -1,0 +1,10 @@
+use Rattle.std.proofs.Common.{◌≤◌, string_bytes}
+use Rattle.session.specs.Advances.{AreTurnsTaken}
+use Rattle.session.proofs.advances.advances.Given as goal
+
+-- so many turns were taken
+abbrev pub invariant-loop : goal.invariant-loop
+invariant-loop g l = record {
+  taken : AreTurnsTaken l.goal l.number l.fn.session l.counter l.retired (string_bytes l.out) l.session;
+  few : l.retired ≤ l.counter;
+}

@@ -1,0 +1,54 @@
+//! Turns up to a goal, in the order of the unit on one thread.
+ghost use Rattle.std.specs.Prelude.{◌≡◌, IfOk, string_bytes};
+ghost use Rattle.session.specs.Advances.{HasTurnedUpTo, is_met};
+
+use crate::advance::{Progress, advance};
+use crate::reading::Goal;
+use crate::session::Session;
+use back::Naming;
+use instructions::Predictor;
+use std::alloc::{AllocError, Global};
+use std::sync::Wait;
+
+/// The most turns that one line takes.
+pub const MOST_TURNS: u32 = 1_000_000;
+
+// The goal is met, where so many instructions have retired in the turns.
+fn is_met<P: Predictor + Drop, J: Naming>(
+    session: &Session<'_, P, J>,
+    goal: Goal,
+    retired: u32,
+) -> bool
+    ensures { result ≡ is_met goal session.now retired }
+{
+    match goal {
+        Goal::Retired(count) => count <= retired,
+        Goal::Next(pc) => session.next_retired() == pc,
+    }
+}
+
+/// Takes turns up to a goal, or as long as there is something to do, and gives what is told of them.
+pub(crate) fn advances<P: Predictor + Drop, J: Naming, R: Wait>(
+    wait: &R,
+    alloc: Global,
+    session: &mut Session<'_, P, J>,
+    number: u64,
+    goal: Goal,
+) -> Result<String, AllocError>
+    ensures { IfOk result (λ text.
+        HasTurnedUpTo goal number session.old session.new (string_bytes text)) }
+{
+    let mut out = String::new(alloc);
+    let mut retired = 0;
+    for _ in 0..MOST_TURNS {
+        if is_met(session, goal, retired) {
+            return Ok(out);
+        }
+        match advance(wait, alloc, session, number, &mut out)? {
+            Progress::Moved => {}
+            Progress::Retired => retired += 1,
+            Progress::Over => return Ok(out),
+        }
+    }
+    Ok(out)
+}

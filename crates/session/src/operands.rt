@@ -1,0 +1,125 @@
+//! The operands of commands.
+ghost use Rattle.std.specs.Prelude.{◌≡◌};
+ghost use Rattle.session.specs.Commands.{has_one, has_two, number_of, only_number, only_pc, only_register, source_of, station_and_source, two_parties, unit_and_number, without_operands};
+ghost use Rattle.session.specs.Words.{texts_of};
+
+use crate::names::{register_in, unit_in};
+use crate::parties::{Party, party_in};
+use crate::words::Words;
+use lexical::decimal_in;
+
+/// Source 1 or source 2 of an instruction.
+#[derive(Clone, Copy)]
+pub enum Which {
+    First,
+    Second,
+}
+
+fn has_one(words: &Words<'_>) -> bool
+    ensures { result ≡ has_one (texts_of words.now) }
+{
+    !words.first.is_empty() && words.second.is_empty()
+}
+
+fn has_two(words: &Words<'_>) -> bool
+    ensures { result ≡ has_two (texts_of words.now) }
+{
+    !words.second.is_empty() && words.rest.is_empty()
+}
+
+/// What a word without operands asks for.
+pub(crate) fn bare<T: Copy>(words: &Words<'_>, asked: T) -> Option<T>
+    ensures { result ≡ without_operands (texts_of words.now) asked }
+{
+    if words.first.is_empty() {
+        Some(asked)
+    } else {
+        None
+    }
+}
+
+fn number_in(text: &[u8]) -> Option<u32>
+    ensures { result ≡ number_of text.now }
+{
+    decimal_in(text, 0xffff_ffff)
+}
+
+/// The number that is the only operand.
+pub(crate) fn only_number(words: &Words<'_>) -> Option<u32>
+    ensures { result ≡ only_number (texts_of words.now) }
+{
+    if has_one(words) {
+        number_in(words.first)
+    } else {
+        None
+    }
+}
+
+/// The register that is the only operand.
+pub(crate) fn only_register(words: &Words<'_>) -> Option<u32>
+    ensures { result ≡ only_register (texts_of words.now) }
+{
+    if has_one(words) {
+        register_in(words.first)
+    } else {
+        None
+    }
+}
+
+/// The pc that is the only operand.
+pub(crate) fn only_pc(words: &Words<'_>) -> Option<u32>
+    ensures { result ≡ only_pc (texts_of words.now) }
+{
+    if has_one(words) {
+        lexical::number_in(words.first, 0, 0xffff_ffff)
+    } else {
+        None
+    }
+}
+
+/// A unit and the number of a station.
+pub(crate) fn unit_and_number(words: &Words<'_>) -> Option<(usize, u32)>
+    ensures { result ≡ unit_and_number (texts_of words.now) }
+{
+    if !has_two(words) {
+        return None;
+    }
+    let unit = unit_in(words.first)?;
+    let number = number_in(words.second)?;
+    Some((unit, number))
+}
+
+// The source of this number, 1 or 2.
+fn source_in(text: &[u8]) -> Option<Which>
+    ensures { result ≡ source_of text.now }
+{
+    match number_in(text)? {
+        1 => Some(Which::First),
+        2 => Some(Which::Second),
+        _ => None,
+    }
+}
+
+/// The number of a station, and one of its two sources.
+pub(crate) fn station_and_source(words: &Words<'_>) -> Option<(u32, Which)>
+    ensures { result ≡ station_and_source (texts_of words.now) }
+{
+    if !has_two(words) {
+        return None;
+    }
+    let station = number_in(words.first)?;
+    let k = source_in(words.second)?;
+    Some((station, k))
+}
+
+/// Two that meet.
+pub(crate) fn two_parties(words: &Words<'_>) -> Option<(Party, Party)>
+    ensures { result ≡ two_parties (texts_of words.now) }
+{
+    if !has_two(words) {
+        return None;
+    }
+    let one = party_in(words.first)?;
+    let other = party_in(words.second)?;
+    Some((one, other))
+}
