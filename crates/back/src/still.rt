@@ -30,9 +30,11 @@ impl<J: Naming> Model for BackStill<J> {
 
     ghost Value = { TheStillBack };
 
-    ghost view = { λ b. record { core = b.left.value.core; seen = b.left.value.seen; shown = b.publisher } };
+    ghost view = { λ b.
+        record { core = b.left.value.core; seen = b.left.value.seen; shown = b.publisher } };
 
-    ghost invariant = { λ b. BackIsKept J.program b.left.value b.state b.waits b.head None b.publisher };
+    ghost invariant = { λ b.
+        BackIsKept J.program b.left.value b.state b.waits b.head None b.publisher };
 }
 
 impl<J: Naming> Back<J> {

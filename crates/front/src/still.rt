@@ -27,7 +27,12 @@ impl<P: Predictor + Drop> Model for FrontStill<P> {
 
     ghost Value = { TheStillFront P };
 
-    ghost view = { λ f. record { core = f.left.value.core; seen = f.left.value.seen; predictor = f.predictor; touched = f.creators.counted.touched } };
+    ghost view = { λ f. record {
+      core = f.left.value.core;
+      seen = f.left.value.seen;
+      predictor = f.predictor;
+      touched = f.creators.counted.touched;
+    } };
 
     ghost invariant = { λ f. FrontIsStill f.left.value f.base f.creators.counted };
 }
