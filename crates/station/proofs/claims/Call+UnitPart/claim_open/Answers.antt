@@ -7,7 +7,7 @@ use Rattle.ruu_words.proofs.Stays.{named_of, tag_small}
 use Rattle.station.specs.Calls.{IsLegalCall}
 use Rattle.station.proofs.Calls.{legal_at, program_at}
 use Rattle.station.proofs.ClaimSteps.{claim_begins, has_both, has_claimed, has_first, is_ready, moved_at_exchange, needs_at, next_is_second, refused_source}
-use Rattle.station.proofs.Opened.{index_inside}
+use Rattle.station.proofs.OnItsWay.{index_inside}
 use Rattle.station.proofs.claims.Call+UnitPart.claim_open.Goals as goal
 
 pub instr-requires : goal.instr-requires
