@@ -1,6 +1,6 @@
 use Rattle.std.proofs.Common.{◌+◌, ◌-◌, ap, sym, ◌∙◌, arith, drop, take}
 use Rattle.front.specs.Queues.{memory_records}
-use Rattle.front.proofs.InQueue.{access_more, access_same, none_back, whole_by}
+use Rattle.front.proofs.PathParts.{access_more, access_same, none_back, whole_by}
 use Rattle.front.proofs.queue.access_before.Goals as goal
 
 pub returns-then-left-eq0 : goal.returns-then-left-eq0

@@ -5,7 +5,8 @@ use Rattle.inorder.specs.History.{unit_of}
 use Rattle.front.proofs.Releasing.{ready_now, released_told}
 use Rattle.front.proofs.Splitting.{stays}
 use Rattle.front.proofs.Stays.{knows_stable}
-use Rattle.front.proofs.Tables.{table_stable, touched_more, touched_none}
+use Rattle.front.proofs.TableStays.{table_stable}
+use Rattle.front.proofs.Touches.{touched_more, touched_none}
 use Rattle.front.proofs.Turned.{is_let}
 use Rattle.front.specs.CreateTable.{HasTable}
 use Rattle.front.specs.Path.{Releases, rested_at}
