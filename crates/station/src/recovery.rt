@@ -66,11 +66,11 @@ impl Core {
     {
         let next = seat.station;
         let mut call = Call::<FrontPart>::of(self, &mut seat.seat);
-        let left = call.squash_youngest(next);
+        let squashed = call.squash_youngest(next);
         let Call { seat: given, .. } = call;
         let _given: &Seat<u8, View> = given;
-        seat.station = left.0;
-        left
+        seat.station = squashed.0;
+        squashed
     }
 
     /// Mends the miss of a station, which is the youngest live tenant: the path goes on at its
