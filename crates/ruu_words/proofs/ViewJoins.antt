@@ -75,6 +75,7 @@ module _ (P : Program) (C : Sizes) (opening : List Entry) where
           one_table = k.one_table;
           wide = k.wide;
           words = k.words;
+          proper = k.proper;
           views = λ j u e. ⊎_elim
               (λ (t : (j ≡ other) × (z ≡ u)). subst (ViewFits opening h) t.1 is_spent)
               (λ (t : (j ≢ other) × (get_elem? (set s.views id b) j ≡ some u)). ⊎_elim
@@ -87,6 +88,5 @@ module _ (P : Program) (C : Sizes) (opening : List Entry) where
               let y' = was_at s.views id v other w here j u' e' a' in
               k.apart i j n y.before y'.before y.is y'.is ne (was_alive s.views i u y a) (was_alive s.views j u' y' a') (was_of s.views i n u y x) (was_of s.views j n u' y' x');
           draft = λ j u e a is. let y = was_at s.views id v other w here j u e a in sym y.draft_is ∙ k.draft j y.before y.is (was_alive s.views j u y a) (y.by_is ∙ is);
-          proper = k.proper;
         };
       }

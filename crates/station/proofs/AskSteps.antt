@@ -67,7 +67,8 @@ module _ {v w : TheCall} {s g a b : ℕ} {k : Source} (r : IsAskedAt v w s g k a
         (can_answer v.core.program v.core.sizes v.view.by s g k a b n v.view.seen w.view x.view r.by_is r.asked found made))
 
     -- Behind the exchange
-    pub is_delivered : {y : TheCall} {tag : ℕ} (o m : ℕ) → IsMade (state_of n) → tag ≡ g → TakesStep x y (λ P C. Ends P C s tag k o m) → LeadsTo v y (let_place v) (AnswersAsk (s, g) k (a, b) Delivered)
+    pub is_delivered : {y : TheCall} {tag : ℕ} (o m : ℕ) → IsMade (state_of n) → tag ≡ g → TakesStep x y (λ P C. Ends P C s tag k o m) →
+        LeadsTo v y (let_place v) (AnswersAsk (s, g) k (a, b) Delivered)
     is_delivered {y} {tag} o m made tag_is step =
         let ends : Grows v.core.program v.core.sizes v.view.by x.view y.view (Ends v.core.program v.core.sizes s g k o m) =
         subst (λ t. Grows v.core.program v.core.sizes v.view.by x.view y.view (Ends v.core.program v.core.sizes s t k o m)) tag_is (taken on step) in

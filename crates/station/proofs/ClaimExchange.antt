@@ -49,7 +49,8 @@ module _ (P : Program) (C : Sizes) where
 
       -- The exchange
 
-      pub claim_moved : (v w : View) (word n : ℕ) (y : Grows P C by v w (Claims P C s g word n)) → Ready P C by s g old (HasBoth d i x a both b) v.seen → n ≢ word → ClaimAnswers P C by old w.seen s (Moved g)
+      pub claim_moved : (v w : View) (word n : ℕ) (y : Grows P C by v w (Claims P C s g word n)) → Ready P C by s g old (HasBoth d i x a both b) v.seen → n ≢ word →
+          ClaimAnswers P C by old w.seen s (Moved g)
       claim_moved v w word n y r miss = ⊎_elim
           (λ here. absurd (miss here.0))
           (λ other. refused P C by s g old (HasBoth d i x a both b) v.seen w.seen (λ p. Refuses (HasMoved p)) r (told_of P C by v w (Claims P C s g word n) y s g IsClosed HasMoved other.1))

@@ -108,7 +108,8 @@ module _ (P : Program) (C : Sizes) where
         (λ other. absurd (other.0 hit))
         x.kind
 
-    pub recheck_moved : (A : Tenant → Type 0) (v w : View) (word n : ℕ) (x : Grows P C by v w (Rechecks P C s g word n)) → Ready P C by s g old A v.seen → n ≢ word → ClaimAnswers P C by old w.seen s (Moved g)
+    pub recheck_moved : (A : Tenant → Type 0) (v w : View) (word n : ℕ) (x : Grows P C by v w (Rechecks P C s g word n)) → Ready P C by s g old A v.seen → n ≢ word →
+        ClaimAnswers P C by old w.seen s (Moved g)
     recheck_moved A v w word n x r miss = ⊎_elim
         (λ here. absurd (miss here.0))
         (λ other. refused P C by s g old A v.seen w.seen (λ p. Refuses (HasMoved p)) r (told_of P C by v w (Rechecks P C s g word n) x s g IsClosed HasMoved other.1))
@@ -126,7 +127,8 @@ module _ (P : Program) (C : Sizes) where
           adds = adds_none P C by old legal;
         }
 
-    pub takes_first : (d : Half) (i x a : ℕ) (seen new : List Entry) → Ready P C by s g old (IsClaimable d i x) seen → HasSource P C by seen new s g true First a → Ready P C by s g old (HasFirst d i x a) new
+    pub takes_first : (d : Half) (i x a : ℕ) (seen new : List Entry) → Ready P C by s g old (IsClaimable d i x) seen → HasSource P C by seen new s g true First a →
+        Ready P C by s g old (HasFirst d i x a) new
     takes_first d i x a seen new r h =
         both_of P C by s g old (IsClaimable d i x) (SourceIs true First a) (HasFirst d i x a) new h.p h.adds.legal (λ t f e. record { its = f; first = e })
         (on_to P C by s g old (IsClaimable d i x) (claimable_stable d i x) seen new r h.adds) h.named
@@ -137,7 +139,8 @@ module _ (P : Program) (C : Sizes) where
         both_of P C by s g old (HasFirst d i x a) (SourceIs both Second b) (HasBoth d i x a both b) new h.p h.adds.legal (λ t f e. record { its = f; second = e })
         (on_to P C by s g old (HasFirst d i x a) (first_stable d i x a) seen new r h.adds) h.named
 
-    pub source_refused : (A : Tenant → Type 0) (seen new : List Entry) (k : Source) (needed : Bool) (refusal : Answer) → Ready P C by s g old A seen → SourceAnswers P C by seen new s g k needed (Err refusal) →
+    pub source_refused : (A : Tenant → Type 0) (seen new : List Entry) (k : Source) (needed : Bool) (refusal : Answer) → Ready P C by s g old A seen →
+        SourceAnswers P C by seen new s g k needed (Err refusal) →
         ClaimAnswers P C by old new s refusal
     source_refused A seen new k needed refusal r answer = ⊎_elim
         (λ w. subst (ClaimAnswers P C by old new s) (sym w.0) (refused P C by s g old A seen new (λ p. Refuses (Waits p k)) r w.1))

@@ -88,7 +88,8 @@ module _ (P : Program) (C : Sizes) where
       more seen legal j
 
   -- behind a live tenant none has its station
-  pub last_live : (h : List Entry) → IsLegal P C h → (p q : ℕ) (t u : Tenant) → at (unit_of P C h).tenants p ≡ Some t → at (unit_of P C h).tenants q ≡ Some u → t.standing ≡ Live → u.station ≡ t.station →
+  pub last_live : (h : List Entry) → IsLegal P C h → (p q : ℕ) (t u : Tenant) → at (unit_of P C h).tenants p ≡ Some t → at (unit_of P C h).tenants q ≡ Some u →
+      t.standing ≡ Live → u.station ≡ t.station →
       ¬ (p < q)
   last_live h legal p q t u is is' live same less =
       let us = (unit_of P C h).tenants in

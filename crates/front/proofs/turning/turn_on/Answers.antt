@@ -33,7 +33,8 @@ dispatch-tag-requires-clause-ready g c =
     let least : 2 ≤ C.ring = subst (λ z. 2 ≤ z) c.ring.ensures.value c.ring.ensures.least in
     let released : Releases C.ring c.in-Ok.next.left c.args.path.now c.release-departed.result c.release-departed.new.self = subst
     (λ z. Releases z c.in-Ok.next.left c.args.path.now c.release-departed.result c.release-departed.new.self) c.ring.ensures.value c.release-departed.ensures.reply in
-    ready_now P C h c.fetch.ensures.history.legal records base knows least c.in-Ok.next.left c.in-Ok.ensures.ok.oldest c.args.path.now refl refl c.release-departed.result c.release-departed.new.self released
+    ready_now P C h c.fetch.ensures.history.legal records base knows least c.in-Ok.next.left c.in-Ok.ensures.ok.oldest c.args.path.now refl refl
+    c.release-departed.result c.release-departed.new.self released
 
 pub returns-clause-reply : goal.returns-clause-reply
 returns-clause-reply g c =

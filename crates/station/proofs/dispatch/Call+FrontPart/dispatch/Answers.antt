@@ -50,21 +50,24 @@ pub store_first-requires-clause-word : goal.store_first-requires-clause-word
 store_first-requires-clause-word c =
     let r1 = looked (legal_at c.self.invariant c.self.view_is) (caller_at c.self.invariant c.self.view_is) c.requires.letting c.look-found.ensures in
     let r2 = stored r1 c.store_info.ensures in
-    let tag_is = tag_read (legal_at c.self.invariant c.self.view_is) (caller_at c.self.invariant c.self.view_is) c.requires.letting c.look-found.ensures c.unpack-tag.result.tag c.unpack-tag.ensures.tag in
+    let tag_is = tag_read (legal_at c.self.invariant c.self.view_is) (caller_at c.self.invariant c.self.view_is) c.requires.letting c.look-found.ensures
+    c.unpack-tag.result.tag c.unpack-tag.ensures.tag in
     subst (λ z. IsOperandOf (record { tag = z; value = given_value c.args.tenant.sources.0 }) c.operand_word-first.result) (tag_is ∙ sym (tag_at r2)) c.operand_word-first.ensures
 
 pub store_second-requires-clause-word : goal.store_second-requires-clause-word
 store_second-requires-clause-word c =
     let r1 = looked (legal_at c.self.invariant c.self.view_is) (caller_at c.self.invariant c.self.view_is) c.requires.letting c.look-found.ensures in
     let r3 = stored (stored r1 c.store_info.ensures) c.store_first.ensures in
-    let tag_is = tag_read (legal_at c.self.invariant c.self.view_is) (caller_at c.self.invariant c.self.view_is) c.requires.letting c.look-found.ensures c.unpack-tag.result.tag c.unpack-tag.ensures.tag in
+    let tag_is = tag_read (legal_at c.self.invariant c.self.view_is) (caller_at c.self.invariant c.self.view_is) c.requires.letting c.look-found.ensures
+    c.unpack-tag.result.tag c.unpack-tag.ensures.tag in
     subst (λ z. IsOperandOf (record { tag = z; value = given_value c.args.tenant.sources.1 }) c.operand_word-second.result) (tag_is ∙ sym (tag_at r3)) c.operand_word-second.ensures
 
 pub let_tenant-requires-clause-word : goal.let_tenant-requires-clause-word
 let_tenant-requires-clause-word c =
     let r1 = looked (legal_at c.self.invariant c.self.view_is) (caller_at c.self.invariant c.self.view_is) c.requires.letting c.look-found.ensures in
     let r4 = stored (stored (stored r1 c.store_info.ensures) c.store_first.ensures) c.store_second.ensures in
-    let tag_is = tag_read (legal_at c.self.invariant c.self.view_is) (caller_at c.self.invariant c.self.view_is) c.requires.letting c.look-found.ensures c.unpack-tag.result.tag c.unpack-tag.ensures.tag in
+    let tag_is = tag_read (legal_at c.self.invariant c.self.view_is) (caller_at c.self.invariant c.self.view_is) c.requires.letting c.look-found.ensures
+    c.unpack-tag.result.tag c.unpack-tag.ensures.tag in
     subst (λ z. IsStation (live_word z Open) c.open_word-open.result) (tag_is ∙ sym (tag_at r4)) c.open_word-open.ensures
 
 pub returns : goal.returns
