@@ -8,7 +8,7 @@ use Rattle.back.proofs.Seeing.{two_looks}
 use Rattle.back.proofs.ReadLoads.{load_says}
 use Rattle.back.proofs.Trying.{none_read, some_waits}
 use Rattle.back.proofs.AtStation.{none_shown}
-use Rattle.back.proofs.port.waiting.Goals as goal
+use Rattle.back.proofs.port.find_waiting.Goals as goal
 
 pub returns-in_default-clause-none : goal.returns-in_default-clause-none
 returns-in_default-clause-none c =
