@@ -22,6 +22,7 @@ pub mod EndWords
 pub mod RetirePlans
 pub mod Retiring
 pub mod RetireLoads
+pub mod RetireSteps
 pub mod Mending
 pub mod WalkStays
 pub mod WalkLink
