@@ -146,8 +146,8 @@ impl Core {
     {
         let mut call = Call::<UnitPart>::of(self, &mut seat.seat);
         let answer = call.claim_at(station);
-        let Call { seat: left, .. } = call;
-        let _left: &Seat<u8, View> = left;
+        let Call { seat: given, .. } = call;
+        let _given: &Seat<u8, View> = given;
         answer
     }
 }

@@ -86,7 +86,7 @@ impl Core {
     {
         let mut call = Call::<FrontPart>::of(self, &mut seat.seat);
         call.mend_miss(station);
-        let Call { seat: left, .. } = call;
-        let _left: &Seat<u8, View> = left;
+        let Call { seat: given, .. } = call;
+        let _given: &Seat<u8, View> = given;
     }
 }

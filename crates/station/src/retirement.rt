@@ -184,8 +184,8 @@ impl Core {
         let over = seat.over;
         let mut call = Call::<BackPart>::of(self, &mut seat.seat);
         let answer = call.retire_from(station, over);
-        let Call { seat: left, .. } = call;
-        let _left: &Seat<u8, View> = left;
+        let Call { seat: given, .. } = call;
+        let _given: &Seat<u8, View> = given;
         if let Retire::Retired { last, .. } = answer {
             seat.station = wrapped(station + 1, self.ring);
             seat.over = ends(last);
