@@ -8,9 +8,9 @@ use Rattle.inorder.specs.Machine.{State, start}
 use Rattle.std.proofs.Math.Nat.{mod-lt}
 use Rattle.inorder.proofs.Histories.{legal_before}
 use Rattle.snapshots.specs.declared.snap.Snap.{Snap}
-use Rattle.station.specs.Seats.{Caller}
+use Rattle.station.specs.Seats.{Caller, TheCore}
 use Rattle.snapshots.specs.Snapshots.{opening}
-use Rattle.back.specs.Backs.{HasRetiredNothing, IsNewBack, IsSameBack, back_of, unit_in}
+use Rattle.back.specs.Backs.{HasRetiredNothing, IsNewBack, IsSameBack, TheBack, back_of, unit_in}
 use Rattle.back.specs.Kept.{BackIsKept, KeepsUnit}
 use Rattle.back.proofs.Starting.{starts}
 use Rattle.back.proofs.SeatKept.{kept_by, same_state, state_is}
@@ -52,9 +52,15 @@ module _ (P : Program) (seat seat' : Caller) (program : seat.core.program ≡ P)
   }
 
 -- the head is a station
-pub head_small : (head x ring r : ℕ) → head ≡ x % ring → r ≡ ring → 2 ≤ r → head < r
+head_small : (head x ring r : ℕ) → head ≡ x % ring → r ≡ ring → 2 ≤ r → head < r
 head_small head x ring r e f least =
     let small : x % ring < ring = mod-lt x (omega (arith, f, least)) in omega (arith, e, f, small)
+
+pub head_inside : {P : Program} {old : TheBack} {core : TheCore} {seat : Caller} {state : State} {low : Option ℕ} {head ring : ℕ} {ended : Option Stop} {shown : Snap} →
+    BackIsKept P seat state low head ended shown → back_of seat ended shown ≡ old → old.core ≡ core → ring ≡ core.sizes.ring → 2 ≤ ring → head < ring
+head_inside {P} {old} {core} {seat} {state} {low} {head} {ring} kept view core_is ring_is least =
+    let same : seat.core ≡ core = ap (λ (b : TheBack). b.core) view ∙ core_is in
+    head_small head _ _ ring kept.unit.head_is (ring_is ∙ sym (ap (λ (d : TheCore). d.sizes.ring) same)) least
 
 -- the same, of what the fields are
 pub kept_as : (P : Program) (seat : Caller) (state state' : State) (low low' : Option ℕ) (head head' : ℕ) (ended ended' : Option Stop) (shown : Snap)

@@ -7,7 +7,8 @@ pub mod Starting
 pub mod SeatKept
 pub mod Calls
 pub mod Leaving
-pub mod CommitCalls
+pub mod CommitFacts
+pub mod CommitRetired
 pub mod Ranks
 pub mod RuleOver
 pub mod PortRule
@@ -15,11 +16,15 @@ pub mod PortStays
 pub mod Seeing
 pub mod Searching
 pub mod Answering
+pub mod Moments
+pub mod AtStation
+pub mod ReadLoads
 pub mod Trying
 pub mod Settling
 pub mod Standing
 pub mod Scanning
 pub mod Refreshing
 pub mod Wakings
+pub mod ScanSteps
 pub mod TrialFacts
 pub mod Behind

@@ -27,7 +27,7 @@ use Rattle.back.specs.declared.answers.Refresh.TheVariants.{Blocked, Idle, Loade
 use Rattle.back.specs.Scans.{FirstIs, IsFirstBlocked, Scanned}
 use Rattle.back.specs.Trials.{DidLoad, HoldsBack, IsLoadAt}
 use Rattle.back.proofs.Ranks.{rank}
-use Rattle.back.proofs.Trying.{once_earlier}
+use Rattle.back.proofs.Moments.{once_earlier}
 use Rattle.back.proofs.UnitKept.{IsQuiet, committed_kept, head_kept_on}
 use Rattle.back.proofs.Standing.{none_behind, place_in, place_of, since_at}
 use Rattle.back.proofs.Scanning.{either_later}

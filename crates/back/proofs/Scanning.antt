@@ -21,7 +21,7 @@ use Rattle.back.specs.Port.{station_behind}
 use Rattle.back.specs.Refreshes.{IsTooLate}
 use Rattle.back.specs.Scans.{EachBehind, FirstIs, IsFirstBlocked, Scanned}
 use Rattle.back.specs.Trials.{HasHeldBack, HasPassed, HoldsBack, IsLoadAt, NoOtherWaits, NoLoadWaits}
-use Rattle.back.proofs.Trying.{once_earlier, once_later, once_now}
+use Rattle.back.proofs.Moments.{once_earlier, once_later, once_now}
 use Rattle.back.proofs.Standing.{since_at}
 
 live_or_not : (s : Standing) → (s ≡ Live) ⊎ (s ≢ Live)

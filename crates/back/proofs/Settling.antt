@@ -37,7 +37,7 @@ use Rattle.back.specs.Trials.{DidLoad, HasHeldBack, HasPassed, HoldsBack, IsLoad
 use Rattle.back.specs.declared.port.Load.{Load}
 use Rattle.back.proofs.OwnEntries.{EndsWith, added_own, split_last}
 use Rattle.back.proofs.PortStays.{asked_stays}
-use Rattle.back.proofs.Trying.{once_earlier, once_later, once_now, starts_on}
+use Rattle.back.proofs.Moments.{once_earlier, once_later, once_now, starts_on}
 use Rattle.inorder.proofs.Recent.{live_is_recent}
 
 apart : Live ≡ Squashed → ⊥

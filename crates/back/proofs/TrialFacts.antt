@@ -6,14 +6,15 @@ use Rattle.inorder.specs.History.{back}
 use Rattle.inorder.specs.OneHistory.{Adds}
 use Rattle.inorder.specs.Replies.{IsStale}
 use Rattle.station.specs.Seats.{Caller, IsSameSeat, TheCore}
+use Rattle.station.specs.Waking.{HasWoken}
 use Rattle.station.specs.Writeback.{IsWalk, IsWritten, MaySettle, WasStale}
 use Rattle.back.specs.Backs.{SeesMore, unit_in}
-use Rattle.back.specs.Port.{Ceases, IsBlockedAt, Remains}
+use Rattle.back.specs.Port.{Ceases, IsBlockedAt, Remains, station_behind}
 use Rattle.back.specs.Trials.{DidLoad, HasHeldBack, HasPassed, SomeWaits}
 use Rattle.back.specs.Wakings.{WakesNobody}
 use Rattle.back.specs.declared.port.Load.{Load}
 use Rattle.back.proofs.Settling.{asked_late, came_late, did_load, has_gone, holds_back, may_settle, named_late}
-use Rattle.back.proofs.Wakings.{still_after}
+use Rattle.back.proofs.Wakings.{nobody_late, nobody_on, nobody_still, still_after, woken_behind}
 
 -- The station found by a wrap is that behind the head
 pub place_of : (h k : ℕ) {n r ring : ℕ} → n ≡ (h + k) % r → r ≡ ring → n ≡ (h + k) % ring
@@ -28,18 +29,19 @@ pub record TrialFacts (core : TheCore) (old mid late : Caller) (here station : �
   pub here_is : here ≡ station
   pub waits : SomeWaits core.program core.sizes old.seen mid.seen station l
 
-pub facts_of : (core : TheCore) (old mid late : Caller) (here station : ℕ) (l : Load) → old.by ≡ back → IsSameSeat old mid → SeesMore core old.by old.seen mid.seen →
-    IsSameSeat mid late → SeesMore core mid.by mid.seen late.seen → here ≡ station → SomeWaits core.program core.sizes old.seen mid.seen here l →
-    TrialFacts core old mid late here station l
-facts_of core old mid late here station l by_is kept history kept_on history_on here_is waits =
+pub facts_of : (core : TheCore) (h k : ℕ) {old mid late : Caller} {here r : ℕ} {l : Load} → old.by ≡ back → IsSameSeat old mid → SeesMore core old.by old.seen mid.seen →
+    IsSameSeat mid late → SeesMore core mid.by mid.seen late.seen → here ≡ (h + k) % r → r ≡ core.sizes.ring → SomeWaits core.program core.sizes old.seen mid.seen here l →
+    TrialFacts core old mid late here (station_behind h core.sizes.ring k) l
+facts_of core h k {old} {mid} {late} {here} {r} {l} by_is kept history kept_on history_on here_is ring_is waits =
     let by_mid = kept.by ∙ by_is in
+    let place = place_of h k here_is ring_is in
     record {
       by_is = by_is;
       by_late = kept_on.by ∙ by_mid;
       found = subst (λ x. Adds core.program core.sizes x old.seen mid.seen []) by_is history;
       asked = subst (λ x. Adds core.program core.sizes x mid.seen late.seen []) by_mid history_on;
-      here_is = here_is;
-      waits = subst (λ s. SomeWaits core.program core.sizes old.seen mid.seen s l) here_is waits;
+      here_is = place;
+      waits = subst (λ s. SomeWaits core.program core.sizes old.seen mid.seen s l) place waits;
     }
 
 module _ {core : TheCore} {old mid late : Caller} {here station : ℕ} {l : Load} (t : TrialFacts core old mid late here station l) where
@@ -86,7 +88,29 @@ module _ {core : TheCore} {old mid late : Caller} {here station : ℕ} {l : Load
         (has_gone core.program core.sizes old.seen mid.seen late.seen t.found t.asked station l t.waits new.seen last (gone t.waits.p asks))
 
 -- Nobody was woken up to the last of two calls that added nothing
-pub nobody_until : (core : TheCore) (old mid late : Caller) → IsSameSeat old mid → SeesMore core old.by old.seen mid.seen → mid.woken ≡ old.woken →
-    SeesMore core mid.by mid.seen late.seen → late.woken ≡ mid.woken → WakesNobody core.program core.sizes old.by old.seen late.seen old.woken late.woken
-nobody_until core old mid late kept history woken history_on woken_on =
-    still_after core.program core.sizes old.by mid.by old.seen mid.seen late.seen old.woken mid.woken late.woken kept.by history woken history_on woken_on
+pub record NobodyUntil (core : TheCore) (old late : Caller) : Type 0 where
+  pub by_is : late.by ≡ old.by
+  pub nobody : WakesNobody core.program core.sizes old.by old.seen late.seen old.woken late.woken
+
+pub nobody_until : (core : TheCore) {old mid late : Caller} → IsSameSeat old mid → SeesMore core old.by old.seen mid.seen → mid.woken ≡ old.woken →
+    IsSameSeat mid late → SeesMore core mid.by mid.seen late.seen → late.woken ≡ mid.woken → NobodyUntil core old late
+nobody_until core {old} {mid} {late} kept history woken kept_on history_on woken_on = record {
+  by_is = kept_on.by ∙ kept.by;
+  nobody = still_after core.program core.sizes old.by mid.by old.seen mid.seen late.seen old.woken mid.woken late.woken kept.by history woken history_on woken_on;
+}
+
+module _ {core : TheCore} {old late : Caller} (n : NobodyUntil core old late) (new : Caller) where
+  pub woken_then : HasWoken core.program core.sizes late.by late.seen new.seen new.woken → HasWoken core.program core.sizes old.by old.seen new.seen new.woken
+  woken_then w = woken_behind core.program core.sizes old.by old.seen late.seen new.seen old.woken late.woken new.woken n.nobody
+      (subst (λ z. HasWoken core.program core.sizes z late.seen new.seen new.woken) n.by_is w)
+
+  nobody_then : WakesNobody core.program core.sizes late.by late.seen new.seen late.woken new.woken → WakesNobody core.program core.sizes old.by old.seen new.seen old.woken new.woken
+  nobody_then w = nobody_on core.program core.sizes old.by old.seen late.seen new.seen old.woken late.woken new.woken n.nobody
+      (subst (λ z. WakesNobody core.program core.sizes z late.seen new.seen late.woken new.woken) n.by_is w)
+
+  pub stale_then : (here tag : ℕ) → WasStale core.program core.sizes late.by late.seen new.seen here tag → HasWoken core.program core.sizes late.by late.seen new.seen new.woken →
+      WakesNobody core.program core.sizes old.by old.seen new.seen old.woken new.woken
+  stale_then here tag stale woken = nobody_then (nobody_late core.program core.sizes late.by late.seen new.seen here tag late.woken new.woken stale woken)
+
+  pub still_then : SeesMore core late.by late.seen new.seen → new.woken ≡ late.woken → WakesNobody core.program core.sizes old.by old.seen new.seen old.woken new.woken
+  still_then history woken = nobody_then (nobody_still core.program core.sizes late.by late.seen new.seen late.woken new.woken history woken)

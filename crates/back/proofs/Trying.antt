@@ -1,206 +1,38 @@
--- What is found at one station.
-use Rattle.std.proofs.Common.{◌≡◌, ◌≢◌, ◌⊎◌, ℕ, ◌+◌, ◌<◌, ◌≤◌, Bool, true, false, cond, eqb, eqb-true, leb, leb-true, ltb, List, [], length, Some, None, refl, sym, ap, ◌∙◌, subst, inl, inr, ⊎_elim}
+-- Both looks at a load, and the last one.
+use Rattle.std.proofs.Common.{◌≡◌, ◌⊎◌, ℕ, ◌+◌, ◌<◌, ◌≤◌, List, [], length, Some, None, sym, ap, ◌∙◌, subst, inl, inr, ⊎_elim}
 use Rattle.std.proofs.Common.{arith}
-use Rattle.std.proofs.lemmas.Bool.{cases_lt, le-leb, lt-ltb}
 use mathlib.Core.Logic.{dite}
 use native.Mathlib.Decide.{ℕ_discrete}
 use Rattle.instructions.specs.Instruction.{kind, width}
 use Rattle.instructions.specs.Programs.{Program, instr_of}
-use Rattle.instructions.specs.declared.instr.Instr.{Instr}
-use Rattle.instructions.specs.declared.op.Kind.{Kind}
-use Rattle.instructions.specs.declared.op.Kind.TheVariants.{Computes, Jumps, Links, Loads, Stores}
 use Rattle.inorder.specs.declared.history.Entry.{Entry}
-use Rattle.inorder.specs.History.{IsLegal, StartsWith, back, taken_of, unit_of}
+use Rattle.inorder.specs.History.{back, taken_of, unit_of}
 use Rattle.inorder.specs.OneHistory.{Adds}
 use Rattle.inorder.specs.Replies.{Has, IsStale}
-use Rattle.inorder.specs.StationWords.{IsAddr, IsBusy, IsDone, IsFree, IsMiss, IsOpen, IsStop, HasFate, StationState as State, live_word, station_word}
-use Rattle.inorder.specs.Tenants.{Addr, Busy, Done, Fate, Live, Miss, Open, Squashed, Stopped, Tenant}
-use Rattle.inorder.specs.Unit.{Sizes, UpdateUnit, at, older, recent, younger}
+use Rattle.inorder.specs.StationWords.{station_word}
+use Rattle.inorder.specs.Tenants.{Addr, Live, Squashed, Tenant}
+use Rattle.inorder.specs.Unit.{Sizes, at, older, recent, younger}
 use Rattle.inorder.proofs.Basics.{split_at}
 use Rattle.inorder.proofs.Grows.{sound_mid}
-use Rattle.inorder.proofs.Histories.{allowed_steps, starts_longer, starts_same, unit_sound}
+use Rattle.inorder.proofs.Histories.{allowed_steps, unit_sound}
 use Rattle.inorder.proofs.InOrderStep.{load_in}
-use Rattle.inorder.proofs.Positions.{at_below, at_there, younger_at}
+use Rattle.inorder.proofs.Positions.{at_below, at_there}
 use Rattle.inorder.proofs.Sound.{FateIs, IsSound}
-use Rattle.inorder.proofs.StationsShown.{stations_follow}
 use Rattle.inorder.proofs.Tags.{tagged}
 use Rattle.ruu_words.specs.declared.station.StationState.{StationState}
-use Rattle.ruu_words.specs.Content.{HasValue, code}
-use Rattle.ruu_words.specs.States.{state_code}
 use Rattle.ruu_words.specs.Kinds.{IsNamed}
 use Rattle.station.specs.Looking.{Shows}
-use Rattle.station.specs.Moments.{WasOnce}
 use Rattle.back.specs.Loads.{IsWaitingLoad}
 use Rattle.back.specs.Port.{IsAskedInOrder, IsLoadOf, address_in, shown_address}
-use Rattle.back.specs.Trials.{IsLoadAt, ShowsAddress, NoOtherWaits, NoLoadWaits, SomeWaits, load_of_index, load_of_kind}
+use Rattle.back.specs.Trials.{ShowsAddress, NoOtherWaits, NoLoadWaits, SomeWaits, load_of_index}
 use Rattle.back.specs.declared.port.Load.{Load}
 use Rattle.back.proofs.PortStays.{asked_stays, length_grows, shown_stays}
-use Rattle.back.proofs.Seeing.{address_shown, by_code, index_inside, shown, was_there}
-use Rattle.back.proofs.Ranks.{InRing, in_ring}
-use Rattle.inorder.proofs.Recent.{among_all, names_recent, old_since, live_is_recent, live_is_last}
-use Rattle.std.specs.List.{AllByRecursion}
+use Rattle.back.proofs.Seeing.{index_inside, was_there}
+use Rattle.inorder.proofs.Recent.{names_recent, old_since, live_is_recent}
 use Rattle.std.proofs.lemmas.Option.{same_Some}
-
--- Moments
-
-pub once_now : (P : Program) (C : Sizes) (old new : List Entry) (Fact : UpdateUnit → Type 0) → StartsWith new old → Fact (unit_of P C new) → WasOnce P C old new Fact
-once_now P C old new Fact s f = record { point = new; within = record { before_return = starts_same new; behind_call = s }; fact = f }
-
-pub starts_on : (h mid point : List Entry) → StartsWith h mid → StartsWith mid point → StartsWith h point
-starts_on h mid point a b = subst (λ x. StartsWith x point) (sym a.is) (starts_longer mid point a.more b)
-
-pub once_later : (P : Program) (C : Sizes) (old mid new : List Entry) (Fact : UpdateUnit → Type 0) → StartsWith new mid → WasOnce P C old mid Fact → WasOnce P C old new Fact
-once_later P C old mid new Fact s w = record {
-  point = w.point;
-  within = record { before_return = starts_on new mid w.point s w.within.before_return; behind_call = w.within.behind_call };
-  fact = w.fact;
-}
-
-pub once_earlier : (P : Program) (C : Sizes) (old mid new : List Entry) (Fact : UpdateUnit → Type 0) → StartsWith mid old → WasOnce P C mid new Fact → WasOnce P C old new Fact
-once_earlier P C old mid new Fact s w = record {
-  point = w.point;
-  within = record { before_return = w.within.before_return; behind_call = starts_on w.point mid old w.within.behind_call s };
-  fact = w.fact;
-}
-
--- Two live tenants of one station are one
-
-module _ (P : Program) (C : Sizes) (h : List Entry) (legal : IsLegal P C h) where
-  abbrev us : List Tenant
-  us = (unit_of P C h).tenants
-
-  ring : InRing C (unit_of P C h)
-  ring = in_ring P C h legal
-
-  last_at : (p : ℕ) (t : Tenant) → at us p ≡ Some t → t.standing ≡ Live → AllByRecursion (λ x. x.station ≢ t.station) (younger us p)
-  last_at = live_is_last C (unit_of P C h) ring.ring ring.gone
-
-  pub one_live : (p q : ℕ) (t u : Tenant) → at us p ≡ Some t → at us q ≡ Some u → t.standing ≡ Live → u.standing ≡ Live → t.station ≡ u.station → p ≡ q
-  one_live p q t u is is' live live' e = elim (cases_lt p q) [
-    | inl less ↦ absurd (younger_at (λ x. x.station ≢ t.station) us p (last_at p t is live) q u less is' (sym e))
-    | inr le ↦ elim (cases_lt q p) [
-      | inl more ↦ absurd (younger_at (λ x. x.station ≢ u.station) us q (last_at q u is' live') p t more is e)
-      | inr same ↦ omega (arith, le, same)
-    ]
-  ]
-
-  is_addr : (s : State) → code s ≡ 3 → s ≡ IsAddr
-  is_addr IsFree e = absurd (omega (arith, e))
-  is_addr IsOpen e = absurd (omega (arith, e))
-  is_addr IsBusy e = absurd (omega (arith, e))
-  is_addr IsAddr e = refl
-  is_addr IsDone e = absurd (omega (arith, e))
-  is_addr IsMiss e = absurd (omega (arith, e))
-  is_addr IsStop e = absurd (omega (arith, e))
-
-  not_free : (s : State) → s ≡ IsAddr → s ≢ IsFree
-  not_free s e f = let x = sym e ∙ f in cc x
-
-  by_some : (b : Bool) (value a : ℕ) → cond b (Some value) None ≡ Some a → (b ≡ true) × (value ≡ a)
-  by_some true value a e = (refl, cc e)
-  by_some false value a e = absurd (cc e)
-
-  -- a station that shows an address has a live tenant with it
-  pub shown_by : (station tag : ℕ) (state : StationState) (value a : ℕ) →
-      Shows (station_word C (recent (unit_of P C h)) station) tag state value →
-      address_in state value ≡ Some a → (p : ℕ) × Has (unit_of P C h) p (ShowsAddress station tag a)
-  shown_by station tag state value a s e =
-      let both = by_some (eqb (state_code state) 3) value a (sym (by_code state value) ∙ e) in
-      let three = eqb-true (state_code state) 3 both.0 in
-      let is = is_addr (station_word C (recent (unit_of P C h)) station).state (sym s.state_is ∙ three) in
-      let n = ((stations_follow P C (taken_of h) back).shows (allowed_steps P C h legal)).names station (not_free (station_word C (recent (unit_of P C h)) station).state is) in
-      let f = subst (λ z. HasFate z (station_word C (recent (unit_of P C h)) station).value n.tenant.fate) is n.fate in
-      let v : value ≡ f.0 = subst (λ o. HasValue o value) f.1 s.value_is in
-      let here = among_all (unit_of P C h) n.p n.tenant n.is in
-      (here.p, record { tenant = n.tenant; is = here.is; fact = record { live = n.live; station_is = n.station; tag_is = n.tag ∙ sym s.tag_is; fate = f.2 ∙ ap Addr (sym v ∙ both.1) } })
-
-  -- what a live tenant with an address shows
-  pub shows_it : (station tag : ℕ) (state : StationState) (value : ℕ) →
-      Shows (station_word C (recent (unit_of P C h)) station) tag state value → (q : ℕ) (u : Tenant) →
-      at us q ≡ Some u → u.standing ≡ Live → u.station ≡ station →
-      (tag ≡ u.tag) × (address_in state value ≡ shown_address u.fate)
-  shows_it station tag state value s q u is live st =
-      let word : station_word C (recent (unit_of P C h)) station ≡ live_word u.tag u.fate = ap (station_word C (recent (unit_of P C h))) (sym st) ∙ shown P C h legal q u is live in
-      let z = subst (λ w. Shows w tag state value) word s in
-      (z.tag_is ∙ tag_of_word u.tag u.fate, address_shown state u.tag value u.fate z.state_is z.value_is)
-    where
-      tag_of_word : (g : ℕ) (f : Fate) → (live_word g f).tag ≡ g
-      tag_of_word g Open = refl
-      tag_of_word g (Busy by) = refl
-      tag_of_word g (Addr a) = refl
-      tag_of_word g (Done v) = refl
-      tag_of_word g (Miss x) = refl
-      tag_of_word g (Stopped c) = refl
-
--- The first look
-
-module _ (P : Program) (C : Sizes) (old mid : List Entry) (a : Adds P C back old mid []) (station tag : ℕ) (state : StationState) (value : ℕ)
-    (shows : Shows (station_word C (recent (unit_of P C mid)) station) tag state value) where
-  -- a load that was live is of the same station
-  same_station : (q : ℕ) (h : Has (unit_of P C old) q (IsLoadAt P station)) (w : Has (unit_of P C mid) q (IsWaitingLoad P)) → w.tenant.station ≡ station
-  same_station q h w = (was_there P C old mid a q h.tenant w.tenant h.is w.is).1 ∙ h.fact.station_is
-
-  pub none_shown : address_in state value ≡ None → NoLoadWaits P C old mid station
-  none_shown e q h = once_now P C old mid (λ U. ¬ Has U q (IsWaitingLoad P)) a.begins (λ w.
-      let z = shows_it P C mid a.legal station tag state value shows q w.tenant w.is w.fact.load.live (same_station q h w) in
-      let x = sym e ∙ (z.1 ∙ ap shown_address w.fact.fate) in absurd (cc x))
-
-  pub no_other : (p : ℕ) (address : ℕ) → Has (unit_of P C mid) p (ShowsAddress station tag address) → NoOtherWaits P C old mid station p
-  no_other p address it q other h = once_now P C old mid (λ U. ¬ Has U q (IsWaitingLoad P)) a.begins (λ w.
-      other (one_live P C mid a.legal q p w.tenant it.tenant w.is it.is w.fact.load.live it.fact.live (same_station q h w ∙ sym it.fact.station_is)))
-
--- The instruction
-
--- what a load that was read says
-pub record IsThatLoad (P : Program) (index tag address : ℕ) (l : Load) : Type 0 where
-  pub tag_is : l.tag ≡ tag
-  pub address_is : l.address ≡ address
-  pub op_is : l.op ≡ (instr_of P index).op
-  pub kind_is : kind (instr_of P index).op ≡ Loads
-  pub inside : l.address + width l.op ≤ length P.bytes
-
-by_kind : (k : Kind) (size : ℕ) (i : Instr) (tag address : ℕ) (l : Load) → load_of_kind k size i tag address ≡ Some l → (k ≡ Loads) × (address + width i.op ≤ size) ×
-    (record { tag = tag; address = address; op = i.op } ≡ l)
-by_kind Loads size i tag address l e = go (leb (address + width i.op) size) refl e
-  where
-    go : (b : Bool) → leb (address + width i.op) size ≡ b → cond b (Some (record { tag = tag; address = address; op = i.op })) None ≡ Some l → (Loads ≡ Loads) × (address + width i.op ≤ size) ×
-        (record { tag = tag; address = address; op = i.op } ≡ l)
-    go true le h = (refl, leb-true (address + width i.op) size le, cc h)
-    go false le h = absurd (cc h)
-by_kind Computes size i tag address l e = absurd (cc e)
-by_kind Jumps size i tag address l e = absurd (cc e)
-by_kind Links size i tag address l e = absurd (cc e)
-by_kind Stores size i tag address l e = absurd (cc e)
-
-pub load_says : (P : Program) (index tag address : ℕ) (l : Load) → load_of_index P index tag address ≡ Some l → IsThatLoad P index tag address l
-load_says P index tag address l e = go (ltb index (length P.code)) e
-  where
-    go : (b : Bool) → cond b (load_of_kind (kind (instr_of P index).op) (length P.bytes) (instr_of P index) tag address) None ≡ Some l → IsThatLoad P index tag address l
-    go true h =
-        let z = by_kind (kind (instr_of P index).op) (length P.bytes) (instr_of P index) tag address l h in
-        record {
-          tag_is = ap (λ (x : Load). x.tag) (sym z.2);
-          address_is = ap (λ (x : Load). x.address) (sym z.2);
-          op_is = ap (λ (x : Load). x.op) (sym z.2);
-          kind_is = z.0;
-          inside = subst (λ (x : Load). x.address + width x.op ≤ length P.bytes) z.2 z.1;
-        }
-    go false h = absurd (cc h)
-
--- a load that is there would have been read
-pub load_there : (P : Program) (index tag address : ℕ) → index < length P.code →
-    kind (instr_of P index).op ≡ Loads → address + width (instr_of P index).op ≤ length P.bytes →
-    load_of_index P index tag address ≡ None → ⊥
-load_there P index tag address small k fits e =
-    let b = lt-ltb index (length P.code) small in
-    let c = le-leb (address + width (instr_of P index).op) (length P.bytes) fits in
-    let some : load_of_index P index tag address ≡ Some (record { tag = tag; address = address; op = (instr_of P index).op }) =
-    ap (λ z. cond z (load_of_kind (kind (instr_of P index).op) (length P.bytes) (instr_of P index) tag address) None) b
-    ∙ (ap (λ q. load_of_kind q (length P.bytes) (instr_of P index) tag address) k
-    ∙ ap (λ z. cond z (Some (record { tag = tag; address = address; op = (instr_of P index).op })) None) c) in
-    let x = sym e ∙ some in absurd (cc x)
-
--- Both looks
+use Rattle.back.proofs.Moments.{once_later, once_now, starts_on}
+use Rattle.back.proofs.AtStation.{no_other, shown_by, shows_it}
+use Rattle.back.proofs.ReadLoads.{load_says, load_there}
 
 module _ (P : Program) (C : Sizes) (old mid new : List Entry) (a : Adds P C back old mid []) (b : Adds P C back mid new []) (station tag : ℕ) (state : StationState) (value : ℕ)
     (shows : Shows (station_word C (recent (unit_of P C mid)) station) tag state value) (address : ℕ) (shown_is : address_in state value ≡ Some address) (index : ℕ)
@@ -290,8 +122,6 @@ module _ (P : Program) (C : Sizes) (old mid new : List Entry) (a : Adds P C back
   none_read e q h = dite (ℕ_discrete q p)
       (λ same. once_now P C old new (λ U. ¬ Has U q (IsWaitingLoad P)) (starts_on new mid old b.begins a.begins) (λ w. none_new e (subst (λ x. Has (unit_of P C new) x (IsWaitingLoad P)) same w)))
       (λ other. others_new q other h)
-
--- The last look
 
 module _ (P : Program) (C : Sizes) (old new : List Entry) (a : Adds P C back old new []) (station tag : ℕ) (state : StationState) (value : ℕ)
     (shows : Shows (station_word C (recent (unit_of P C new)) station) tag state value) (l : Load) (p : ℕ) where

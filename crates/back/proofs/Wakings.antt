@@ -8,13 +8,11 @@ use Rattle.inorder.specs.declared.history.Event.{Event}
 use Rattle.inorder.specs.declared.history.Event.TheVariants.{Does, Refuses}
 use Rattle.inorder.specs.declared.history.Refusal.TheVariants.{Stale}
 use Rattle.inorder.specs.declared.history.Step.TheVariants.{On}
-use Rattle.inorder.specs.History.{IsLegal}
 use Rattle.inorder.specs.OneHistory.{Adds}
 use Rattle.inorder.specs.Unit.{Sizes}
 use Rattle.inorder.proofs.Histories.{adds_on}
 use Rattle.station.specs.Waking.{HasWoken, Wakes}
 use Rattle.station.specs.Writeback.{WasStale}
-use Rattle.station.proofs.LettingOut.{adds_none}
 use Rattle.station.proofs.Waking.{HasNoDelivery, none_in_none, none_in_refusal, wakes_before, wakes_behind, wakes_nobody}
 use Rattle.back.specs.Refreshes.{IsTooLate}
 use Rattle.back.specs.Wakings.{WakesNobody, WokenSince}

@@ -33,7 +33,8 @@ impl<J: Naming> Model for Back<J> {
 
     ghost view = { λ b. back_of b.seat b.ended b.publisher };
 
-    ghost invariant = { λ b. BackIsKept J.program b.seat b.committed b.low b.head b.ended b.publisher };
+    ghost invariant = { λ b.
+        BackIsKept J.program b.seat b.committed b.low b.head b.ended b.publisher };
 }
 
 // The parts of a back that need memory. The publisher comes last, since it could not be given up without Wait.

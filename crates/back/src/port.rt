@@ -150,7 +150,7 @@ fn load_at(program: &Program, index: usize, tag: u32, address: u32) -> Option<Lo
 }
 
 // The load of a station that has its address and waits.
-fn waiting(core: &Core, seat: &mut BackSeat, station: usize) -> Option<Load>
+fn find_waiting(core: &Core, seat: &mut BackSeat, station: usize) -> Option<Load>
     requires core { seat.old.core ≡ core.now }
     requires by { seat.old.by ≡ back }
     requires station { station < core.now.sizes.ring }
@@ -205,7 +205,7 @@ pub(crate) fn try_load(
 {
     let ring = core.ring();
     let station = wrapped(head + at, ring);
-    let Some(load) = waiting(core, seat, station) else {
+    let Some(load) = find_waiting(core, seat, station) else {
         return Tried::Passed;
     };
     match answer(core, seat, committed, head, at, &load) {

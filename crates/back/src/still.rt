@@ -20,7 +20,7 @@ pub struct BackStill<J: Naming> {
     head: usize,
     publisher: Publisher<J>,
     // the seat that it gave back
-    left: Snapshot<BackSeat>,
+    given_back: Snapshot<BackSeat>,
 }
 
 impl<J: Naming> Model for BackStill<J> {
@@ -30,9 +30,15 @@ impl<J: Naming> Model for BackStill<J> {
 
     ghost Value = { TheStillBack };
 
-    ghost view = { λ b. record { core = b.left.value.core; seen = b.left.value.seen; shown = b.publisher } };
+    ghost view = { λ b.
+        record {
+          core = b.given_back.value.core;
+          seen = b.given_back.value.seen;
+          shown = b.publisher;
+        } };
 
-    ghost invariant = { λ b. BackIsKept J.program b.left.value b.state b.waits b.head None b.publisher };
+    ghost invariant = { λ b.
+        BackIsKept J.program b.given_back.value b.state b.waits b.head None b.publisher };
 }
 
 impl<J: Naming> Back<J> {
@@ -57,13 +63,13 @@ impl<J: Naming> Back<J> {
             ended: _,
             publisher,
         } = self;
-        let left = Snapshot::of(&seat);
+        let given_back = Snapshot::of(&seat);
         let still = BackStill {
             state: committed,
             waits: low,
             head,
             publisher,
-            left,
+            given_back,
         };
         (seat, still)
     }
@@ -83,7 +89,7 @@ impl<J: Naming> BackStill<J> {
             waits,
             head: _,
             publisher,
-            left: _,
+            given_back: _,
         } = self;
         Back {
             seat,

@@ -4,6 +4,7 @@ pub mod Gathered
 pub mod Made
 pub mod Alone
 pub mod Begins
+pub mod ItsJob
 pub mod Way
 pub mod Known
 pub mod WorkedOut

@@ -8,7 +8,7 @@ use Rattle.inorder.specs.Callers.{IsLastAt}
 use Rattle.inorder.specs.Tenants.{Tenant}
 use Rattle.inorder.specs.Unit.{Sizes, UpdateUnit, at, creator, value_of}
 use Rattle.front.specs.Path.{rested_at}
-use Rattle.front.proofs.Tables.{entry_there, entry_untold}
+use Rattle.front.proofs.TableEntries.{entry_there, entry_untold}
 use Rattle.front.specs.declared.path.base_state.Base.{Base}
 use Rattle.front.specs.declared.path.creators.Creator.{Creator}
 use Rattle.front.specs.declared.path.counted.Maker.{Maker}

@@ -17,7 +17,8 @@ use Rattle.front.specs.declared.path.base_state.Base.{Base}
 use Rattle.front.specs.declared.path.record.Record.{Record}
 use Rattle.front.specs.Knows.{IsNewest, FrontKnows, IsFolded}
 use Rattle.front.specs.Queues.{IsBefore, how_many_accesses}
-use Rattle.front.proofs.InQueue.{IsSplit, behind_left, behind_live, one_noted, queue_room, s}
+use Rattle.front.proofs.PathParts.{IsSplit}
+use Rattle.front.proofs.InQueue.{behind_left, behind_live, one_noted, queue_room, s}
 use Rattle.front.proofs.Lists.{all_rest}
 use Rattle.front.proofs.Looks.{free_is, live_there, NamedNow, same_place}
 use Rattle.front.proofs.Stations.{last_now, left_there}

@@ -39,7 +39,8 @@ use Rattle.front.specs.Questions.{Asks, IsDispatched}
 use Rattle.front.specs.Trail.{is_link, record_of}
 use Rattle.front.proofs.LetKnown.{let_known}
 use Rattle.front.proofs.Named.{stands_right}
-use Rattle.front.proofs.Tables.{table_let, table_stable}
+use Rattle.front.proofs.TableLet.{table_let}
+use Rattle.front.proofs.TableStays.{table_stable}
 use Rattle.front.specs.CreateTable.{HasTable, IsEntered}
 use Rattle.front.specs.declared.path.counted.Table.{Table}
 use Rattle.front.proofs.Pending.{IsPending, pending_stable}

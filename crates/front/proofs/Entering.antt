@@ -23,7 +23,7 @@ use Rattle.front.proofs.Lists.{all_front, all_map, all_rest}
 use Rattle.front.proofs.Resting.{told_stable}
 use Rattle.front.proofs.Splitting.{stays}
 use Rattle.front.proofs.Stays.{knows_stable}
-use Rattle.front.proofs.Tables.{table_stable}
+use Rattle.front.proofs.TableStays.{table_stable}
 use Rattle.front.proofs.Trails.{IsNoted, trail_noted}
 
 no_notes : (ns : List Note) → [] ≡ whats ns → ns ≡ []

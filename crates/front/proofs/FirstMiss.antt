@@ -23,7 +23,7 @@ use Rattle.front.specs.declared.recovery.Missed.{Missed}
 use Rattle.station.specs.Recovery.{IsMended as IsMendedThere}
 use Rattle.front.proofs.Recovered.{Mended, mend_done}
 use Rattle.front.specs.Trail.{Note, record_of, trail}
-use Rattle.front.proofs.InQueue.{IsOrdered, IsSplit, drop_get, ordered, split_whats}
+use Rattle.front.proofs.PathParts.{IsOrdered, IsSplit, drop_get, ordered, split_whats}
 use Rattle.front.proofs.Lists.{all_both, all_front, all_map, all_rest, all_two}
 use Rattle.front.proofs.Misses.{gone_miss, named_miss}
 use Rattle.front.proofs.Named.{notes_noted, of_whats}

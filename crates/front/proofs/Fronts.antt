@@ -34,7 +34,7 @@ use Rattle.front.specs.CreateTable.{HasTable, table_entry_in, table_entry, maker
 use Rattle.front.specs.declared.path.counted.Counted.{Counted}
 use Rattle.front.specs.declared.path.counted.Table.{Table}
 use Rattle.front.specs.declared.path.counted.Maker.{Maker}
-use Rattle.front.proofs.Tables.{table_stable}
+use Rattle.front.proofs.TableStays.{table_stable}
 use Rattle.front.specs.Trail.{Note, trail}
 use Rattle.station.specs.Renewals.{HasNobody}
 use Rattle.front.proofs.Splitting.{stays}

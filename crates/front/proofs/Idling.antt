@@ -1,5 +1,5 @@
 -- The look of a rest: nobody is live.
-use Rattle.std.proofs.Common.{◌≡◌, ◌≤◌, [], ◌∷◌, Some, None, refl, sym, ◌∙◌, subst, ⊎_elim}
+use Rattle.std.proofs.Common.{◌≡◌, ◌≤◌, ℕ, List, [], ◌∷◌, length, Option, Some, None, refl, sym, ap, ◌∙◌, subst, ⊎_elim}
 use Rattle.std.specs.List.{AllByRecursion}
 use Rattle.inorder.specs.History.{IsLegal, front, unit_of}
 use Rattle.inorder.specs.OneHistory.{Adds}
@@ -12,20 +12,24 @@ use Rattle.front.specs.declared.path.Path.{Path}
 use Rattle.front.specs.declared.path.record.Record.{Record}
 use Rattle.front.specs.Knows.{IsFolded, IsNewest, FrontKnows}
 use Rattle.front.specs.Path.{youngest_record, rested_at}
+use Rattle.front.specs.Rests.{TellsEach, TellsRecords, all_untold}
+use Rattle.inorder.proofs.Histories.{adds_on, unit_sound}
 use Rattle.station.specs.Renewals.{HasNobody}
 use Rattle.front.proofs.Lists.{Last, all_rest, last_cases}
 use Rattle.front.proofs.Named.{notes_noted}
 use Rattle.front.proofs.Places.{kept_new, last_record}
-use Rattle.front.proofs.Resting.{none_kept, note_left, youngest_left}
+use Rattle.front.proofs.Lefts.{all_told}
+use Rattle.front.proofs.Resting.{nobody_stable, none_kept, note_left, youngest_left}
 use Rattle.front.proofs.Splitting.{stays}
 use Rattle.front.proofs.Stays.{knows_stable}
 use Rattle.front.proofs.Trails.{IsNoted}
 
--- A seat has seen that nobody is live, and has added nothing
-pub record HasSeen (core : TheCore) (v w : Caller) : Type 0 where
+-- A seat has seen that nobody is live, has added nothing, and knows its path as before
+pub record HasSeen (core : TheCore) (path : Path) (v w : Caller) : Type 0 where
   pub same : IsSameSeat v w
   pub adds : Adds core.program core.sizes front v.seen w.seen []
   pub nobody : HasNobody (unit_of core.program core.sizes w.seen)
+  pub knows : FrontKnows core.program core.sizes (unit_of core.program core.sizes w.seen) path.records path.base
 
 module _ (core : TheCore) (v w : Caller) (same : IsSameSeat v w) (path : Path) (k : FrontKnows core.program core.sizes (unit_of core.program core.sizes v.seen) path.records path.base)
     (adds : Adds core.program core.sizes front v.seen w.seen []) where
@@ -33,10 +37,11 @@ module _ (core : TheCore) (v w : Caller) (same : IsSameSeat v w) (path : Path) (
   knows_now = stays core.program core.sizes (λ U. FrontKnows core.program core.sizes U path.records path.base) (knows_stable core.program core.sizes path.records path.base) v.seen w.seen adds k
 
   -- no tenant is kept
-  pub seen_none : youngest_record path.records ≡ None → HasSeen core v w
+  seen_none : youngest_record path.records ≡ None → HasSeen core path v w
   seen_none e = record {
     same = same;
     adds = adds;
+    knows = knows_now;
     nobody = none_kept core.program core.sizes w.seen adds.legal path.records path.base (IsFolded (unit_of core.program core.sizes w.seen) (rested_at path.base)) knows_now
         (⊎_elim (λ n. n) (λ (l : Last knows_now.notes).
         let no : None ≡ Some l.one.what = sym e ∙ last_record core.program core.sizes (unit_of core.program core.sizes w.seen) path.records path.base
@@ -44,10 +49,10 @@ module _ (core : TheCore) (v w : Caller) (same : IsSameSeat v w) (path : Path) (
   }
 
   -- the youngest one's station is free
-  pub seen_free : (youngest : Record) → youngest_record path.records ≡ Some youngest →
+  seen_free : (youngest : Record) → youngest_record path.records ≡ Some youngest →
       (seen : Seen StationState) → SeesStation core.program core.sizes w.seen youngest.station seen →
-      seen.state ≡ Free → HasSeen core v w
-  seen_free youngest e seen sees free = record { same = same; adds = adds; nobody = ⊎_elim none some (last_cases knows_now.notes) }
+      seen.state ≡ Free → HasSeen core path v w
+  seen_free youngest e seen sees free = record { same = same; adds = adds; nobody = ⊎_elim none some (last_cases knows_now.notes); knows = knows_now }
     where
       none : knows_now.notes ≡ [] → HasNobody (unit_of core.program core.sizes w.seen)
       none n = none_kept core.program core.sizes w.seen adds.legal path.records path.base (IsFolded (unit_of core.program core.sizes w.seen) (rested_at path.base)) knows_now n
@@ -69,12 +74,34 @@ module _ (core : TheCore) (v w : Caller) (same : IsSameSeat v w) (path : Path) (
           youngest_left core.program core.sizes w.seen adds.legal path.records path.base (IsFolded U (rested_at path.base)) knows_now l noted left.retired
 
 -- A rest has seen that nobody is live: it keeps no tenant, or found the youngest one's station free
-module _ (core : TheCore) (v : Caller) (by_is : v.by ≡ front) (path : Path) (k : FrontKnows core.program core.sizes (unit_of core.program core.sizes v.seen) path.records path.base) where
-  pub rests_empty : {seat : Caller} → IsLegal core.program core.sizes v.seen → youngest_record path.records ≡ None → seat ≡ v → HasSeen core v seat
-  rests_empty legal none here = subst (HasSeen core v) (sym here) (seen_none core v v (record { core = refl; by = refl }) path k
-      (record { begins = record { more = []; is = refl }; legal = legal; mine = refl; one_table = refl }) none)
+module _ {core : TheCore} {v : Caller} {path : Path} {last : Option Record} (by_is : v.by ≡ front)
+    (k : FrontKnows core.program core.sizes (unit_of core.program core.sizes v.seen) path.records path.base) (last_is : last ≡ youngest_record path.records) where
+  pub rests_empty : {seat : Caller} → IsLegal core.program core.sizes v.seen → last ≡ None → seat ≡ v → HasSeen core path v seat
+  rests_empty legal none here = subst (HasSeen core path v) (sym here) (seen_none core v v (record { core = refl; by = refl }) path k
+      (record { begins = record { more = []; is = refl }; legal = legal; mine = refl; one_table = refl }) (sym last_is ∙ none))
 
-  pub rests_free : {w seat : Caller} {youngest : Record} → IsSameSeat v w → Adds core.program core.sizes v.by v.seen w.seen [] → youngest_record path.records ≡ Some youngest →
-      (seen : Seen StationState) → SeesStation core.program core.sizes w.seen youngest.station seen → seen.state ≡ Free → seat ≡ w → HasSeen core v seat
-  rests_free {w} {seat} {youngest} same adds is seen sees free here = subst (HasSeen core v) (sym here)
-      (seen_free core v w same path k (subst (λ i. Adds core.program core.sizes i v.seen w.seen []) by_is adds) youngest is seen sees free)
+  pub rests_free : {w seat : Caller} {youngest : Record} → IsSameSeat v w → Adds core.program core.sizes v.by v.seen w.seen [] → last ≡ Some youngest →
+      (seen : Seen StationState) → SeesStation core.program core.sizes w.seen youngest.station seen → seen.state ≡ Free → seat ≡ w → HasSeen core path v seat
+  rests_free {w} {seat} {youngest} same adds is seen sees free here = subst (HasSeen core path v) (sym here)
+      (seen_free core v w same path k (subst (λ i. Adds core.program core.sizes i v.seen w.seen []) by_is adds) youngest (sym last_is ∙ is) seen sees free)
+
+-- Behind the fold of all records, which adds nothing
+module _ {core : TheCore} {path : Path} {v w : Caller} (s : HasSeen core path v w) (x : Caller) (more : Adds core.program core.sizes front w.seen x.seen []) where
+  pub rested_adds : Adds core.program core.sizes front v.seen x.seen []
+  rested_adds = adds_on core.program core.sizes front v.seen w.seen x.seen [] [] s.adds more
+
+  pub rested_nobody : HasNobody (unit_of core.program core.sizes x.seen)
+  rested_nobody = stays core.program core.sizes HasNobody (nobody_stable core.program core.sizes) w.seen x.seen more s.nobody
+
+  pub rested_tells : {S : Type 0} (Learns : S → ℕ → ℕ → S → Type 0) {records : List Record} (a b : S) → records ≡ path.records → TellsRecords Learns records a b →
+      TellsEach Learns core.program (all_untold (rested_at path.base) [] (unit_of core.program core.sizes x.seen).tenants) a b
+  rested_tells Learns {records} a b are tells =
+      all_told Learns core.program core.sizes (unit_of core.program core.sizes x.seen) (unit_sound core.program core.sizes x.seen more.legal) rested_nobody path.records path.base
+      (stays core.program core.sizes (λ U. FrontKnows core.program core.sizes U path.records path.base) (knows_stable core.program core.sizes path.records path.base) w.seen x.seen more s.knows)
+      a b (subst (λ z. TellsRecords Learns z a b) are tells)
+
+  -- The length of what the seat has seen by then
+  pub rested_told : {told : Caller} → told ≡ x → v.core ≡ core → x.core ≡ w.core → length (unit_of told.core.program told.core.sizes told.seen).tenants ≡
+      length (unit_of core.program core.sizes x.seen).tenants
+  rested_told is here same = ap (λ (z : Caller). length (unit_of z.core.program z.core.sizes z.seen).tenants) is
+      ∙ ap (λ (z : TheCore). length (unit_of z.program z.sizes x.seen).tenants) (same ∙ (s.same.core ∙ here))

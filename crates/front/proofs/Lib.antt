@@ -19,6 +19,7 @@ pub mod Stations
 pub mod Supplies
 pub mod Trained
 pub mod Pending
+pub mod PathParts
 pub mod InQueue
 pub mod Crowded
 pub mod Questioned
@@ -29,10 +30,14 @@ pub mod Moments
 pub mod Looked
 pub mod Popping
 pub mod Recovered
+pub mod UpTo
 pub mod LeftBehind
 pub mod Unchanged
 pub mod FirstMiss
-pub mod Tables
+pub mod Touches
+pub mod TableEntries
+pub mod TableStays
+pub mod TableLet
 pub mod Supplied
 pub mod Creating
 pub mod DispatchFacts

@@ -1,5 +1,5 @@
 -- What is kept of a tenant names it.
-use Rattle.std.proofs.Common.{◌≡◌, ℕ, suc, ◌<◌, zero, List, [], ◌∷◌, ◌++◌, Some, sym, subst, mod-lt}
+use Rattle.std.proofs.Common.{◌≡◌, ℕ, suc, ◌<◌, ◌≤◌, zero, List, [], ◌∷◌, ◌++◌, Some, sym, subst, mod-lt, arith}
 use Rattle.std.specs.List.{AllByRecursion}
 use Rattle.std.specs.Prelude.{slice_get}
 use Rattle.instructions.specs.Programs.{Program}
@@ -12,7 +12,7 @@ use Rattle.inorder.proofs.Positions.{at_more}
 use Rattle.inorder.proofs.Stations.{Stands as StandsRight, stands}
 use Rattle.front.specs.declared.path.base_state.Base.{Base}
 use Rattle.front.specs.declared.path.record.Record.{Record}
-use Rattle.front.specs.Knows.{Stands, whats}
+use Rattle.front.specs.Knows.{FrontKnows, Stands, whats}
 use Rattle.front.specs.Trail.{Note}
 use Rattle.front.proofs.Lists.{all_rest}
 use Rattle.front.proofs.Places.{notes_placed}
@@ -57,3 +57,9 @@ module _ (P : Program) (C : Sizes) (h : List Entry) (legal : IsLegal P C h) wher
 
     pub small_stations : 0 < C.ring → AllByRecursion (λ x. x.station < C.ring) records
     small_stations pos = subst (AllByRecursion (λ x. x.station < C.ring)) (sym k.are) (all_whats (λ x. x.station < C.ring) k.notes (notes_small pos))
+
+-- What the front knows of its path stands inside the ring
+pub stations_inside : {P : Program} {C : Sizes} (h : List Entry) {records : List Record} {base : Base} {ring : ℕ} → IsLegal P C h → FrontKnows P C (unit_of P C h) records base → ring ≡ C.ring →
+    2 ≤ ring → AllByRecursion (λ x. x.station < ring) records
+stations_inside {P} {C} h {records} {base} legal k ring_is least =
+    subst (λ n. AllByRecursion (λ x. x.station < n) records) (sym ring_is) (small_stations P C h legal records base _ k (omega (arith, ring_is, least)))

@@ -19,7 +19,7 @@ use Rattle.front.specs.declared.path.record.Record.{Record}
 use Rattle.front.specs.Knows.{FrontKnows}
 use Rattle.front.specs.CreateTable.{HasTable}
 use Rattle.front.specs.declared.path.counted.Table.{Table}
-use Rattle.front.proofs.Tables.{question_leaves_table, table_stable}
+use Rattle.front.proofs.TableStays.{question_leaves_table, table_stable}
 use Rattle.front.specs.Questions.{Asks, MayAskFor}
 use Rattle.front.specs.Turns.{IsAskedFor}
 use Rattle.front.proofs.Pending.{IsPending, first_leaves, pending_stable, question_leaves}

@@ -30,7 +30,7 @@ use Rattle.front.specs.declared.path.record.Record.{Record}
 use Rattle.front.specs.Knows.{IsNewest, FrontKnows, whats, IsFolded}
 use Rattle.front.specs.CreateTable.{HasTable, IsRestored}
 use Rattle.front.specs.declared.path.counted.Table.{Table}
-use Rattle.front.proofs.Tables.{table_cut, table_mended, table_stable}
+use Rattle.front.proofs.TableStays.{table_cut, table_mended, table_stable}
 use Rattle.front.specs.Trail.{Note, record_of, trail}
 use Rattle.front.proofs.CutKnown.{acted, at_last, can_mend, can_squash, mend_known, mend_trail, mended_note, squash_known, squash_trail}
 use Rattle.front.proofs.Cuts.{both_same, not_none}

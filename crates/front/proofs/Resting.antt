@@ -26,7 +26,8 @@ use Rattle.front.specs.Fetching.{HasLeft}
 use Rattle.front.specs.Knows.{IsGone, IsNewest, Stands}
 use Rattle.front.specs.Trail.{Note, trail}
 use Rattle.station.specs.Renewals.{HasNobody}
-use Rattle.front.proofs.InQueue.{live_behind, ordered}
+use Rattle.front.proofs.InQueue.{live_behind}
+use Rattle.front.proofs.PathParts.{ordered}
 use Rattle.front.proofs.Lists.{Last, all_both, all_map}
 use Rattle.front.proofs.Looks.{free_is, live_there}
 use Rattle.front.proofs.Splitting.{IsStable}

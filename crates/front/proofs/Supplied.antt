@@ -26,7 +26,7 @@ use Rattle.front.specs.Trail.{Note, record_of}
 use Rattle.front.proofs.CreateVector.{Creates, Kept, Older, newest_among, written}
 use Rattle.front.proofs.Lists.{all_front, all_two}
 use Rattle.front.proofs.Supplies.{IsGiver, found}
-use Rattle.front.proofs.Tables.{entry_there, entry_untold}
+use Rattle.front.proofs.TableEntries.{entry_there, entry_untold}
 use Rattle.front.proofs.Trails.{IsNoted, trail_noted}
 
 pub no_maker : (a : Maker) → Some (Some a) ≢ Some None

@@ -39,7 +39,14 @@ impl<'a, P: Predictor + Drop> Model for Front<'a, P> {
 
     ghost Value = { TheFront P };
 
-    ghost view = { λ f. record { core = f.seat.core; seen = f.seat.seen; predictor = f.predictor; touched = f.creators.counted.touched; told = rested_at f.path.base; rested = f.rested } };
+    ghost view = { λ f. record {
+      core = f.seat.core;
+      seen = f.seat.seen;
+      predictor = f.predictor;
+      touched = f.creators.counted.touched;
+      told = rested_at f.path.base;
+      rested = f.rested;
+    } };
 
     ghost invariant = { λ f. IsFront f.program.now f.seat f.path f.creators.counted f.rested };
 }

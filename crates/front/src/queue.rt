@@ -14,16 +14,16 @@ use station::{Core, FrontSeat, StationState};
 fn access_before(records: &Records, younger: usize) -> Option<Record>
     ensures { AccessBefore records.now younger result }
 {
-    let mut left = younger;
+    let mut remaining = younger;
     let mut j = records.len();
     while 0 < j {
         j -= 1;
         if let Some(record) = records.at(j) {
             if record.access {
-                if left == 0 {
+                if remaining == 0 {
                     return Some(record);
                 }
-                left -= 1;
+                remaining -= 1;
             }
         }
     }

@@ -19,7 +19,7 @@ pub struct FrontStill<P: Predictor + Drop> {
     creators: Creators,
     predictor: P,
     // the seat that it gave back
-    left: Snapshot<FrontSeat>,
+    given_back: Snapshot<FrontSeat>,
 }
 
 impl<P: Predictor + Drop> Model for FrontStill<P> {
@@ -27,9 +27,14 @@ impl<P: Predictor + Drop> Model for FrontStill<P> {
 
     ghost Value = { TheStillFront P };
 
-    ghost view = { λ f. record { core = f.left.value.core; seen = f.left.value.seen; predictor = f.predictor; touched = f.creators.counted.touched } };
+    ghost view = { λ f. record {
+      core = f.given_back.value.core;
+      seen = f.given_back.value.seen;
+      predictor = f.predictor;
+      touched = f.creators.counted.touched;
+    } };
 
-    ghost invariant = { λ f. FrontIsStill f.left.value f.base f.creators.counted };
+    ghost invariant = { λ f. FrontIsStill f.given_back.value f.base f.creators.counted };
 }
 
 impl<'a, P: Predictor + Drop> Front<'a, P> {
@@ -58,12 +63,12 @@ impl<'a, P: Predictor + Drop> Front<'a, P> {
             predictor,
             rested: _,
         } = self;
-        let left = Snapshot::of(&seat);
+        let given_back = Snapshot::of(&seat);
         let still = FrontStill {
             base: path.base,
             creators,
             predictor,
-            left,
+            given_back,
         };
         (seat, still)
     }
@@ -87,7 +92,7 @@ impl<P: Predictor + Drop> FrontStill<P> {
             base,
             creators,
             predictor,
-            left: _,
+            given_back: _,
         } = self;
         let rested = Snapshot::of(&seat);
         let registers = base.registers;

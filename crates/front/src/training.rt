@@ -6,8 +6,8 @@ use crate::path::Record;
 use instructions::Leaver;
 
 /// The leaver that the predictor is told of, if it was asked about the tenant that leaves.
-pub fn leaver(left: Option<Record>) -> Option<Leaver>
-    ensures { result ≡ leaver_of left }
+pub fn leaver(departed: Option<Record>) -> Option<Leaver>
+    ensures { result ≡ leaver_of departed }
 {
-    left?.leaver()
+    departed?.leaver()
 }

@@ -20,14 +20,14 @@ use station::{Core, FrontSeat};
 // The predicted next pc of the tenant to be let: where that is not fixed, the given one or the predictor's.
 fn predict<P: Predictor>(
     predictor: &mut P,
-    left: Option<Leaver>,
+    departed: Option<Leaver>,
     next: &Fetched,
     given: Option<u32>,
 ) -> u32
-    ensures { Guesses (given_or given P.Predicts) P.Learns left next.now.instr next.now.half
+    ensures { Guesses (given_or given P.Predicts) P.Learns departed next.now.instr next.now.half
         next.now.pc result predictor.old predictor.new }
 {
-    tell(predictor, left);
+    tell(predictor, departed);
     if let Some(fixed) = next.instr.fixed_next(next.half, next.pc) {
         return fixed;
     }
@@ -66,8 +66,8 @@ pub fn turn_on<P: Predictor>(
         Ok(next) => next,
         Err(turn) => return turn,
     };
-    let left = path.release(creators, core.ring(), next.left);
-    let leaver = leaver(left);
+    let departed = path.release(creators, core.ring(), next.left);
+    let leaver = leaver(departed);
     let predicted = predict(predictor, leaver, &next, given);
     let tag = dispatch(core, seat, path, creators, &next, predicted);
     Turn::Let {

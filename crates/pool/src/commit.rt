@@ -50,7 +50,8 @@ impl<J: Naming, K: Bounds + Ring> Model for Committer<J, K> {
     ghost view = { λ c. committer_of c.back c.turns c.renewals c.over c.last_term };
 
     ghost invariant = { λ c.
-        IsCommitter K.counts K.config (committer_of c.back c.turns c.renewals c.over c.last_term) c.count c.limit };
+        IsCommitter K.counts K.config (committer_of c.back c.turns c.renewals c.over c.last_term)
+        c.count c.limit };
 }
 
 impl<J: Naming, K: Bounds + Ring> Committer<J, K> {

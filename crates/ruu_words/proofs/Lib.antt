@@ -15,7 +15,8 @@ pub mod Reading
 pub mod Delivery
 pub mod Linking
 pub mod Opening
-pub mod Views
+pub mod ViewCuts
+pub mod ViewJoins
 pub mod Walking
 pub mod Ending
 pub mod Asking

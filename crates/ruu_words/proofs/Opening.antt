@@ -27,7 +27,7 @@ use Rattle.ruu_words.specs.Openings.{IsOpening, opening_of, renewed, renewed_of,
 use Rattle.ruu_words.specs.Views.{ViewFits, first_view, view}
 use Rattle.ruu_words.specs.Rule.{IsStart, Keeps, Kept}
 use Rattle.ruu_words.specs.Laws.{TablesGoOn}
-use Rattle.ruu_words.proofs.Views.{starts_empty}
+use Rattle.ruu_words.proofs.ViewCuts.{starts_empty}
 use Rattle.std.specs.List.{AllByRecursion}
 
 free_word : (g n : ℕ) → n ≡ pack g 0 0 → IsStation (record { tag = g + 0; state = IsFree; value = Some 0 }) n

@@ -19,7 +19,10 @@ use Rattle.station.specs.Answers.{AnswersClaim}
 use Rattle.station.specs.Calls.{AnswersSource, ComesTo, IsLegalCall, IsSameCall, Saw, TakesStep, TheCall}
 use Rattle.station.specs.Claiming.{ClaimAnswers, HasSeen, IsNext, IsOpenAs, SourceAnswers}
 use Rattle.station.proofs.Calls.{after, before, joined, taken}
-use Rattle.station.proofs.Opened.{HasBoth, HasFirst, HasInfo, IsClaimable, Ready, begins, claim_answers_on, claim_moved, claimed, has_seen, informs, peeked, ready_seen, recheck_moved, rechecked, second_next, source_refused, takes_first, takes_second}
+use Rattle.station.proofs.ClaimFacts.{HasBoth, HasFirst, HasInfo, IsClaimable}
+use Rattle.station.proofs.OnItsWay.{Ready, claim_answers_on, has_seen}
+use Rattle.station.proofs.ClaimLooks.{begins, informs, peeked, recheck_moved, rechecked, second_next, source_refused, takes_first, takes_second}
+use Rattle.station.proofs.ClaimExchange.{claim_moved, claimed, ready_seen}
 
 pub record IsOnWay (v w : TheCall) (s g : ℕ) (Fact : Tenant → Type 0) : Type 0 where
   pub same : IsSameCall v w

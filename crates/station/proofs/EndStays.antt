@@ -1,5 +1,5 @@
 -- A tenant at its end stays there, but for what the back does.
-use Rattle.std.proofs.Common.{◌≡◌, ℕ, suc, ◌+◌, List, [], ◌++◌, Some, refl, sym, ap, ◌∙◌, subst, ⊎_elim}
+use Rattle.std.proofs.Common.{◌≡◌, ℕ, suc, List, [], ◌++◌, Some, refl, sym, ap, ◌∙◌, subst, ⊎_elim}
 use Rattle.instructions.specs.Instruction.{kind}
 use Rattle.instructions.specs.Programs.{Program, instr_of}
 use Rattle.inorder.specs.declared.history.Act.{Act}

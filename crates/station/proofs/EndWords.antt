@@ -1,13 +1,12 @@
 -- The words of tenants at their end, and what is seen of a stop behind them.
-use Rattle.std.proofs.Common.{◌≡◌, ◌≢◌, ℕ, suc, ◌+◌, Bool, true, false, cond, List, [], ◌∷◌, ◌++◌, refl, sym, ap, ◌∙◌, subst, inl, inr, ⊎_elim, arith}
+use Rattle.std.proofs.Common.{◌≡◌, ◌≢◌, ℕ, suc, Bool, true, false, cond, List, [], ◌∷◌, ◌++◌, refl, sym, ap, ◌∙◌, subst, inl, inr, ⊎_elim, arith}
 use Rattle.instructions.specs.Operations.{code_of}
 use Rattle.instructions.specs.Programs.{Program}
 use Rattle.instructions.specs.declared.stop.Stop.{Stop}
 use Rattle.inorder.specs.Callers.{is_retired, stands_retired}
 use Rattle.inorder.specs.StationWords.{live_word}
-use Rattle.inorder.specs.Steps.{retired}
 use Rattle.inorder.specs.Tenants.{Addr, Busy, Done, Fate, Live, Miss, Open, Stopped, Tenant}
-use Rattle.inorder.specs.Unit.{at, how_many}
+use Rattle.inorder.specs.Unit.{how_many}
 use Rattle.ruu_words.specs.declared.station.StationState.{StationState}
 use Rattle.ruu_words.specs.declared.station.StationState.TheVariants.{Addr as AddrState, Busy as BusyState, Done as DoneState, Free as FreeState, Miss as MissState, Open as OpenState}
 use Rattle.ruu_words.specs.declared.station.StationState.TheVariants.{Stop as StopState}

@@ -19,7 +19,7 @@ use Rattle.station.specs.Waking.{IsSet, Wakes}
 use Rattle.station.specs.Writeback.{FinishAnswers, HasTenant, job_outcome}
 use Rattle.station.proofs.Calls.{before, joined}
 use Rattle.station.proofs.Waking.{has_woken_none, wakes_behind, wakes_finishing}
-use Rattle.station.proofs.Writing.{finish_all, finish_made, finish_out, finish_stale, job_held}
+use Rattle.station.proofs.FinishWrites.{finish_all, finish_made, finish_out, finish_stale, job_held}
 
 -- The tenant of a job that the caller holds, by the fields of the job
 pub job_tenant : (P : Program) (C : Sizes) (by : ℕ) (seen : List Entry) (outcome : Outcome) {own job : JobFields} → own ≡ job → Holds P C by seen job → outcome ≡ job_outcome P job →

@@ -37,7 +37,7 @@ use Rattle.station.specs.declared.job.Job.{Job}
 use Rattle.station.specs.Claiming.{ClaimAnswers, Holds, IsJob}
 use Rattle.station.specs.Laws.{AreTwo, IsNoFinish}
 use Rattle.station.specs.Writeback.{FinishAnswers, IsCarried, IsDeliveryOf}
-use Rattle.station.proofs.Carrying.{all_append}
+use Rattle.station.proofs.WalkStays.{all_append}
 use Rattle.station.proofs.Splitting.{cut_back}
 use Rattle.inorder.proofs.Recent.{old_since}
 use Rattle.inorder.proofs.Renewing.{begins_again}

@@ -1,5 +1,5 @@
 -- What info words and operand words say.
-use Rattle.std.proofs.Common.{◌≡◌, ◌≤◌, ◌↔◌, ◌⊎◌, ℕ, List, Option, Some, None, IfSome, IsNone, refl, sym, ap, ◌∙◌, subst, ⊎_elim, arith}
+use Rattle.std.proofs.Common.{◌≡◌, ◌≤◌, ◌↔◌, ℕ, List, Option, Some, None, IfSome, IsNone, refl, sym, ap, ◌∙◌, subst, ⊎_elim, arith}
 use Rattle.instructions.specs.Programs.{Program}
 use Rattle.inorder.specs.declared.history.Entry.{Entry}
 use Rattle.inorder.specs.declared.history.Source.{Source}
@@ -24,7 +24,7 @@ use Rattle.ruu_words.proofs.Walking.{consumer_is, producer_is}
 use Rattle.ruu_words.proofs.Reading.{operand_last}
 use Rattle.station.specs.declared.answers.Seen.{Seen}
 use Rattle.station.specs.declared.answers.SourceState.{SourceState}
-use Rattle.station.proofs.Carrying.{from_first}
+use Rattle.station.proofs.WalkStays.{from_first}
 use Rattle.station.specs.Looking.{IsLinkOf, SeesInfo, SeesLink, SeesOperand, SeesWord, ShowsInfo, ShowsOperand, IsSourceState}
 
 shows_info : (o : Option Tenant) (n : ℕ) → IsInfo o n → ShowsInfo o (index_of n) (half_of n) (predicted_of n)

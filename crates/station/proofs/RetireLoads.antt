@@ -1,5 +1,5 @@
 -- What the loads of a retirement tell.
-use Rattle.std.proofs.Common.{◌≡◌, ◌≢◌, ℕ, ◌+◌, List, [], ◌∷◌, ◌++◌, map, Some, sym, ap, ◌∙◌, subst, ⊎_elim}
+use Rattle.std.proofs.Common.{◌≡◌, ◌≢◌, ℕ, List, [], ◌∷◌, ◌++◌, map, Some, sym, ap, ◌∙◌, subst, ⊎_elim}
 use Rattle.instructions.specs.declared.op.Half.{Half}
 use Rattle.instructions.specs.Instruction.{kind}
 use Rattle.instructions.specs.Programs.{Program, instr_of}
@@ -11,7 +11,7 @@ use Rattle.inorder.specs.Callers.{IsHead}
 use Rattle.inorder.specs.History.{IsLegal, back, entry, own, unit_of}
 use Rattle.inorder.specs.OneHistory.{Adds}
 use Rattle.inorder.specs.Tenants.{Tenant}
-use Rattle.inorder.specs.Unit.{at, Sizes, UpdateUnit}
+use Rattle.inorder.specs.Unit.{Sizes, UpdateUnit}
 use Rattle.ruu_words.specs.declared.rule.View.{View}
 use Rattle.ruu_words.specs.declared.station.StationState.TheVariants.{Addr as AddrState}
 use Rattle.ruu_words.specs.declared.station.StationWord.{StationWord}

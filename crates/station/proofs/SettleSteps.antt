@@ -18,7 +18,7 @@ use Rattle.station.specs.Writeback.{CanSettle, MaySettle}
 use Rattle.station.proofs.Adding.{adds_these}
 use Rattle.station.proofs.Calls.{Of, before, joined, of_one, taken}
 use Rattle.station.proofs.Waking.{has_woken_none, wakes_behind, wakes_looking, wakes_settled}
-use Rattle.station.proofs.Writing.{can_settle, settle_all, settle_made, settle_out, settle_stale, stale_after}
+use Rattle.station.proofs.SettleWrites.{can_settle, settle_all, settle_made, settle_out, settle_stale, stale_after}
 
 module _ {v x : TheCall} (s g value m : ℕ) (role : v.view.role ≡ Back) (may : MaySettle v.core.program v.core.sizes v.view.seen s g value)
     (look : TakesStep v x (λ P C. Sees P C v.view.by v.view (Station s) m)) where

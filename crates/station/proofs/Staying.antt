@@ -28,7 +28,7 @@ use Rattle.station.specs.Laws.{BacksStay, FrontsStay}
 use Rattle.station.specs.Letting.{MayLetOut, supply_of}
 use Rattle.station.specs.Recovery.{SeesMiss, SeesWrongPath}
 use Rattle.station.specs.Writeback.{MaySettle}
-use Rattle.station.proofs.Asking.{last_on, path_stays}
+use Rattle.station.proofs.AskStays.{last_on, path_stays}
 use Rattle.station.proofs.Mending.{miss_on}
 use Rattle.inorder.proofs.Recent.{old_kept}
 

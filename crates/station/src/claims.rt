@@ -50,7 +50,7 @@ fn source_says(word: u64, tag: u32, k: Source) -> Result<u32, Claim>
 
 impl<'a> Call<'a, UnitPart> {
     // The value of a source, 0 where it is not needed.
-    fn needed_source(
+    fn read_needed(
         &mut self,
         station: usize,
         tag: u32,
@@ -83,11 +83,11 @@ impl<'a> Call<'a, UnitPart> {
         let core = self.core;
         let kind = core.program.instr(index as usize).op().kind();
         let both = needs_second(kind);
-        let a = match self.needed_source(station, tag, Source::First, true) {
+        let a = match self.read_needed(station, tag, Source::First, true) {
             Ok(value) => value,
             Err(refusal) => return refusal,
         };
-        let b = match self.needed_source(station, tag, Source::Second, both) {
+        let b = match self.read_needed(station, tag, Source::Second, both) {
             Ok(value) => value,
             Err(refusal) => return refusal,
         };
@@ -146,8 +146,8 @@ impl Core {
     {
         let mut call = Call::<UnitPart>::of(self, &mut seat.seat);
         let answer = call.claim_at(station);
-        let Call { seat: left, .. } = call;
-        let _left: &Seat<u8, View> = left;
+        let Call { seat: given, .. } = call;
+        let _given: &Seat<u8, View> = given;
         answer
     }
 }

@@ -36,7 +36,8 @@ impl Model for Core {
 
     ghost view = { λ c. core_of c.table.shared.table_id c.table.shared.key };
 
-    ghost invariant = { λ c. IsCore c.table.shared.table_id.words c.table.shared.key c.program c.ring c.queue c.first_tag };
+    ghost invariant = { λ c.
+        IsCore c.table.shared.table_id.words c.table.shared.key c.program c.ring c.queue c.first_tag };
 }
 
 // The first seat becomes the front's, and the back's is new.

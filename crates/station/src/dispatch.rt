@@ -64,8 +64,8 @@ impl Core {
         let station = seat.station;
         let mut call = Call::<FrontPart>::of(self, &mut seat.seat);
         let tag = call.dispatch(station, tenant);
-        let Call { seat: left, .. } = call;
-        let _left: &Seat<u8, View> = left;
+        let Call { seat: given, .. } = call;
+        let _given: &Seat<u8, View> = given;
         seat.station = wrapped(station + 1, ring);
         tag
     }

@@ -30,8 +30,8 @@ impl Core {
     {
         let mut call = Call::<P>::of(self, &mut seat.seat);
         let word = call.look(place);
-        let Call { seat: left, .. } = call;
-        let _left: &Seat<u8, View> = left;
+        let Call { seat: given, .. } = call;
+        let _given: &Seat<u8, View> = given;
         word
     }
 

@@ -95,8 +95,8 @@ impl Core {
         self.table.shared.join_seat::<Told>(&mut to.seat, note);
         let mut call = Call::<Q>::of(self, &mut to.seat);
         call.look(Place::Station(0));
-        let Call { seat: left, .. } = call;
-        let _left: &Seat<u8, View> = left;
+        let Call { seat: given, .. } = call;
+        let _given: &Seat<u8, View> = given;
     }
 
     /// Afterwards each has seen what either had seen. Any two seats can meet.

@@ -66,11 +66,11 @@ impl Core {
     {
         let next = seat.station;
         let mut call = Call::<FrontPart>::of(self, &mut seat.seat);
-        let left = call.squash_youngest(next);
+        let squashed = call.squash_youngest(next);
         let Call { seat: given, .. } = call;
         let _given: &Seat<u8, View> = given;
-        seat.station = left.0;
-        left
+        seat.station = squashed.0;
+        squashed
     }
 
     /// Mends the miss of a station, which is the youngest live tenant: the path goes on at its
@@ -86,7 +86,7 @@ impl Core {
     {
         let mut call = Call::<FrontPart>::of(self, &mut seat.seat);
         call.mend_miss(station);
-        let Call { seat: left, .. } = call;
-        let _left: &Seat<u8, View> = left;
+        let Call { seat: given, .. } = call;
+        let _given: &Seat<u8, View> = given;
     }
 }

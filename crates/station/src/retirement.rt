@@ -1,6 +1,6 @@
 //! Retirement.
 ghost use Rattle.std.specs.Prelude.{◌<◌, ◌≡◌, false};
-ghost use Rattle.ruu_words.specs.declared.station.StationState.TheVariants.{Stop};
+ghost use Rattle.ruu_words.specs.declared.station.StationState.TheVariants.{Stop as ShowsStop};
 ghost use Rattle.station.specs.Calls.{RetiresFrom, seen_unit};
 ghost use Rattle.station.specs.Retirement.{HasAccess, HasEnd, IsLastOf, MayLeave, RetireAnswers, is_stop, kept_value};
 ghost use Rattle.station.specs.Seats.{IsAtHead, IsSameSeat};
@@ -10,10 +10,10 @@ use crate::call::Call;
 use crate::cores::Core;
 use crate::seat::{BackPart, BackSeat};
 use crate::steps::{Access, Leaving};
-use crate::words::{left_word, stop_of};
+use crate::words::left_word;
 use atomic_table::Seat;
 use inorder::wrapped;
-use instructions::Kind;
+use instructions::{Kind, Stop};
 use ruu_words::rule::View;
 use ruu_words::{InfoWord, OperandState, OperandWord, StationState, StationWord};
 
@@ -29,11 +29,11 @@ fn kept(last: Last) -> u32
 
 // The end of a tenant that is done or stops.
 fn last_of(state: StationState, value: u32) -> Last
-    requires { state ≡ Stop → value < 5 }
+    requires { state ≡ ShowsStop → value < 5 }
     ensures { IsLastOf state value result }
 {
     if state == StationState::Stop {
-        Last::Stop(stop_of(value))
+        Last::Stop(Stop::of_code(value))
     } else {
         Last::Done(value)
     }
@@ -184,8 +184,8 @@ impl Core {
         let over = seat.over;
         let mut call = Call::<BackPart>::of(self, &mut seat.seat);
         let answer = call.retire_from(station, over);
-        let Call { seat: left, .. } = call;
-        let _left: &Seat<u8, View> = left;
+        let Call { seat: given, .. } = call;
+        let _given: &Seat<u8, View> = given;
         if let Retire::Retired { last, .. } = answer {
             seat.station = wrapped(station + 1, self.ring);
             seat.over = ends(last);

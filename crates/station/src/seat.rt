@@ -75,7 +75,10 @@ impl<P: Part> Model for SeatOf<P> {
           woken = s.woken;
         } };
 
-    ghost invariant = { λ s. IsSeated s.words.value.key.program (sizes_of s.words.value.key) P.role s.seat.me.0.by s.station s.over s.seat.me × IsNumbered (opening_of s.words.value.key) P.role s.seat.me.0 };
+    ghost invariant = { λ s.
+        IsSeated s.words.value.key.program (sizes_of s.words.value.key) P.role s.seat.me.0.by
+        s.station s.over s.seat.me ×
+        IsNumbered (opening_of s.words.value.key) P.role s.seat.me.0 };
 }
 
 impl<P: Part> SeatOf<P> {

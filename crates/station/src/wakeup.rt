@@ -63,8 +63,8 @@ impl Core {
     {
         let mut call = Call::<FrontPart>::of(self, &mut seat.seat);
         let answer = call.ask_creator((station, tag), k, from);
-        let Call { seat: left, .. } = call;
-        let _left: &Seat<u8, View> = left;
+        let Call { seat: given, .. } = call;
+        let _given: &Seat<u8, View> = given;
         answer
     }
 }

@@ -1,6 +1,5 @@
 //! Words of tenants and sources, packed.
 ghost use Rattle.std.specs.Prelude.{◌≡◌, suc, ◌<◌, Some};
-ghost use Rattle.instructions.specs.Operations.{code_of};
 ghost use Rattle.inorder.specs.Replies.{last_tag};
 ghost use Rattle.inorder.specs.StationWords.{IsFree, live_word};
 ghost use Rattle.inorder.specs.Tenants.{Done, Open};
@@ -11,7 +10,6 @@ ghost use Rattle.station.specs.Letting.{given_value};
 ghost use Rattle.station.specs.Looking.{IsSourceState};
 
 use crate::answers::{SourceState, Supply};
-use instructions::Stop;
 use ruu_words::{OperandState, OperandWord, StationState, StationWord};
 
 /// The state of a source, by its operand word. The word is 0 while its station has had no tenant.
@@ -89,18 +87,4 @@ pub(crate) fn left_word(tag: u32, value: u32) -> u64
         value,
     };
     word.pack()
-}
-
-/// The stop with this number.
-pub(crate) fn stop_of(code: u32) -> Stop
-    requires { code < 5 }
-    ensures { code_of result ≡ code }
-{
-    match code {
-        0 => Stop::Break,
-        1 => Stop::Overflow,
-        2 => Stop::Unaligned,
-        3 => Stop::OutOfRange,
-        _ => Stop::BadPc,
-    }
 }

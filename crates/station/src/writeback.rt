@@ -90,8 +90,8 @@ impl Core {
     {
         let mut call = Call::<UnitPart>::of(self, &mut seat.seat);
         let written = call.finish_job(job, outcome);
-        let Call { seat: left, .. } = call;
-        let _left: &Seat<u8, View> = left;
+        let Call { seat: given, .. } = call;
+        let _given: &Seat<u8, View> = given;
         seat.woken = written.1;
         written.0
     }
@@ -110,8 +110,8 @@ impl Core {
     {
         let mut call = Call::<BackPart>::of(self, &mut seat.seat);
         let settled = call.settle_load(station, tag, value);
-        let Call { seat: left, .. } = call;
-        let _left: &Seat<u8, View> = left;
+        let Call { seat: given, .. } = call;
+        let _given: &Seat<u8, View> = given;
         seat.woken = settled.1;
         settled.0
     }

@@ -1,6 +1,6 @@
 //! The create vector's entries and records, each reading and writing counted.
 ghost use Rattle.std.specs.Prelude.{◌≡◌, ◌<◌, ◌+◌, ◌%◌, ◌^◌, length, slice_get, slice_set, replicate, None};
-ghost use Rattle.front.specs.CreateTable.{EntryFinds};
+ghost use Rattle.front.specs.CreateTable.{EntryFinds, IsTouched};
 
 use super::creators::Creator;
 use instructions::Reg;
@@ -44,13 +44,49 @@ pub struct Creators {
     pub counted: Counted,
 }
 
+// Counts one reading or writing.
+fn count(touched: &mut u64)
+    ensures { touched.new ≡ (touched.old + 1) % 2 ^ 64 }
+{
+    *touched = touched.wrapping_add(1);
+}
+
+impl Table {
+    // The entry of a register. The reading is counted.
+    pub(super) fn entry(&self, r: usize, touched: &mut u64) -> Option<Option<Maker>>
+        ensures value { result ≡ slice_get self.now.entries r }
+        ensures touched { touched.new ≡ (touched.old + 1) % 2 ^ 64 }
+    {
+        count(touched);
+        self.entries.get(r).copied()
+    }
+
+    // The part of a station's last tenant that the table keeps. The reading is counted.
+    pub(super) fn record(&self, station: usize, touched: &mut u64) -> Option<Saved>
+        ensures value { result ≡ slice_get self.now.latest station }
+        ensures touched { touched.new ≡ (touched.old + 1) % 2 ^ 64 }
+    {
+        count(touched);
+        self.latest.get(station).copied()
+    }
+}
+
 impl Counted {
     // Counts one reading or writing.
     pub(super) fn touch(&mut self)
         ensures table { self.new.table ≡ self.old.table }
         ensures touched { self.new.touched ≡ (self.old.touched + 1) % 2 ^ 64 }
     {
-        self.touched = self.touched.wrapping_add(1);
+        count(&mut self.touched);
+    }
+
+    /// The newest writer of a register, if its station was not let again.
+    pub fn find(&mut self, r: Reg) -> Option<Creator>
+        ensures found { EntryFinds self.old.table r result }
+        ensures table { self.new.table ≡ self.old.table }
+        ensures touched { IsTouched 2 self.old.touched self.new.touched }
+    {
+        self.table.find(r, &mut self.touched)
     }
 
     // The entry of a register.
@@ -59,8 +95,7 @@ impl Counted {
         ensures table { self.new.table ≡ self.old.table }
         ensures touched { self.new.touched ≡ (self.old.touched + 1) % 2 ^ 64 }
     {
-        self.touch();
-        self.table.entries.get(r).copied()
+        self.table.entry(r, &mut self.touched)
     }
 
     pub(super) fn put_entry(&mut self, r: usize, maker: Option<Maker>)
@@ -79,8 +114,7 @@ impl Counted {
         ensures table { self.new.table ≡ self.old.table }
         ensures touched { self.new.touched ≡ (self.old.touched + 1) % 2 ^ 64 }
     {
-        self.touch();
-        self.table.latest.get(station).copied()
+        self.table.record(station, &mut self.touched)
     }
 
     pub(super) fn put_record(&mut self, station: usize, saved: Saved)
@@ -126,24 +160,12 @@ impl Creators {
         self.counted.table.entries = [None; 34];
     }
 
-    /// The newest writer of a register, if its station was not let again.
+    /// The newest writer of a register, if its station was not let again. Who asks from outside is not counted.
     pub fn peek(&self, r: Reg) -> Option<Creator>
         ensures { EntryFinds self.now.counted.table r result }
     {
-        if r.number() == 0 {
-            return None;
-        }
-        let table = &self.counted.table;
-        let maker = table.entries.get(r.number() as usize).copied()??;
-        let saved = table.latest.get(maker.station).copied()?;
-        if saved.tag != maker.tag {
-            return None;
-        }
-        Some(Creator {
-            station: maker.station,
-            tag: maker.tag,
-            made: saved.made,
-        })
+        let mut uncounted = 0;
+        self.counted.table.find(r, &mut uncounted)
     }
 
     /// How many entries and records turns and recoveries have read or written.

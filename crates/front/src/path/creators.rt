@@ -3,7 +3,7 @@
 ghost use Rattle.std.specs.Prelude.{◌≡◌, ◌<◌, Some, None};
 ghost use Rattle.front.specs.CreateTable.{EntryFinds, IsEntered, IsRestored, IsTouched, made_from_start};
 
-use super::counted::{Counted, Maker, Saved};
+use super::counted::{Counted, Maker, Saved, Table};
 use super::record::Record;
 use instructions::{Reg, pc_plus_4};
 
@@ -26,18 +26,18 @@ fn made_at_let(tenant: &Record) -> Option<u32>
     }
 }
 
-impl Counted {
-    /// The newest writer of a register, if its station was not let again. Nobody writes register 0.
-    pub fn find(&mut self, r: Reg) -> Option<Creator>
-        ensures found { EntryFinds self.old.table r result }
-        ensures table { self.new.table ≡ self.old.table }
-        ensures touched { IsTouched 2 self.old.touched self.new.touched }
+impl Table {
+    // The newest writer of a register, if its station was not let again. Nobody writes register 0. Each entry and
+    // record that is read is counted.
+    pub(super) fn find(&self, r: Reg, touched: &mut u64) -> Option<Creator>
+        ensures found { EntryFinds self.now r result }
+        ensures touched { IsTouched 2 touched.old touched.new }
     {
         if r.number() == 0 {
             return None;
         }
-        let maker = self.entry(r.number() as usize)??;
-        let saved = self.record(maker.station)?;
+        let maker = self.entry(r.number() as usize, touched)??;
+        let saved = self.record(maker.station, touched)?;
         if saved.tag != maker.tag {
             return None;
         }
@@ -47,7 +47,9 @@ impl Counted {
             made: saved.made,
         })
     }
+}
 
+impl Counted {
     // Enters a new tenant as the last one of its station and the newest writer of its register.
     pub(super) fn enter(&mut self, newest: &Record)
         requires { newest.now.station < 32 }

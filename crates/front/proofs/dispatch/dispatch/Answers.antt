@@ -8,7 +8,7 @@ use Rattle.front.specs.CreateTable.{HasTable, IsEntered}
 use Rattle.front.specs.Knows.{FrontKnows}
 use Rattle.front.specs.Path.{record_for, rested_at}
 use Rattle.front.proofs.DispatchFacts.{facts_of, is_dispatched, knows_path, knows_table, may_ask_first, may_ask_second, may_let_it}
-use Rattle.front.proofs.Tables.{touched_more}
+use Rattle.front.proofs.Touches.{touched_more}
 use Rattle.front.proofs.dispatch.dispatch.Goals as goal
 
 pub let_out-tag-requires-clause-may : goal.let_out-tag-requires-clause-may

@@ -6,7 +6,7 @@ abbrev pub invariant-loop-j : goal.invariant-loop-j
 invariant-loop-j l =
     record {
       inside : l.j ≤ length l.records;
-      behind : memory_records (drop l.j l.records) + l.left ≡ l.younger;
+      behind : memory_records (drop l.j l.records) + l.remaining ≡ l.younger;
     }
 
 abbrev pub decreases-loop-j : goal.decreases-loop-j

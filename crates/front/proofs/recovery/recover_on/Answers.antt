@@ -9,7 +9,8 @@ use Rattle.front.proofs.Misses.{no_miss}
 use Rattle.front.proofs.Splitting.{stays}
 use Rattle.front.proofs.Stays.{knows_stable}
 use Rattle.front.proofs.Recovered.{mend_allowed, mend_table_done}
-use Rattle.front.proofs.Tables.{table_stable, touched_none, touched_within}
+use Rattle.front.proofs.TableStays.{table_stable}
+use Rattle.front.proofs.Touches.{touched_none, touched_within}
 use Rattle.front.specs.CreateTable.{HasTable}
 use Rattle.front.proofs.recovery.recover_on.Goals as goal
 

@@ -7,7 +7,7 @@ use Rattle.front.specs.Recoveries.{IsMissAt}
 use Rattle.front.proofs.FirstMiss.{take_fewer}
 use Rattle.front.proofs.Popping.{popped}
 use Rattle.front.proofs.Recovered.{cut_more, squash_allowed, squash_done, squash_table_done}
-use Rattle.front.proofs.Tables.{touched_more, touched_within}
+use Rattle.front.proofs.Touches.{touched_more, touched_within}
 use Rattle.front.proofs.recovery.squash_behind.Goals as goal
 
 pub squash-station-requires-clause-may : goal.squash-station-requires-clause-may

@@ -1,48 +1,33 @@
 -- A rest.
-use Rattle.std.proofs.Common.{◌≡◌, ◌<◌, ◌-◌, [], length, refl, sym, ap, ◌∙◌, subst, arith}
-use Rattle.std.specs.List.{AllByRecursion}
+use Rattle.std.proofs.Common.{◌<◌, ◌-◌, [], length, refl, sym, ap, ◌∙◌, subst, arith}
 use Rattle.inorder.specs.History.{front, unit_of}
 use Rattle.inorder.specs.OneHistory.{Adds}
-use Rattle.inorder.proofs.Histories.{adds_on, unit_sound}
-use Rattle.station.specs.Seats.{Caller, TheCore}
 use Rattle.front.specs.CreateTable.{HasTable}
-use Rattle.front.specs.Knows.{IsFolded, FrontKnows}
+use Rattle.front.specs.Knows.{FrontKnows}
 use Rattle.front.specs.Path.{rested_at}
-use Rattle.front.specs.Rests.{TellsRecords}
 use Rattle.front.specs.declared.path.Path.{Path}
 use Rattle.station.specs.Renewals.{HasNobody}
 use Rattle.front.proofs.Folding.{folding_begins, knows_rested}
 use Rattle.front.proofs.Fronts.{forgotten}
-use Rattle.front.proofs.Idling.{HasSeen, rests_empty, rests_free}
-use Rattle.front.proofs.Lefts.{all_told}
+use Rattle.front.proofs.Idling.{HasSeen, rested_adds, rested_nobody, rested_tells, rested_told, rests_empty, rests_free}
 use Rattle.front.proofs.Moments.{at_end}
-use Rattle.front.proofs.Named.{all_get, small_stations}
-use Rattle.front.proofs.Resting.{nobody_stable, somebody}
+use Rattle.front.proofs.Named.{all_get, stations_inside}
+use Rattle.front.proofs.Resting.{somebody}
 use Rattle.front.proofs.Splitting.{stays}
 use Rattle.front.proofs.Stays.{knows_stable}
-use Rattle.front.proofs.Tables.{table_stable}
+use Rattle.front.proofs.TableStays.{table_stable}
 use Rattle.front.proofs.rest.rest_on.Goals.{in-Some+in-Free, in_default}
 use Rattle.front.proofs.rest.rest_on.Goals as goal
 
 pub look-seen-requires-clause-station : goal.look-seen-requires-clause-station
 look-seen-requires-clause-station g c =
-    let P = c.args.core.now.program in
     let C = c.args.core.now.sizes in
-    let U = unit_of P C c.args.seat.now.seen in
     let records = c.args.path.now.records in
-    let base = c.args.path.now.base in
-    all_get (λ x. x.station < C.ring) records (small_stations P C c.args.seat.now.seen c.requires.legal records base (IsFolded U (rested_at base)) c.requires.knows
-    (omega (arith, c.ring-ring.ensures.value, c.ring-ring.ensures.least))) (length records - 1) c.in-Some.youngest (sym c.last.ensures ∙ c.in-Some.is)
+    all_get (λ x. x.station < C.ring) records (stations_inside c.args.seat.now.seen c.requires.legal c.requires.knows refl (omega (arith, c.ring-ring.ensures.value, c.ring-ring.ensures.least)))
+    (length records - 1) c.in-Some.youngest (sym c.last.ensures ∙ c.in-Some.is)
 
 pub keep_front-requires-clause-inside : goal.keep_front-requires-clause-inside
-keep_front-requires-clause-inside g c =
-    let P = c.args.core.now.program in
-    let C = c.args.core.now.sizes in
-    let U = unit_of P C c.args.seat.now.seen in
-    let records = c.args.path.now.records in
-    let base = c.args.path.now.base in
-    subst (λ n. AllByRecursion (λ x. x.station < n) records) (sym c.ring-ring.ensures.value)
-    (small_stations P C c.args.seat.now.seen c.requires.legal records base (IsFolded U (rested_at base)) c.requires.knows (omega (arith, c.ring-ring.ensures.value, c.ring-ring.ensures.least)))
+keep_front-requires-clause-inside g c = stations_inside c.args.seat.now.seen c.requires.legal c.requires.knows c.ring-ring.ensures.value c.ring-ring.ensures.least
 
 pub returns-in_default-state : goal.returns-in_default-state
 returns-in_default-state g c =
@@ -70,74 +55,56 @@ returns-in_default-state g c =
 
 pub fold_all-requires-clause-folding : goal.fold_all-requires-clause-folding
 fold_all-requires-clause-folding g c =
-    let seen : HasSeen c.args.core.now c.args.seat.now c.match-last.seat = elim c.match-last.branch [
-      | in-Some+in-Free w ↦ rests_free c.args.core.now c.args.seat.now c.requires.by c.args.path.now c.requires.knows w.look-seen.ensures.kept w.look-seen.ensures.history
-          (sym c.last.ensures ∙ w.in-Some.is) w.look-seen.result w.look-seen.ensures.reply w.in-Free.is w.seat-is
-      | in_default w ↦ rests_empty c.args.core.now c.args.seat.now c.requires.by c.args.path.now c.requires.knows c.requires.legal (sym c.last.ensures ∙ w.in_default.is) w.seat-is
+    let seen : HasSeen c.args.core.now c.args.path.now c.args.seat.now c.match-last.seat = elim c.match-last.branch [
+      | in-Some+in-Free w ↦ rests_free c.requires.by c.requires.knows c.last.ensures w.look-seen.ensures.kept w.look-seen.ensures.history w.in-Some.is w.look-seen.result
+          w.look-seen.ensures.reply w.in-Free.is w.seat-is
+      | in_default w ↦ rests_empty c.requires.by c.requires.knows c.last.ensures c.requires.legal w.in_default.is w.seat-is
     ] in
-    let P = c.args.core.now.program in
-    let C = c.args.core.now.sizes in
-    let path = c.args.path.now in
-    let knows = stays P C (λ U. FrontKnows P C U path.records path.base) (knows_stable P C path.records path.base) c.args.seat.now.seen c.match-last.seat.seen seen.adds c.requires.knows in
-    folding_begins c.args.core.now c.match-last.seat.seen seen.adds.legal path knows c.ring-ring.result c.ring-ring.ensures.value (omega (arith, c.ring-ring.ensures.value, c.ring-ring.ensures.least))
-    c.keep_front.new.self c.keep_front.ensures.records c.keep_front.ensures.base
+    folding_begins c.args.core.now c.match-last.seat.seen seen.adds.legal c.args.path.now seen.knows c.ring-ring.result c.ring-ring.ensures.value
+    (omega (arith, c.ring-ring.ensures.value, c.ring-ring.ensures.least)) c.keep_front.new.self c.keep_front.ensures.records c.keep_front.ensures.base
 
 pub fold_all-requires-clause-nobody : goal.fold_all-requires-clause-nobody
 fold_all-requires-clause-nobody g c =
-    let seen : HasSeen c.args.core.now c.args.seat.now c.match-last.seat = elim c.match-last.branch [
-      | in-Some+in-Free w ↦ rests_free c.args.core.now c.args.seat.now c.requires.by c.args.path.now c.requires.knows w.look-seen.ensures.kept w.look-seen.ensures.history
-          (sym c.last.ensures ∙ w.in-Some.is) w.look-seen.result w.look-seen.ensures.reply w.in-Free.is w.seat-is
-      | in_default w ↦ rests_empty c.args.core.now c.args.seat.now c.requires.by c.args.path.now c.requires.knows c.requires.legal (sym c.last.ensures ∙ w.in_default.is) w.seat-is
+    let seen : HasSeen c.args.core.now c.args.path.now c.args.seat.now c.match-last.seat = elim c.match-last.branch [
+      | in-Some+in-Free w ↦ rests_free c.requires.by c.requires.knows c.last.ensures w.look-seen.ensures.kept w.look-seen.ensures.history w.in-Some.is w.look-seen.result
+          w.look-seen.ensures.reply w.in-Free.is w.seat-is
+      | in_default w ↦ rests_empty c.requires.by c.requires.knows c.last.ensures c.requires.legal w.in_default.is w.seat-is
     ] in
     seen.nobody
 
 pub returns-clause-reply : goal.returns-clause-reply
 returns-clause-reply g c =
-    let seen : HasSeen c.args.core.now c.args.seat.now c.match-last.seat = elim c.match-last.branch [
-      | in-Some+in-Free w ↦ rests_free c.args.core.now c.args.seat.now c.requires.by c.args.path.now c.requires.knows w.look-seen.ensures.kept w.look-seen.ensures.history
-          (sym c.last.ensures ∙ w.in-Some.is) w.look-seen.result w.look-seen.ensures.reply w.in-Free.is w.seat-is
-      | in_default w ↦ rests_empty c.args.core.now c.args.seat.now c.requires.by c.args.path.now c.requires.knows c.requires.legal (sym c.last.ensures ∙ w.in_default.is) w.seat-is
+    let seen : HasSeen c.args.core.now c.args.path.now c.args.seat.now c.match-last.seat = elim c.match-last.branch [
+      | in-Some+in-Free w ↦ rests_free c.requires.by c.requires.knows c.last.ensures w.look-seen.ensures.kept w.look-seen.ensures.history w.in-Some.is w.look-seen.result
+          w.look-seen.ensures.reply w.in-Free.is w.seat-is
+      | in_default w ↦ rests_empty c.requires.by c.requires.knows c.last.ensures c.requires.legal w.in_default.is w.seat-is
     ] in
-    let P = c.args.core.now.program in
-    let C = c.args.core.now.sizes in
-    let path = c.args.path.now in
-    let new = c.fold_all.new.seat.seen in
-    let both : Adds P C front c.args.seat.now.seen new [] = adds_on P C front c.args.seat.now.seen c.match-last.seat.seen new [] [] seen.adds c.fold_all.ensures.history in
-    let nobody = stays P C HasNobody (nobody_stable P C) c.match-last.seat.seen new c.fold_all.ensures.history seen.nobody in
-    let knows = stays P C (λ U. FrontKnows P C U path.records path.base) (knows_stable P C path.records path.base) c.args.seat.now.seen new both c.requires.knows in
-    let tells : TellsRecords g.P.Predictor.Learns path.records c.args.predictor.now c.fold_all.new.predictor = subst
-    (λ z. TellsRecords g.P.Predictor.Learns z c.args.predictor.now c.fold_all.new.predictor) c.keep_front.ensures.records c.fold_all.ensures.tells in
     record {
-      adds = both;
-      nobody = nobody;
-      tells = all_told g.P.Predictor.Learns P C (unit_of P C new) (unit_sound P C new both.legal) nobody path.records path.base knows c.args.predictor.now c.fold_all.new.predictor tells;
+      adds = rested_adds seen c.fold_all.new.seat c.fold_all.ensures.history;
+      nobody = rested_nobody seen c.fold_all.new.seat c.fold_all.ensures.history;
+      tells = rested_tells seen c.fold_all.new.seat c.fold_all.ensures.history g.P.Predictor.Learns c.args.predictor.now c.fold_all.new.predictor
+          c.keep_front.ensures.records c.fold_all.ensures.tells;
     }
 
 pub returns-clause-knows : goal.returns-clause-knows
 returns-clause-knows g c =
-    let seen : HasSeen c.args.core.now c.args.seat.now c.match-last.seat = elim c.match-last.branch [
-      | in-Some+in-Free w ↦ rests_free c.args.core.now c.args.seat.now c.requires.by c.args.path.now c.requires.knows w.look-seen.ensures.kept w.look-seen.ensures.history
-          (sym c.last.ensures ∙ w.in-Some.is) w.look-seen.result w.look-seen.ensures.reply w.in-Free.is w.seat-is
-      | in_default w ↦ rests_empty c.args.core.now c.args.seat.now c.requires.by c.args.path.now c.requires.knows c.requires.legal (sym c.last.ensures ∙ w.in_default.is) w.seat-is
+    let seen : HasSeen c.args.core.now c.args.path.now c.args.seat.now c.match-last.seat = elim c.match-last.branch [
+      | in-Some+in-Free w ↦ rests_free c.requires.by c.requires.knows c.last.ensures w.look-seen.ensures.kept w.look-seen.ensures.history w.in-Some.is w.look-seen.result
+          w.look-seen.ensures.reply w.in-Free.is w.seat-is
+      | in_default w ↦ rests_empty c.requires.by c.requires.knows c.last.ensures c.requires.legal w.in_default.is w.seat-is
     ] in
-    let v = c.fold_all.new.seat in
-    let here : v.core ≡ c.args.core.now = c.fold_all.ensures.kept.core ∙ (seen.same.core ∙ c.requires.core) in
     let new : Path = record { records = c.fold_all.new.path.records; base = record c.fold_all.new.path.base { rested = c.of.result } } in
-    let told : rested_at new.base ≡ length (unit_of c.args.core.now.program c.args.core.now.sizes v.seen).tenants = ap (λ (z : Caller). length (unit_of z.core.program z.core.sizes z.seen).tenants)
-    c.of.ensures ∙ ap (λ (z : TheCore). length (unit_of z.program z.sizes v.seen).tenants) here in
-    knows_rested c.args.core.now v.seen c.fold_all.new.path new c.fold_all.ensures.folding c.fold_all.ensures.none refl told refl refl refl refl
+    let told = rested_told seen c.fold_all.new.seat c.fold_all.ensures.history c.of.ensures c.requires.core c.fold_all.ensures.kept.core in
+    knows_rested c.args.core.now c.fold_all.new.seat.seen c.fold_all.new.path new c.fold_all.ensures.folding c.fold_all.ensures.none refl told refl refl refl refl
 
 pub returns-clause-table : goal.returns-clause-table
 returns-clause-table g c =
-    let seen : HasSeen c.args.core.now c.args.seat.now c.match-last.seat = elim c.match-last.branch [
-      | in-Some+in-Free w ↦ rests_free c.args.core.now c.args.seat.now c.requires.by c.args.path.now c.requires.knows w.look-seen.ensures.kept w.look-seen.ensures.history
-          (sym c.last.ensures ∙ w.in-Some.is) w.look-seen.result w.look-seen.ensures.reply w.in-Free.is w.seat-is
-      | in_default w ↦ rests_empty c.args.core.now c.args.seat.now c.requires.by c.args.path.now c.requires.knows c.requires.legal (sym c.last.ensures ∙ w.in_default.is) w.seat-is
+    let seen : HasSeen c.args.core.now c.args.path.now c.args.seat.now c.match-last.seat = elim c.match-last.branch [
+      | in-Some+in-Free w ↦ rests_free c.requires.by c.requires.knows c.last.ensures w.look-seen.ensures.kept w.look-seen.ensures.history w.in-Some.is w.look-seen.result
+          w.look-seen.ensures.reply w.in-Free.is w.seat-is
+      | in_default w ↦ rests_empty c.requires.by c.requires.knows c.last.ensures c.requires.legal w.in_default.is w.seat-is
     ] in
-    let v = c.fold_all.new.seat in
-    let here : v.core ≡ c.args.core.now = c.fold_all.ensures.kept.core ∙ (seen.same.core ∙ c.requires.core) in
-    let new : Path = record { records = c.fold_all.new.path.records; base = record c.fold_all.new.path.base { rested = c.of.result } } in
-    let told : rested_at new.base ≡ length (unit_of c.args.core.now.program c.args.core.now.sizes v.seen).tenants = ap (λ (z : Caller). length (unit_of z.core.program z.core.sizes z.seen).tenants)
-    c.of.ensures ∙ ap (λ (z : TheCore). length (unit_of z.program z.sizes v.seen).tenants) here in
-    forgotten c.args.core.now.program (unit_of c.args.core.now.program c.args.core.now.sizes v.seen) (rested_at new.base) c.forget.new.self.counted.table told c.forget.ensures.entries
+    let d = c.args.core.now in
+    let told = rested_told seen c.fold_all.new.seat c.fold_all.ensures.history c.of.ensures c.requires.core c.fold_all.ensures.kept.core in
+    forgotten d.program (unit_of d.program d.sizes c.fold_all.new.seat.seen) _ c.forget.new.self.counted.table told c.forget.ensures.entries
     (ap (λ z. length z) c.forget.ensures.latest ∙ c.requires.table.deep)

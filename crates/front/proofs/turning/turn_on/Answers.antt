@@ -5,7 +5,8 @@ use Rattle.inorder.specs.History.{unit_of}
 use Rattle.front.proofs.Releasing.{ready_now, released_told}
 use Rattle.front.proofs.Splitting.{stays}
 use Rattle.front.proofs.Stays.{knows_stable}
-use Rattle.front.proofs.Tables.{table_stable, touched_more, touched_none}
+use Rattle.front.proofs.TableStays.{table_stable}
+use Rattle.front.proofs.Touches.{touched_more, touched_none}
 use Rattle.front.proofs.Turned.{is_let}
 use Rattle.front.specs.CreateTable.{HasTable}
 use Rattle.front.specs.Path.{Releases, rested_at}
@@ -30,17 +31,18 @@ dispatch-tag-requires-clause-ready g c =
     let knows : FrontKnows P C (unit_of P C h) records base = stays P C (λ U. FrontKnows P C U records base) (knows_stable P C records base) c.args.seat.now.seen h c.fetch.ensures.history
     c.requires.knows in
     let least : 2 ≤ C.ring = subst (λ z. 2 ≤ z) c.ring.ensures.value c.ring.ensures.least in
-    let released : Releases C.ring c.in-Ok.next.left c.args.path.now c.release-left.result c.release-left.new.self = subst
-    (λ z. Releases z c.in-Ok.next.left c.args.path.now c.release-left.result c.release-left.new.self) c.ring.ensures.value c.release-left.ensures.reply in
-    ready_now P C h c.fetch.ensures.history.legal records base knows least c.in-Ok.next.left c.in-Ok.ensures.ok.oldest c.args.path.now refl refl c.release-left.result c.release-left.new.self released
+    let released : Releases C.ring c.in-Ok.next.left c.args.path.now c.release-departed.result c.release-departed.new.self = subst
+    (λ z. Releases z c.in-Ok.next.left c.args.path.now c.release-departed.result c.release-departed.new.self) c.ring.ensures.value c.release-departed.ensures.reply in
+    ready_now P C h c.fetch.ensures.history.legal records base knows least c.in-Ok.next.left c.in-Ok.ensures.ok.oldest c.args.path.now refl refl
+    c.release-departed.result c.release-departed.new.self released
 
 pub returns-clause-reply : goal.returns-clause-reply
 returns-clause-reply g c =
     let P = c.args.core.now.program in
     let C = c.args.core.now.sizes in
     is_let (given_or c.args.given g.P.Predictor.Predicts) g.P.Predictor.Learns P C c.args.seat.now.seen c.fetch.new.seat.seen c.dispatch-tag.new.seat.seen c.args.path.now.records c.args.path.now.base c.requires.knows
-    c.fetch.ensures.history c.in-Ok.next c.in-Ok.ensures.ok.oldest c.ring.result c.ring.ensures.value c.args.path.now c.release-left.new.self refl c.predict-predicted.result c.dispatch-tag.result
-    c.dispatch-tag.ensures.reply c.release-left.result c.release-left.ensures.reply c.args.predictor.now c.predict-predicted.new.predictor
+    c.fetch.ensures.history c.in-Ok.next c.in-Ok.ensures.ok.oldest c.ring.result c.ring.ensures.value c.args.path.now c.release-departed.new.self refl c.predict-predicted.result c.dispatch-tag.result
+    c.dispatch-tag.ensures.reply c.release-departed.result c.release-departed.ensures.reply c.args.predictor.now c.predict-predicted.new.predictor
     (subst (λ l. Guesses (given_or c.args.given g.P.Predictor.Predicts) g.P.Predictor.Learns l c.in-Ok.next.instr c.in-Ok.next.half c.in-Ok.next.pc c.predict-predicted.result c.args.predictor.now
     c.predict-predicted.new.predictor) c.leaver-leaver.ensures c.predict-predicted.ensures)
 
@@ -57,16 +59,16 @@ dispatch-tag-requires-clause-table g c =
     let C = c.args.core.now.sizes in
     let h = c.fetch.new.seat.seen in
     subst (λ (z : ℕ × Table). HasTable P (unit_of P C h) z.0 z.1) (λ i. (
-      sym (released_told c.ring.result c.in-Ok.next.left c.args.path.now c.release-left.result c.release-left.new.self
-          c.release-left.ensures.reply) i,
-      sym c.release-left.ensures.table i,
+      sym (released_told c.ring.result c.in-Ok.next.left c.args.path.now c.release-departed.result c.release-departed.new.self
+          c.release-departed.ensures.reply) i,
+      sym c.release-departed.ensures.table i,
     ))
     (stays P C (λ U. HasTable P U (rested_at c.args.path.now.base) c.args.creators.now.table) (table_stable P C (rested_at c.args.path.now.base) c.args.creators.now.table) c.args.seat.now.seen h
     c.fetch.ensures.history c.requires.table)
 
 pub returns-clause-touched : goal.returns-clause-touched
 returns-clause-touched g c =
-    touched_more 1 8 c.args.creators.now.touched c.release-left.new.creators.touched c.dispatch-tag.new.creators.touched c.release-left.ensures.touched c.dispatch-tag.ensures.touched
+    touched_more 1 8 c.args.creators.now.touched c.release-departed.new.creators.touched c.dispatch-tag.new.creators.touched c.release-departed.ensures.touched c.dispatch-tag.ensures.touched
 
 pub returns-in-Err-clause-touched : goal.returns-in-Err-clause-touched
 returns-in-Err-clause-touched g c = touched_none _ _ _ refl
@@ -74,4 +76,4 @@ returns-in-Err-clause-touched g c = touched_none _ _ _ refl
 pub returns-clause-told : goal.returns-clause-told
 returns-clause-told g c =
     ap rested_at c.dispatch-tag.ensures.base
-    ∙ released_told c.ring.result c.in-Ok.next.left c.args.path.now c.release-left.result c.release-left.new.self c.release-left.ensures.reply
+    ∙ released_told c.ring.result c.in-Ok.next.left c.args.path.now c.release-departed.result c.release-departed.new.self c.release-departed.ensures.reply

@@ -1,4 +1,4 @@
-use Rattle.station.proofs.Finishing.{claimed_are_in_flight, jobs_are_finished, jobs_stay_in_flight}
+use Rattle.station.proofs.InFlight.{claimed_are_in_flight, jobs_are_finished, jobs_stay_in_flight}
 use Rattle.station.proofs.laws.a_job_is_finished.Goals as goal
 
 pub returns-clause-claimed : goal.returns-clause-claimed

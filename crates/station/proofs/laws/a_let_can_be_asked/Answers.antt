@@ -1,4 +1,4 @@
-use Rattle.station.proofs.Following.{lets_are_asked}
+use Rattle.station.proofs.AfterLet.{lets_are_asked}
 use Rattle.station.proofs.laws.a_let_can_be_asked.Goals as goal
 
 pub returns : goal.returns

@@ -1,4 +1,4 @@
-use Rattle.station.proofs.Opens.{lets_are_out}
+use Rattle.station.proofs.LetIsOut.{lets_are_out}
 use Rattle.station.proofs.laws.a_let_is_out.Goals as goal
 
 pub returns : goal.returns

@@ -1,4 +1,4 @@
-use Rattle.station.proofs.Opens.{ready_tenants_stay}
+use Rattle.station.proofs.OpenKept.{ready_tenants_stay}
 use Rattle.station.proofs.laws.a_ready_tenant_stays.Goals as goal
 
 pub returns : goal.returns

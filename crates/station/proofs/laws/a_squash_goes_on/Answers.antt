@@ -1,4 +1,4 @@
-use Rattle.station.proofs.Following.{misses_are_recovered, misses_stay_seen, misses_stay_squashing}
+use Rattle.station.proofs.AfterSquash.{misses_are_recovered, misses_stay_seen, misses_stay_squashing}
 use Rattle.station.proofs.laws.a_squash_goes_on.Goals as goal
 
 pub returns-clause-seen : goal.returns-clause-seen

@@ -2,15 +2,14 @@ use Rattle.std.proofs.Common.{sym, ap, ◌∙◌, subst}
 use Rattle.station.specs.Seats.{TheCore}
 use Rattle.back.specs.Backs.{IsSameBack, TheBack, back_of}
 use Rattle.back.specs.Refreshes.{RefreshAnswers}
-use Rattle.back.proofs.Calls.{head_small, is_same}
+use Rattle.back.proofs.Calls.{head_inside, is_same}
 use Rattle.back.proofs.Refreshing.{is_calm}
 use Rattle.back.proofs.SeatKept.{kept_by}
 use Rattle.back.proofs.backs.Back.refresh.Goals as goal
 
 pub scan-requires-clause-head : goal.scan-requires-clause-head
 scan-requires-clause-head g c =
-    let core = ap (λ (s : TheBack). s.core) c.self.view_is ∙ c.requires.core in
-    head_small c.self.inside.head _ _ c.ring-ring.result c.self.invariant.unit.head_is (c.ring-ring.ensures.value ∙ sym (ap (λ (d : TheCore). d.sizes.ring) core)) c.ring-ring.ensures.least
+    head_inside c.self.invariant c.self.view_is c.requires.core c.ring-ring.ensures.value c.ring-ring.ensures.least
 
 pub invariant_of-self : goal.invariant_of-self
 invariant_of-self g c =

@@ -1,4 +1,4 @@
-use Rattle.front.proofs.Tables.{touched_more, touched_one}
+use Rattle.front.proofs.Touches.{touched_more, touched_one}
 use Rattle.front.proofs.path.Path.enter.Goals as goal
 
 pub returns-clause-touched : goal.returns-clause-touched

@@ -8,7 +8,7 @@ use Rattle.front.proofs.still.FrontStill.enter_at.Goals as goal
 
 pub invariant_of-result : goal.invariant_of-result
 invariant_of-result g c =
-    let v = c.self.inside.left.value in
+    let v = c.self.inside.given_back.value in
     let w = c.args.seat in
     let old = c.self.inside.base in
     let goes : GoesOnForFront v.core v.seen w = subst (λ (z : TheStillFront g.row.P.Denot). GoesOnForFront z.core z.seen w) (sym c.self.view_is) c.requires.goes_on in

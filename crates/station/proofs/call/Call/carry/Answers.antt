@@ -1,6 +1,6 @@
 use Rattle.std.proofs.Common.{sym, subst}
 use Rattle.station.specs.Carrying.{HasCarried}
-use Rattle.station.proofs.Writing.{carries_walk}
+use Rattle.station.proofs.FinishWrites.{carries_walk}
 use Rattle.station.proofs.call.Call.carry.Goals as goal
 
 pub returns-in-Value : goal.returns-in-Value

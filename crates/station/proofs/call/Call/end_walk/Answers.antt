@@ -2,7 +2,7 @@ use Rattle.station.proofs.Places.{inside}
 use Rattle.std.proofs.Common.{sym, subst}
 use Rattle.ruu_words.specs.declared.place.Place.TheVariants.{Station}
 use Rattle.station.specs.Carrying.{IsWriter}
-use Rattle.station.proofs.Carrying.{end_plan}
+use Rattle.station.proofs.WalkEnds.{end_plan}
 use Rattle.station.proofs.call.Call.end_walk.Goals as goal
 
 pub load-requires : goal.load-requires

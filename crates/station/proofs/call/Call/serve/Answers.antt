@@ -2,7 +2,8 @@ use Rattle.std.proofs.Common.{◌≡◌, ◌≢◌, ℕ, nat_eq, sym, ap, ◌∙
 use Rattle.std.proofs.lemmas.Bool.{eqb-true}
 use Rattle.ruu_words.specs.Fields.{producer_of, tag_of}
 use Rattle.station.specs.Writeback.{CanDeliver}
-use Rattle.station.proofs.Carrying.{can_deliver, serves_nobody, serves_one, tag_above_zero}
+use Rattle.station.proofs.WalkLink.{can_deliver, serves_nobody, serves_one}
+use Rattle.station.proofs.WalkStays.{tag_above_zero}
 use Rattle.station.proofs.Calls.{Of, joined, legal_at, of_one, taken}
 use Rattle.station.proofs.Places.{inside}
 use Rattle.station.proofs.Waking.{wakes_delivering, wakes_not, wakes_reading, wakes_served}

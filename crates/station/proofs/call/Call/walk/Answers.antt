@@ -5,7 +5,7 @@ use Rattle.station.specs.Carrying.{HasValueOf, IsServedAll, IsServing, OfTenant}
 use Rattle.station.specs.Seats.{TheCore}
 use Rattle.station.specs.Waking.{Wakes}
 use Rattle.station.proofs.Calls.{after, before, joined, legal_at, taken}
-use Rattle.station.proofs.Carrying.{all_served, carries_both, legal_behind, value_behind, walks_away}
+use Rattle.station.proofs.WalkEnds.{all_served, carries_both, legal_behind, value_behind, walks_away}
 use Rattle.station.proofs.Waking.{either_one, either_other, one_of, wakes_before, wakes_ending, wakes_on}
 use Rattle.station.proofs.call.Call.walk.Goals as goal
 use Rattle.ruu_words.proofs.Stays.{named_of}

@@ -5,7 +5,7 @@ use Rattle.ruu_words.specs.Kinds.{IsAny}
 use Rattle.station.specs.Calls.{Saw}
 use Rattle.station.specs.Claiming.{IsOpenAs}
 use Rattle.station.proofs.ClaimSteps.{after_info, after_peek, after_recheck, answers_on, moved_at_recheck, saw}
-use Rattle.station.proofs.Opened.{peek_refused}
+use Rattle.station.proofs.OnItsWay.{peek_refused}
 use Rattle.station.proofs.Unpacked.{closed_number, open_number}
 use Rattle.station.proofs.claims.Call+UnitPart.claim_at.Goals as goal
 

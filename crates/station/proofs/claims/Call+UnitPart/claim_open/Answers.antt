@@ -7,7 +7,7 @@ use Rattle.ruu_words.proofs.Stays.{named_of, tag_small}
 use Rattle.station.specs.Calls.{IsLegalCall}
 use Rattle.station.proofs.Calls.{legal_at, program_at}
 use Rattle.station.proofs.ClaimSteps.{claim_begins, has_both, has_claimed, has_first, is_ready, moved_at_exchange, needs_at, next_is_second, refused_source}
-use Rattle.station.proofs.Opened.{index_inside}
+use Rattle.station.proofs.OnItsWay.{index_inside}
 use Rattle.station.proofs.claims.Call+UnitPart.claim_open.Goals as goal
 
 pub instr-requires : goal.instr-requires
@@ -21,21 +21,21 @@ instr-requires c =
 pub returns-in-Err : goal.returns-in-Err
 returns-in-Err c =
     let r0 = claim_begins (legal_at c.self.invariant c.self.view_is) c.requires in
-    refused_source true r0 c.needed_source.ensures.same c.in-Err.ensures.answer
+    refused_source true r0 c.read_needed.ensures.same c.in-Err.ensures.answer
 
-pub needed_source-requires-2-clause-seen : goal.needed_source-requires-2-clause-seen
-needed_source-requires-2-clause-seen c =
+pub read_needed-requires-2-clause-seen : goal.read_needed-requires-2-clause-seen
+read_needed-requires-2-clause-seen c =
     let program = program_at c.core.inside.table.shared.key c.core.invariant.program c.core.view_is c.self.view_is in
     let is = needs_at c.args.info.index program c.instr.ensures c.op.ensures c.kind-kind.ensures c.needs_second-both.ensures in
     let r0 = claim_begins (legal_at c.self.invariant c.self.view_is) c.requires in
-    let r1 = has_first r0 c.needed_source.ensures.same c.in-Ok.ensures.answer in
+    let r1 = has_first r0 c.read_needed.ensures.same c.in-Ok.ensures.answer in
     next_is_second is r1
 
-pub returns-in-Err-needed_source : goal.returns-in-Err-needed_source
-returns-in-Err-needed_source c =
+pub returns-in-Err-read_needed : goal.returns-in-Err-read_needed
+returns-in-Err-read_needed c =
     let r0 = claim_begins (legal_at c.self.invariant c.self.view_is) c.requires in
-    let r1 = has_first r0 c.needed_source.ensures.same c.in-Ok.ensures.answer in
-    refused_source c.needs_second-both.result r1 c.needed_source-2.ensures.same c.in-Err-needed_source.ensures.answer
+    let r1 = has_first r0 c.read_needed.ensures.same c.in-Ok.ensures.answer in
+    refused_source c.needs_second-both.result r1 c.read_needed-2.ensures.same c.in-Err-read_needed.ensures.answer
 
 pub open_word-open-requires : goal.open_word-open-requires
 open_word-open-requires c =
@@ -55,8 +55,8 @@ claim_tenant-found-requires-clause-seen c =
     let program = program_at c.core.inside.table.shared.key c.core.invariant.program c.core.view_is c.self.view_is in
     let is = needs_at c.args.info.index program c.instr.ensures c.op.ensures c.kind-kind.ensures c.needs_second-both.ensures in
     let r0 = claim_begins (legal_at c.self.invariant c.self.view_is) c.requires in
-    let r1 = has_first r0 c.needed_source.ensures.same c.in-Ok.ensures.answer in
-    let r2 = has_both r1 c.needed_source-2.ensures.same c.in-Ok-needed_source.ensures.answer in
+    let r1 = has_first r0 c.read_needed.ensures.same c.in-Ok.ensures.answer in
+    let r2 = has_both r1 c.read_needed-2.ensures.same c.in-Ok-read_needed.ensures.answer in
     is_ready is r2 c.open_word-open.ensures.tag
 
 pub returns-then-found-open : goal.returns-then-found-open
@@ -64,8 +64,8 @@ returns-then-found-open c =
     let program = program_at c.core.inside.table.shared.key c.core.invariant.program c.core.view_is c.self.view_is in
     let is = needs_at c.args.info.index program c.instr.ensures c.op.ensures c.kind-kind.ensures c.needs_second-both.ensures in
     let r0 = claim_begins (legal_at c.self.invariant c.self.view_is) c.requires in
-    let r1 = has_first r0 c.needed_source.ensures.same c.in-Ok.ensures.answer in
-    let r2 = has_both r1 c.needed_source-2.ensures.same c.in-Ok-needed_source.ensures.answer in
+    let r1 = has_first r0 c.read_needed.ensures.same c.in-Ok.ensures.answer in
+    let r2 = has_both r1 c.read_needed-2.ensures.same c.in-Ok-read_needed.ensures.answer in
     moved_at_exchange is r2 c.open_word-open.ensures.tag c.claim_tenant-found.ensures c.if-found-open.true
 
 pub pc_of-pc-requires : goal.pc_of-pc-requires
@@ -83,7 +83,7 @@ returns c =
     let program = program_at c.core.inside.table.shared.key c.core.invariant.program c.core.view_is c.self.view_is in
     let is = needs_at c.args.info.index program c.instr.ensures c.op.ensures c.kind-kind.ensures c.needs_second-both.ensures in
     let r0 = claim_begins (legal_at c.self.invariant c.self.view_is) c.requires in
-    let r1 = has_first r0 c.needed_source.ensures.same c.in-Ok.ensures.answer in
-    let r2 = has_both r1 c.needed_source-2.ensures.same c.in-Ok-needed_source.ensures.answer in
+    let r1 = has_first r0 c.read_needed.ensures.same c.in-Ok.ensures.answer in
+    let r2 = has_both r1 c.read_needed-2.ensures.same c.in-Ok-read_needed.ensures.answer in
     let hit : c.claim_tenant-found.result ≡ c.open_word-open.result = search rules in
     has_claimed is r2 c.open_word-open.ensures.tag c.claim_tenant-found.ensures hit c.pc_of-pc.result c.pc_of-pc.ensures

@@ -7,7 +7,7 @@ use Rattle.ruu_words.specs.declared.rule.Role.TheVariants.{Back}
 use Rattle.ruu_words.specs.declared.rule.View.{View}
 use Rattle.ruu_words.specs.Openings.{opening_of, sizes_of}
 use Rattle.ruu_words.specs.Views.{nobody, view, without_first}
-use Rattle.ruu_words.proofs.Views.{splits_back, splits_first}
+use Rattle.ruu_words.proofs.ViewCuts.{splits_back, splits_first}
 use Rattle.station.specs.Seats.{IsSeated}
 use Rattle.station.proofs.Renewing.{first_back}
 use Rattle.station.proofs.SameUnit.{not_empty}

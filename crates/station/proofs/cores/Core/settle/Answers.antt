@@ -4,7 +4,7 @@ use Rattle.station.specs.Answers.{AnswersSettle}
 use Rattle.station.specs.Calls.{TheCall, caller}
 use Rattle.station.specs.Writeback.{SettleAnswers}
 use Rattle.station.proofs.Calls.{given_back, seated_in}
-use Rattle.station.proofs.Writing.{settled_seated}
+use Rattle.station.proofs.SettleWrites.{settled_seated}
 use Rattle.station.proofs.cores.Core.settle.Goals as goal
 
 pub invariant_of-seat : goal.invariant_of-seat

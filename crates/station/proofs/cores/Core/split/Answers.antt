@@ -3,7 +3,7 @@ use Rattle.inorder.specs.History.{own}
 use Rattle.ruu_words.specs.declared.rule.Role.TheVariants.{Worker}
 use Rattle.ruu_words.specs.declared.rule.Setup.{Setup}
 use Rattle.ruu_words.specs.Openings.{opening_of, sizes_of}
-use Rattle.ruu_words.proofs.Views.{splits_unit}
+use Rattle.ruu_words.proofs.ViewCuts.{splits_unit}
 use Rattle.station.specs.Seats.{Caller, IsNumbered, TheCore}
 use Rattle.station.proofs.Numbers.{born_now, left_numbered, right_numbered}
 use Rattle.station.proofs.SameUnit.{not_empty, same_opening}

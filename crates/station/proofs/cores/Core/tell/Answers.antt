@@ -5,7 +5,8 @@ use Rattle.inorder.specs.OneHistory.{Adds}
 use Rattle.ruu_words.specs.declared.rule.View.{View}
 use Rattle.ruu_words.specs.declared.place.Place.TheVariants.{Station}
 use Rattle.ruu_words.specs.Openings.{opening_of, sizes_of}
-use Rattle.ruu_words.proofs.Views.{joins, splits_note}
+use Rattle.ruu_words.proofs.ViewJoins.{joins}
+use Rattle.ruu_words.proofs.ViewCuts.{splits_note}
 use Rattle.station.specs.Seats.{IsSeated}
 use Rattle.station.specs.Steps.{Sees}
 use Rattle.station.proofs.Adding.{adds_these}

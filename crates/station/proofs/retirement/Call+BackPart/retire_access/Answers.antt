@@ -5,14 +5,12 @@ use Rattle.instructions.specs.declared.instr.Instr.{Instr}
 use Rattle.instructions.specs.declared.op.Kind.TheVariants.{Stores}
 use Rattle.inorder.specs.declared.history.Event.TheVariants.{Refuses}
 use Rattle.inorder.specs.declared.history.Refusal.TheVariants.{NotDone}
-use Rattle.ruu_words.specs.declared.rule.View.{View}
 use Rattle.ruu_words.specs.Fields.{state_of}
 use Rattle.ruu_words.specs.Kinds.{Tells}
-use Rattle.station.specs.Retirement.{RetireAnswers}
 use Rattle.station.proofs.Adding.{adds_these}
-use Rattle.station.proofs.Retiring.{answers_on, inside}
-use Rattle.station.proofs.RetireLoads.{data_missing, data_there}
-use Rattle.station.proofs.Calls.{before, joined, leave_after, legal_at, program_at}
+use Rattle.station.proofs.Retiring.{inside}
+use Rattle.station.proofs.RetireSteps.{behind_data, store_leaves, waits_for_data}
+use Rattle.station.proofs.Calls.{legal_at, program_at}
 use Rattle.station.proofs.retirement.Call+BackPart.retire_access.Goals as goal
 
 pub instr-requires : goal.instr-requires
@@ -37,53 +35,23 @@ returns-then-ne c =
 
 pub returns-in-Wait : goal.returns-in-Wait
 returns-in-Wait c =
-    let v = c.args.self.now in
-    let P = v.core.program in
-    let C = v.core.sizes in
-    let by = v.view.by in
-    let m1 : View = c.read_data-found.new.self.view in
-    let n = c.read_data-found.result in
-    let ne : state_of n ≢ 2 = search rules in
-    record {
-      same = c.read_data-found.ensures.same;
-      reply = data_missing P C by v.view m1 c.args.access n c.read_data-found.ensures.grows ne;
-      head = tt;
-    }
+    let none : state_of c.read_data-found.result ≢ 2 = search rules in
+    waits_for_data c.args.access c.read_data-found.result c.read_data-found.ensures none
 
 pub leave-requires : goal.leave-requires
 leave-requires c =
-    let v = c.args.self.now in
-    let P = v.core.program in
-    let C = v.core.sizes in
-    let by = v.view.by in
-    let m1 : View = c.read_data-found.new.self.view in
-    let n = c.read_data-found.result in
     let store : c.kind-kind.result ≡ Stores = search rules in
-    let there_is : state_of n ≡ 2 = search rules in
-    let stores : kind (instr_of P c.args.access.index).op ≡ Stores =
+    let there : state_of c.read_data-found.result ≡ 2 = search rules in
+    let stores : kind (instr_of c.args.self.now.core.program c.args.access.index).op ≡ Stores =
     sym (c.kind-kind.ensures ∙ ap kind (c.op.ensures ∙ (ap (λ (z : Instr). z.op) c.instr.ensures ∙ ap (λ (z : Program). (instr_of z c.args.access.index).op)
     (program_at c.core.inside.table.shared.key c.core.invariant.program c.core.view_is c.self.view_is)))) ∙ store in
-    let there = data_there P C by v.view m1 c.args.access n c.read_data-found.ensures.grows c.unpack-data.result.value c.unpack-data.ensures.value stores there_is in
-    leave_after c.read_data-found.ensures.same there.0
+    store_leaves c.args.access c.read_data-found.result c.read_data-found.ensures c.unpack-data.ensures.value stores there
 
 pub returns-in-Val : goal.returns-in-Val
 returns-in-Val c =
-    let v = c.args.self.now in
-    let P = v.core.program in
-    let C = v.core.sizes in
-    let by = v.view.by in
-    let m1 : View = c.read_data-found.new.self.view in
-    let n = c.read_data-found.result in
     let store : c.kind-kind.result ≡ Stores = search rules in
-    let there_is : state_of n ≡ 2 = search rules in
-    let stores : kind (instr_of P c.args.access.index).op ≡ Stores =
+    let there : state_of c.read_data-found.result ≡ 2 = search rules in
+    let stores : kind (instr_of c.args.self.now.core.program c.args.access.index).op ≡ Stores =
     sym (c.kind-kind.ensures ∙ ap kind (c.op.ensures ∙ (ap (λ (z : Instr). z.op) c.instr.ensures ∙ ap (λ (z : Program). (instr_of z c.args.access.index).op)
     (program_at c.core.inside.table.shared.key c.core.invariant.program c.core.view_is c.self.view_is)))) ∙ store in
-    let there = data_there P C by v.view m1 c.args.access n c.read_data-found.ensures.grows c.unpack-data.result.value c.unpack-data.ensures.value stores there_is in
-    let new = c.leave.new.self.view.seen in
-    record {
-      same = joined c.read_data-found.ensures.same c.leave.ensures.same;
-      reply = answers_on P C by v.view.seen m1.seen new c.leave.result there.1 (before (λ z. RetireAnswers z.0.program z.0.sizes z.1 m1.seen new c.leave.result) c.read_data-found.ensures.same
-          c.leave.ensures.reply);
-      head = c.leave.ensures.head;
-    }
+    behind_data c.args.access c.read_data-found.result c.read_data-found.ensures c.unpack-data.ensures.value stores there c.leave.ensures

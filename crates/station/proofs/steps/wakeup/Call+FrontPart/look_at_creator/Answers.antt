@@ -1,5 +1,5 @@
 use Rattle.station.proofs.Places.{inside}
-use Rattle.station.proofs.Asking.{finds_plan}
+use Rattle.station.proofs.AskPlans.{finds_plan}
 use Rattle.station.proofs.steps.wakeup.Call+FrontPart.look_at_creator.Goals as goal
 
 pub load-requires : goal.load-requires

@@ -1,5 +1,5 @@
 use Rattle.station.proofs.Places.{inside}
-use Rattle.station.proofs.Asking.{links_plan}
+use Rattle.station.proofs.AskPlans.{links_plan}
 use Rattle.station.proofs.steps.wakeup.Call+FrontPart.store_link.Goals as goal
 
 pub store-requires : goal.store-requires

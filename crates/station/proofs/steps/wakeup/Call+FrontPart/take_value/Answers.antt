@@ -1,6 +1,6 @@
 use Rattle.station.proofs.Places.{inside}
 use Rattle.ruu_words.specs.Fields.{tag_of, word_value}
-use Rattle.station.proofs.Asking.{ends_plan}
+use Rattle.station.proofs.AskPlans.{ends_plan}
 use Rattle.station.proofs.steps.wakeup.Call+FrontPart.take_value.Goals as goal
 
 pub exchange-requires : goal.exchange-requires

@@ -1,6 +1,6 @@
 use Rattle.std.proofs.Common.{◌≡◌, true, rules}
-use Rattle.station.proofs.Opened.{source_answers}
-use Rattle.station.proofs.claims.Call+UnitPart.needed_source.Goals as goal
+use Rattle.station.proofs.ClaimLooks.{source_answers}
+use Rattle.station.proofs.claims.Call+UnitPart.read_needed.Goals as goal
 
 pub returns-clause-answer : goal.returns-clause-answer
 returns-clause-answer c =

@@ -5,8 +5,10 @@ use Rattle.inorder.specs.OneHistory.{Adds}
 use Rattle.back.specs.Trials.{NoLoadWaits, SomeWaits, load_of_index}
 use Rattle.back.proofs.Searching.{if_none, if_some}
 use Rattle.back.proofs.Seeing.{two_looks}
-use Rattle.back.proofs.Trying.{load_says, none_read, none_shown, some_waits}
-use Rattle.back.proofs.port.waiting.Goals as goal
+use Rattle.back.proofs.ReadLoads.{load_says}
+use Rattle.back.proofs.Trying.{none_read, some_waits}
+use Rattle.back.proofs.AtStation.{none_shown}
+use Rattle.back.proofs.port.find_waiting.Goals as goal
 
 pub returns-in_default-clause-none : goal.returns-in_default-clause-none
 returns-in_default-clause-none c =

@@ -1,10 +1,10 @@
--- Cutting a view in two, and joining two.
+-- Cutting a view in two.
 use Rattle.std.proofs.Common.{◌≡◌, ◌≢◌, ℕ, zero, suc, ◌+◌, ◌*◌, ◌<◌, ◌≤◌, List, [], ◌∷◌, ◌++◌, length, set, sym, refl, ap, ◌∙◌, subst, inl, inr, ◌⊎◌, ⊎_elim, arith, append-nil, length-append}
 use Rattle.std.proofs.Common.{length-set}
 use mathlib.Core.Option.{some, some-injective, some-ne-none}
 use lib.ListN.{get_elem?}
-use Rattle.atomic_table.specs.Table.{Joins, Splits, State}
-use Rattle.atomic_table.proofs.Lists.{at_set, set_else}
+use Rattle.atomic_table.specs.Table.{Splits, State}
+use Rattle.atomic_table.proofs.Lists.{at_set}
 use Rattle.instructions.specs.Programs.{Program}
 use Rattle.inorder.specs.declared.history.Entry.{Entry}
 use Rattle.inorder.specs.History.{StartsWith, front, own}
@@ -16,7 +16,7 @@ use Rattle.ruu_words.specs.declared.rule.Heirs.{Heirs}
 use Rattle.ruu_words.specs.declared.rule.Role.{Role}
 use Rattle.ruu_words.specs.declared.rule.Role.TheVariants.{Back, Front, Spent, Start, Worker}
 use Rattle.ruu_words.specs.declared.rule.View.{View}
-use Rattle.ruu_words.specs.Views.{ViewFits, IsAlive, IsCaller, IsHeir, IsOf, half, informed, nobody, other_half, view, without_first}
+use Rattle.ruu_words.specs.Views.{ViewFits, IsAlive, IsCaller, IsHeir, IsOf, half, nobody, other_half, view, without_first}
 use Rattle.ruu_words.specs.Rule.{IsKept, Keeps}
 use Rattle.ruu_words.proofs.Heirs.{half_apart, half_not_first, half_of, later_of, no_heirs, not_first, other_half_of, own_number, positive}
 
@@ -220,78 +220,3 @@ module _ (P : Program) (C : Sizes) (opening : List Entry) where
     given = λ a. absurd a;
     apart = λ a. absurd a;
   })
-
--- Behind a joining, a seat that is not spent was there before, with the same numbers
-record WasAt (views : List View) (i : ℕ) (u : View) : Type 0 where
-  pub before : View
-  pub is : get_elem? views i ≡ some before
-  pub role : before.role ≡ u.role
-  pub by_is : before.by ≡ u.by
-  pub heirs_are : before.heirs ≡ u.heirs
-  pub draft_is : before.draft ≡ u.draft
-
-was_alive : (views : List View) (i : ℕ) (u : View) → (x : WasAt views i u) → IsAlive u.role → IsAlive x.before.role
-was_alive views i u x a = subst IsAlive (sym x.role) a
-
-was_of : (views : List View) (i n : ℕ) (u : View) → (x : WasAt views i u) → IsOf u n → IsOf x.before n
-was_of views i n u x o = ⊎_elim (λ (e : n ≡ u.by). inl (e ∙ sym x.by_is)) (λ (h : IsHeir u.heirs n). inr (subst (λ z. IsHeir z n) (sym x.heirs_are) h)) o
-
-was_at : (views : List View) (id : ℕ) (v : View) (other : ℕ) (w : View) → get_elem? views id ≡ some v →
-    (i : ℕ) (u : View) →
-    get_elem? (set (set views id (informed v w)) other (view Spent 0 nobody [] Nothing)) i ≡ some u →
-    IsAlive u.role → WasAt views i u
-was_at views id v other w here i u e alive = ⊎_elim
-    (λ (t : (i ≡ other) × (view Spent 0 nobody [] Nothing ≡ u)). absurd (subst (λ (x : View). IsAlive x.role) (sym t.1) alive))
-    (λ (t : (i ≢ other) × (get_elem? (set views id (informed v w)) i ≡ some u)). ⊎_elim
-    (λ (o : (i ≡ id) × (informed v w ≡ u)). record {
-      before = v;
-      is = subst (λ j. get_elem? views j ≡ some v) (sym o.0) here;
-      role = ap (λ (x : View). x.role) o.1;
-      by_is = ap (λ (x : View). x.by) o.1;
-      heirs_are = ap (λ (x : View). x.heirs) o.1;
-      draft_is = ap (λ (x : View). x.draft) o.1;
-    })
-    (λ (o : (i ≢ id) × (get_elem? views i ≡ some u)). record { before = u; is = o.1; role = refl; by_is = refl; heirs_are = refl; draft_is = refl })
-    (at_set views id i (informed v w) u t.1))
-    (at_set (set views id (informed v w)) other i (view Spent 0 nobody [] Nothing) u e)
-
-module _ (P : Program) (C : Sizes) (opening : List Entry) where
-  pub joins : (id : ℕ) (v : View) (other : ℕ) (w : View) → w.role ≡ Spent → Joins (Keeps P C opening) id v other w (informed v w) (view Spent 0 nobody [] Nothing)
-  joins id v other w spent s kept here apart there =
-      let h : List Entry = kept.history in let d : Draft = kept.draft in let k : IsKept P C opening s h d = kept.kept in
-      let b : View = informed v w in let z : View = view Spent 0 nobody [] Nothing in
-      let was : get_elem? s.views other ≡ some w = sym (set_else s.views id other b apart) ∙ there in
-      let f = k.views id v here in let f' = k.views other w was in
-      let is_both : ViewFits opening h b = record { begins = f.begins; told = f'.begins; opened = f.opened; all_own = f.all_own; unborn = f.unborn; caller = f.caller; above = f.above } in
-      let is_spent : ViewFits opening h z = record {
-        begins = starts_empty h;
-        told = starts_empty h;
-        opened = λ a. absurd a;
-        all_own = λ a. absurd a;
-        unborn = λ a. absurd a;
-        caller = tt;
-        above = λ none. absurd (no_heirs none);
-      } in
-      record {
-        history = h;
-        draft = d;
-        kept = record {
-          legal = k.legal;
-          one_table = k.one_table;
-          wide = k.wide;
-          words = k.words;
-          views = λ j u e. ⊎_elim
-              (λ (t : (j ≡ other) × (z ≡ u)). subst (ViewFits opening h) t.1 is_spent)
-              (λ (t : (j ≢ other) × (get_elem? (set s.views id b) j ≡ some u)). ⊎_elim
-              (λ (o : (j ≡ id) × (b ≡ u)). subst (ViewFits opening h) o.1 is_both)
-              (λ (o : (j ≢ id) × (get_elem? s.views j ≡ some u)). k.views j u o.1)
-              (at_set s.views id j b u t.1))
-              (at_set (set s.views id b) other j z u e);
-          apart = λ i j n u u' e e' ne a a' x x'.
-              let y = was_at s.views id v other w here i u e a in
-              let y' = was_at s.views id v other w here j u' e' a' in
-              k.apart i j n y.before y'.before y.is y'.is ne (was_alive s.views i u y a) (was_alive s.views j u' y' a') (was_of s.views i n u y x) (was_of s.views j n u' y' x');
-          draft = λ j u e a is. let y = was_at s.views id v other w here j u e a in sym y.draft_is ∙ k.draft j y.before y.is (was_alive s.views j u y a) (y.by_is ∙ is);
-          proper = k.proper;
-        };
-      }
