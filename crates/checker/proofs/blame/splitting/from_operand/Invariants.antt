@@ -1,5 +1,5 @@
 use Rattle.std.proofs.Common.{◌≤◌}
-use Rattle.checker.proofs.blame.operands.from_operand.Given as goal
+use Rattle.checker.proofs.blame.splitting.from_operand.Given as goal
 
 abbrev pub invariant-loop : goal.invariant-loop
 invariant-loop l = record {

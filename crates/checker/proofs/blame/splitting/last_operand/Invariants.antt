@@ -1,5 +1,5 @@
 use Rattle.std.proofs.Common.{◌≤◌, ◌-◌}
-use Rattle.checker.proofs.blame.operands.last_operand.Given as goal
+use Rattle.checker.proofs.blame.splitting.last_operand.Given as goal
 
 abbrev pub invariant-loop-at : goal.invariant-loop-at
 invariant-loop-at l = record {
