@@ -7,7 +7,7 @@ use one_thread::{Bench, Chooser, Order};
 use std::alloc::Global;
 
 /// Runs a program on the one-thread unit in an order, up to the limit of the configuration.
-pub(crate) fn run<P: Predictor + Drop, C: Chooser + Drop>(
+pub fn run<P: Predictor + Drop, C: Chooser + Drop>(
     alloc: Global,
     program: &Program,
     config: &Config,

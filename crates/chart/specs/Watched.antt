@@ -1,5 +1,5 @@
 -- Report, chart and log of a run: written whole, or broken off.
-use Rattle.std.specs.Prelude.{◌≡◌, ◌<◌, ℕ, Bool, true, false, is_some, List, Option, Result, Ok, Err, length, take}
+use Rattle.std.specs.Prelude.{◌≡◌, ◌<◌, ⊤, ℕ, Bool, true, false, is_some, List, Option, Result, Ok, Err, length, take}
 use Rattle.std.specs.Io.KnownBytes.{Appends}
 use Rattle.isa.specs.declared.listing.fault.FaultKind.{FaultKind}
 use Rattle.instructions.specs.Programs.{Program}
@@ -7,13 +7,14 @@ use Rattle.inorder.specs.Runs.{end_of}
 use Rattle.bench.specs.Answer.{status_for, text_for}
 use Rattle.charts.specs.declared.telling.Format.{Format}
 use Rattle.charts.specs.declared.telling.Format.TheVariants.{Chart, Kanata}
-use Rattle.charts.specs.declared.watched.Fault.{Fault}
-use Rattle.charts.specs.declared.watched.Fault.TheVariants as fault
+use Rattle.counted_io.specs.declared.fault.Fault.{Fault}
+use Rattle.counted_io.specs.declared.fault.Fault.TheVariants as fault
 use Rattle.charts.specs.Watched.{IsTold, IsBegun as IsPartOf, guides, sizes_by}
 use Rattle.command_line.specs.Predictors.{IsChosen, LearnsAs, PredictsAs}
 use Rattle.command_line.specs.declared.chosen.Chosen.{Chosen}
 use Rattle.command_line.specs.declared.request.Charted.{Charted}
 use Rattle.one_thread.specs.Seeds.{ChoosesNext, order_by}
+use Rattle.command_line.specs.Exits.{IsOfWriting, fault_refusal}
 use Rattle.command_line.specs.declared.exit.Refusal.{Refusal}
 use Rattle.command_line.specs.declared.exit.Refusal.TheVariants.{Memory, Trace, Write}
 use Rattle.bench.specs.Answer.{status_number}
@@ -31,16 +32,16 @@ outputs text log = record { text = text; log = log }
 -- seed, up to its end
 pub record HasToldWhole (f : Format) (asked : Charted) (P : Program) (before after : Option (List ℕ)) : Type 0 where
   pub first : Chosen
-  pub chosen : IsChosen asked.predictor first
+  pub chosen : IsChosen asked.run.predictor first
   pub told :
-      IsTold PredictsAs LearnsAs ChoosesNext f P (sizes_by asked.config) asked.config.limit (guides first (order_by asked.seed))
-      (end_of P asked.config.limit) before after
+      IsTold PredictsAs LearnsAs ChoosesNext f P (sizes_by asked.run.config) asked.run.config.limit (guides first (order_by asked.run.seed))
+      (end_of P asked.run.config.limit) before after
 
 -- A beginning was told of the run that is asked for
 pub record HasBegun (f : Format) (asked : Charted) (P : Program) (before after : Option (List ℕ)) : Type 0 where
   pub first : Chosen
-  pub chosen : IsChosen asked.predictor first
-  pub begun : IsPartOf PredictsAs LearnsAs ChoosesNext f P (sizes_by asked.config) (guides first (order_by asked.seed)) before after
+  pub chosen : IsChosen asked.run.predictor first
+  pub begun : IsPartOf PredictsAs LearnsAs ChoosesNext f P (sizes_by asked.run.config) (guides first (order_by asked.run.seed)) before after
 
 -- The run was logged where a log is wanted, and nothing was written where none is
 abbrev pub IsLogged : (is_wanted : Bool) → Charted → Program → (before after : Option (List ℕ)) → Type 0
@@ -49,7 +50,7 @@ IsLogged false asked P before after = after ≡ before
 
 -- The text without pictures was written: the report, or the line of a fault
 abbrev pub IsReported : Charted → Result Program (ℕ × FaultKind) → (before after : Option (List ℕ)) → Type 0
-IsReported asked found before after = Appends before after (text_for asked.config.limit found)
+IsReported asked found before after = Appends before after (text_for asked.run.config.limit found)
 
 -- The report, the chart behind it, and the log
 pub record HasPictures (asked : Charted) (P : Program) (before after : Outputs) : Type 0 where
@@ -66,17 +67,18 @@ IsTextOf asked (Err f) before after = IsReported asked (Err f) before.text after
 -- All was written for a listing, and the status is that of its run
 abbrev pub IsWatched : Charted → Result Program (ℕ × FaultKind) → (status : ℕ) → (before after : Outputs) → Type 0
 IsWatched asked found status before after =
-    (status ≡ status_number (status_for asked.config.limit found)) × IsTextOf asked found before after
+    (status ≡ status_number (status_for asked.run.config.limit found)) × IsTextOf asked found before after
 
--- What is refused where a chart was not told to its end
-abbrev pub chart_refusal : Fault → Refusal
-chart_refusal fault.Memory = Memory
-chart_refusal fault.Write = Write
+-- The reasons for which a log can break off
+abbrev pub IsOfLog : Refusal → Type 0
+IsOfLog Memory = ⊤
+IsOfLog Trace = ⊤
+IsOfLog _ = ⊥
 
 -- What is refused where a log was not told to its end
 abbrev pub log_refusal : Fault → Refusal
-log_refusal fault.Memory = Memory
 log_refusal fault.Write = Trace
+log_refusal other = fault_refusal other
 
 -- The report, and a beginning of the chart
 pub record HasChartBegun (asked : Charted) (P : Program) (before after : Outputs) : Type 0 where
@@ -100,29 +102,19 @@ IsCutText _ text before after = after ≡ before
 -- What was written of the text without pictures
 pub record HasReportBegun (asked : Charted) (found : Result Program (ℕ × FaultKind)) (refusal : Refusal)
     (before after : Outputs) : Type 0 where
-  pub report : IsCutText refusal (text_for asked.config.limit found) before.text after.text
+  pub report : IsCutText refusal (text_for asked.run.config.limit found) before.text after.text
   pub log : after.log ≡ before.log
-
--- Some fault of a picture has this refusal
-pub record IsRefusalOfFault (refusal_for : Fault → Refusal) (refusal : Refusal) : Type 0 where
-  pub fault : Fault
-  pub is : refusal ≡ refusal_for fault
 
 -- Where a run with pictures was broken off
 pub data IsBrokenOff (asked : Charted) (P : Program) (refusal : Refusal) (before after : Outputs) : Type 0 where
   InReport : HasReportBegun asked (Ok P) refusal before after → IsBrokenOff asked P refusal before after
-  InChart : IsRefusalOfFault chart_refusal refusal → HasChartBegun asked P before after → IsBrokenOff asked P refusal before after
-  InLog : IsRefusalOfFault log_refusal refusal → HasLogBegun asked P before after → IsBrokenOff asked P refusal before after
+  InChart : IsOfWriting refusal → HasChartBegun asked P before after → IsBrokenOff asked P refusal before after
+  InLog : IsOfLog refusal → HasLogBegun asked P before after → IsBrokenOff asked P refusal before after
 
 -- What was written for a listing where that was broken off
 abbrev pub IsBegun : Charted → Result Program (ℕ × FaultKind) → Refusal → (before after : Outputs) → Type 0
 IsBegun asked (Ok P) refusal before after = IsBrokenOff asked P refusal before after
 IsBegun asked (Err f) refusal before after = HasReportBegun asked (Err f) refusal before after
-
--- How many calls of the writer have failed where a run was refused
-abbrev pub writer_failures : Refusal → ℕ
-writer_failures Write = 1
-writer_failures _ = 0
 
 -- How many calls of the log have failed where a run was refused
 abbrev pub log_failures : Refusal → ℕ

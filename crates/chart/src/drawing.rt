@@ -1,14 +1,13 @@
 //! What became of each instruction of a run: its chart and its log.
 ghost use Rattle.std.specs.Prelude.{◌≡◌, ◌≢◌, ◌+◌, ◌-◌, ◌^◌, ◌<◌, IfErr, OnOk, OnErr, is_some};
 ghost use Rattle.counted_io.specs.Counted.{failures_of, known_by};
-ghost use Rattle.chart.specs.Watched.{HasBegun, HasToldWhole, IsLogged, IsRefusalOfFault};
-ghost use Rattle.chart.specs.Watched.{chart_refusal, log_failures, log_refusal, writer_failures};
-ghost use Rattle.command_line.specs.Exits.{IsOfOneThread};
-ghost use Rattle.command_line.specs.declared.exit.Line.TheVariants.{Refused};
+ghost use Rattle.chart.specs.Watched.{HasBegun, HasToldWhole, IsLogged, IsOfLog};
+ghost use Rattle.chart.specs.Watched.{log_failures, log_refusal};
+ghost use Rattle.command_line.specs.Exits.{IsOfWriting, failed_writes};
 
-use charts::{Fault, Format, watch};
+use charts::{Format, watch};
 use command_line::{Charted, Refusal, choose};
-use counted_io::Counted;
+use counted_io::{Counted, Fault};
 use instructions::Program;
 use one_thread::Order;
 use std::alloc::Global;
@@ -25,20 +24,15 @@ pub(crate) fn draw<W: Write>(
     ensures told { OnOk result (HasToldWhole Format.Chart asked.now program.now
         (known_by W.contents writer.old) (known_by W.contents writer.new)) }
     ensures quiet { OnOk result (failures_of writer.new ≡ failures_of writer.old) }
-    ensures err { IfErr result (λ refusal. IsOfOneThread (Refused refusal)) }
-    ensures opened { IfErr result (λ refusal. refusal ≢ Refusal.Open) }
-    ensures has_read { IfErr result (λ refusal. refusal ≢ Refusal.Read) }
-    ensures named { IfErr result (λ refusal. IsRefusalOfFault chart_refusal refusal) }
+    ensures err { IfErr result IsOfWriting }
     ensures write { IfErr result (λ refusal.
-        failures_of writer.new ≡ failures_of writer.old + writer_failures refusal) }
+        failures_of writer.new ≡ failures_of writer.old + failed_writes refusal) }
     ensures trace { IfErr result (λ refusal. log_failures refusal ≡ 0) }
     ensures begun { OnErr result (HasBegun Format.Chart asked.now program.now
         (known_by W.contents writer.old) (known_by W.contents writer.new)) }
 {
-    match picture(alloc, asked, program, Format::Chart, writer) {
-        Ok(()) => Ok(()),
-        Err(fault) => Err(chart_refusal(fault)),
-    }
+    picture(alloc, asked, program, Format::Chart, writer)?;
+    Ok(())
 }
 
 /// Writes the log, where one is wanted.
@@ -52,11 +46,8 @@ pub(crate) fn trace<L: Write>(
     ensures told { OnOk result (IsLogged (is_some asked.now.log) asked.now program.now
         (known_by L.contents log.old) (known_by L.contents log.new)) }
     ensures quiet { OnOk result (failures_of log.new ≡ failures_of log.old) }
-    ensures err { IfErr result (λ refusal. IsOfOneThread (Refused refusal)) }
-    ensures opened { IfErr result (λ refusal. refusal ≢ Refusal.Open) }
-    ensures has_read { IfErr result (λ refusal. refusal ≢ Refusal.Read) }
-    ensures named { IfErr result (λ refusal. IsRefusalOfFault log_refusal refusal) }
-    ensures write { IfErr result (λ refusal. writer_failures refusal ≡ 0) }
+    ensures err { IfErr result IsOfLog }
+    ensures write { IfErr result (λ refusal. failed_writes refusal ≡ 0) }
     ensures trace { IfErr result (λ refusal.
         failures_of log.new ≡ failures_of log.old + log_failures refusal) }
     ensures begun { OnErr result (HasBegun Format.Kanata asked.now program.now
@@ -89,13 +80,14 @@ fn picture<W: Write>(
         failures_of writer.new ≡ failures_of writer.old + 1) }
     ensures memory { IfErr result (λ fault. fault ≡ Fault.Memory →
         failures_of writer.new ≡ failures_of writer.old) }
+    ensures read { IfErr result (λ fault. fault ≢ Fault.Read) }
 {
-    let predictor = choose(asked.predictor);
-    let order = Order::by_seed(asked.seed);
+    let predictor = choose(asked.run.predictor);
+    let order = Order::by_seed(asked.run.seed);
     watch(
         alloc,
         program,
-        &asked.config,
+        &asked.run.config,
         predictor,
         order,
         format,
@@ -104,20 +96,11 @@ fn picture<W: Write>(
     Ok(())
 }
 
-fn chart_refusal(fault: Fault) -> Refusal
-    ensures { result ≡ chart_refusal fault }
-{
-    match fault {
-        Fault::Memory => Refusal::Memory,
-        Fault::Write => Refusal::Write,
-    }
-}
-
 fn log_refusal(fault: Fault) -> Refusal
     ensures { result ≡ log_refusal fault }
 {
     match fault {
-        Fault::Memory => Refusal::Memory,
         Fault::Write => Refusal::Trace,
+        Fault::Read | Fault::Memory => Refusal::from(fault),
     }
 }

@@ -32,11 +32,11 @@ fn main(rt: HostRuntime) -> ExitCode {
 }
 
 fn start(rt: &HostRuntime, asked: &Charted<'_>) -> ExitCode {
-    if is_standard_input(asked.file) {
+    if is_standard_input(asked.run.file) {
         let metadata = Path::new(STANDARD_INPUT).metadata(rt);
         return chart_from(rt, asked, Some(rt.stdin()), metadata.ok());
     }
-    let listing = File::open(rt, asked.file).ok();
+    let listing = File::open(rt, asked.run.file).ok();
     let metadata = match &listing {
         Some(file) => file.metadata().ok(),
         None => None,

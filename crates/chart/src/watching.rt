@@ -3,18 +3,18 @@ ghost use Rattle.std.specs.Prelude.{◌≡◌, ◌≢◌, ◌+◌, ◌-◌, ◌^
 ghost use Rattle.isa.specs.Listing.{listing};
 ghost use Rattle.counted_io.specs.Counted.{failures_of, known_by};
 ghost use Rattle.inorder.specs.Runs.{end_of, end_state};
-ghost use Rattle.chart.specs.Watched.{IsBegun, IsWatched, log_failures, outputs, writer_failures};
+ghost use Rattle.chart.specs.Watched.{IsBegun, IsWatched, log_failures, outputs};
 ghost use Rattle.bench.specs.Answer.{status_number};
-ghost use Rattle.command_line.specs.Exits.{HoldsOfInput, IsOfOneThread, refused};
+ghost use Rattle.command_line.specs.Exits.{HoldsOfInput, IsOfOneThread, failed_writes, refused};
 ghost use Rattle.command_line.specs.declared.exit.Line.TheVariants.{Nothing, Refused};
 
 use crate::drawing::{draw, trace};
-use bench::{MOST_TAKEN, Status};
+use bench::{Status, read_listing, run};
 use command_line::{Charted, Exit, Line, Refusal, choose, refused};
-use counted_io::{Counted, read_up_to, write_whole};
+use counted_io::{Counted, write_whole};
 use instructions::{End, Memory, Program};
-use isa::{FaultKind, fault_text, parse, report_text};
-use one_thread::{Bench, Order};
+use isa::report_text;
+use one_thread::Order;
 use std::alloc::Global;
 use std::io::{Read, Write};
 
@@ -50,7 +50,7 @@ pub fn chart<R: Read + Drop, W: Write, L: Write>(
         result ≡ refused refusal }
     // The writer, or the log, is blamed for one failed call, and only then.
     ensures write { (refusal : Refusal) → result.line ≡ Refused refusal →
-        failures_of writer.new ≡ failures_of writer.old + writer_failures refusal }
+        failures_of writer.new ≡ failures_of writer.old + failed_writes refusal }
     ensures trace { (refusal : Refusal) → result.line ≡ Refused refusal →
         failures_of log.new ≡ failures_of log.old + log_failures refusal }
     // What was written before a refusal is a beginning, and each part waits for the one before it.
@@ -94,7 +94,7 @@ fn watched<R: Read, W: Write, L: Write>(
     ensures read { IfErr result (λ refusal. refusal ≡ Refusal.Read →
         failures_of reader.new ≡ failures_of reader.old + 1) }
     ensures write { IfErr result (λ refusal.
-        failures_of writer.new ≡ failures_of writer.old + writer_failures refusal) }
+        failures_of writer.new ≡ failures_of writer.old + failed_writes refusal) }
     ensures trace { IfErr result (λ refusal.
         failures_of log.new ≡ failures_of log.old + log_failures refusal) }
     ensures begun { IfErr result (λ refusal. IfSome (known_by R.remaining reader.old) (λ input.
@@ -102,50 +102,17 @@ fn watched<R: Read, W: Write, L: Write>(
         (outputs (known_by W.contents writer.old) (known_by L.contents log.old))
         (outputs (known_by W.contents writer.new) (known_by L.contents log.new)))) }
 {
-    let listing = read_up_to(alloc, reader, MOST_TAKEN)?;
-    told(alloc, asked, listing.as_slice(), writer, log)
-}
-
-// Writes all that is told of the run of the listing of these bytes, or the line of its fault; gives the status.
-fn told<W: Write, L: Write>(
-    alloc: Global,
-    asked: &Charted<'_>,
-    bytes: &[u8],
-    writer: &mut Counted<W>,
-    log: &mut Counted<L>,
-) -> Result<Status, Refusal>
-    requires writer_room { failures_of writer.old < 2 ^ 64 - 1 }
-    requires log_room { failures_of log.old < 2 ^ 64 - 1 }
-    ensures ok { IfOk result (λ status.
-        IsWatched asked.now (listing bytes.now) (status_number status)
-        (outputs (known_by W.contents writer.old) (known_by L.contents log.old))
-        (outputs (known_by W.contents writer.new) (known_by L.contents log.new))) }
-    ensures quiet { OnOk result (failures_of writer.new ≡ failures_of writer.old) }
-    ensures log_quiet { OnOk result (failures_of log.new ≡ failures_of log.old) }
-    ensures err { IfErr result (λ refusal. IsOfOneThread (Refused refusal)) }
-    ensures opened { IfErr result (λ refusal. refusal ≢ Refusal.Open) }
-    ensures has_read { IfErr result (λ refusal. refusal ≢ Refusal.Read) }
-    ensures write { IfErr result (λ refusal.
-        failures_of writer.new ≡ failures_of writer.old + writer_failures refusal) }
-    ensures trace { IfErr result (λ refusal.
-        failures_of log.new ≡ failures_of log.old + log_failures refusal) }
-    ensures begun { IfErr result (λ refusal. IsBegun asked.now (listing bytes.now) refusal
-        (outputs (known_by W.contents writer.old) (known_by L.contents log.old))
-        (outputs (known_by W.contents writer.new) (known_by L.contents log.new))) }
-{
-    match parse(alloc, bytes) {
-        Ok(program) => told_of(alloc, asked, &program, writer, log),
-        Err(fault) if fault.kind == FaultKind::Memory => Err(Refusal::Memory),
-        Err(fault) => {
-            let text = fault_text(alloc, &fault)?;
-            write_whole(writer, text.as_str().as_bytes())?;
+    match read_listing(alloc, reader)? {
+        Ok(program) => told(alloc, asked, &program, writer, log),
+        Err(line) => {
+            write_whole(writer, line.as_str().as_bytes())?;
             Ok(Status::TextFault)
         },
     }
 }
 
 // Writes the report of a program's run, then its chart, then its log; gives the status.
-fn told_of<W: Write, L: Write>(
+fn told<W: Write, L: Write>(
     alloc: Global,
     asked: &Charted<'_>,
     program: &Program,
@@ -164,7 +131,7 @@ fn told_of<W: Write, L: Write>(
     ensures opened { IfErr result (λ refusal. refusal ≢ Refusal.Open) }
     ensures has_read { IfErr result (λ refusal. refusal ≢ Refusal.Read) }
     ensures write { IfErr result (λ refusal.
-        failures_of writer.new ≡ failures_of writer.old + writer_failures refusal) }
+        failures_of writer.new ≡ failures_of writer.old + failed_writes refusal) }
     ensures trace { IfErr result (λ refusal.
         failures_of log.new ≡ failures_of log.old + log_failures refusal) }
     ensures begun { IfErr result (λ refusal. IsBegun asked.now (Ok program.now) refusal
@@ -181,9 +148,9 @@ fn told_of<W: Write, L: Write>(
 
 // Runs a program in the order of the seed.
 fn ran(alloc: Global, asked: &Charted<'_>, program: &Program) -> Result<End, Memory>
-    ensures { IfOk result (λ end. end_state end ≡ end_of program.now asked.now.config.limit) }
+    ensures { IfOk result (λ end. end_state end ≡ end_of program.now asked.now.run.config.limit) }
 {
-    let bench = Bench::new(alloc, program, &asked.config, choose(asked.predictor))?;
-    let order = Order::by_seed(asked.seed);
-    Ok(bench.run_in(u64::from(asked.config.limit()), order))
+    let predictor = choose(asked.run.predictor);
+    let order = Order::by_seed(asked.run.seed);
+    run(alloc, program, &asked.run.config, predictor, order)
 }

@@ -17,4 +17,4 @@ pub use event::{Event, Way};
 pub use laws::{a_row_names_its_tenant, what_is_told_has_happened};
 pub use row::{Phase, Row};
 pub use telling::Format;
-pub use watched::{Fault, watch};
+pub use watched::watch;

@@ -1,51 +1,17 @@
 //! A run that is told while it goes.
-ghost use Rattle.std.specs.Prelude.{◌≡◌, ◌<◌, ◌+◌, ◌-◌, ◌^◌, IfErr, IfOk, OnErr, OnOk};
+ghost use Rattle.std.specs.Prelude.{◌≡◌, ◌≢◌, ◌<◌, ◌+◌, ◌-◌, ◌^◌, IfErr, IfOk, OnErr, OnOk};
 ghost use Rattle.counted_io.specs.Counted.{failures_of, known_by};
 ghost use Rattle.inorder.specs.Runs.{end_of, end_state};
 ghost use Rattle.charts.specs.Watched.{IsBegun, IsTold, guides, sizes_by};
-ghost use Rattle.charts.specs.declared.watched.Fault.TheVariants.{Memory as NoRoom, Write as Unwritten};
 
 use crate::books::Books;
 use crate::telling::Format;
 use crate::watching::{tell_first, tell_last, tell_turns};
-use counted_io::{Counted, WriteFailed};
-use instructions::{Config, End, Memory, Predictor, Program};
+use counted_io::{Counted, Fault};
+use instructions::{Config, End, Predictor, Program};
 use one_thread::{Bench, Chooser, Order};
-use std::alloc::{AllocError, Global};
+use std::alloc::Global;
 use std::io::Write;
-
-/// Why a run was not told to its end. There is no second try.
-#[derive(Clone, Copy, Debug, PartialEq, Eq)]
-pub enum Fault {
-    /// Memory was refused.
-    Memory,
-    /// The writer failed, or took no byte.
-    Write,
-}
-
-impl From<Memory> for Fault {
-    ghost from_gives = { λ _ f. f ≡ NoRoom };
-
-    fn from(_memory: Memory) -> Fault {
-        Fault::Memory
-    }
-}
-
-impl From<AllocError> for Fault {
-    ghost from_gives = { λ _ f. f ≡ NoRoom };
-
-    fn from(_error: AllocError) -> Fault {
-        Fault::Memory
-    }
-}
-
-impl From<WriteFailed> for Fault {
-    ghost from_gives = { λ _ f. f ≡ Unwritten };
-
-    fn from(_failed: WriteFailed) -> Fault {
-        Fault::Write
-    }
-}
 
 /// Runs a program on the one-thread unit, up to the limit of the configuration and in an order, and tells each turn
 /// before the next one is made. A row for each live tenant is all that is kept of the run.
@@ -74,6 +40,7 @@ pub fn watch<P: Predictor + Drop, C: Chooser + Drop, W: Write>(
         failures_of writer.new ≡ failures_of writer.old + 1) }
     ensures memory { IfErr result (λ fault. fault ≡ Fault.Memory →
         failures_of writer.new ≡ failures_of writer.old) }
+    ensures read { IfErr result (λ fault. fault ≢ Fault.Read) }
 {
     let mut bench = Bench::new(alloc, program, config, predictor)?;
     let mut order = order;

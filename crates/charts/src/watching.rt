@@ -1,5 +1,5 @@
 //! The turns of a run, each told as it was made.
-ghost use Rattle.std.specs.Prelude.{◌≡◌, ◌<◌, ◌+◌, ◌-◌, ◌^◌, ◌++◌, ℕ, List, Option};
+ghost use Rattle.std.specs.Prelude.{◌≡◌, ◌≢◌, ◌<◌, ◌+◌, ◌-◌, ◌^◌, ◌++◌, ℕ, List, Option};
 ghost use Rattle.std.specs.Prelude.{IfErr, IfOk, IsOk, OnErr, OnOk, string_bytes};
 ghost use Rattle.counted_io.specs.Counted.{failures_of, known_by, Gives};
 ghost use Rattle.instructions.specs.Programs.{Program};
@@ -14,8 +14,7 @@ ghost use Rattle.charts.specs.Watched.{GivesUpTo, GoesOn, Guides, IsBegun, IsThr
 use crate::books::{Books, raised};
 use crate::drawing::push_live;
 use crate::telling::{Format, push_events, push_first, push_turn};
-use crate::watched::Fault;
-use counted_io::{Counted, write_whole};
+use counted_io::{Counted, Fault, write_whole};
 use instructions::Predictor;
 use one_thread::{Bench, Chooser, Order, Station, Turn};
 use std::alloc::{AllocError, Global};
@@ -98,14 +97,11 @@ fn tell<W: Write>(text: Result<String, AllocError>, writer: &mut Counted<W>) -> 
         GivesUpTo W.contents writer.old writer.new bytes) }
     ensures quiet_memory { IfErr result (λ fault. fault ≡ Fault.Memory →
         failures_of writer.new ≡ failures_of writer.old) }
+    ensures read { IfErr result (λ fault. fault ≢ Fault.Read) }
 {
-    match text {
-        Err(_) => Err(Fault::Memory),
-        Ok(text) => match write_whole(writer, text.as_str().as_bytes()) {
-            Err(_) => Err(Fault::Write),
-            Ok(()) => Ok(()),
-        },
-    }
+    let text = text?;
+    write_whole(writer, text.as_str().as_bytes())?;
+    Ok(())
 }
 
 // Writes the text of a turn.
@@ -131,6 +127,7 @@ fn tell_turn<P: Predictor + Drop, W: Write>(
         bench.now.pipeline.window))) }
     ensures quiet_memory { IfErr result (λ fault. fault ≡ Fault.Memory →
         failures_of writer.new ≡ failures_of writer.old) }
+    ensures read { IfErr result (λ fault. fault ≢ Fault.Read) }
 {
     let text = bench_text(alloc, bench, books, format, answer);
     tell(text, writer)
@@ -158,6 +155,7 @@ pub(crate) fn tell_first<W: Write>(
     ensures part { OnErr result (GivesUpTo W.contents writer.old writer.new (first_text format)) }
     ensures quiet_memory { IfErr result (λ fault. fault ≡ Fault.Memory →
         failures_of writer.new ≡ failures_of writer.old) }
+    ensures read { IfErr result (λ fault. fault ≢ Fault.Read) }
 {
     tell(first(alloc, format), writer)
 }
@@ -190,6 +188,7 @@ pub(crate) fn tell_last<W: Write>(
         (GivesUpTo W.contents writer.old writer.new (last_text format (kept books.now))) }
     ensures quiet_memory { IfErr result (λ fault. fault ≡ Fault.Memory →
         failures_of writer.new ≡ failures_of writer.old) }
+    ensures read { IfErr result (λ fault. fault ≢ Fault.Read) }
 {
     tell(last(alloc, books, format), writer)
 }
@@ -220,6 +219,7 @@ pub(crate) fn tell_turns<P: Predictor + Drop, C: Chooser + Drop, W: Write>(
         failures_of writer.new ≡ failures_of writer.old + 1) }
     ensures quiet_memory { IfErr result (λ fault. fault ≡ Fault.Memory →
         failures_of writer.new ≡ failures_of writer.old) }
+    ensures read { IfErr result (λ fault. fault ≢ Fault.Read) }
     ensures begun { OnErr result ((Q : Program) (D : Sizes) (first : Guides P C)
         (start : Option (List ℕ)) →
         GoesOn P.Predicts P.Learns C.Chooses format Q D limit bench.old order.old (kept books.old)

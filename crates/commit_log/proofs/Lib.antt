@@ -1,4 +1,3 @@
 mod LogKept
 mod Retirement
-mod Taken
 mod WordFound

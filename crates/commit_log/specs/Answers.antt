@@ -1,11 +1,9 @@
 -- The log that is written for the bytes of a listing, and its status.
-use Rattle.std.specs.Prelude.{⊤, ◌≡◌, ℕ, List, Option, Result}
+use Rattle.std.specs.Prelude.{◌≡◌, ℕ, List, Option, Result}
 use Rattle.std.specs.Io.KnownBytes.{Appends}
 use Rattle.instructions.specs.Programs.{Program}
 use Rattle.isa.specs.declared.listing.fault.FaultKind.{FaultKind}
 use Rattle.bench.specs.Answer.{status_for}
-use Rattle.command_line.specs.declared.exit.Refusal.{Refusal}
-use Rattle.command_line.specs.declared.exit.Refusal.TheVariants.{Memory, Write}
 use Rattle.bench.specs.Answer.{status_number}
 use Rattle.commit_log.specs.Logs.{log_for}
 
@@ -13,14 +11,3 @@ use Rattle.commit_log.specs.Logs.{log_for}
 pub record IsLogOf (limit : ℕ) (found : Result Program (ℕ × FaultKind)) (status : ℕ) (before after : Option (List ℕ)) : Type 0 where
   pub status_is : status ≡ status_number (status_for limit found)
   pub says : Appends before after (log_for limit found)
-
--- the number of failed calls of the writer where a log was refused
-abbrev pub failed_writes : Refusal → ℕ
-failed_writes Write = 1
-failed_writes _ = 0
-
--- the reasons for which a log can be refused once its program is there
-abbrev pub IsOfWriting : Refusal → Type 0
-IsOfWriting Memory = ⊤
-IsOfWriting Write = ⊤
-IsOfWriting _ = ⊥

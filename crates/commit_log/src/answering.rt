@@ -3,18 +3,17 @@ ghost use Rattle.std.specs.Prelude.{◌≡◌, ◌≢◌, ◌+◌, ◌-◌, ◌^
 ghost use Rattle.isa.specs.Listing.{listing};
 ghost use Rattle.counted_io.specs.Counted.{failures_of, known_by};
 ghost use Rattle.bench.specs.Answer.{status_number};
-ghost use Rattle.command_line.specs.Exits.{HoldsOfInput, IsOfOneThread, refused};
+ghost use Rattle.command_line.specs.Exits.{HoldsOfInput, IsOfOneThread, IsOfWriting, failed_writes, refused};
 ghost use Rattle.command_line.specs.declared.exit.Line.TheVariants.{Nothing, Refused};
-ghost use Rattle.commit_log.specs.Answers.{IsLogOf, IsOfWriting, failed_writes};
+ghost use Rattle.commit_log.specs.Answers.{IsLogOf};
 ghost use Rattle.commit_log.specs.Logs.{log_for};
 ghost use Rattle.commit_log.specs.Retirements.{IsBeginning};
 
 use crate::logging::log_run;
-use bench::{MOST_TAKEN, Status};
-use command_line::{Committed, Exit, Line, Refusal, choose, refused};
-use counted_io::{Counted, read_up_to, write_whole};
+use bench::{Status, read_listing};
+use command_line::{Exit, Line, Refusal, Watched, choose, refused};
+use counted_io::{Counted, write_whole};
 use instructions::Program;
-use isa::{FaultKind, fault_text, parse};
 use one_thread::Order;
 use std::alloc::Global;
 use std::io::{Read, Write};
@@ -24,7 +23,7 @@ use std::io::{Read, Write};
 /// reader where the file did not open. A failed read or write is not tried again.
 pub fn log_commits<R: Read + Drop, W: Write>(
     alloc: Global,
-    asked: &Committed<'_>,
+    asked: &Watched<'_>,
     reader: Option<Counted<R>>,
     writer: &mut Counted<W>,
 ) -> Exit
@@ -68,7 +67,7 @@ pub fn log_commits<R: Read + Drop, W: Write>(
 // Reads a listing and logs its run. The result is the status, once all is written.
 fn log_listing<R: Read, W: Write>(
     alloc: Global,
-    asked: &Committed<'_>,
+    asked: &Watched<'_>,
     reader: &mut Counted<R>,
     writer: &mut Counted<W>,
 ) -> Result<Status, Refusal>
@@ -87,34 +86,10 @@ fn log_listing<R: Read, W: Write>(
         (known_by W.contents writer.old) (known_by W.contents writer.new))) }
     ensures unread { IfErr result (λ refusal. refusal ≡ Refusal.Read → writer.new ≡ writer.old) }
 {
-    let listing = read_up_to(alloc, reader, MOST_TAKEN)?;
-    log_bytes(alloc, asked, listing.as_slice(), writer)
-}
-
-// Logs the run of the listing of these bytes, or writes the line of its fault. The result is the status.
-fn log_bytes<W: Write>(
-    alloc: Global,
-    asked: &Committed<'_>,
-    bytes: &[u8],
-    writer: &mut Counted<W>,
-) -> Result<Status, Refusal>
-    requires { failures_of writer.old < 2 ^ 64 - 1 }
-    ensures ok { IfOk result (λ status.
-        IsLogOf asked.now.config.limit (listing bytes.now) (status_number status)
-        (known_by W.contents writer.old) (known_by W.contents writer.new)) }
-    ensures quiet { OnOk result (failures_of writer.new ≡ failures_of writer.old) }
-    ensures err { IfErr result (λ refusal. IsOfWriting refusal) }
-    ensures write { IfErr result (λ refusal.
-        failures_of writer.new ≡ failures_of writer.old + failed_writes refusal) }
-    ensures begun { OnErr result (IsBeginning (log_for asked.now.config.limit (listing bytes.now))
-        (known_by W.contents writer.old) (known_by W.contents writer.new)) }
-{
-    match parse(alloc, bytes) {
+    match read_listing(alloc, reader)? {
         Ok(program) => log_program(alloc, asked, &program, writer),
-        Err(fault) if fault.kind == FaultKind::Memory => Err(Refusal::Memory),
-        Err(fault) => {
-            let text = fault_text(alloc, &fault)?;
-            write_whole(writer, text.as_str().as_bytes())?;
+        Err(line) => {
+            write_whole(writer, line.as_str().as_bytes())?;
             Ok(Status::TextFault)
         },
     }
@@ -123,7 +98,7 @@ fn log_bytes<W: Write>(
 // Logs the run of a program. The result is the status.
 fn log_program<W: Write>(
     alloc: Global,
-    asked: &Committed<'_>,
+    asked: &Watched<'_>,
     program: &Program,
     writer: &mut Counted<W>,
 ) -> Result<Status, Refusal>

@@ -4,7 +4,7 @@ ghost use Rattle.std.specs.Prelude.{string_bytes};
 ghost use Rattle.counted_io.specs.Counted.{failures_of, known_by, Gives};
 ghost use Rattle.inorder.specs.Runs.{end_of, end_state};
 ghost use Rattle.one_thread.specs.Changes.{registers_of, run_from};
-ghost use Rattle.commit_log.specs.Answers.{IsOfWriting, failed_writes};
+ghost use Rattle.command_line.specs.Exits.{IsOfWriting, failed_writes};
 ghost use Rattle.commit_log.specs.Lines.{commit_line as line_of};
 ghost use Rattle.commit_log.specs.Logs.{last_line as last_line_of, log};
 ghost use Rattle.commit_log.specs.Retirements.{HasLogged, IsBeginning, final_line, log_ahead};
