@@ -3,10 +3,10 @@ use Rattle.std.proofs.Common.{◌≡◌, ℕ, List, [], ◌++◌, length, Option
 use Rattle.std.specs.Prelude.{is_some}
 use Rattle.one_thread.specs.declared.bench.Turn.{Turn}
 use Rattle.one_thread.specs.declared.station.Station.{Station}
-use Rattle.charts.specs.declared.event.Event.{Event}
-use Rattle.charts.specs.declared.row.Row.{Row}
-use Rattle.charts.specs.Events.{entry_events, events, left_events, moved_events}
-use Rattle.charts.specs.Rows.{SoFar, all_seen, newcomer, next_kept, retires, staying, with_row}
+use Rattle.chart.specs.declared.event.Event.{Event}
+use Rattle.chart.specs.declared.row.Row.{Row}
+use Rattle.chart.specs.Events.{entry_events, events, left_events, moved_events}
+use Rattle.chart.specs.Rows.{SoFar, all_seen, newcomer, next_kept, retires, staying, with_row}
 use Rattle.counted_io.specs.Counted.{counted, raised}
 
 -- the rows that stay, as the turn left them

@@ -12,17 +12,17 @@ use Rattle.one_thread.specs.declared.bench.Turn.TheVariants.{Halved, Let, Loaded
 use Rattle.one_thread.specs.declared.station.Station.{Station}
 use Rattle.one_thread.specs.Turns.{Before, Does, Now, Nowhere}
 use Rattle.one_thread.specs.Window.{window}
-use Rattle.charts.specs.declared.event.Event.TheVariants.{Moved}
-use Rattle.charts.specs.declared.row.Row.{Row}
-use Rattle.charts.specs.Events.{entry_events, events, is_same, left_events, went_on, moved_events, retirement, squash, squashes}
-use Rattle.charts.specs.Happened.{Happened, HasGone, StandsAs}
-use Rattle.charts.specs.Named.{IsRowOf, StandsIn, live_positions}
-use Rattle.charts.specs.Rows.{SoFar, all_seen, is_recovery, let_row, newcomer, phase_of, retires as leaves_one, staying}
-use Rattle.charts.specs.Watched.{AreTurns, Passed, unit_behind, events_at, kept_behind}
+use Rattle.chart.specs.declared.event.Event.TheVariants.{Moved}
+use Rattle.chart.specs.declared.row.Row.{Row}
+use Rattle.chart.specs.Events.{entry_events, events, is_same, left_events, went_on, moved_events, retirement, squash, squashes}
+use Rattle.chart.specs.Happened.{Happened, HasGone, StandsAs}
+use Rattle.chart.specs.Named.{IsRowOf, StandsIn, live_positions}
+use Rattle.chart.specs.Rows.{SoFar, all_seen, is_recovery, let_row, newcomer, phase_of, retires as leaves_one, staying}
+use Rattle.chart.specs.Watched.{AreTurns, Passed, unit_behind, events_at, kept_behind}
 use Rattle.counted_io.specs.Counted.{raised}
-use Rattle.charts.proofs.LivePositions.{Fewer, OneLess, OneMore}
-use Rattle.charts.proofs.RowsNamed.{Named, as_before, each_row, fewer_left, matched, named, one_less, position_of, positions_length, row_count, stands_at}
-use Rattle.charts.proofs.TurnPositions.{grows, lets, loads, recovers, retires, runs}
+use Rattle.chart.proofs.LivePositions.{Fewer, OneLess, OneMore}
+use Rattle.chart.proofs.RowsNamed.{Named, as_before, each_row, fewer_left, matched, named, one_less, position_of, positions_length, row_count, stands_at}
+use Rattle.chart.proofs.TurnPositions.{grows, lets, loads, recovers, retires, runs}
 
 -- Lists
 

@@ -4,11 +4,11 @@ use Rattle.std.proofs.Math.Seq.{drop-cons}
 use Rattle.std.proofs.lemmas.Grind.{common_steps}
 use Rattle.std.proofs.lemmas.Bool.{lt-ltb}
 use Rattle.std.specs.Prelude.{nat_lt, slice_get}
-use Rattle.charts.specs.declared.event.Event.{Event}
-use Rattle.charts.specs.declared.row.Row.{Row}
+use Rattle.chart.specs.declared.event.Event.{Event}
+use Rattle.chart.specs.declared.row.Row.{Row}
 use Rattle.one_thread.specs.declared.station.Station.{Station}
-use Rattle.charts.specs.Rows.{all_seen, listed, seen_in}
-use Rattle.charts.specs.Events.{went_on, moved_events, squash, squashes}
+use Rattle.chart.specs.Rows.{all_seen, listed, seen_in}
+use Rattle.chart.specs.Events.{went_on, moved_events, squash, squashes}
 
 not_less : (n live : ℕ) → live ≤ n → nat_lt n live ≡ false
 not_less n live h = grind (arith, h)

@@ -18,8 +18,8 @@ use Rattle.inorder.proofs.Positions.{at_replaced_else, at_replaced_here, not_eqb
 use Rattle.inorder.proofs.Stations.{finished_station, mended_station}
 use Rattle.inorder.specs.Moves.{IsSquash, MayRun, MayTake, run_on}
 use Rattle.inorder.proofs.OneCaller.Middle.{at_middle}
-use Rattle.charts.specs.Happened.{StandsAs}
-use Rattle.charts.specs.Named.{live_positions}
+use Rattle.chart.specs.Happened.{StandsAs}
+use Rattle.chart.specs.Named.{live_positions}
 
 -- The list
 

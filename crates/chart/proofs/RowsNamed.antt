@@ -15,14 +15,14 @@ use Rattle.one_thread.specs.declared.bench.Turn.TheVariants.{Halved, Let, Loaded
 use Rattle.one_thread.specs.declared.station.Station.{Station}
 use Rattle.one_thread.specs.Turns.{Before, Does, Now, Nowhere}
 use Rattle.one_thread.specs.Window.{station_of, window}
-use Rattle.charts.specs.declared.row.Row.{Row}
-use Rattle.charts.specs.Named.{AreNamed, IsRowOf, StandsIn, live_positions}
-use Rattle.charts.specs.Rows.{SoFar, all_seen, let_row, listed, newcomer, next_kept, seen_in, staying, with_row}
-use Rattle.charts.specs.Watched.{AreTurns, Passed, unit_behind, kept_behind}
+use Rattle.chart.specs.declared.row.Row.{Row}
+use Rattle.chart.specs.Named.{AreNamed, IsRowOf, StandsIn, live_positions}
+use Rattle.chart.specs.Rows.{SoFar, all_seen, let_row, listed, newcomer, next_kept, seen_in, staying, with_row}
+use Rattle.chart.specs.Watched.{AreTurns, Passed, unit_behind, kept_behind}
 use Rattle.counted_io.specs.Counted.{counted, raised}
-use Rattle.charts.proofs.LivePositions.{Fewer, OneLess, OneMore}
-use Rattle.charts.proofs.Lists.{take_next}
-use Rattle.charts.proofs.TurnPositions.{grows, lets, loads, recovers, retires, runs}
+use Rattle.chart.proofs.LivePositions.{Fewer, OneLess, OneMore}
+use Rattle.chart.proofs.Lists.{take_next}
+use Rattle.chart.proofs.TurnPositions.{grows, lets, loads, recovers, retires, runs}
 
 -- Rows behind a turn
 

@@ -14,7 +14,7 @@ use Rattle.one_thread.specs.declared.bench.Turn.TheVariants.{Halved, Let, Loaded
 use Rattle.one_thread.specs.Turns.{Before, Does, Lets, LoadsOne, Now, Nowhere, Recovers, Retires, Runs}
 use Rattle.inorder.specs.Moves.{IsDeliver, IsLink, run_on}
 use Rattle.inorder.proofs.OneCaller.Sequences.{all_more, all_weaker}
-use Rattle.charts.proofs.LivePositions.{Fewer, IsQuiet, OneLess, OneMore, Stay, all_stand, mend_keeps, positions_live, quiet_after, quiet_run, retire_once, squash_run}
+use Rattle.chart.proofs.LivePositions.{Fewer, IsQuiet, OneLess, OneMore, Stay, all_stand, mend_keeps, positions_live, quiet_after, quiet_run, retire_once, squash_run}
 
 deliver_is_quiet : (s : Step) → IsDeliver s → IsQuiet s
 deliver_is_quiet (On p (act.Deliver k)) h = tt

@@ -24,11 +24,11 @@ use Rattle.one_thread.specs.Ordered.{DoesIn, IsTurnIn, TurnedIn}
 use Rattle.one_thread.specs.StandsFor.{StandsFor, StandsForSome, sizes}
 use Rattle.one_thread.specs.Turns.{BenchFields, Falls, Moves, SizesStay, Trains}
 use Rattle.one_thread.specs.Window.{window}
-use Rattle.charts.specs.declared.telling.Format.{Format}
-use Rattle.charts.specs.Events.{events}
-use Rattle.charts.specs.Rows.{SoFar, next_kept}
-use Rattle.charts.specs.Telling.{last_text, turn_text}
-use Rattle.charts.specs.Watched.{GoesOn, Guides, HasEnded, IsBegun, IsDue, IsOver, IsThrough, Passed, Stood, count_behind, unit_behind, events_at, kept_behind, told}
+use Rattle.chart.specs.declared.telling.Format.{Format}
+use Rattle.chart.specs.Events.{events}
+use Rattle.chart.specs.Rows.{SoFar, next_kept}
+use Rattle.chart.specs.Telling.{last_text, turn_text}
+use Rattle.chart.specs.Watched.{GoesOn, Guides, HasEnded, IsBegun, IsDue, IsOver, IsThrough, Passed, Stood, count_behind, unit_behind, events_at, kept_behind, told}
 
 -- Beginnings
 

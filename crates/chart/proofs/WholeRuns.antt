@@ -16,10 +16,10 @@ use Rattle.one_thread.specs.declared.order.Order.{Order}
 use Rattle.one_thread.specs.declared.pipeline.Pipeline.{Pipeline}
 use Rattle.one_thread.specs.StandsFor.{StandsFor, sizes}
 use Rattle.one_thread.specs.Turns.{BenchFields}
-use Rattle.charts.specs.declared.telling.Format.{Format}
-use Rattle.charts.specs.Rows.{SoFar, start_kept}
-use Rattle.charts.specs.Telling.{first_text, last_text}
-use Rattle.charts.specs.Watched.{GoesOn, Guides, IsBegun, IsOver, IsThrough, IsTold, Stood, unit_behind, kept_behind, sizes_by, told}
+use Rattle.chart.specs.declared.telling.Format.{Format}
+use Rattle.chart.specs.Rows.{SoFar, start_kept}
+use Rattle.chart.specs.Telling.{first_text, last_text}
+use Rattle.chart.specs.Watched.{GoesOn, Guides, IsBegun, IsOver, IsThrough, IsTold, Stood, unit_behind, kept_behind, sizes_by, told}
 
 pub appends_none : (known : Option (List ℕ)) → Appends known known []
 appends_none None = tt

@@ -5,11 +5,11 @@ use Rattle.isa.specs.declared.listing.fault.FaultKind.{FaultKind}
 use Rattle.instructions.specs.Programs.{Program}
 use Rattle.inorder.specs.Runs.{end_of}
 use Rattle.bench.specs.Answer.{status_for, text_for}
-use Rattle.charts.specs.declared.telling.Format.{Format}
-use Rattle.charts.specs.declared.telling.Format.TheVariants.{Chart, Kanata}
+use Rattle.chart.specs.declared.telling.Format.{Format}
+use Rattle.chart.specs.declared.telling.Format.TheVariants.{Chart, Kanata}
 use Rattle.counted_io.specs.declared.fault.Fault.{Fault}
 use Rattle.counted_io.specs.declared.fault.Fault.TheVariants as fault
-use Rattle.charts.specs.Watched.{IsTold, IsBegun as IsPartOf, guides, sizes_by}
+use Rattle.chart.specs.Watched.{IsTold, IsBegun as IsPartOf, guides, sizes_by}
 use Rattle.command_line.specs.Predictors.{IsChosen, LearnsAs, PredictsAs}
 use Rattle.command_line.specs.declared.chosen.Chosen.{Chosen}
 use Rattle.command_line.specs.declared.request.Charted.{Charted}

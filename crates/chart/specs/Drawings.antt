@@ -9,9 +9,9 @@ use Rattle.instructions.specs.declared.op.Half.TheVariants.{High, Low}
 use Rattle.instructions.specs.declared.op.Kind.{Kind}
 use Rattle.instructions.specs.declared.op.Kind.TheVariants.{Loads}
 use Rattle.one_thread.specs.declared.station.Station.{Station}
-use Rattle.charts.specs.declared.event.Way.{Way}
-use Rattle.charts.specs.declared.event.Way.TheVariants.{Retired, Squashed}
-use Rattle.charts.specs.declared.row.Row.{Row}
+use Rattle.chart.specs.declared.event.Way.{Way}
+use Rattle.chart.specs.declared.event.Way.TheVariants.{Retired, Squashed}
+use Rattle.chart.specs.declared.row.Row.{Row}
 
 -- A text so many times
 abbrev pub times : ℕ → List ℕ → List ℕ

@@ -3,13 +3,13 @@ use Rattle.std.specs.Prelude.{ℕ, zero, suc, ◌+◌, Bool, true, false, List, 
 use Rattle.instructions.specs.Instruction.{first_of, second_of}
 use Rattle.one_thread.specs.declared.bench.Turn.{Turn}
 use Rattle.one_thread.specs.declared.station.Station.{Station}
-use Rattle.charts.specs.declared.event.Event.{Event}
-use Rattle.charts.specs.declared.event.Event.TheVariants.{Let, Moved, Left}
-use Rattle.charts.specs.declared.event.Way.TheVariants.{Retired, Squashed}
-use Rattle.charts.specs.declared.row.Phase.{Phase}
-use Rattle.charts.specs.declared.row.Phase.TheVariants.{Waiting, Address, Done, Miss, Stop}
-use Rattle.charts.specs.declared.row.Row.{Row}
-use Rattle.charts.specs.Rows.{SoFar, all_seen, awaited, is_recovery, newcomer, phase_of, retires, staying}
+use Rattle.chart.specs.declared.event.Event.{Event}
+use Rattle.chart.specs.declared.event.Event.TheVariants.{Let, Moved, Left}
+use Rattle.chart.specs.declared.event.Way.TheVariants.{Retired, Squashed}
+use Rattle.chart.specs.declared.row.Phase.{Phase}
+use Rattle.chart.specs.declared.row.Phase.TheVariants.{Waiting, Address, Done, Miss, Stop}
+use Rattle.chart.specs.declared.row.Row.{Row}
+use Rattle.chart.specs.Rows.{SoFar, all_seen, awaited, is_recovery, newcomer, phase_of, retires, staying}
 use Rattle.counted_io.specs.Counted.{raised}
 
 -- The squash of a tenant, if there is one

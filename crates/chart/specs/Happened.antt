@@ -5,13 +5,13 @@ use Rattle.inorder.specs.Tenants.{Standing, Tenant}
 use Rattle.inorder.specs.Tenants as tenant
 use Rattle.inorder.specs.Unit.{at}
 use Rattle.one_thread.specs.declared.station.Station.{Station}
-use Rattle.charts.specs.declared.event.Event.{Event}
-use Rattle.charts.specs.declared.event.Event.TheVariants.{Left, Let, Moved}
-use Rattle.charts.specs.declared.event.Way.TheVariants.{Retired, Squashed}
-use Rattle.charts.specs.declared.row.Phase.{Phase}
-use Rattle.charts.specs.declared.row.Row.{Row}
-use Rattle.charts.specs.Named.{IsRowOf, StandsIn}
-use Rattle.charts.specs.Rows.{phase_of}
+use Rattle.chart.specs.declared.event.Event.{Event}
+use Rattle.chart.specs.declared.event.Event.TheVariants.{Left, Let, Moved}
+use Rattle.chart.specs.declared.event.Way.TheVariants.{Retired, Squashed}
+use Rattle.chart.specs.declared.row.Phase.{Phase}
+use Rattle.chart.specs.declared.row.Row.{Row}
+use Rattle.chart.specs.Named.{IsRowOf, StandsIn}
+use Rattle.chart.specs.Rows.{phase_of}
 
 -- The tenant at this position is live, has retired, or was squashed
 pub record StandsAs (ts : List Tenant) (position : ℕ) (standing : Standing) : Type 0 where

@@ -2,14 +2,14 @@
 -- its identifiers are positions.
 use Rattle.std.specs.Prelude.{ℕ, List, [], ◌++◌, Option, Some, None, codes, decimal}
 use Rattle.isa.specs.Report.{hexadecimal, newline}
-use Rattle.charts.specs.declared.event.Event.{Event}
-use Rattle.charts.specs.declared.event.Event.TheVariants.{Let, Moved, Left}
-use Rattle.charts.specs.declared.event.Way.{Way}
-use Rattle.charts.specs.declared.event.Way.TheVariants.{Retired, Squashed}
-use Rattle.charts.specs.declared.row.Phase.{Phase}
-use Rattle.charts.specs.declared.row.Phase.TheVariants.{Waiting, Address, Done, Miss, Stop}
-use Rattle.charts.specs.declared.row.Row.{Row}
-use Rattle.charts.specs.Drawings.{tenant_text}
+use Rattle.chart.specs.declared.event.Event.{Event}
+use Rattle.chart.specs.declared.event.Event.TheVariants.{Let, Moved, Left}
+use Rattle.chart.specs.declared.event.Way.{Way}
+use Rattle.chart.specs.declared.event.Way.TheVariants.{Retired, Squashed}
+use Rattle.chart.specs.declared.row.Phase.{Phase}
+use Rattle.chart.specs.declared.row.Phase.TheVariants.{Waiting, Address, Done, Miss, Stop}
+use Rattle.chart.specs.declared.row.Row.{Row}
+use Rattle.chart.specs.Drawings.{tenant_text}
 
 -- The first lines
 abbrev pub head : List ℕ

@@ -6,7 +6,7 @@ use Rattle.inorder.specs.Tenants.{Live, Tenant, is_live}
 use Rattle.inorder.specs.Unit.{at}
 use Rattle.one_thread.specs.declared.station.Station.{Station}
 use Rattle.one_thread.specs.Window.{station_of}
-use Rattle.charts.specs.declared.row.Row.{Row}
+use Rattle.chart.specs.declared.row.Row.{Row}
 
 -- The positions of the live tenants, the oldest first
 abbrev pub live_positions : List Tenant → List ℕ

@@ -5,10 +5,10 @@ use Rattle.one_thread.specs.declared.bench.Turn.TheVariants.{Halved, Let, Over, 
 use Rattle.one_thread.specs.declared.station.Stage.{Stage}
 use Rattle.one_thread.specs.declared.station.Stage.TheVariants.{Open, Addr, Done as IsDone, Miss as Misses, Stops}
 use Rattle.one_thread.specs.declared.station.Station.{Station}
-use Rattle.charts.specs.declared.row.Phase.{Phase}
-use Rattle.charts.specs.declared.row.Phase.TheVariants.{Waiting, Address, Done, Miss, Stop}
-use Rattle.charts.specs.declared.row.Row.{Row}
-use Rattle.charts.specs.declared.books.Books.{Books}
+use Rattle.chart.specs.declared.row.Phase.{Phase}
+use Rattle.chart.specs.declared.row.Phase.TheVariants.{Waiting, Address, Done, Miss, Stop}
+use Rattle.chart.specs.declared.row.Row.{Row}
+use Rattle.chart.specs.declared.books.Books.{Books}
 use Rattle.counted_io.specs.Counted.{counted, raised}
 
 -- The phase of a tenant, by the stage of its station

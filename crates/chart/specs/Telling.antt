@@ -1,12 +1,12 @@
 -- The text of a run's events.
 use Rattle.std.specs.Prelude.{ℕ, List, [], ◌∷◌, ◌++◌}
-use Rattle.charts.specs.declared.event.Event.{Event}
-use Rattle.charts.specs.declared.event.Event.TheVariants.{Left}
-use Rattle.charts.specs.declared.telling.Format.{Format}
-use Rattle.charts.specs.declared.telling.Format.TheVariants.{Chart, Kanata}
-use Rattle.charts.specs.Drawings.{line, live_lines, way_mark}
-use Rattle.charts.specs.Kanata.{event_lines, head, tick}
-use Rattle.charts.specs.Rows.{SoFar}
+use Rattle.chart.specs.declared.event.Event.{Event}
+use Rattle.chart.specs.declared.event.Event.TheVariants.{Left}
+use Rattle.chart.specs.declared.telling.Format.{Format}
+use Rattle.chart.specs.declared.telling.Format.TheVariants.{Chart, Kanata}
+use Rattle.chart.specs.Drawings.{line, live_lines, way_mark}
+use Rattle.chart.specs.Kanata.{event_lines, head, tick}
+use Rattle.chart.specs.Rows.{SoFar}
 use Rattle.counted_io.specs.Counted.{raised}
 
 -- The text before the first turn

@@ -21,11 +21,11 @@ use Rattle.one_thread.specs.Ordered.{AsksFor}
 use Rattle.one_thread.specs.Turns.{BenchFields, Does, Trains}
 use Rattle.one_thread.specs.Window.{window}
 use Rattle.inorder.specs.Moves.{IsReached}
-use Rattle.charts.specs.declared.telling.Format.{Format}
-use Rattle.charts.specs.declared.event.Event.{Event}
-use Rattle.charts.specs.Events.{events}
-use Rattle.charts.specs.Rows.{SoFar, next_kept, start_kept}
-use Rattle.charts.specs.Telling.{first_text, last_text, turn_text}
+use Rattle.chart.specs.declared.telling.Format.{Format}
+use Rattle.chart.specs.declared.event.Event.{Event}
+use Rattle.chart.specs.Events.{events}
+use Rattle.chart.specs.Rows.{SoFar, next_kept, start_kept}
+use Rattle.chart.specs.Telling.{first_text, last_text, turn_text}
 
 -- A turn that was made: its answer, and the unit behind it
 pub record Passed : Type 0 where

@@ -1,9 +1,9 @@
 //! The live tenants of a run, from turn to turn.
 ghost use Rattle.std.specs.Prelude.{◌≡◌, ◌++◌, OnOk, IfOk, length, slice_get};
-ghost use Rattle.charts.specs.Events.{entry_events, events, went_on, moved_events};
-ghost use Rattle.charts.specs.Rows.{all_seen as all_seen_of, kept};
-ghost use Rattle.charts.specs.Rows.{let_row as let_row_of, next_kept};
-ghost use Rattle.charts.specs.Rows.{seen_in, start_kept, with_row};
+ghost use Rattle.chart.specs.Events.{entry_events, events, went_on, moved_events};
+ghost use Rattle.chart.specs.Rows.{all_seen as all_seen_of, kept};
+ghost use Rattle.chart.specs.Rows.{let_row as let_row_of, next_kept};
+ghost use Rattle.chart.specs.Rows.{seen_in, start_kept, with_row};
 ghost use Rattle.counted_io.specs.Counted.{counted as counted_of, raised as raised_of};
 
 use crate::event::Event;

@@ -2,9 +2,9 @@
 ghost use Rattle.std.specs.Prelude.{◌≡◌, ◌++◌, ◌-◌, OnOk, string_bytes, length};
 ghost use Rattle.isa.specs.Report.{newline};
 ghost use Rattle.instructions.specs.Instruction.{kind as kind_of};
-ghost use Rattle.charts.specs.Drawings.{behind_ran, half_label, line, live_lines};
-ghost use Rattle.charts.specs.Drawings.{mark_behind, padded, picture};
-ghost use Rattle.charts.specs.Drawings.{settled_mark as settled_mark_of, tenant_text, times};
+ghost use Rattle.chart.specs.Drawings.{behind_ran, half_label, line, live_lines};
+ghost use Rattle.chart.specs.Drawings.{mark_behind, padded, picture};
+ghost use Rattle.chart.specs.Drawings.{settled_mark as settled_mark_of, tenant_text, times};
 
 use crate::row::Row;
 use instructions::{Half, Instr, Kind};

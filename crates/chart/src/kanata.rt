@@ -1,6 +1,6 @@
 //! A log of the format Kanata, version 0004.
 ghost use Rattle.std.specs.Prelude.{◌≡◌, ◌++◌, OnOk, string_bytes};
-ghost use Rattle.charts.specs.Kanata.{head, tick, stage_text as stage_text_of, wait_line, let_lines, way_text, event_lines};
+ghost use Rattle.chart.specs.Kanata.{head, tick, stage_text as stage_text_of, wait_line, let_lines, way_text, event_lines};
 
 use crate::drawing::half_text;
 use crate::event::{Event, Way};

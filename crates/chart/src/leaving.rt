@@ -1,7 +1,7 @@
 //! Who leaves at a turn.
 ghost use Rattle.std.specs.Prelude.{◌≡◌, ◌++◌, OnOk, length, slice_get};
-ghost use Rattle.charts.specs.Events.{left_events, squash, squashes};
-ghost use Rattle.charts.specs.Rows.{retires as retires_by, staying};
+ghost use Rattle.chart.specs.Events.{left_events, squash, squashes};
+ghost use Rattle.chart.specs.Rows.{retires as retires_by, staying};
 
 use crate::event::{Event, Way};
 use crate::row::Row;

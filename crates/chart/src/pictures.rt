@@ -1,11 +1,12 @@
 //! What became of each instruction of a run: its chart and its log.
 ghost use Rattle.std.specs.Prelude.{◌≡◌, ◌≢◌, ◌+◌, ◌-◌, ◌^◌, ◌<◌, IfErr, OnOk, OnErr, is_some};
 ghost use Rattle.counted_io.specs.Counted.{failures_of, known_by};
-ghost use Rattle.chart.specs.Watched.{HasBegun, HasToldWhole, IsLogged, IsOfLog};
-ghost use Rattle.chart.specs.Watched.{log_failures, log_refusal};
+ghost use Rattle.chart.specs.Answers.{HasBegun, HasToldWhole, IsLogged, IsOfLog};
+ghost use Rattle.chart.specs.Answers.{log_failures, log_refusal};
 ghost use Rattle.command_line.specs.Exits.{IsOfWriting, failed_writes};
 
-use charts::{Format, watch};
+use crate::telling::Format;
+use crate::watched::watch;
 use command_line::{Charted, Refusal, choose};
 use counted_io::{Counted, Fault};
 use instructions::Program;

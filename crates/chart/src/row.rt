@@ -1,7 +1,7 @@
 //! The row of a live tenant.
 ghost use Rattle.std.specs.Prelude.{◌≡◌};
-ghost use Rattle.charts.specs.Events.{is_same as is_same_in};
-ghost use Rattle.charts.specs.Rows.{phase_of as phase_in, ran_by as ran_in, settled_turn, seen};
+ghost use Rattle.chart.specs.Events.{is_same as is_same_in};
+ghost use Rattle.chart.specs.Rows.{phase_of as phase_in, ran_by as ran_in, settled_turn, seen};
 
 use one_thread::{Stage, Station};
 

@@ -1,7 +1,7 @@
 //! The text of a run's events.
 ghost use Rattle.std.specs.Prelude.{◌≡◌, ◌++◌, OnOk, string_bytes};
-ghost use Rattle.charts.specs.Telling.{first_text, event_text, events_text, tick_text};
-ghost use Rattle.charts.specs.Drawings.{way_mark as way_mark_of};
+ghost use Rattle.chart.specs.Telling.{first_text, event_text, events_text, tick_text};
+ghost use Rattle.chart.specs.Drawings.{way_mark as way_mark_of};
 
 use crate::drawing::push_line;
 use crate::event::{Event, Way};

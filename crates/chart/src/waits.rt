@@ -1,8 +1,8 @@
 //! The producers that a new tenant waits for.
 ghost use Rattle.std.specs.Prelude.{◌≡◌};
-ghost use Rattle.charts.specs.Events.{let_event};
-ghost use Rattle.charts.specs.Rows.{awaited as awaited_of, unmade as unmade_of};
-ghost use Rattle.charts.specs.Rows.{writer_of as writer_in};
+ghost use Rattle.chart.specs.Events.{let_event};
+ghost use Rattle.chart.specs.Rows.{awaited as awaited_of, unmade as unmade_of};
+ghost use Rattle.chart.specs.Rows.{writer_of as writer_in};
 
 use crate::event::Event;
 use crate::row::Row;

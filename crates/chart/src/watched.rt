@@ -2,7 +2,7 @@
 ghost use Rattle.std.specs.Prelude.{◌≡◌, ◌≢◌, ◌<◌, ◌+◌, ◌-◌, ◌^◌, IfErr, IfOk, OnErr, OnOk};
 ghost use Rattle.counted_io.specs.Counted.{failures_of, known_by};
 ghost use Rattle.inorder.specs.Runs.{end_of, end_state};
-ghost use Rattle.charts.specs.Watched.{IsBegun, IsTold, guides, sizes_by};
+ghost use Rattle.chart.specs.Watched.{IsBegun, IsTold, guides, sizes_by};
 
 use crate::books::Books;
 use crate::telling::Format;

@@ -5,11 +5,11 @@ ghost use Rattle.counted_io.specs.Counted.{failures_of, known_by, Gives};
 ghost use Rattle.instructions.specs.Programs.{Program};
 ghost use Rattle.inorder.specs.Unit.{Sizes};
 ghost use Rattle.one_thread.specs.Changes.{run_from};
-ghost use Rattle.charts.specs.Events.{events};
-ghost use Rattle.charts.specs.Rows.{kept, listed, next_kept};
+ghost use Rattle.chart.specs.Events.{events};
+ghost use Rattle.chart.specs.Rows.{kept, listed, next_kept};
 ghost use Rattle.counted_io.specs.Counted.{raised as raised_of};
-ghost use Rattle.charts.specs.Telling.{first_text, last_text, turn_text};
-ghost use Rattle.charts.specs.Watched.{GivesUpTo, GoesOn, Guides, IsBegun, IsThrough};
+ghost use Rattle.chart.specs.Telling.{first_text, last_text, turn_text};
+ghost use Rattle.chart.specs.Watched.{GivesUpTo, GoesOn, Guides, IsBegun, IsThrough};
 
 use crate::books::{Books, raised};
 use crate::drawing::push_live;

@@ -21,9 +21,9 @@ use Rattle.one_thread.specs.Changes.{registers_of, run_from}
 use Rattle.one_thread.specs.StandsFor.{StandsFor, StandsForSome}
 use Rattle.one_thread.specs.Turns.{Falls, Moves, SizesStay}
 use Rattle.one_thread.proofs.Ends.{one_over}
-use Rattle.commit_log.specs.Lines.{commit_line}
-use Rattle.commit_log.specs.Logs.{last_line, line_of_step, log, log_after, log_from}
-use Rattle.commit_log.specs.Retirements.{HasCommittedNext, HasLogged, IsBeginning, HasOnlyItsEnd, final_line, log_ahead}
+use Rattle.commits.specs.Lines.{commit_line}
+use Rattle.commits.specs.Logs.{last_line, line_of_step, log, log_after, log_from}
+use Rattle.commits.specs.Retirements.{HasCommittedNext, HasLogged, IsBeginning, HasOnlyItsEnd, final_line, log_ahead}
 
 -- One step
 

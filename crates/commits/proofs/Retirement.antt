@@ -34,7 +34,7 @@ use Rattle.one_thread.proofs.Ends.{one_retired}
 use Rattle.one_thread.proofs.Found.{window_middle, window_none}
 use Rattle.one_thread.proofs.Known.{ahead_stands}
 use Rattle.one_thread.proofs.Waiting.{first_writes}
-use Rattle.commit_log.specs.Retirements.{HasCommittedNext, registers_after}
+use Rattle.commits.specs.Retirements.{HasCommittedNext, registers_after}
 
 -- Who has left
 

@@ -14,7 +14,7 @@ use Rattle.instructions.specs.Instruction.{operations}
 use Rattle.encoding.specs.Layouts.{has_layout, layout}
 use Rattle.encoding.specs.Words.{decode, packed}
 use Rattle.encoding.proofs.Rebuilt.{packed_back}
-use Rattle.commit_log.specs.Words.{AWordSaysItsInstruction, IsWordOf, is_said, are_equal, says, word_of}
+use Rattle.commits.specs.Words.{AWordSaysItsInstruction, IsWordOf, is_said, are_equal, says, word_of}
 
 -- an operation is found again by its opcode and what selects it
 found_again : (op : Op) → find (has_layout (layout op).opcode (layout op).select) operations ≡ Some op

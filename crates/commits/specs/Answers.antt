@@ -5,7 +5,7 @@ use Rattle.instructions.specs.Programs.{Program}
 use Rattle.isa.specs.declared.listing.fault.FaultKind.{FaultKind}
 use Rattle.bench.specs.Answer.{status_for}
 use Rattle.bench.specs.Answer.{status_number}
-use Rattle.commit_log.specs.Logs.{log_for}
+use Rattle.commits.specs.Logs.{log_for}
 
 -- the log was written whole, or the line of the fault of a listing, with the status of the run
 pub record IsLogOf (limit : ℕ) (found : Result Program (ℕ × FaultKind)) (status : ℕ) (before after : Option (List ℕ)) : Type 0 where

@@ -11,7 +11,7 @@ use Rattle.instructions.specs.declared.op.Kind.TheVariants.{Stores}
 use Rattle.instructions.specs.declared.stop.Stop.{Stop}
 use Rattle.isa.specs.InstrText.{instr_text}
 use Rattle.isa.specs.Report.{hex_digit, hexadecimal, newline}
-use Rattle.commit_log.specs.Words.{word_of}
+use Rattle.commits.specs.Words.{word_of}
 
 -- ---- parts
 

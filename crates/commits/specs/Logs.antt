@@ -7,7 +7,7 @@ use Rattle.instructions.specs.declared.instr.Instr.{Instr}
 use Rattle.isa.specs.declared.listing.fault.FaultKind.{FaultKind}
 use Rattle.isa.specs.Report.{fault_line}
 use Rattle.inorder.specs.Machine.{Goes, Halts, Ran, State, start, step}
-use Rattle.commit_log.specs.Lines.{commit_line, stop_line}
+use Rattle.commits.specs.Lines.{commit_line, stop_line}
 
 -- the line of the instruction at pc, by the registers after it
 abbrev pub line_of_step : ℕ → Option Instr → List ℕ → List ℕ

@@ -7,7 +7,7 @@ use Rattle.inorder.specs.Machine.{State, write}
 use Rattle.one_thread.specs.declared.pipeline.Pipeline.{Pipeline}
 use Rattle.one_thread.specs.declared.station.Station.{Station}
 use Rattle.one_thread.specs.Changes.{RetiresOne, registers_of, run_from}
-use Rattle.commit_log.specs.Logs.{last_line, log_from}
+use Rattle.commits.specs.Logs.{last_line, log_from}
 
 -- the registers after the retirement of a station's tenant
 abbrev pub registers_after : Option Station → List ℕ → List ℕ

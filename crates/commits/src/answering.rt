@@ -5,9 +5,9 @@ ghost use Rattle.counted_io.specs.Counted.{failures_of, known_by};
 ghost use Rattle.bench.specs.Answer.{status_number};
 ghost use Rattle.command_line.specs.Exits.{HoldsOfInput, IsOfOneThread, IsOfWriting, failed_writes, refused};
 ghost use Rattle.command_line.specs.declared.exit.Line.TheVariants.{Nothing, Refused};
-ghost use Rattle.commit_log.specs.Answers.{IsLogOf};
-ghost use Rattle.commit_log.specs.Logs.{log_for};
-ghost use Rattle.commit_log.specs.Retirements.{IsBeginning};
+ghost use Rattle.commits.specs.Answers.{IsLogOf};
+ghost use Rattle.commits.specs.Logs.{log_for};
+ghost use Rattle.commits.specs.Retirements.{IsBeginning};
 
 use crate::logging::log_run;
 use bench::{Status, read_listing};

@@ -1,6 +1,6 @@
 //! The change by an instruction: registers and stored bytes.
 ghost use Rattle.std.specs.Prelude.{◌≡◌, ◌++◌, Some, OnOk, replicate, string_bytes, slice_index};
-ghost use Rattle.commit_log.specs.Lines.{change_text, gap, store_text, register_column, register_with_value};
+ghost use Rattle.commits.specs.Lines.{change_text, gap, store_text, register_column, register_with_value};
 
 use crate::digits::Stored;
 use instructions::{Half, Instr, Kind, Reg};

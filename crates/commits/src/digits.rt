@@ -1,7 +1,7 @@
 //! Bytes in hexadecimal digits.
 ghost use Rattle.std.specs.Prelude.{◌≡◌, ◌<◌, Some, [], ◌∷◌};
 ghost use Rattle.isa.specs.Report.{hex_digit};
-ghost use Rattle.commit_log.specs.Lines.{byte_text, stored_text};
+ghost use Rattle.commits.specs.Lines.{byte_text, stored_text};
 
 use isa::Hexadecimal;
 use std::fmt;

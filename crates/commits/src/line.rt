@@ -1,6 +1,6 @@
 //! The lines of the log.
 ghost use Rattle.std.specs.Prelude.{◌≡◌, IfOk, Some, string_bytes};
-ghost use Rattle.commit_log.specs.Lines.{commit_line as line_of, head, stop_line as line_of_stop};
+ghost use Rattle.commits.specs.Lines.{commit_line as line_of, head, stop_line as line_of_stop};
 
 use crate::change::push_change;
 use crate::word::{WordText, word_of};

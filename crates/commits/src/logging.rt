@@ -5,9 +5,9 @@ ghost use Rattle.counted_io.specs.Counted.{failures_of, known_by, Gives};
 ghost use Rattle.inorder.specs.Runs.{end_of, end_state};
 ghost use Rattle.one_thread.specs.Changes.{registers_of, run_from};
 ghost use Rattle.command_line.specs.Exits.{IsOfWriting, failed_writes};
-ghost use Rattle.commit_log.specs.Lines.{commit_line as line_of};
-ghost use Rattle.commit_log.specs.Logs.{last_line as last_line_of, log};
-ghost use Rattle.commit_log.specs.Retirements.{HasLogged, IsBeginning, final_line, log_ahead};
+ghost use Rattle.commits.specs.Lines.{commit_line as line_of};
+ghost use Rattle.commits.specs.Logs.{last_line as last_line_of, log};
+ghost use Rattle.commits.specs.Retirements.{HasLogged, IsBeginning, final_line, log_ahead};
 
 use crate::line::{commit_line, stop_line};
 use crate::retiring::next_commit;

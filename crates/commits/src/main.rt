@@ -1,8 +1,17 @@
 //! The program `commits`, which is `./ruu commits FILE`: its words, its file and its standard streams.
 #![tactic(auto)]
 
-use command_line::{REFUSED, Watched, committed, is_standard_input, refuse, words};
-use commit_log::{end, log_commits};
+mod answering;
+mod change;
+mod digits;
+mod laws;
+mod line;
+mod logging;
+mod retiring;
+mod word;
+
+use answering::log_commits;
+use command_line::{REFUSED, Watched, committed, end, is_standard_input, refuse, words};
 use counted_io::{ClosedStreams, Counted};
 use std::fs::File;
 use std::io::Read;

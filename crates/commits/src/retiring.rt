@@ -2,7 +2,7 @@
 ghost use Rattle.std.specs.Prelude.{◌≡◌, ◌<◌, IfSome, IsNone};
 ghost use Rattle.inorder.specs.Machine.{write as written};
 ghost use Rattle.one_thread.specs.Changes.{registers_of};
-ghost use Rattle.commit_log.specs.Retirements.{HasCommittedNext, HasOnlyItsEnd, registers_after};
+ghost use Rattle.commits.specs.Retirements.{HasCommittedNext, HasOnlyItsEnd, registers_after};
 
 use instructions::{Predictor, Reg};
 use one_thread::{Bench, Chooser, Order, Station, Turn};

@@ -1,7 +1,7 @@
 //! The machine word of an instruction.
 ghost use Rattle.std.specs.Prelude.{◌≡◌, Some};
-ghost use Rattle.commit_log.specs.Words.{word_of as word_at};
-ghost use Rattle.commit_log.specs.Lines.{word_column};
+ghost use Rattle.commits.specs.Words.{word_of as word_at};
+ghost use Rattle.commits.specs.Lines.{word_column};
 
 use encoding::{Decoded, encode};
 use instructions::Instr;

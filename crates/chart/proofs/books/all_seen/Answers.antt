@@ -1,5 +1,5 @@
-use Rattle.charts.proofs.Lists.{seen_goes_on}
-use Rattle.charts.proofs.books.all_seen.Goals as goal
+use Rattle.chart.proofs.Lists.{seen_goes_on}
+use Rattle.chart.proofs.books.all_seen.Goals as goal
 
 pub loop-i-preserved : goal.loop-i-preserved
 loop-i-preserved c =

@@ -1,6 +1,6 @@
 use Rattle.std.proofs.Common.{◌≡◌, ◌++◌, drop}
-use Rattle.charts.specs.Rows.{all_seen}
-use Rattle.charts.proofs.books.all_seen.Given as goal
+use Rattle.chart.specs.Rows.{all_seen}
+use Rattle.chart.proofs.books.all_seen.Given as goal
 
 -- the rows so far, and those to come
 abbrev pub invariant-loop-i : goal.invariant-loop-i

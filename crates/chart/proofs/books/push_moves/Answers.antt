@@ -1,5 +1,5 @@
-use Rattle.charts.proofs.Lists.{moves_go_on}
-use Rattle.charts.proofs.books.push_moves.Goals as goal
+use Rattle.chart.proofs.Lists.{moves_go_on}
+use Rattle.chart.proofs.books.push_moves.Goals as goal
 
 pub loop-i-preserved : goal.loop-i-preserved
 loop-i-preserved c =

@@ -1,6 +1,6 @@
 use Rattle.std.proofs.Common.{◌≡◌, ◌++◌, drop}
-use Rattle.charts.specs.Events.{moved_events}
-use Rattle.charts.proofs.books.push_moves.Given as goal
+use Rattle.chart.specs.Events.{moved_events}
+use Rattle.chart.proofs.books.push_moves.Given as goal
 
 -- the events so far, and those to come
 abbrev pub invariant-loop-i : goal.invariant-loop-i

@@ -1,6 +1,6 @@
 use Rattle.std.proofs.Common.{◌≡◌, ◌++◌, drop, string_bytes}
-use Rattle.charts.specs.Drawings.{live_lines}
-use Rattle.charts.proofs.drawing.push_live.Given as goal
+use Rattle.chart.specs.Drawings.{live_lines}
+use Rattle.chart.proofs.drawing.push_live.Given as goal
 
 -- the lines so far, and those to come
 abbrev pub invariant-loop-row : goal.invariant-loop-row

@@ -1,6 +1,6 @@
 use Rattle.std.proofs.Common.{◌≡◌, ◌++◌, string_bytes}
-use Rattle.charts.specs.Drawings.{times}
-use Rattle.charts.proofs.drawing.push_times.Given as goal
+use Rattle.chart.specs.Drawings.{times}
+use Rattle.chart.proofs.drawing.push_times.Given as goal
 
 -- the copies so far, and those to come
 abbrev pub invariant-copies : goal.invariant-copies

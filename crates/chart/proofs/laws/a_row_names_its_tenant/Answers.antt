@@ -1,5 +1,5 @@
-use Rattle.charts.proofs.RowsNamed.{rows_are_named}
-use Rattle.charts.proofs.laws.a_row_names_its_tenant.Goals as goal
+use Rattle.chart.proofs.RowsNamed.{rows_are_named}
+use Rattle.chart.proofs.laws.a_row_names_its_tenant.Goals as goal
 
 pub returns : goal.returns
 returns c = λ p sizes turns. rows_are_named p sizes turns

@@ -1,6 +1,6 @@
 use Rattle.std.proofs.Common.{arith}
-use Rattle.charts.proofs.Lists.{squashes_go_on}
-use Rattle.charts.proofs.leaving.push_squashes.Goals as goal
+use Rattle.chart.proofs.Lists.{squashes_go_on}
+use Rattle.chart.proofs.leaving.push_squashes.Goals as goal
 
 pub squashes-preserved : goal.squashes-preserved
 squashes-preserved c = record {

@@ -1,6 +1,6 @@
 use Rattle.std.proofs.Common.{◌≡◌, ◌++◌, ◌≤◌, length}
-use Rattle.charts.specs.Events.{squashes}
-use Rattle.charts.proofs.leaving.push_squashes.Given as goal
+use Rattle.chart.specs.Events.{squashes}
+use Rattle.chart.proofs.leaving.push_squashes.Given as goal
 
 -- the events so far, and those to come
 abbrev pub invariant-squashes : goal.invariant-squashes

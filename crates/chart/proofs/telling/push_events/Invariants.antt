@@ -1,6 +1,6 @@
 use Rattle.std.proofs.Common.{◌≡◌, ◌++◌, drop, string_bytes}
-use Rattle.charts.specs.Telling.{events_text}
-use Rattle.charts.proofs.telling.push_events.Given as goal
+use Rattle.chart.specs.Telling.{events_text}
+use Rattle.chart.proofs.telling.push_events.Given as goal
 
 -- the text so far, and what is to come
 abbrev pub invariant-loop-event : goal.invariant-loop-event

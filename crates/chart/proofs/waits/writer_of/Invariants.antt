@@ -1,6 +1,6 @@
 use Rattle.std.proofs.Common.{◌≡◌, drop}
-use Rattle.charts.specs.Rows.{writer_from, writer_of}
-use Rattle.charts.proofs.waits.writer_of.Given as goal
+use Rattle.chart.specs.Rows.{writer_from, writer_of}
+use Rattle.chart.proofs.waits.writer_of.Given as goal
 
 -- who was found so far, and the rows to come
 abbrev pub invariant-loop-row : goal.invariant-loop-row

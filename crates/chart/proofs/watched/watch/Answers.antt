@@ -1,10 +1,10 @@
 use Rattle.std.proofs.Common.{◌∙◌, arith, refl, subst}
 use Rattle.counted_io.specs.Counted.{known_by}
 use Rattle.inorder.specs.Runs.{end_state}
-use Rattle.charts.specs.Rows.{kept}
-use Rattle.charts.specs.Watched.{IsTold, guides, sizes_by}
-use Rattle.charts.proofs.WholeRuns.{all_told, appends_none, first_part, last_part, on_err, goes_start}
-use Rattle.charts.proofs.watched.watch.Goals as goal
+use Rattle.chart.specs.Rows.{kept}
+use Rattle.chart.specs.Watched.{IsTold, guides, sizes_by}
+use Rattle.chart.proofs.WholeRuns.{all_told, appends_none, first_part, last_part, on_err, goes_start}
+use Rattle.chart.proofs.watched.watch.Goals as goal
 
 pub returns-in_err-bench-clause-begun : goal.returns-in_err-bench-clause-begun
 returns-in_err-bench-clause-begun g c =

@@ -1,10 +1,10 @@
 use Rattle.std.proofs.Common.{◌<◌, ◌≤◌, ◌∙◌, ap, arith}
 use Rattle.one_thread.proofs.OrderedTurns.{moves_in}
 use Rattle.one_thread.proofs.Ends.{left_falls}
-use Rattle.charts.specs.Rows.{kept}
-use Rattle.charts.proofs.Turns.{goes_next, goes_on, is_over, stood_part, through_limit, through_next}
-use Rattle.charts.proofs.WholeRuns.{on_err}
-use Rattle.charts.proofs.watching.tell_turns.Goals as goal
+use Rattle.chart.specs.Rows.{kept}
+use Rattle.chart.proofs.Turns.{goes_next, goes_on, is_over, stood_part, through_limit, through_next}
+use Rattle.chart.proofs.WholeRuns.{on_err}
+use Rattle.chart.proofs.watching.tell_turns.Goals as goal
 
 pub returns-in_err-tell_turn-clause-begun : goal.returns-in_err-tell_turn-clause-begun
 returns-in_err-tell_turn-clause-begun g c =

@@ -4,9 +4,9 @@ use Rattle.instructions.specs.Programs.{Program}
 use Rattle.inorder.specs.Unit.{Sizes}
 use Rattle.one_thread.specs.Changes.{run_from}
 use Rattle.one_thread.proofs.Ends.{left}
-use Rattle.charts.specs.Rows.{kept}
-use Rattle.charts.specs.Watched.{GoesOn, Guides}
-use Rattle.charts.proofs.watching.tell_turns.Given as goal
+use Rattle.chart.specs.Rows.{kept}
+use Rattle.chart.specs.Watched.{GoesOn, Guides}
+use Rattle.chart.proofs.watching.tell_turns.Given as goal
 
 -- each turn was told and was due, no call failed, and the run ends as it would have
 abbrev pub invariant-turns : goal.invariant-turns

@@ -1,5 +1,5 @@
 use Rattle.std.proofs.Common.{◌≡◌, take}
-use Rattle.charts.proofs.watching.window_of.Given as goal
+use Rattle.chart.proofs.watching.window_of.Given as goal
 
 -- so many of the oldest
 abbrev pub invariant-loop-age : goal.invariant-loop-age

@@ -1,6 +1,6 @@
 use Rattle.std.proofs.Common.{◌≡◌, ◌+◌, ◌-◌, ◌++◌}
 use Rattle.std.specs.Prelude.{replicate, string_bytes}
-use Rattle.commit_log.proofs.change.push_gap.Given as goal
+use Rattle.commits.proofs.change.push_gap.Given as goal
 
 -- what is left of the gap
 abbrev pub invariant-blanks : goal.invariant-blanks

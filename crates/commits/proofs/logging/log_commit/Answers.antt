@@ -1,9 +1,9 @@
 use Rattle.std.proofs.Common.{◌≡◌, subst}
 use Rattle.std.specs.Prelude.{IfOk, string_bytes}
 use Rattle.counted_io.specs.Counted.{Gives}
-use Rattle.commit_log.specs.Lines.{commit_line}
-use Rattle.commit_log.proofs.LogKept.{says_line}
-use Rattle.commit_log.proofs.logging.log_commit.Goals as goal
+use Rattle.commits.specs.Lines.{commit_line}
+use Rattle.commits.proofs.LogKept.{says_line}
+use Rattle.commits.proofs.logging.log_commit.Goals as goal
 
 pub returns-clause-says : goal.returns-clause-says
 returns-clause-says g c =

@@ -1,7 +1,7 @@
 use Rattle.std.proofs.Common.{◌∙◌}
-use Rattle.commit_log.specs.Retirements.{log_ahead}
-use Rattle.commit_log.proofs.LogKept.{begun_line, begun_more, log_next, on_err, logged_more}
-use Rattle.commit_log.proofs.logging.log_each_commit.Goals as goal
+use Rattle.commits.specs.Retirements.{log_ahead}
+use Rattle.commits.proofs.LogKept.{begun_line, begun_more, log_next, on_err, logged_more}
+use Rattle.commits.proofs.logging.log_each_commit.Goals as goal
 
 pub commits-preserved : goal.commits-preserved
 commits-preserved g c =

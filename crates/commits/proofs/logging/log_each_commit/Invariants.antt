@@ -1,8 +1,8 @@
 use Rattle.std.proofs.Common.{◌≡◌, ◌-◌}
 use Rattle.counted_io.specs.Counted.{failures_of, known_by}
 use Rattle.one_thread.specs.Changes.{registers_of, run_from}
-use Rattle.commit_log.specs.Retirements.{HasLogged, log_ahead}
-use Rattle.commit_log.proofs.logging.log_each_commit.Given as goal
+use Rattle.commits.specs.Retirements.{HasLogged, log_ahead}
+use Rattle.commits.proofs.logging.log_each_commit.Given as goal
 
 -- each commit was logged, no call failed, and the run ends as it would have
 abbrev pub invariant-commits : goal.invariant-commits

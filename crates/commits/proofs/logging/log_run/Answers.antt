@@ -1,7 +1,7 @@
 use Rattle.std.proofs.Common.{rules}
-use Rattle.commit_log.specs.Logs.{last_line, log}
-use Rattle.commit_log.proofs.LogKept.{all_logged, begun_more, on_err, run_logged}
-use Rattle.commit_log.proofs.logging.log_run.Goals as goal
+use Rattle.commits.specs.Logs.{last_line, log}
+use Rattle.commits.proofs.LogKept.{all_logged, begun_more, on_err, run_logged}
+use Rattle.commits.proofs.logging.log_run.Goals as goal
 
 pub returns-in_err-log_stop-clause-begun : goal.returns-in_err-log_stop-clause-begun
 returns-in_err-log_stop-clause-begun g c =

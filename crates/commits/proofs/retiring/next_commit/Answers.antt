@@ -3,10 +3,10 @@ use Rattle.std.specs.Prelude.{IfSome, IsNone}
 use Rattle.one_thread.specs.declared.bench.Turn.TheVariants.{Halved}
 use Rattle.one_thread.proofs.OrderedTurns.{moves_in}
 use Rattle.one_thread.proofs.Ends.{left_falls}
-use Rattle.commit_log.specs.Retirements.{HasCommittedNext, registers_after}
-use Rattle.commit_log.proofs.LogKept.{at_stop}
-use Rattle.commit_log.proofs.Retirement.{commits_one, halved, if_some}
-use Rattle.commit_log.proofs.retiring.next_commit.Goals as goal
+use Rattle.commits.specs.Retirements.{HasCommittedNext, registers_after}
+use Rattle.commits.proofs.LogKept.{at_stop}
+use Rattle.commits.proofs.Retirement.{commits_one, halved, if_some}
+use Rattle.commits.proofs.retiring.next_commit.Goals as goal
 
 pub returns-in-Over-clause-none : goal.returns-in-Over-clause-none
 returns-in-Over-clause-none g c = λ n.

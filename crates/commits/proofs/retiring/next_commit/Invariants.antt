@@ -1,7 +1,7 @@
 use Rattle.std.proofs.Common.{◌≡◌}
 use Rattle.one_thread.specs.Changes.{registers_of}
 use Rattle.one_thread.proofs.Ends.{left}
-use Rattle.commit_log.proofs.retiring.next_commit.Given as goal
+use Rattle.commits.proofs.retiring.next_commit.Given as goal
 
 -- nothing was committed yet, and the registers are kept
 abbrev pub invariant-turns : goal.invariant-turns

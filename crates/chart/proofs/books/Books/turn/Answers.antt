@@ -1,10 +1,10 @@
 use Rattle.std.proofs.Common.{◌≡◌, ◌∙◌, ◌++◌, ap, length}
 use Rattle.std.specs.Prelude.{slice_get}
-use Rattle.charts.specs.Rows.{SoFar, all_seen, kept, let_row, newcomer, retires}
-use Rattle.charts.specs.Events.{entry_events, moved_events}
+use Rattle.chart.specs.Rows.{SoFar, all_seen, kept, let_row, newcomer, retires}
+use Rattle.chart.specs.Events.{entry_events, moved_events}
 use Rattle.counted_io.specs.Counted.{counted}
-use Rattle.charts.proofs.BooksKept.{turn_events, turn_kept}
-use Rattle.charts.proofs.books.Books.turn.Goals as goal
+use Rattle.chart.proofs.BooksKept.{turn_events, turn_kept}
+use Rattle.chart.proofs.books.Books.turn.Goals as goal
 
 pub returns-clause-events : goal.returns-clause-events
 returns-clause-events c =
