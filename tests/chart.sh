@@ -34,7 +34,7 @@ done
 echo "$count charts, and the logs beside them, are as they were counted by hand"
 
 # Draws each tenant of a log, and compares the lines with those of the chart. The log and its pictures are described in
-# crates/charts/specs.
+# crates/chart/specs.
 cat > "$work/draw.py" << 'DRAW'
 import sys
 turn, rows, left, order = 0, {}, {}, []

@@ -13,10 +13,10 @@ ROOT = os.path.dirname(os.path.dirname(os.path.realpath(__file__)))
 LAYERS = [
     ("The language, and bytes in and out", "lexical instructions isa encoding elf disassembly counted_io"),
     ("The machine, and the unit as definitions", "lsq inorder lockstep ruu_step elf_runs"),
-    ("The unit by one thread", "one_thread in_order_issue bench charts"),
+    ("The unit by one thread", "one_thread in_order_issue bench"),
     ("The unit that threads share", "ruu_words station snapshots front back client session"),
     ("Threads", "hints counts workers pool"),
-    ("What a command line asks for", "command_line commit_log command"),
+    ("What a command line asks for", "command_line command"),
     ("Programs", "alone ruu checker chart commits drive listing"),
     ("What is run to see that all is well", "examples tests_of_calls tests_of_runs speed"),
 ]
@@ -24,9 +24,9 @@ LAYERS = [
 PICTURE = """\
  alone    chart    commits          ruu      drive              listing
    |        |         |              |          |                  |
- bench   charts   commit_log      command       |             disassembly
-   |        |         |              |          |                  |
-   +--------+---------+            pool      session              elf
+   +--------+---------+           command       |             disassembly
+            |                        |          |                  |
+          bench                    pool      session              elf
             |                        |          |
        one_thread                    +----+-----+
             |                             |

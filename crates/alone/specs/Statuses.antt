@@ -1,6 +1,6 @@
 -- The exit statuses of the program.
 use Rattle.std.specs.Prelude.{ℕ, Result, Ok, Err}
-use Rattle.bench.specs.declared.outcome.Fault.{Fault}
+use Rattle.counted_io.specs.declared.fault.Fault.{Fault}
 use Rattle.bench.specs.Answer.{status_number}
 use Rattle.bench.specs.declared.outcome.Status.{Status}
 

@@ -55,3 +55,7 @@ status_of limit bytes = status_for limit (listing bytes)
 pub record IsAnswerAlone (limit : ℕ) (status : Status) (bytes text : List ℕ) : Type 0 where
   pub status_is : status ≡ status_of limit bytes
   pub text_is : text ≡ text_of limit bytes
+
+-- the text for the bytes of a listing, with some status
+abbrev pub HasAnAnswer : (limit : ℕ) → (bytes text : List ℕ) → Type 0
+HasAnAnswer limit bytes text = (status : Status) × IsAnswerAlone limit status bytes text

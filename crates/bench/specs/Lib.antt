@@ -1,3 +1,3 @@
 pub mod Answer
 pub mod Enough
-pub mod Faults
+pub mod Parsed

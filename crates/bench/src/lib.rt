@@ -2,10 +2,13 @@
 #![tactic(auto)]
 
 mod bytes;
+mod listing;
 mod outcome;
-mod run;
+mod running;
 
-pub use bytes::{MOST_TAKEN, alone, alone_in};
-pub use counted_io::Counted;
+pub use bytes::alone;
+pub use counted_io::{Counted, Fault};
+pub use listing::{MOST_TAKEN, read_listing};
 pub use one_thread::{Bench, Turn};
-pub use outcome::{Fault, Status};
+pub use outcome::Status;
+pub use running::run;

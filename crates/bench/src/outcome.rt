@@ -1,11 +1,8 @@
-//! What a listing comes to, and why none was run.
+//! What a listing comes to.
 ghost use Rattle.std.specs.Prelude.{◌≡◌};
 ghost use Rattle.bench.specs.Answer.{ending_status, status_number};
-ghost use Rattle.bench.specs.Faults.{unanswered};
 
-use counted_io::Unanswered;
-use instructions::{Ending, Memory, Stop};
-use thiserror::Error;
+use instructions::{Ending, Stop};
 
 /// What a listing came to, once all was written.
 #[derive(Clone, Copy, Debug, PartialEq, Eq)]
@@ -41,32 +38,6 @@ impl Status {
             Status::Stopped => 1,
             Status::TextFault => 2,
             Status::Limit => 4,
-        }
-    }
-}
-
-/// Why there is no answer, or only a beginning of it.
-#[derive(Clone, Copy, Debug, PartialEq, Eq, Error)]
-pub enum Fault {
-    /// The reader failed. Nothing was written.
-    #[error("the input could not be read")]
-    Read,
-    /// Memory was refused. Nothing was written.
-    #[error("out of memory")]
-    Memory,
-    /// The writer failed, or took no byte. What went out is a beginning of the text.
-    #[error("the output could not be written")]
-    Write,
-}
-
-impl From<Unanswered<Memory>> for Fault {
-    ghost from_gives = { λ e fault. unanswered fault ≡ e };
-
-    fn from(why: Unanswered<Memory>) -> Fault {
-        match why {
-            Unanswered::Read => Fault::Read,
-            Unanswered::Refused(Memory) => Fault::Memory,
-            Unanswered::Write => Fault::Write,
         }
     }
 }

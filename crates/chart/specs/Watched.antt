@@ -1,130 +1,182 @@
--- Report, chart and log of a run: written whole, or broken off.
-use Rattle.std.specs.Prelude.{◌≡◌, ◌<◌, ℕ, Bool, true, false, is_some, List, Option, Result, Ok, Err, length, take}
+-- A run that is told turn by turn.
+use Rattle.std.specs.Prelude.{⊤, ◌≡◌, ◌≤◌, ◌<◌, length, ℕ, List, [], ◌∷◌, ◌++◌, take, Option}
 use Rattle.std.specs.Io.KnownBytes.{Appends}
-use Rattle.isa.specs.declared.listing.fault.FaultKind.{FaultKind}
+use Rattle.counted_io.specs.Counted.{Gives, raised}
+use Rattle.counted_io.specs.declared.counted.Counted.{Counted}
 use Rattle.instructions.specs.Programs.{Program}
-use Rattle.inorder.specs.Runs.{end_of}
-use Rattle.bench.specs.Answer.{status_for, text_for}
-use Rattle.charts.specs.declared.telling.Format.{Format}
-use Rattle.charts.specs.declared.telling.Format.TheVariants.{Chart, Kanata}
-use Rattle.charts.specs.declared.watched.Fault.{Fault}
-use Rattle.charts.specs.declared.watched.Fault.TheVariants as fault
-use Rattle.charts.specs.Watched.{IsTold, IsBegun as IsPartOf, guides, sizes_by}
-use Rattle.command_line.specs.Predictors.{IsChosen, LearnsAs, PredictsAs}
-use Rattle.command_line.specs.declared.chosen.Chosen.{Chosen}
-use Rattle.command_line.specs.declared.request.Charted.{Charted}
-use Rattle.one_thread.specs.Seeds.{ChoosesNext, order_by}
-use Rattle.command_line.specs.declared.exit.Refusal.{Refusal}
-use Rattle.command_line.specs.declared.exit.Refusal.TheVariants.{Memory, Trace, Write}
-use Rattle.bench.specs.Answer.{status_number}
+use Rattle.instructions.specs.Settings.{Settings}
+use Rattle.instructions.specs.declared.end.Ending.{Ending}
+use Rattle.instructions.specs.declared.end.Ending.TheVariants.{Stop as ByStop, Limit as ByLimit}
+use Rattle.instructions.specs.declared.instr.Instr.{Instr}
+use Rattle.instructions.specs.declared.stop.Stop.{Stop}
+use Rattle.inorder.specs.Committed.{committed}
+use Rattle.inorder.specs.Machine.{State}
+use Rattle.inorder.specs.Unit.{Sizes, UpdateUnit, empty_unit}
+use Rattle.one_thread.specs.declared.bench.Turn.{Turn}
+use Rattle.one_thread.specs.declared.bench.Turn.TheVariants.{Over}
+use Rattle.one_thread.specs.Changes.{run_from}
+use Rattle.one_thread.specs.StandsFor.{StandsFor, sizes}
+use Rattle.one_thread.specs.declared.order.Order.{Order}
+use Rattle.one_thread.specs.Ordered.{AsksFor}
+use Rattle.one_thread.specs.Turns.{BenchFields, Does, Trains}
+use Rattle.one_thread.specs.Window.{window}
+use Rattle.inorder.specs.Moves.{IsReached}
+use Rattle.chart.specs.declared.telling.Format.{Format}
+use Rattle.chart.specs.declared.event.Event.{Event}
+use Rattle.chart.specs.Events.{events}
+use Rattle.chart.specs.Rows.{SoFar, next_kept, start_kept}
+use Rattle.chart.specs.Telling.{first_text, last_text, turn_text}
 
--- What is known of the bytes of the writer and of the log
-pub record Outputs : Type 0 where
-  pub text : Option (List ℕ)
-  pub log : Option (List ℕ)
+-- A turn that was made: its answer, and the unit behind it
+pub record Passed : Type 0 where
+  pub answer : Turn
+  pub unit : UpdateUnit
 
--- The writer's bytes and the log's
-abbrev pub outputs : (text log : Option (List ℕ)) → Outputs
-outputs text log = record { text = text; log = log }
+-- The unit behind these turns, the last one first
+abbrev pub unit_behind : List Passed → UpdateUnit
+unit_behind [] = empty_unit
+unit_behind (t ∷ ts) = t.unit
 
--- The run that is asked for was told whole: each of its turns, by the guesses of its predictor and in the order of its
--- seed, up to its end
-pub record HasToldWhole (f : Format) (asked : Charted) (P : Program) (before after : Option (List ℕ)) : Type 0 where
-  pub first : Chosen
-  pub chosen : IsChosen asked.predictor first
-  pub told :
-      IsTold PredictsAs LearnsAs ChoosesNext f P (sizes_by asked.config) asked.config.limit (guides first (order_by asked.seed))
-      (end_of P asked.config.limit) before after
+-- Each is a turn from the unit that the turns before it have left: legal steps
+abbrev pub AreTurns : Program → Sizes → List Passed → Type 0
+AreTurns P C [] = ⊤
+AreTurns P C (t ∷ ts) = AreTurns P C ts × Does P C (unit_behind ts) t.unit t.answer
 
--- A beginning was told of the run that is asked for
-pub record HasBegun (f : Format) (asked : Charted) (P : Program) (before after : Option (List ℕ)) : Type 0 where
-  pub first : Chosen
-  pub chosen : IsChosen asked.predictor first
-  pub begun : IsPartOf PredictsAs LearnsAs ChoosesNext f P (sizes_by asked.config) (guides first (order_by asked.seed)) before after
+-- The count of instructions behind these turns
+abbrev pub count_behind : Program → List Passed → ℕ
+count_behind P ts = (committed P (unit_behind ts).tenants).count
 
--- The run was logged where a log is wanted, and nothing was written where none is
-abbrev pub IsLogged : (is_wanted : Bool) → Charted → Program → (before after : Option (List ℕ)) → Type 0
-IsLogged true asked P before after = HasToldWhole Kanata asked P before after
-IsLogged false asked P before after = after ≡ before
+-- The last of these turns says that the unit has ended with this code
+abbrev pub HasEnded : List Passed → Stop → Type 0
+HasEnded [] code = ⊥
+HasEnded (t ∷ ts) code = t.answer ≡ Over code
 
--- The text without pictures was written: the report, or the line of a fault
-abbrev pub IsReported : Charted → Result Program (ℕ × FaultKind) → (before after : Option (List ℕ)) → Type 0
-IsReported asked found before after = Appends before after (text_for asked.config.limit found)
+-- A further turn is due: the unit has not ended, and the count is below the limit
+pub record IsDue (P : Program) (limit : ℕ) (ts : List Passed) : Type 0 where
+  pub going : (code : Stop) → HasEnded ts code → ⊥
+  pub below : count_behind P ts < limit
 
--- The report, the chart behind it, and the log
-pub record HasPictures (asked : Charted) (P : Program) (before after : Outputs) : Type 0 where
-  pub reported : Option (List ℕ)
-  pub report : IsReported asked (Ok P) before.text reported
-  pub chart : HasToldWhole Chart asked P reported after.text
-  pub log : IsLogged (is_some asked.log) asked P before.log after.log
+-- Each of these turns was due behind those before it
+abbrev pub AreDue : Program → (limit : ℕ) → List Passed → Type 0
+AreDue P limit [] = ⊤
+AreDue P limit (t ∷ ts) = AreDue P limit ts × IsDue P limit ts
 
--- What is written for a listing: with its pictures, or the line of its fault
-abbrev pub IsTextOf : Charted → Result Program (ℕ × FaultKind) → (before after : Outputs) → Type 0
-IsTextOf asked (Ok P) before after = HasPictures asked P before after
-IsTextOf asked (Err f) before after = IsReported asked (Err f) before.text after.text × (after.log ≡ before.log)
+-- Behind these turns none is due: the unit has ended so, or its count is the limit
+abbrev pub IsOver : Program → (limit : ℕ) → List Passed → Ending → Type 0
+IsOver P limit ts (ByStop code) = HasEnded ts code
+IsOver P limit ts ByLimit = count_behind P ts ≡ limit
 
--- All was written for a listing, and the status is that of its run
-abbrev pub IsWatched : Charted → Result Program (ℕ × FaultKind) → (status : ℕ) → (before after : Outputs) → Type 0
-IsWatched asked found status before after =
-    (status ≡ status_number (status_for asked.config.limit found)) × IsTextOf asked found before after
+-- The rows and counts behind these turns
+abbrev pub kept_behind : Program → List Passed → SoFar
+kept_behind P [] = start_kept
+kept_behind P (t ∷ ts) = next_kept (kept_behind P ts) t.answer (window P t.unit.tenants)
 
--- What is refused where a chart was not told to its end
-abbrev pub chart_refusal : Fault → Refusal
-chart_refusal fault.Memory = Memory
-chart_refusal fault.Write = Write
+-- The events of a turn behind others
+abbrev pub events_at : Program → List Passed → Passed → List Event
+events_at P ts t = events (kept_behind P ts) t.answer (window P t.unit.tenants)
 
--- What is refused where a log was not told to its end
-abbrev pub log_refusal : Fault → Refusal
-log_refusal fault.Memory = Memory
-log_refusal fault.Write = Trace
+-- The text of these turns
+abbrev pub told : Format → Program → List Passed → List ℕ
+told f P [] = first_text f
+told f P (t ∷ ts) = told f P ts ++ turn_text f (raised (kept_behind P ts).turns) (events_at P ts t)
 
--- The report, and a beginning of the chart
-pub record HasChartBegun (asked : Charted) (P : Program) (before after : Outputs) : Type 0 where
-  pub reported : Option (List ℕ)
-  pub report : IsReported asked (Ok P) before.text reported
-  pub chart : HasBegun Chart asked P reported after.text
-  pub log : after.log ≡ before.log
+-- The text of a whole run
+abbrev pub text : Format → Program → List Passed → List ℕ
+text f P ts = told f P ts ++ last_text f (kept_behind P ts)
 
--- The report, the chart, and a beginning of the log
-pub record HasLogBegun (asked : Charted) (P : Program) (before after : Outputs) : Type 0 where
-  pub reported : Option (List ℕ)
-  pub report : IsReported asked (Ok P) before.text reported
-  pub chart : HasToldWhole Chart asked P reported after.text
-  pub log : HasBegun Kanata asked P before.log after.log
+-- The sizes that a configuration gives a unit
+abbrev pub sizes_by : Settings → Sizes
+sizes_by c = record { ring = c.ring; queue = c.queue; first_tag = c.first_tag }
 
--- What was written of a text: a proper beginning where the writer failed, and else nothing
-abbrev pub IsCutText : Refusal → (text : List ℕ) → (before after : Option (List ℕ)) → Type 0
-IsCutText Write text before after = (n : ℕ) × (n < length text) × Appends before after (take n text)
-IsCutText _ text before after = after ≡ before
+-- Guesses of a predictor, by what it says of being asked and told
+module _ {S : Type 0} (Predicts : S → ℕ → Instr → ℕ → S → Type 0) (Learns : S → ℕ → ℕ → S → Type 0) where
+  -- The predictor was this one before these turns, and is that one behind them: at each let it was told of who
+  -- has left, and then asked
+  abbrev pub HasGuessed : Program → (first : S) → List Passed → (last : S) → Type 0
+  HasGuessed P first [] last = last ≡ first
+  HasGuessed P first (t ∷ ts) last =
+      (before : S) × HasGuessed P first ts before
+      × Trains Predicts Learns P (unit_behind ts) t.unit t.answer before last
 
--- What was written of the text without pictures
-pub record HasReportBegun (asked : Charted) (found : Result Program (ℕ × FaultKind)) (refusal : Refusal)
-    (before after : Outputs) : Type 0 where
-  pub report : IsCutText refusal (text_for asked.config.limit found) before.text after.text
-  pub log : after.log ≡ before.log
+-- The order of turns, by what a chooser says of being asked
+module _ {Q : Type 0} (Chooses : Q → ℕ → ℕ → Q → Type 0) where
+  -- The order was this one before these turns, and is that one behind them: each turn does what it asks for
+  abbrev pub AreOrdered : (P : Program) (C : Sizes) (first : Order Q) (ts : List Passed) → AreTurns P C ts →
+      (last : Order Q) → Type 0
+  AreOrdered P C first [] are last = last ≡ first
+  AreOrdered P C first (t ∷ ts) are last =
+      (before : Order Q) × AreOrdered P C first ts are.0 before
+      × AsksFor Chooses P C (unit_behind ts) t.unit t.answer are.1 before last
 
--- Some fault of a picture has this refusal
-pub record IsRefusalOfFault (refusal_for : Fault → Refusal) (refusal : Refusal) : Type 0 where
-  pub fault : Fault
-  pub is : refusal ≡ refusal_for fault
+-- A predictor and an order of turns
+pub record Guides (S Q : Type 0) : Type 0 where
+  pub predictor : S
+  pub order : Order Q
 
--- Where a run with pictures was broken off
-pub data IsBrokenOff (asked : Charted) (P : Program) (refusal : Refusal) (before after : Outputs) : Type 0 where
-  InReport : HasReportBegun asked (Ok P) refusal before after → IsBrokenOff asked P refusal before after
-  InChart : IsRefusalOfFault chart_refusal refusal → HasChartBegun asked P before after → IsBrokenOff asked P refusal before after
-  InLog : IsRefusalOfFault log_refusal refusal → HasLogBegun asked P before after → IsBrokenOff asked P refusal before after
+-- A predictor and an order by their parts
+abbrev pub guides : {S Q : Type 0} → S → Order Q → Guides S Q
+guides predictor order = record { predictor = predictor; order = order }
 
--- What was written for a listing where that was broken off
-abbrev pub IsBegun : Charted → Result Program (ℕ × FaultKind) → Refusal → (before after : Outputs) → Type 0
-IsBegun asked (Ok P) refusal before after = IsBrokenOff asked P refusal before after
-IsBegun asked (Err f) refusal before after = HasReportBegun asked (Err f) refusal before after
+-- Runs that are told, by what their predictor and their chooser say of being asked
+module _ {S Q : Type 0} (Predicts : S → ℕ → Instr → ℕ → S → Type 0) (Learns : S → ℕ → ℕ → S → Type 0)
+    (Chooses : Q → ℕ → ℕ → Q → Type 0) where
+  -- The bench stands for the unit behind some turns, and these were told
+  pub record Stood (f : Format) (P : Program) (C : Sizes) (limit : ℕ) (b : BenchFields S) (order : Order Q)
+      (k : SoFar) (first : Guides S Q) (start now : Option (List ℕ)) : Type 0 where
+    pub program : b.pipeline.program.now ≡ P
+    pub sizes : sizes b.pipeline ≡ C
+    pub turns : List Passed
+    pub are : AreTurns P C turns
+    pub due : AreDue P limit turns
+    pub guessed : HasGuessed Predicts Learns P first.predictor turns b.predictor
+    pub ordered : AreOrdered Chooses P C first.order turns are order
+    pub reached : IsReached P C (unit_behind turns)
+    pub stands : StandsFor b.pipeline (unit_behind turns)
+    pub kept : k ≡ kept_behind P turns
+    pub says : Appends start now (told f P turns)
 
--- How many calls of the writer have failed where a run was refused
-abbrev pub writer_failures : Refusal → ℕ
-writer_failures Write = 1
-writer_failures _ = 0
+  -- The bench stood so, its unit has not ended, and its count is no more than the limit
+  pub record GoesOn (f : Format) (P : Program) (C : Sizes) (limit : ℕ) (b : BenchFields S) (order : Order Q)
+      (k : SoFar) (first : Guides S Q) (start now : Option (List ℕ)) : Type 0 where
+    pub stood : Stood f P C limit b order k first start now
+    pub going : (code : Stop) → HasEnded stood.turns code → ⊥
+    pub within : b.pipeline.committed.count ≤ limit
 
--- How many calls of the log have failed where a run was refused
-abbrev pub log_failures : Refusal → ℕ
-log_failures Trace = 1
-log_failures _ = 0
+  -- The bench stood so, and all turns of its run were told
+  pub record IsThrough (f : Format) (P : Program) (C : Sizes) (limit : ℕ) (b : BenchFields S) (order : Order Q)
+      (k : SoFar) (first : Guides S Q) (start now : Option (List ℕ)) : Type 0 where
+    pub stood : Stood f P C limit b order k first start now
+    pub over : IsOver P limit stood.turns (run_from b.pipeline limit).0
+
+  -- A run up to a limit was told from its first turn to its last one: legal turns by the guesses of this
+  -- predictor and in this order, each of which was due, until none was. The last of them leaves the state in which
+  -- the run ends
+  pub record IsTold (f : Format) (P : Program) (C : Sizes) (limit : ℕ) (first : Guides S Q) (end : Ending × State)
+      (before after : Option (List ℕ)) : Type 0 where
+    pub turns : List Passed
+    pub are : AreTurns P C turns
+    pub due : AreDue P limit turns
+    pub over : IsOver P limit turns end.0
+    pub last : Guides S Q
+    pub guessed : HasGuessed Predicts Learns P first.predictor turns last.predictor
+    pub ordered : AreOrdered Chooses P C first.order turns are last.order
+    pub ends : committed P (unit_behind turns).tenants ≡ end.1
+    pub says : Appends before after (text f P turns)
+
+  -- A beginning was told of legal turns by the guesses of this predictor and in this order
+  pub record IsBegun (f : Format) (P : Program) (C : Sizes) (first : Guides S Q) (before after : Option (List ℕ))
+      : Type 0 where
+    pub turns : List Passed
+    pub are : AreTurns P C turns
+    pub last : Guides S Q
+    pub guessed : HasGuessed Predicts Learns P first.predictor turns last.predictor
+    pub ordered : AreOrdered Chooses P C first.order turns are last.order
+    pub n : ℕ
+    pub says : Appends before after (take n (text f P turns))
+
+-- A beginning of a text was written, or all of it
+pub record GivesUpTo {W : Type 0} (contents : W → Option (List ℕ)) (old new : Counted W)
+    (bytes : List ℕ) : Type 0 where
+  pub n : ℕ
+  pub inside : n ≤ length bytes
+  pub gives : Gives contents old new (take n bytes)

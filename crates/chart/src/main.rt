@@ -1,10 +1,22 @@
 //! The program `chart`, which is `./ruu chart FILE`: its words, its files and its standard streams.
 #![tactic(auto)]
 
+mod answering;
+mod books;
 mod drawing;
+mod event;
+mod kanata;
+mod laws;
+mod leaving;
 mod log_file;
+mod pictures;
+mod row;
+mod telling;
+mod waits;
+mod watched;
 mod watching;
 
+use answering::chart;
 use command_line::{Charted, REFUSED, charted, end, is_standard_input, refuse, words};
 use counted_io::{ClosedStreams, Counted};
 use log_file::{NoLog, open_log};
@@ -12,7 +24,6 @@ use std::fs::{File, Metadata};
 use std::io::Read;
 use std::path::Path;
 use std::process::ExitCode;
-use watching::chart;
 
 // The link behind which the system keeps standard input.
 const STANDARD_INPUT: &str = "/dev/stdin";
@@ -32,11 +43,11 @@ fn main(rt: HostRuntime) -> ExitCode {
 }
 
 fn start(rt: &HostRuntime, asked: &Charted<'_>) -> ExitCode {
-    if is_standard_input(asked.file) {
+    if is_standard_input(asked.run.file) {
         let metadata = Path::new(STANDARD_INPUT).metadata(rt);
         return chart_from(rt, asked, Some(rt.stdin()), metadata.ok());
     }
-    let listing = File::open(rt, asked.file).ok();
+    let listing = File::open(rt, asked.run.file).ok();
     let metadata = match &listing {
         Some(file) => file.metadata().ok(),
         None => None,

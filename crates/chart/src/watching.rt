@@ -1,189 +1,238 @@
-//! The report of a run of the one-thread unit, its chart behind it, and its log.
-ghost use Rattle.std.specs.Prelude.{◌≡◌, ◌≢◌, ◌+◌, ◌-◌, ◌^◌, ◌<◌, IfSome, IfOk, IfErr, Ok, OnOk, None};
-ghost use Rattle.isa.specs.Listing.{listing};
-ghost use Rattle.counted_io.specs.Counted.{failures_of, known_by};
-ghost use Rattle.inorder.specs.Runs.{end_of, end_state};
-ghost use Rattle.chart.specs.Watched.{IsBegun, IsWatched, log_failures, outputs, writer_failures};
-ghost use Rattle.bench.specs.Answer.{status_number};
-ghost use Rattle.command_line.specs.Exits.{HoldsOfInput, IsOfOneThread, refused};
-ghost use Rattle.command_line.specs.declared.exit.Line.TheVariants.{Nothing, Refused};
+//! The turns of a run, each told as it was made.
+ghost use Rattle.std.specs.Prelude.{◌≡◌, ◌≢◌, ◌<◌, ◌+◌, ◌-◌, ◌^◌, ◌++◌, ℕ, List, Option};
+ghost use Rattle.std.specs.Prelude.{IfErr, IfOk, IsOk, OnErr, OnOk, string_bytes};
+ghost use Rattle.counted_io.specs.Counted.{failures_of, known_by, Gives};
+ghost use Rattle.instructions.specs.Programs.{Program};
+ghost use Rattle.inorder.specs.Unit.{Sizes};
+ghost use Rattle.one_thread.specs.Changes.{run_from};
+ghost use Rattle.chart.specs.Events.{events};
+ghost use Rattle.chart.specs.Rows.{kept, listed, next_kept};
+ghost use Rattle.counted_io.specs.Counted.{raised as raised_of};
+ghost use Rattle.chart.specs.Telling.{first_text, last_text, turn_text};
+ghost use Rattle.chart.specs.Watched.{GivesUpTo, GoesOn, Guides, IsBegun, IsThrough};
 
-use crate::drawing::{draw, trace};
-use bench::{MOST_TAKEN, Status};
-use command_line::{Charted, Exit, Line, Refusal, choose, refused};
-use counted_io::{Counted, read_up_to, write_whole};
-use instructions::{End, Memory, Program};
-use isa::{FaultKind, fault_text, parse, report_text};
-use one_thread::{Bench, Order};
-use std::alloc::Global;
-use std::io::{Read, Write};
+use crate::books::{Books, raised};
+use crate::drawing::push_live;
+use crate::telling::{Format, push_events, push_first, push_turn};
+use counted_io::{Counted, Fault, write_whole};
+use instructions::Predictor;
+use one_thread::{Bench, Chooser, Order, Station, Turn};
+use std::alloc::{AllocError, Global};
+use std::io::Write;
 
-/// Reads the listing, runs it on the one-thread unit in the order of the seed, and writes its report; behind
-/// it the chart of that run, and then its log, where one is wanted. For a listing with a fault its line is
-/// written, and nothing else. There is no reader where the file did not open. A failed read or write is not
-/// tried again.
-pub fn chart<R: Read + Drop, W: Write, L: Write>(
-    alloc: Global,
-    asked: &Charted<'_>,
-    reader: Option<Counted<R>>,
-    writer: &mut Counted<W>,
-    log: &mut Counted<L>,
-) -> Exit
-    requires reader_room { IfSome reader (λ r. failures_of r < 2 ^ 64 - 1) }
-    requires writer_room { failures_of writer.old < 2 ^ 64 - 1 }
-    requires log_room { failures_of log.old < 2 ^ 64 - 1 }
-    // Without a reader nothing is run, and only then is opening blamed.
-    ensures open { reader ≡ None → result ≡ refused Refusal.Open }
-    ensures unopened { reader ≡ None → writer.new ≡ writer.old }
-    ensures log_unopened { reader ≡ None → log.new ≡ log.old }
-    ensures opened { result.line ≡ Refused Refusal.Open → reader ≡ None }
-    // What was written whole is told of the reader's bytes.
-    ensures answer { result.line ≡ Nothing → HoldsOfInput R.remaining reader (λ input.
-        IsWatched asked.now (listing input) result.status
-        (outputs (known_by W.contents writer.old) (known_by L.contents log.old))
-        (outputs (known_by W.contents writer.new) (known_by L.contents log.new))) }
-    ensures quiet { result.line ≡ Nothing → failures_of writer.new ≡ failures_of writer.old }
-    ensures log_quiet { result.line ≡ Nothing → failures_of log.new ≡ failures_of log.old }
-    ensures line { IsOfOneThread result.line }
-    // A refusal has a status of its own.
-    ensures refused { (refusal : Refusal) → result.line ≡ Refused refusal →
-        result ≡ refused refusal }
-    // The writer, or the log, is blamed for one failed call, and only then.
-    ensures write { (refusal : Refusal) → result.line ≡ Refused refusal →
-        failures_of writer.new ≡ failures_of writer.old + writer_failures refusal }
-    ensures trace { (refusal : Refusal) → result.line ≡ Refused refusal →
-        failures_of log.new ≡ failures_of log.old + log_failures refusal }
-    // What was written before a refusal is a beginning, and each part waits for the one before it.
-    // Of the report nothing is written, or all, or a proper beginning before a failed call.
-    ensures begun { (refusal : Refusal) → result.line ≡ Refused refusal →
-        HoldsOfInput R.remaining reader (λ input. IsBegun asked.now (listing input) refusal
-        (outputs (known_by W.contents writer.old) (known_by L.contents log.old))
-        (outputs (known_by W.contents writer.new) (known_by L.contents log.new))) }
+// Adds a station, if there is one.
+fn push_station(window: &mut Vec<Station>, station: Option<Station>) -> Result<(), AllocError>
+    ensures { OnOk result (window.new.items ≡ window.old.items ++ listed station) }
 {
-    let Some(mut reader) = reader else {
-        return refused(Refusal::Open);
-    };
-    match watched(alloc, asked, &mut reader, writer, log) {
-        Ok(status) => Exit {
-            status: status.number(),
-            line: Line::Nothing,
-        },
-        Err(refusal) => refused(refusal),
+    if let Some(station) = station {
+        window.push(station)?;
     }
+    Ok(())
 }
 
-// Reads a listing and writes all that is told of its run; gives the status.
-fn watched<R: Read, W: Write, L: Write>(
+// The stations of the live tenants.
+#[tactic(auto, using(crate::proofs::Lists::take_next))]
+fn window_of<P: Predictor + Drop>(
     alloc: Global,
-    asked: &Charted<'_>,
-    reader: &mut Counted<R>,
-    writer: &mut Counted<W>,
-    log: &mut Counted<L>,
-) -> Result<Status, Refusal>
-    requires reader_room { failures_of reader.old < 2 ^ 64 - 1 }
-    requires writer_room { failures_of writer.old < 2 ^ 64 - 1 }
-    requires log_room { failures_of log.old < 2 ^ 64 - 1 }
-    ensures ok { IfOk result (λ status. IfSome (known_by R.remaining reader.old) (λ input.
-        IsWatched asked.now (listing input) (status_number status)
-        (outputs (known_by W.contents writer.old) (known_by L.contents log.old))
-        (outputs (known_by W.contents writer.new) (known_by L.contents log.new)))) }
-    ensures quiet { OnOk result (failures_of writer.new ≡ failures_of writer.old) }
-    ensures log_quiet { OnOk result (failures_of log.new ≡ failures_of log.old) }
-    ensures err { IfErr result (λ refusal. IsOfOneThread (Refused refusal)) }
-    ensures opened { IfErr result (λ refusal. refusal ≢ Refusal.Open) }
-    ensures read { IfErr result (λ refusal. refusal ≡ Refusal.Read →
-        failures_of reader.new ≡ failures_of reader.old + 1) }
-    ensures write { IfErr result (λ refusal.
-        failures_of writer.new ≡ failures_of writer.old + writer_failures refusal) }
-    ensures trace { IfErr result (λ refusal.
-        failures_of log.new ≡ failures_of log.old + log_failures refusal) }
-    ensures begun { IfErr result (λ refusal. IfSome (known_by R.remaining reader.old) (λ input.
-        IsBegun asked.now (listing input) refusal
-        (outputs (known_by W.contents writer.old) (known_by L.contents log.old))
-        (outputs (known_by W.contents writer.new) (known_by L.contents log.new)))) }
+    bench: &Bench<'_, P>,
+) -> Result<Vec<Station>, AllocError>
+    ensures { IfOk result (λ window. window.items ≡ bench.now.pipeline.window) }
 {
-    let listing = read_up_to(alloc, reader, MOST_TAKEN)?;
-    told(alloc, asked, listing.as_slice(), writer, log)
-}
-
-// Writes all that is told of the run of the listing of these bytes, or the line of its fault; gives the status.
-fn told<W: Write, L: Write>(
-    alloc: Global,
-    asked: &Charted<'_>,
-    bytes: &[u8],
-    writer: &mut Counted<W>,
-    log: &mut Counted<L>,
-) -> Result<Status, Refusal>
-    requires writer_room { failures_of writer.old < 2 ^ 64 - 1 }
-    requires log_room { failures_of log.old < 2 ^ 64 - 1 }
-    ensures ok { IfOk result (λ status.
-        IsWatched asked.now (listing bytes.now) (status_number status)
-        (outputs (known_by W.contents writer.old) (known_by L.contents log.old))
-        (outputs (known_by W.contents writer.new) (known_by L.contents log.new))) }
-    ensures quiet { OnOk result (failures_of writer.new ≡ failures_of writer.old) }
-    ensures log_quiet { OnOk result (failures_of log.new ≡ failures_of log.old) }
-    ensures err { IfErr result (λ refusal. IsOfOneThread (Refused refusal)) }
-    ensures opened { IfErr result (λ refusal. refusal ≢ Refusal.Open) }
-    ensures has_read { IfErr result (λ refusal. refusal ≢ Refusal.Read) }
-    ensures write { IfErr result (λ refusal.
-        failures_of writer.new ≡ failures_of writer.old + writer_failures refusal) }
-    ensures trace { IfErr result (λ refusal.
-        failures_of log.new ≡ failures_of log.old + log_failures refusal) }
-    ensures begun { IfErr result (λ refusal. IsBegun asked.now (listing bytes.now) refusal
-        (outputs (known_by W.contents writer.old) (known_by L.contents log.old))
-        (outputs (known_by W.contents writer.new) (known_by L.contents log.new))) }
-{
-    match parse(alloc, bytes) {
-        Ok(program) => told_of(alloc, asked, &program, writer, log),
-        Err(fault) if fault.kind == FaultKind::Memory => Err(Refusal::Memory),
-        Err(fault) => {
-            let text = fault_text(alloc, &fault)?;
-            write_whole(writer, text.as_str().as_bytes())?;
-            Ok(Status::TextFault)
-        },
+    let mut window = Vec::new(alloc);
+    for age in 0..bench.live() {
+        push_station(&mut window, bench.tenant(age))?;
     }
+    Ok(window)
 }
 
-// Writes the report of a program's run, then its chart, then its log; gives the status.
-fn told_of<W: Write, L: Write>(
+// The text of a turn that left this window.
+fn turn_text(
     alloc: Global,
-    asked: &Charted<'_>,
-    program: &Program,
-    writer: &mut Counted<W>,
-    log: &mut Counted<L>,
-) -> Result<Status, Refusal>
-    requires writer_room { failures_of writer.old < 2 ^ 64 - 1 }
-    requires log_room { failures_of log.old < 2 ^ 64 - 1 }
-    ensures ok { IfOk result (λ status.
-        IsWatched asked.now (Ok program.now) (status_number status)
-        (outputs (known_by W.contents writer.old) (known_by L.contents log.old))
-        (outputs (known_by W.contents writer.new) (known_by L.contents log.new))) }
-    ensures quiet { OnOk result (failures_of writer.new ≡ failures_of writer.old) }
-    ensures log_quiet { OnOk result (failures_of log.new ≡ failures_of log.old) }
-    ensures err { IfErr result (λ refusal. IsOfOneThread (Refused refusal)) }
-    ensures opened { IfErr result (λ refusal. refusal ≢ Refusal.Open) }
-    ensures has_read { IfErr result (λ refusal. refusal ≢ Refusal.Read) }
-    ensures write { IfErr result (λ refusal.
-        failures_of writer.new ≡ failures_of writer.old + writer_failures refusal) }
-    ensures trace { IfErr result (λ refusal.
-        failures_of log.new ≡ failures_of log.old + log_failures refusal) }
-    ensures begun { IfErr result (λ refusal. IsBegun asked.now (Ok program.now) refusal
-        (outputs (known_by W.contents writer.old) (known_by L.contents log.old))
-        (outputs (known_by W.contents writer.new) (known_by L.contents log.new))) }
+    books: &mut Books,
+    format: Format,
+    answer: Turn,
+    window: &[Station],
+) -> Result<String, AllocError>
+    ensures kept { OnOk result (kept books.new ≡ next_kept (kept books.old) answer window.now) }
+    ensures text { IfOk result (λ text. string_bytes text ≡ turn_text
+        format (raised_of (kept books.old).turns) (events (kept books.old) answer window.now)) }
 {
-    let end = ran(alloc, asked, program)?;
-    let report = report_text(alloc, &end)?;
-    write_whole(writer, report.as_str().as_bytes())?;
-    draw(alloc, asked, program, writer)?;
-    trace(alloc, asked, program, log)?;
-    Ok(Status::of(end.outcome))
+    let turn = raised(books.turns);
+    let events = books.turn(alloc, answer, window)?;
+    let mut out = String::new(alloc);
+    push_turn(&mut out, format)?;
+    push_events(alloc, &mut out, format, turn, events.as_slice())?;
+    Ok(out)
 }
 
-// Runs a program in the order of the seed.
-fn ran(alloc: Global, asked: &Charted<'_>, program: &Program) -> Result<End, Memory>
-    ensures { IfOk result (λ end. end_state end ≡ end_of program.now asked.now.config.limit) }
+// The text of a turn that a bench has made.
+fn bench_text<P: Predictor + Drop>(
+    alloc: Global,
+    bench: &Bench<'_, P>,
+    books: &mut Books,
+    format: Format,
+    answer: Turn,
+) -> Result<String, AllocError>
+    ensures kept { OnOk result
+        (kept books.new ≡ next_kept (kept books.old) answer bench.now.pipeline.window) }
+    ensures text { IfOk result (λ text. string_bytes text ≡ turn_text format
+        (raised_of (kept books.old).turns) (events (kept books.old) answer
+        bench.now.pipeline.window)) }
 {
-    let bench = Bench::new(alloc, program, &asked.config, choose(asked.predictor))?;
-    let order = Order::by_seed(asked.seed);
-    Ok(bench.run_in(u64::from(asked.config.limit()), order))
+    let window = window_of(alloc, bench)?;
+    turn_text(alloc, books, format, answer, window.as_slice())
+}
+
+// Writes a text, if there was room for it.
+fn tell<W: Write>(text: Result<String, AllocError>, writer: &mut Counted<W>) -> Result<(), Fault>
+    requires { failures_of writer.old < 2 ^ 64 - 1 }
+    ensures ok { OnOk result (IsOk text) }
+    ensures says { OnOk result (IfOk text (λ all.
+        Gives W.contents writer.old writer.new (string_bytes all))) }
+    ensures quiet { OnOk result (failures_of writer.new ≡ failures_of writer.old) }
+    ensures write { IfErr result (λ fault. fault ≡ Fault.Write →
+        failures_of writer.new ≡ failures_of writer.old + 1) }
+    ensures part { OnErr result ((bytes : List ℕ) →
+        IfOk text (λ all. string_bytes all ≡ bytes) →
+        GivesUpTo W.contents writer.old writer.new bytes) }
+    ensures quiet_memory { IfErr result (λ fault. fault ≡ Fault.Memory →
+        failures_of writer.new ≡ failures_of writer.old) }
+    ensures read { IfErr result (λ fault. fault ≢ Fault.Read) }
+{
+    let text = text?;
+    write_whole(writer, text.as_str().as_bytes())?;
+    Ok(())
+}
+
+// Writes the text of a turn.
+fn tell_turn<P: Predictor + Drop, W: Write>(
+    alloc: Global,
+    bench: &Bench<'_, P>,
+    books: &mut Books,
+    format: Format,
+    answer: Turn,
+    writer: &mut Counted<W>,
+) -> Result<(), Fault>
+    requires { failures_of writer.old < 2 ^ 64 - 1 }
+    ensures kept { OnOk result
+        (kept books.new ≡ next_kept (kept books.old) answer bench.now.pipeline.window) }
+    ensures says { OnOk result (Gives W.contents writer.old writer.new (turn_text format
+        (raised_of (kept books.old).turns) (events (kept books.old) answer
+        bench.now.pipeline.window))) }
+    ensures quiet { OnOk result (failures_of writer.new ≡ failures_of writer.old) }
+    ensures write { IfErr result (λ fault. fault ≡ Fault.Write →
+        failures_of writer.new ≡ failures_of writer.old + 1) }
+    ensures part { OnErr result (GivesUpTo W.contents writer.old writer.new (turn_text format
+        (raised_of (kept books.old).turns) (events (kept books.old) answer
+        bench.now.pipeline.window))) }
+    ensures quiet_memory { IfErr result (λ fault. fault ≡ Fault.Memory →
+        failures_of writer.new ≡ failures_of writer.old) }
+    ensures read { IfErr result (λ fault. fault ≢ Fault.Read) }
+{
+    let text = bench_text(alloc, bench, books, format, answer);
+    tell(text, writer)
+}
+
+fn first(alloc: Global, format: Format) -> Result<String, AllocError>
+    ensures { IfOk result (λ text. string_bytes text ≡ first_text format) }
+{
+    let mut out = String::new(alloc);
+    push_first(&mut out, format)?;
+    Ok(out)
+}
+
+/// Writes the text before the first turn.
+pub(crate) fn tell_first<W: Write>(
+    alloc: Global,
+    format: Format,
+    writer: &mut Counted<W>,
+) -> Result<(), Fault>
+    requires { failures_of writer.old < 2 ^ 64 - 1 }
+    ensures says { OnOk result (Gives W.contents writer.old writer.new (first_text format)) }
+    ensures quiet { OnOk result (failures_of writer.new ≡ failures_of writer.old) }
+    ensures write { IfErr result (λ fault. fault ≡ Fault.Write →
+        failures_of writer.new ≡ failures_of writer.old + 1) }
+    ensures part { OnErr result (GivesUpTo W.contents writer.old writer.new (first_text format)) }
+    ensures quiet_memory { IfErr result (λ fault. fault ≡ Fault.Memory →
+        failures_of writer.new ≡ failures_of writer.old) }
+    ensures read { IfErr result (λ fault. fault ≢ Fault.Read) }
+{
+    tell(first(alloc, format), writer)
+}
+
+fn last(alloc: Global, books: &Books, format: Format) -> Result<String, AllocError>
+    ensures { IfOk result (λ text. string_bytes text ≡ last_text format (kept books.now)) }
+{
+    let mut out = String::new(alloc);
+    if let Format::Chart = format {
+        let turn = raised(books.turns);
+        push_live(alloc, &mut out, books.rows.as_slice(), turn)?;
+    }
+    Ok(out)
+}
+
+/// Writes the text behind the last turn.
+pub(crate) fn tell_last<W: Write>(
+    alloc: Global,
+    books: &Books,
+    format: Format,
+    writer: &mut Counted<W>,
+) -> Result<(), Fault>
+    requires { failures_of writer.old < 2 ^ 64 - 1 }
+    ensures says { OnOk result
+        (Gives W.contents writer.old writer.new (last_text format (kept books.now))) }
+    ensures quiet { OnOk result (failures_of writer.new ≡ failures_of writer.old) }
+    ensures write { IfErr result (λ fault. fault ≡ Fault.Write →
+        failures_of writer.new ≡ failures_of writer.old + 1) }
+    ensures part { OnErr result
+        (GivesUpTo W.contents writer.old writer.new (last_text format (kept books.now))) }
+    ensures quiet_memory { IfErr result (λ fault. fault ≡ Fault.Memory →
+        failures_of writer.new ≡ failures_of writer.old) }
+    ensures read { IfErr result (λ fault. fault ≢ Fault.Read) }
+{
+    tell(last(alloc, books, format), writer)
+}
+
+/// Makes turns in an order until the unit has ended, or its count has reached a limit, and writes the text of each.
+pub(crate) fn tell_turns<P: Predictor + Drop, C: Chooser + Drop, W: Write>(
+    alloc: Global,
+    bench: &mut Bench<'_, P>,
+    order: &mut Order<C>,
+    books: &mut Books,
+    format: Format,
+    limit: u64,
+    writer: &mut Counted<W>,
+) -> Result<(), Fault>
+    requires { failures_of writer.old < 2 ^ 64 - 1 }
+    ensures through { OnOk result ((Q : Program) (D : Sizes) (first : Guides P C)
+        (start : Option (List ℕ)) →
+        GoesOn P.Predicts P.Learns C.Chooses format Q D limit bench.old order.old (kept books.old)
+        first start (known_by W.contents writer.old) →
+        IsThrough P.Predicts P.Learns C.Chooses format Q D limit bench.new order.new
+        (kept books.new) first start (known_by W.contents writer.new)) }
+    ensures ends { OnOk result
+        (run_from bench.new.pipeline limit ≡ run_from bench.old.pipeline limit) }
+    ensures stays { OnOk result
+        ((run_from bench.new.pipeline limit).1 ≡ bench.new.pipeline.committed) }
+    ensures quiet { OnOk result (failures_of writer.new ≡ failures_of writer.old) }
+    ensures write { IfErr result (λ fault. fault ≡ Fault.Write →
+        failures_of writer.new ≡ failures_of writer.old + 1) }
+    ensures quiet_memory { IfErr result (λ fault. fault ≡ Fault.Memory →
+        failures_of writer.new ≡ failures_of writer.old) }
+    ensures read { IfErr result (λ fault. fault ≢ Fault.Read) }
+    ensures begun { OnErr result ((Q : Program) (D : Sizes) (first : Guides P C)
+        (start : Option (List ℕ)) →
+        GoesOn P.Predicts P.Learns C.Chooses format Q D limit bench.old order.old (kept books.old)
+        first start (known_by W.contents writer.old) →
+        IsBegun P.Predicts P.Learns C.Chooses format Q D first start
+        (known_by W.contents writer.new)) }
+{
+    'turns: while bench.count() < limit {
+        let answer = bench.turn_in(order);
+        tell_turn(alloc, bench, books, format, answer, writer)?;
+        if let Turn::Over(_) = answer {
+            return Ok(());
+        }
+    }
+    Ok(())
 }

@@ -1,5 +1,5 @@
 -- The faults that are found in turn.
-use Rattle.std.proofs.Common.{◌≡◌, ◌+◌, ◌-◌, ◌≤◌, ◌<◌, ◌++◌, ℕ, suc, zero, false, List, [], ◌∷◌, length, Err, Ok, refl, sym, subst, append_assoc, arith}
+use Rattle.std.proofs.Common.{◌≡◌, ◌-◌, ◌≤◌, ◌<◌, ◌++◌, ℕ, suc, false, List, [], ◌∷◌, length, Err, refl, sym, subst, append_assoc, arith}
 use Rattle.std.proofs.lemmas.List.{append-nil, length-append}
 use Rattle.isa.specs.declared.listing.fault.TextFault.{TextFault}
 use Rattle.isa.specs.Listing.{listing}

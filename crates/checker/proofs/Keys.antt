@@ -1,9 +1,6 @@
 -- Keys of a map as a list.
-use Rattle.std.proofs.Common.{◌≡◌, ℕ, Bool, true, false, cond, List, [], ◌∷◌, ◌++◌, Option, Some, None, refl, ap, ◌∙◌, sym}
+use Rattle.std.proofs.Common.{◌≡◌, ℕ, Bool, true, false, cond, Option, Some, refl}
 use Rattle.std.specs.Prelude.{is_some, ◌||◌}
-use Rattle.std.specs.List.{list_any}
-use Rattle.std.specs.Str.{bytes_eq}
-use Rattle.isa.specs.Listing.{stands_in}
 
 -- a key that is put, or one that was there
 pub some_or : (is : Bool) (x : ℕ) (o : Option ℕ) → is_some (cond is (Some x) o) ≡ (is || is_some o)

@@ -8,3 +8,4 @@ mod Remaining
 mod Reached
 mod Texts
 mod Warned
+mod WholeInputs

@@ -1,5 +1,5 @@
 -- Warnings, one behind the other.
-use Rattle.std.proofs.Common.{◌≡◌, ◌++◌, ℕ, List, [], ◌∷◌, refl, subst, sym}
+use Rattle.std.proofs.Common.{◌≡◌, ◌++◌, ℕ, List, [], ◌∷◌, subst}
 use Rattle.instructions.specs.Programs.{Program}
 use Rattle.checker.specs.Warnings.{Warned, IsWarranted, AreWarnings, AreWarned, warning_text}
 

@@ -1,15 +1,7 @@
--- The diagnostics of the bytes that are read at most are those of all bytes.
-use Rattle.std.proofs.Common.{◌≡◌, ◌<◌, ℕ, Bool, true, false, List, [], ◌∷◌, length, take, refl, subst, arith, inl, inr, Result, Err}
-use Rattle.std.proofs.lemmas.Bool.{cases_lt, lt-ltb}
-use Rattle.std.proofs.lemmas.List.{length-take, take_all}
-use Rattle.isa.specs.declared.listing.fault.FaultKind.{FaultKind}
-use Rattle.isa.specs.declared.listing.fault.FaultKind.TheVariants.{TooLong}
-use Rattle.isa.specs.declared.listing.fault.TextFault.{TextFault}
+-- The diagnostics of the bytes of a listing.
+use Rattle.std.specs.Prelude.{ℕ, Bool, List}
 use Rattle.isa.specs.Listing.{listing}
-use Rattle.instructions.specs.Programs.{Program}
-use Rattle.bench.specs.Answer.{most_taken}
-use Rattle.checker.specs.Diagnostics.{IsCheckOf, IsExplained, AreExplained}
-use Rattle.isa.specs.Report.{fault_line}
+use Rattle.checker.specs.Diagnostics.{IsCheckOf}
 
 -- the status and the diagnostics of the bytes of a listing
 abbrev pub IsCheck : (file : List ℕ) → (all : Bool) → (status : ℕ) → (bytes text : List ℕ) → Type 0
@@ -18,36 +10,3 @@ IsCheck file all status bytes text = IsCheckOf file all bytes (listing bytes) st
 -- the diagnostics of the bytes of a listing, with some status
 abbrev pub IsSomeCheck : (file : List ℕ) → (all : Bool) → (bytes text : List ℕ) → Type 0
 IsSomeCheck file all bytes text = (status : ℕ) × IsCheck file all status bytes text
-
--- the fault of a listing that is too long
-abbrev no_line : TextFault
-no_line = record { line = 0; kind = TooLong }
-
-too_long : (bytes : List ℕ) → 4194304 < length bytes → listing bytes ≡ Err (0, TooLong)
-unfolding listing
-too_long bytes more = rw (lt-ltb 4194304 (length bytes) more) refl
-
--- a fault without a line has the same diagnostic, whatever the bytes are
-same_told : (file : List ℕ) (all : Bool) (bytes others text : List ℕ) → IsExplained file all bytes 0 TooLong text
-    → IsExplained file all others 0 TooLong text
-same_told file true bytes others text is =
-    let told : AreExplained file bytes (no_line ∷ []) (fault_line 0 TooLong) text =
-    subst (λ (fs : List TextFault). AreExplained file bytes fs (fault_line 0 TooLong) text) is.1.0 is.1.1 in
-    (no_line ∷ [], (refl, told))
-same_told file false bytes others text is =
-    let told : AreExplained file bytes (no_line ∷ []) (fault_line 0 TooLong) text =
-    subst (λ (fs : List TextFault). AreExplained file bytes fs (fault_line 0 TooLong) text) is.1.0 is.1.1 in
-    (no_line ∷ [], (refl, told))
-
--- a listing that is too long has no line of which there is a diagnostic
-pub told_of_all : (file : List ℕ) (all : Bool) (input : List ℕ) (status : ℕ) (text : List ℕ)
-    → IsCheck file all status (take most_taken input) text → IsCheck file all status input text
-told_of_all file all input status text is = elim (cases_lt 4194304 (length input)) [
-  | inl more ↦
-      let short : 4194304 < length (take most_taken input) = omega (arith, length-take most_taken input, more) in
-      let told : IsCheckOf file all (take most_taken input) (Err (0, TooLong)) status text =
-      subst (λ (found : Result Program (ℕ × FaultKind)). IsCheckOf file all (take most_taken input) found status text)
-      (too_long (take most_taken input) short) is in
-      rw (too_long input more) (told.0, same_told file all (take most_taken input) input text told.1)
-  | inr less ↦ subst (λ (bytes : List ℕ). IsCheckOf file all bytes (listing bytes) status text) (take_all most_taken input (omega arith)) is
-]

@@ -1,11 +1,8 @@
 -- The diagnostics of a listing that is read and not run.
-use Rattle.std.specs.Prelude.{◌≡◌, ◌≤◌, ◌+◌, ℕ, zero, suc, Bool, true, false}
-use Rattle.std.specs.Prelude.{List, [], ◌∷◌, ◌++◌, length, map, codes, decimal}
-use Rattle.std.specs.Prelude.{Option, Some, None, Result, Ok, Err, slice_get, flat_map, if◌then◌else◌}
-use Rattle.std.specs.List.{before_first}
-use Rattle.lexical.specs.Blank.{is_blank}
-use Rattle.lexical.specs.Label.{statement_of}
-use Rattle.lexical.specs.Line.{before_comment, lines_of}
+use Rattle.std.specs.Prelude.{◌≡◌, ◌+◌, ℕ, Bool, true, false}
+use Rattle.std.specs.Prelude.{List, [], ◌∷◌, ◌++◌, length, codes, decimal}
+use Rattle.std.specs.Prelude.{Option, Some, None, Result, Ok, Err, flat_map, if◌then◌else◌}
+use Rattle.lexical.specs.Line.{lines_of}
 use Rattle.isa.specs.declared.listing.fault.FaultKind.{FaultKind}
 use Rattle.isa.specs.declared.listing.fault.FaultKind.TheVariants as kind
 use Rattle.isa.specs.declared.listing.fault.TextFault.{TextFault}

@@ -1,7 +1,7 @@
 -- The faults of a listing of which there are diagnostics.
 use Rattle.std.specs.Prelude.{◌≡◌, ◌+◌, ◌==◌, ◌&&◌, ℕ, zero, suc, Bool, true, false, not, nat_le, nat_lt, if◌then◌else◌}
 use Rattle.std.specs.Prelude.{List, [], ◌∷◌, ◌++◌, length, drop, Result, Ok, Err, IsPermutation}
-use Rattle.std.specs.List.{before_first, list_all}
+use Rattle.std.specs.List.{before_first}
 use Rattle.instructions.specs.Programs.{Program}
 use Rattle.isa.specs.declared.listing.fault.FaultKind.{FaultKind}
 use Rattle.isa.specs.declared.listing.fault.TextFault.{TextFault}

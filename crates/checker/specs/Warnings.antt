@@ -1,5 +1,5 @@
 -- Warnings of a listing without a fault.
-use Rattle.std.specs.Prelude.{◌≡◌, ◌<◌, ◌++◌, ℕ, Bool, false, true, List, [], ◌∷◌, length, codes, Option, Some, is_some, slice_get, slice_range}
+use Rattle.std.specs.Prelude.{◌≡◌, ◌++◌, ℕ, Bool, false, true, List, [], ◌∷◌, codes, Some, is_some, slice_get, slice_range}
 use Rattle.std.specs.List.{flat_map, after_first}
 use Rattle.std.specs.Borrow.{Bor}
 use Rattle.std.specs.BTreeMap.{BTreeMap, get_by}

@@ -5,14 +5,16 @@ ghost use Rattle.checker.specs.Parts.{IsPartOf, LiesIn};
 mod numbers;
 mod operands;
 mod registers;
+mod splitting;
 
 use super::clearing::Labels;
 use super::parts::{Part, code, label_at, operands, statement, word};
 use isa::{FaultKind, TextFault};
 use lexical::is_plain;
 use numbers::bad_number;
-use operands::{bad_operands, last_operand};
+use operands::bad_operands;
 use registers::bad_register;
+use splitting::last_operand;
 use std::alloc::{AllocError, Global};
 
 /// The most bytes of a character.

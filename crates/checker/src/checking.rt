@@ -1,46 +1,17 @@
 //! A listing that is read and not run.
-ghost use Rattle.std.specs.Prelude.{◌≡◌, ◌-◌, ◌^◌, ◌<◌, IfSome, None};
+ghost use Rattle.std.specs.Prelude.{◌≡◌, ◌-◌, ◌^◌, ◌<◌, IfErr, IfOk, IfSome, None, Some};
 ghost use Rattle.counted_io.specs.Counted.{failures_of};
-ghost use Rattle.bench.specs.Answer.{most_taken};
-ghost use Rattle.checker.specs.Checked.{IsCheck, IsSomeCheck, told_of_all};
+ghost use Rattle.checker.specs.Checked.{IsCheck, IsSomeCheck};
 ghost use Rattle.command_line.specs.Replies.{HasWritten, IfRefused, IsLeftBy};
 ghost use Rattle.command_line.specs.Exits.{IsOfOneThread, refused};
-ghost use Rattle.command_line.specs.declared.exit.Line.TheVariants.{Nothing};
+ghost use Rattle.command_line.specs.declared.exit.Line.TheVariants.{Nothing, Refused};
 
 use crate::diagnostics::diagnostics;
 use bench::MOST_TAKEN;
 use command_line::{Checked, Exit, Line, Refusal, refused};
-use counted_io::{Counted, Reply, Unanswered, reply_to};
-use instructions::Memory;
+use counted_io::{Counted, read_up_to, write_whole};
 use std::alloc::Global;
 use std::io::{Read, Write};
-
-// The reply to the bytes of a listing: its diagnostics.
-#[derive(Drop)]
-struct Checking<'a> {
-    file: &'a str,
-    all: bool,
-}
-
-impl Reply for Checking<'_> {
-    type Told = u8;
-
-    type Refusal = Memory;
-
-    ghost most = { most_taken };
-
-    ghost Answers = { λ c input status text. IsCheck c.file.now c.all status input text };
-
-    fn most(&self) -> usize {
-        MOST_TAKEN
-    }
-
-    fn text(self, alloc: Global, bytes: &[u8]) -> Result<(u8, Vec<u8>), Memory> {
-        Ok(diagnostics(alloc, self.file, bytes, self.all)?)
-    }
-
-    ghost enough = { λ c input status text is. told_of_all c.file.now c.all input status text is };
-}
 
 /// Reads a listing and writes its diagnostics, without a run: the numbers of instructions, labels and bytes of data with
 /// warnings, or a fault with its place, or all faults. The status is 0 or 2.
@@ -67,17 +38,32 @@ pub fn check<R: Read + Drop, W: Write>(
     let Some(mut reader) = reader else {
         return refused(Refusal::Open);
     };
-    let checking = Checking {
-        file: asked.file,
-        all: asked.all,
-    };
-    match reply_to(alloc, &mut reader, writer, checking) {
+    match answered(alloc, asked, &mut reader, writer) {
         Ok(status) => Exit {
             status,
             line: Line::Nothing,
         },
-        Err(Unanswered::Read) => refused(Refusal::Read),
-        Err(Unanswered::Refused(Memory)) => refused(Refusal::Memory),
-        Err(Unanswered::Write) => refused(Refusal::Write),
+        Err(refusal) => refused(refusal),
     }
+}
+
+// Reads a listing and writes its diagnostics. The result is the status.
+fn answered<R: Read, W: Write>(
+    alloc: Global,
+    asked: &Checked<'_>,
+    reader: &mut Counted<R>,
+    writer: &mut Counted<W>,
+) -> Result<u8, Refusal>
+    requires reader_room { failures_of reader.old < 2 ^ 64 - 1 }
+    requires writer_room { failures_of writer.old < 2 ^ 64 - 1 }
+    ensures ok { IfOk result (λ status. HasWritten R.remaining W.contents (Some reader.old)
+        writer.old writer.new (IsCheck asked.now.file.now asked.now.all status)) }
+    ensures err { IfErr result (IsLeftBy R.remaining W.contents (Some reader.old)
+        writer.old writer.new (IsSomeCheck asked.now.file.now asked.now.all)) }
+    ensures line { IfErr result (λ refusal. IsOfOneThread (Refused refusal)) }
+{
+    let listing = read_up_to(alloc, reader, MOST_TAKEN)?;
+    let (status, text) = diagnostics(alloc, asked.file, listing.as_slice(), asked.all)?;
+    write_whole(writer, text.as_slice())?;
+    Ok(status)
 }

@@ -1,9 +1,9 @@
-//! The forms of an operation, as they are shown with a fault.
+//! The forms of an operation.
 ghost use Rattle.std.specs.Prelude.{◌≡◌, ◌∷◌, ◌++◌, [], false, map, filter, OnOk};
 ghost use Rattle.isa.specs.Forms.{form_text, form_view, has_word};
 ghost use Rattle.checker.specs.Forms.{alternatives, lead, word_note};
 
-use isa::{Form, directive_text, forms};
+use isa::{Form, Operands, directive_text, forms};
 use std::alloc::AllocError;
 
 // The words before a form: the beginning of the sentence before the first one.
@@ -63,4 +63,12 @@ pub(crate) fn push_forms(text: &mut Vec<u8>, word: &[u8]) -> Result<(), AllocErr
         Some(form) => push_directive(text, form),
         None => push_forms_in(text, forms(), word),
     }
+}
+
+/// Whether a form of the word has an offset with a register.
+pub(crate) fn has_offset(word: &[u8]) -> bool {
+    let has_offset = |form: &Form| matches!(form.operands, Operands::Load | Operands::Store);
+    forms()
+        .iter()
+        .any(|form| form.has_word(word) && has_offset(form))
 }

@@ -3,7 +3,9 @@
 mod characters;
 mod labels;
 mod lists;
+mod numbers;
 mod operands;
+mod registers;
 mod templates;
 mod words;
 
@@ -60,7 +62,7 @@ pub(crate) fn remedy(
         _ if has_other_comment(code) => joined(alloc, &[b"A comment begins with #."]),
         FaultKind::UnknownOp => words::remedy(alloc, code, &statement),
         FaultKind::BadOperands => operands::of_other_kind(alloc, &statement),
-        FaultKind::BadRegister => operands::bad_register(alloc, &statement),
-        FaultKind::BadNumber => operands::bad_number(alloc, &statement),
+        FaultKind::BadRegister => registers::bad_register(alloc, &statement),
+        FaultKind::BadNumber => numbers::bad_number(alloc, &statement),
     }
 }

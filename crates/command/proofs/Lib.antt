@@ -1,4 +1,3 @@
-mod Answered
 mod Answering
 mod AsAlone
 mod ThreadAnswers

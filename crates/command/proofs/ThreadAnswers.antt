@@ -1,5 +1,5 @@
 -- What is told of a listing that threads have run, from what is known of the end.
-use Rattle.std.proofs.Common.{◌≡◌, ◌≢◌, ◌≤◌, ◌<◌, ◌∙◌, ◌+◌, ℕ, inl, inr, false, List, refl, ap, sym, subst, arith, Some, Result, Ok}
+use Rattle.std.proofs.Common.{◌≡◌, ◌≢◌, ◌≤◌, ◌<◌, ◌∙◌, ◌+◌, ℕ, inl, inr, false, List, refl, ap, sym, subst, arith, Some}
 use Rattle.std.proofs.lemmas.Bool.{cases_lt}
 use Rattle.counts.specs.declared.tally.Tally.{Tally as Totals}
 use Rattle.instructions.specs.declared.end.End.{End}
@@ -7,7 +7,6 @@ use Rattle.instructions.specs.declared.end.Ending.{Ending}
 use Rattle.instructions.specs.declared.end.Ending.TheVariants.{Limit, Stop as ByStop}
 use Rattle.instructions.specs.declared.stop.Stop.{Stop}
 use Rattle.instructions.specs.declared.stop.Stop.TheVariants.{Break, Overflow, Unaligned, OutOfRange, BadPc}
-use Rattle.isa.specs.declared.listing.fault.FaultKind.{FaultKind}
 use Rattle.instructions.specs.Programs.{Program}
 use Rattle.isa.specs.Report.{report_of}
 use Rattle.instructions.specs.Settings.{Settings}
@@ -25,7 +24,7 @@ use Rattle.pool.specs.declared.answer.RunInTurns.{RunInTurns}
 use Rattle.command_line.specs.declared.request.Asked.{Asked}
 use Rattle.command_line.specs.declared.exit.Line.TheVariants.{Tally}
 use Rattle.bench.specs.Answer.{status_number}
-use Rattle.command.specs.Answers.{AsAlone, Early, IsAnswerFor, IsRunEnd, IsEndOfThreads, IsLineWith, IsReport}
+use Rattle.command.specs.Answers.{AsAlone, Early, IsRunEnd, IsEndOfThreads, IsLineWith, IsReport}
 use Rattle.command.specs.Runs.{IsCarriedOutWith, IsRunWith, written_run}
 use Rattle.command.specs.Threads.{ended_of}
 use Rattle.command.specs.declared.threads.Ended.{Ended}
@@ -123,13 +122,13 @@ thread_reports asked P e is known = record {
   line = subst (λ b. IsLineWith b e.end.n (Tally e.tally)) (sym is) known.retires;
 }
 
--- the text and what is told where the threads have run the program of a listing
-pub thread_answers : (asked : Asked) (found : Result Program (ℕ × FaultKind)) (P : Program) (r : RunInTurns) (e : Ended)
-    (status : Status) (text : List ℕ) (went : Went) → asked.alone ≡ false → found ≡ Ok P → HasRun P asked.config r
+-- the text and what is told where the threads have run a program
+pub thread_answers : (asked : Asked) (P : Program) (r : RunInTurns) (e : Ended)
+    (status : Status) (text : List ℕ) (went : Went) → asked.alone ≡ false → HasRun P asked.config r
     → ended_of r.run r.ran ≡ Some e → status ≡ ending_status e.end.outcome → text ≡ report_of e.end
-    → went ≡ written_run status (Tally e.tally) (Some e.ran) → IsAnswerFor asked found text went
-thread_answers asked found P r e status text went is parsed has ended same reported told =
-    rw (parsed, reported, told, same) (thread_reports asked P e is (known asked.config P r e has ended))
+    → went ≡ written_run status (Tally e.tally) (Some e.ran) → IsReport asked P text went
+thread_answers asked P r e status text went is has ended same reported told =
+    rw (reported, told, same) (thread_reports asked P e is (known asked.config P r e has ended))
 
 -- and how the threads tell that they carried it out
 pub thread_runs : (config : Settings) (P : Program) (r : RunInTurns) (e : Ended) (status : Status) (went : Went)

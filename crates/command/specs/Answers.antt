@@ -1,6 +1,5 @@
 -- What is told of a listing.
-use Rattle.std.specs.Prelude.{◌≡◌, ◌≤◌, ◌<◌, ℕ, Bool, true, false, Result, Ok, Err, List, None, Some, take}
-use Rattle.std.proofs.Common.{subst}
+use Rattle.std.specs.Prelude.{◌≡◌, ◌≤◌, ◌<◌, ℕ, Bool, true, false, Result, Ok, Err, List, None, Some}
 use Rattle.instructions.specs.declared.end.Ending.{Ending}
 use Rattle.instructions.specs.declared.end.Ending.TheVariants.{Limit}
 use Rattle.isa.specs.declared.listing.fault.FaultKind.{FaultKind}
@@ -10,8 +9,7 @@ use Rattle.isa.specs.Report.{fault_line}
 use Rattle.instructions.specs.Settings.{Settings}
 use Rattle.inorder.specs.Machine.{State}
 use Rattle.inorder.specs.Runs.{after, end_of}
-use Rattle.bench.specs.Answer.{ending_status, most_taken, report_of_run, status_of, text_of}
-use Rattle.bench.specs.Enough.{listing_taken}
+use Rattle.bench.specs.Answer.{ending_status, report_of_run, status_of, text_of}
 use Rattle.bench.specs.declared.outcome.Status.TheVariants.{TextFault}
 use Rattle.command_line.specs.declared.request.Asked.{Asked}
 use Rattle.command_line.specs.declared.exit.Line.{Line}
@@ -67,12 +65,6 @@ IsAnswerTo asked went bytes text = IsAnswerFor asked (listing bytes) text went
 -- the text goes with something that may be told of the bytes of a listing
 abbrev pub IsSomeAnswerTo : Asked → (bytes text : List ℕ) → Type 0
 IsSomeAnswerTo asked bytes text = (went : Went) × IsAnswerTo asked went bytes text
-
--- so much of a listing as is taken is enough to know an answer to it
-pub answer_of_all : (asked : Asked) (bytes : List ℕ) (went : Went) (text : List ℕ)
-    → IsAnswerTo asked went (take most_taken bytes) text → IsAnswerTo asked went bytes text
-answer_of_all asked bytes went text is =
-    subst (λ (found : Result Program (ℕ × FaultKind)). IsAnswerFor asked found text went) (listing_taken bytes) is
 
 -- P of the text that the one-thread unit has for the bytes of a listing, and its status
 pub record IsAsAlone (limit : ℕ) (bytes : List ℕ) (went : Went) (P : List ℕ → Type 0) : Type 0 where

@@ -1,5 +1,5 @@
 -- How a reader and a writer are left where an answer was refused.
-use Rattle.std.specs.Prelude.{ℕ, Option, List}
+use Rattle.std.specs.Prelude.{⊤, ℕ, Option, List}
 use Rattle.counted_io.specs.Replies.{HasNoReply, HasReplyBegun}
 use Rattle.counted_io.specs.declared.counted.Counted.{Counted}
 use Rattle.bench.specs.Answer.{most_taken}
@@ -16,3 +16,9 @@ IsUnansweredBy remaining contents r r' w w' IsText Memory = HasNoReply 0 remaini
 IsUnansweredBy remaining contents r r' w w' IsText Thread = HasNoReply 0 remaining most_taken r r' w w'
 IsUnansweredBy remaining contents r r' w w' IsText Write = HasReplyBegun remaining contents most_taken r r' w w' IsText
 IsUnansweredBy remaining contents r r' w w' IsText Trace = ⊥
+
+-- a run can be refused for want of memory, or of a thread
+abbrev pub IsOfRun : Refusal → Type 0
+IsOfRun Memory = ⊤
+IsOfRun Thread = ⊤
+IsOfRun _ = ⊥

@@ -1,17 +1,23 @@
 //! The run that a command line asks for.
-ghost use Rattle.std.specs.Prelude.{◌≡◌, ◌-◌, ◌^◌, ◌<◌, IfSome, IfOk, IfErr, None, true};
+ghost use Rattle.std.specs.Prelude.{◌≡◌, ◌-◌, ◌^◌, ◌<◌, ℕ, IfSome, IfOk, IfErr, None, Result, true, string_bytes};
+ghost use Rattle.instructions.specs.Programs.{Program};
+ghost use Rattle.isa.specs.declared.listing.fault.FaultKind.{FaultKind};
 ghost use Rattle.counted_io.specs.Counted.{failures_of, Gives};
 ghost use Rattle.counted_io.specs.Replies.{HasReplied};
 ghost use Rattle.bench.specs.Answer.{most_taken};
-ghost use Rattle.command.specs.Answers.{IsAnswerTo, IsAsAlone, IsSomeAnswerTo};
+ghost use Rattle.bench.specs.Parsed.{IsParsed};
+ghost use Rattle.command.specs.Answers.{IsAnswerFor, IsAnswerTo, IsAsAlone, IsSomeAnswerTo};
 ghost use Rattle.command.specs.Runs.{IsRunWith, IsWhole, WasWritten, refused_run, went_of};
-ghost use Rattle.command.specs.Unanswered.{IsUnansweredBy};
+ghost use Rattle.command.specs.Unanswered.{IsOfRun, IsUnansweredBy};
 ghost use Rattle.command_line.specs.Replies.{HasWritten, IfRefused, IsLeftBy};
 ghost use Rattle.command_line.specs.Exits.{HoldsOfInput, IsOfOneThread};
+ghost use Rattle.command_line.specs.declared.exit.Line.TheVariants.{Refused};
 
-use crate::went::refused;
-use crate::{Asked, Refusal, Went, single_thread, threads};
-use counted_io::Counted;
+use crate::went::{refused, written};
+use crate::{Asked, Line, Refusal, Went, single_thread, threads};
+use bench::{Status, read_listing};
+use counted_io::{Counted, write_whole};
+use instructions::Program;
 use pool::Gate;
 use std::alloc::Global;
 use std::io::{Read, Write};
@@ -52,14 +58,14 @@ pub fn go<T: Threads + Wait + Sync, R: Read + Drop, W: Write, G: Gate + Sync>(
     let Some(mut reader) = reader else {
         return refused(Refusal::Open);
     };
-    match ended(wait, alloc, asked, &mut reader, writer, gate) {
+    match answered(wait, alloc, asked, &mut reader, writer, gate) {
         Ok(went) => went,
         Err(refusal) => refused(refusal),
     }
 }
 
-// Runs a listing on one thread or on several, as is asked for.
-fn ended<T: Threads + Wait + Sync, R: Read, W: Write, G: Gate + Sync>(
+// Reads a listing, and writes the report of its run, or the line of its fault.
+fn answered<T: Threads + Wait + Sync, R: Read, W: Write, G: Gate + Sync>(
     wait: &T,
     alloc: Global,
     asked: &Asked<'_>,
@@ -77,9 +83,35 @@ fn ended<T: Threads + Wait + Sync, R: Read, W: Write, G: Gate + Sync>(
     ensures err { IfErr result (IsUnansweredBy R.remaining W.contents
         reader.old reader.new writer.old writer.new (IsSomeAnswerTo asked.now)) }
 {
-    if asked.alone {
-        single_thread::run(alloc, asked, reader, writer)
-    } else {
-        threads::run(wait, alloc, asked, reader, writer, gate)
+    let found = read_listing(alloc, reader)?;
+    let (went, text) = answer(wait, alloc, asked, found, gate)?;
+    write_whole(writer, text.as_str().as_bytes())?;
+    Ok(went)
+}
+
+// What is told of a listing, and the text for it: the report of its run, or the line of its fault.
+fn answer<T: Threads + Wait + Sync, G: Gate + Sync>(
+    wait: &T,
+    alloc: Global,
+    asked: &Asked<'_>,
+    found: Result<Program, String>,
+    gate: &G,
+) -> Result<(Went, String), Refusal>
+    ensures ok { IfOk result (λ answer. (listing : Result Program (ℕ × FaultKind)) →
+        IsParsed found listing →
+        IsAnswerFor asked.now listing (string_bytes answer.1) answer.0) }
+    ensures line { IfOk result (λ answer. WasWritten answer.0.line) }
+    ensures alone { asked.now.alone ≡ true →
+        IfOk result (λ answer. IsOfOneThread answer.0.line) }
+    ensures ran { IfOk result (λ answer.
+        IsRunWith asked.now.config answer.0.status answer.0.line answer.0.ran) }
+    ensures err { IfErr result IsOfRun }
+    ensures thread { asked.now.alone ≡ true →
+        IfErr result (λ refusal. IsOfOneThread (Refused refusal)) }
+{
+    match found {
+        Ok(program) if asked.alone => Ok(single_thread::report(alloc, asked, &program)?),
+        Ok(program) => threads::report(wait, alloc, asked, &program, gate),
+        Err(line) => Ok((written(Status::TextFault, Line::Nothing, None), line)),
     }
 }

@@ -1,73 +1,52 @@
 //! A run of the one-thread unit.
-ghost use Rattle.std.specs.Prelude.{◌≡◌, ◌-◌, ◌^◌, ◌<◌, IfOk, IfErr, true};
-ghost use Rattle.counted_io.specs.Counted.{failures_of};
-ghost use Rattle.counted_io.specs.Replies.{HasReplied, IsUnanswered};
-ghost use Rattle.bench.specs.Answer.{IsAnswerAlone, most_taken};
-ghost use Rattle.bench.specs.Faults.{HasAnAnswer, unanswered};
-ghost use Rattle.command_line.specs.Predictors.{IsChosen};
+ghost use Rattle.std.specs.Prelude.{◌≡◌, IfOk, None, true, string_bytes};
+ghost use Rattle.inorder.specs.Runs.{end_of, end_state};
 ghost use Rattle.one_thread.specs.Seeds.{order_by};
-ghost use Rattle.command.specs.Answers.{IsAnswerTo, IsSomeAnswerTo};
-ghost use Rattle.command.specs.Runs.{IsRunWith};
-ghost use Rattle.command.specs.Unanswered.{IsUnansweredBy};
-ghost use Rattle.command_line.specs.Exits.{IsOfOneThread};
-ghost use Rattle.command_line.specs.declared.exit.Line.TheVariants.{Nothing, Refused};
+ghost use Rattle.command_line.specs.Predictors.{IsChosen};
+ghost use Rattle.command_line.specs.declared.exit.Line.TheVariants.{Nothing};
+ghost use Rattle.command.specs.Answers.{IsReport};
 
 use crate::went::written;
-use crate::{Asked, Line, Refusal, Went};
-use bench::{Fault, Status, alone_in};
+use crate::{Asked, Line, Went};
+use bench::{Status, run};
 use command_line::{Chosen, choose};
-use counted_io::Counted;
+use instructions::{End, Memory, Program};
+use isa::report_text;
 use one_thread::{Order, Seeded};
 use std::alloc::Global;
-use std::io::{Read, Write};
 
-/// Reads the listing, runs it on the one-thread unit, in the order of the seed where one is asked for, and writes its
-/// report.
-pub(crate) fn run<R: Read, W: Write>(
+/// Runs a program on the one-thread unit, in the order of the seed where one is asked for: what is told of the run, and
+/// its report.
+pub(crate) fn report(
     alloc: Global,
     asked: &Asked<'_>,
-    reader: &mut Counted<R>,
-    writer: &mut Counted<W>,
-) -> Result<Went, Refusal>
-    requires reader_room { failures_of reader.old < 2 ^ 64 - 1 }
-    requires writer_room { failures_of writer.old < 2 ^ 64 - 1 }
+    program: &Program,
+) -> Result<(Went, String), Memory>
     requires alone { asked.now.alone ≡ true }
-    ensures ok { IfOk result (λ went. HasReplied R.remaining W.contents most_taken
-        reader.old reader.new writer.old writer.new (IsAnswerTo asked.now went)) }
-    ensures line { IfOk result (λ went. went.line ≡ Nothing) }
-    ensures ran { IfOk result (λ went. IsRunWith asked.now.config went.status went.line went.ran) }
-    ensures err { IfErr result (IsUnansweredBy R.remaining W.contents
-        reader.old reader.new writer.old writer.new (IsSomeAnswerTo asked.now)) }
-    ensures thread { IfErr result (λ refusal. IsOfOneThread (Refused refusal)) }
+    ensures ok { IfOk result (λ answer.
+        IsReport asked.now program.now (string_bytes answer.1) answer.0) }
+    ensures line { IfOk result (λ answer. answer.0.line ≡ Nothing) }
+    ensures ran { IfOk result (λ answer. answer.0.ran ≡ None) }
 {
     let predictor = choose(asked.predictor);
     let order = Order::by_seed(asked.seed);
-    match ordered(alloc, asked, predictor, order, reader, writer) {
-        Ok(status) => Ok(written(status, Line::Nothing, None)),
-        Err(Fault::Read) => Err(Refusal::Read),
-        Err(Fault::Memory) => Err(Refusal::Memory),
-        Err(Fault::Write) => Err(Refusal::Write),
-    }
+    let end = ordered(alloc, asked, program, predictor, order)?;
+    let text = report_text(alloc, &end)?;
+    let status = Status::of(end.outcome);
+    Ok((written(status, Line::Nothing, None), text))
 }
 
-// Runs a listing with the predictor and in the order that are asked for.
-fn ordered<R: Read, W: Write>(
+// Runs a program with the predictor and in the order that are asked for.
+fn ordered(
     alloc: Global,
     asked: &Asked<'_>,
+    program: &Program,
     predictor: Chosen,
     order: Order<Seeded>,
-    reader: &mut Counted<R>,
-    writer: &mut Counted<W>,
-) -> Result<Status, Fault>
+) -> Result<End, Memory>
     requires predictor { IsChosen asked.now.predictor predictor }
     requires order { order ≡ order_by asked.now.seed }
-    requires reader_room { failures_of reader.old < 2 ^ 64 - 1 }
-    requires writer_room { failures_of writer.old < 2 ^ 64 - 1 }
-    ensures ok { IfOk result (λ status. HasReplied R.remaining W.contents most_taken
-        reader.old reader.new writer.old writer.new (IsAnswerAlone asked.now.config.limit status)) }
-    ensures err { IfErr result (λ fault. IsUnanswered R.remaining W.contents most_taken
-        reader.old reader.new writer.old writer.new (HasAnAnswer asked.now.config.limit)
-        (unanswered fault)) }
+    ensures { IfOk result (λ end. end_state end ≡ end_of program.now asked.now.config.limit) }
 {
-    alone_in(alloc, reader, writer, &asked.config, predictor, order)
+    run(alloc, program, &asked.config, predictor, order)
 }

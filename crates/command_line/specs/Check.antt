@@ -1,9 +1,8 @@
 -- The check that the words of `ruu check` ask for.
 use Rattle.std.specs.Prelude.{◌≡◌, List, Some, codes}
 use Rattle.clap.specs.Words.{Row, Text, first_of}
-use Rattle.command_line.specs.declared.no_run.NoRun.{NoRun}
 use Rattle.command_line.specs.declared.request.Checked.{Checked}
-use Rattle.command_line.specs.Reading.{AreRefused, HoldsIn, IsRefused, NoneOdd}
+use Rattle.command_line.specs.Reading.{HoldsIn}
 use Rattle.command_line.specs.Tool.{check}
 use Rattle.command_line.specs.Values.{is_true}
 
@@ -20,11 +19,3 @@ IsCheckedIn words checked = HoldsIn check words (λ rows. IsCheckedBy rows check
 pub record NamesFile (rows : List Row) : Type 0 where
   pub file : Text
   pub is_file : first_of (codes "FILE") rows ≡ Some file
-
--- why the rows are refused, and the words
-abbrev pub IsRefusedBy : List Row → NoRun → Type 0
-IsRefusedBy rows no_run = AreRefused rows NamesFile NoneOdd no_run
-
--- why the words of `ruu check` are refused
-abbrev pub IsRefusedIn : List Text → NoRun → Type 0
-IsRefusedIn words no_run = IsRefused check words NamesFile NoneOdd no_run

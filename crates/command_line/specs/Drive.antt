@@ -3,9 +3,8 @@ use Rattle.std.specs.Prelude.{◌≡◌, ◌^◌, ◌-◌, false, List, Some, co
 use Rattle.std.specs.Str.{bytes_eq}
 use Rattle.clap.specs.Words.{Row, Text, first_of}
 use Rattle.instructions.specs.Settings.{IsValid, Settings}
-use Rattle.command_line.specs.declared.no_run.NoRun.{NoRun}
 use Rattle.command_line.specs.declared.request.ByHand.{ByHand}
-use Rattle.command_line.specs.Reading.{AreRefused, HoldsIn, IsRefused, NoneOdd}
+use Rattle.command_line.specs.Reading.{HoldsIn}
 use Rattle.command_line.specs.Rings.{greatest}
 use Rattle.command_line.specs.Steps.{AreSteps}
 use Rattle.command_line.specs.Tool.{drive}
@@ -39,11 +38,3 @@ IsDrivenIn words hand = HoldsIn drive words (λ rows. IsDrivenBy rows hand)
 -- the rows ask to drive some unit
 abbrev pub CanBeDriven : List Row → Type 0
 CanBeDriven rows = (hand : ByHand) × IsDrivenBy rows hand
-
--- why the rows are refused, and the words
-abbrev pub IsRefusedBy : List Row → NoRun → Type 0
-IsRefusedBy rows no_run = AreRefused rows CanBeDriven NoneOdd no_run
-
--- why the words of `ruu drive` are refused
-abbrev pub IsRefusedIn : List Text → NoRun → Type 0
-IsRefusedIn words no_run = IsRefused drive words CanBeDriven NoneOdd no_run

@@ -2,8 +2,8 @@
 use Rattle.std.specs.Prelude.{ℕ, ⊤, List, [], ◌++◌, codes, decimal, Option, IfSome}
 use Rattle.counted_io.specs.Counted.{known_by}
 use Rattle.counted_io.specs.declared.counted.Counted.{Counted}
-use Rattle.counted_io.specs.declared.input.InputFault.{InputFault}
-use Rattle.counted_io.specs.declared.input.InputFault.TheVariants as input
+use Rattle.counted_io.specs.declared.fault.Fault.{Fault}
+use Rattle.counted_io.specs.declared.fault.Fault.TheVariants as fault
 use Rattle.counts.specs.declared.tally.Tally.{Tally as Totals}
 use Rattle.command_line.specs.declared.exit.Exit.{Exit}
 use Rattle.command_line.specs.declared.exit.Line.{Line}
@@ -15,10 +15,22 @@ use Rattle.command_line.specs.declared.exit.Refusal.TheVariants.{Open, Read, Mem
 abbrev pub refused : Refusal → Exit
 refused refusal = record { status = 5; line = Refused refusal }
 
--- what is refused where the input was not read to its end
-abbrev pub input_refusal : InputFault → Refusal
-input_refusal input.Read = Read
-input_refusal input.Memory = Memory
+-- what is refused where an input was not read, or a text not written
+abbrev pub fault_refusal : Fault → Refusal
+fault_refusal fault.Read = Read
+fault_refusal fault.Memory = Memory
+fault_refusal fault.Write = Write
+
+-- the reasons for which a text may not be written
+abbrev pub IsOfWriting : Refusal → Type 0
+IsOfWriting Memory = ⊤
+IsOfWriting Write = ⊤
+IsOfWriting _ = ⊥
+
+-- how many calls of the writer have failed where that is refused
+abbrev pub failed_writes : Refusal → ℕ
+failed_writes Write = 1
+failed_writes _ = 0
 
 -- the line may be told of a run without threads: none was refused, and none has counted
 abbrev pub IsOfOneThread : Line → Type 0

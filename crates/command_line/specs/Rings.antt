@@ -62,3 +62,12 @@ pub record HaveSizes (rows : List Row) : Type 0 where
   pub is_limit : IsNumberFrom 0 greatest 1000000 (first_of (codes "limit") rows) limit
   pub ring : ℕ
   pub is_ring_number : IsNumberFrom 0 (2 ^ 64 - 1) 16 (first_of (codes "ruu-size") rows) ring
+
+-- what is wrong with the ring size of rows
+abbrev pub IsBadRingIn : List Row → NoRun → Type 0
+IsBadRingIn rows no_run = IsBadRing (first_of (codes "ruu-size") rows) no_run
+
+-- nothing is wrong with the rows that hold these values but the ring size, a number that no ring has
+pub record HasOddRing (Values : List Row → Type 0) (rows : List Row) : Type 0 where
+  pub values : Values rows
+  pub odd : IsOddRing (first_of (codes "ruu-size") rows)

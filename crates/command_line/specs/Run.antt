@@ -1,11 +1,9 @@
 -- The run that the words of `ruu run` ask for.
-use Rattle.std.specs.Prelude.{◌≡◌, ℕ, false, List, Option, Some, codes}
+use Rattle.std.specs.Prelude.{◌≡◌, ℕ, List, Option, Some, codes}
 use Rattle.clap.specs.Words.{Row, Text, first_of}
-use Rattle.instructions.specs.Settings.{is_ring}
-use Rattle.command_line.specs.declared.no_run.NoRun.{NoRun}
 use Rattle.command_line.specs.declared.request.Asked.{Asked}
 use Rattle.command_line.specs.declared.request.BranchPredictor.{BranchPredictor}
-use Rattle.command_line.specs.Reading.{AreRefused, HoldsIn, IsRefused}
+use Rattle.command_line.specs.Reading.{HoldsIn}
 use Rattle.command_line.specs.Rings.{AreSizes, HaveSizes, greatest}
 use Rattle.command_line.specs.Seeds.{AreSeeds}
 use Rattle.command_line.specs.Tool.{run}
@@ -27,7 +25,7 @@ abbrev pub IsAskedIn : List Text → Asked → Type 0
 IsAskedIn words asked = HoldsIn run words (λ rows. IsAskedBy rows asked)
 
 -- the rows hold a file, values in their ranges or none, and seeds where they count; the ring size may be any number
-pub record HasValues (rows : List Row) : Type 0 where
+pub record HasAskedRun (rows : List Row) : Type 0 where
   pub file : Text
   pub is_file : first_of (codes "FILE") rows ≡ Some file
   pub sizes : HaveSizes rows
@@ -40,16 +38,3 @@ pub record HasValues (rows : List Row) : Type 0 where
   pub seed : Option ℕ
   pub shake : Option ℕ
   pub are_seeds : AreSeeds rows seed shake
-
--- nothing is wrong but the ring size, a number that no ring has
-pub record HasOddRing (rows : List Row) : Type 0 where
-  pub values : HasValues rows
-  pub odd : is_ring values.sizes.ring ≡ false
-
--- why the rows are refused, and the words
-abbrev pub IsRefusedBy : List Row → NoRun → Type 0
-IsRefusedBy rows no_run = AreRefused rows HasValues HasOddRing no_run
-
--- why the words of `ruu run` are refused
-abbrev pub IsRefusedIn : List Text → NoRun → Type 0
-IsRefusedIn words no_run = IsRefused run words HasValues HasOddRing no_run

@@ -1,10 +1,10 @@
 //! How programs end.
 ghost use Rattle.std.specs.Prelude.{◌≡◌, Some};
-ghost use Rattle.command_line.specs.Exits.{input_refusal, line_text, refused, refusal_line};
+ghost use Rattle.command_line.specs.Exits.{fault_refusal, line_text, refused, refusal_line};
 ghost use Rattle.command_line.specs.declared.exit.Refusal.TheVariants.{Memory, Write};
 
 use crate::totals::Totals;
-use counted_io::{InputFault, WriteFailed};
+use counted_io::{Fault, WriteFailed};
 use counts::Tally;
 use std::alloc::AllocError;
 use std::fmt;
@@ -84,13 +84,14 @@ impl fmt::Display for Refusal {
     }
 }
 
-impl From<InputFault> for Refusal {
-    ghost from_gives = { λ e refusal. refusal ≡ input_refusal e };
+impl From<Fault> for Refusal {
+    ghost from_gives = { λ fault refusal. refusal ≡ fault_refusal fault };
 
-    fn from(fault: InputFault) -> Refusal {
+    fn from(fault: Fault) -> Refusal {
         match fault {
-            InputFault::Read => Refusal::Read,
-            InputFault::Memory => Refusal::Memory,
+            Fault::Read => Refusal::Read,
+            Fault::Memory => Refusal::Memory,
+            Fault::Write => Refusal::Write,
         }
     }
 }

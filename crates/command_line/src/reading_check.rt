@@ -1,7 +1,9 @@
 //! Reading a command line that asks for a check of a listing.
 ghost use Rattle.std.specs.Prelude.{IfOk, IfErr, map};
 ghost use Rattle.clap.specs.Words.{found_of, rows_of};
-ghost use Rattle.command_line.specs.Check.{IsCheckedBy, IsCheckedIn, IsRefusedBy, IsRefusedIn};
+ghost use Rattle.command_line.specs.Check.{IsCheckedBy, IsCheckedIn, NamesFile};
+ghost use Rattle.command_line.specs.Reading.{AreRefused, IsRefused, NoneOdd};
+ghost use Rattle.command_line.specs.Tool.{check as check_word};
 
 use crate::commands::check;
 use crate::entered::entered;
@@ -16,7 +18,8 @@ use std::convert::AsStr;
 /// what to print, and `status` gives the exit status.
 pub fn checked<'a, S: AsStr>(alloc: Global, words: &'a [S]) -> Result<Checked<'a>, NoRun>
     ensures ok { IfOk result (IsCheckedIn (map S.text words.entry.now)) }
-    ensures err { IfErr result (IsRefusedIn (map S.text words.entry.now)) }
+    ensures err { IfErr result
+        (IsRefused check_word (map S.text words.entry.now) NamesFile NoneOdd) }
 {
     let command = check(alloc)?;
     let matches = entered(alloc, command, "check", words)?;
@@ -25,7 +28,8 @@ pub fn checked<'a, S: AsStr>(alloc: Global, words: &'a [S]) -> Result<Checked<'a
 
 fn read<'a>(alloc: Global, matches: &ArgMatches<'a>) -> Result<Checked<'a>, NoRun>
     ensures ok { IfOk result (IsCheckedBy (rows_of (found_of matches.now))) }
-    ensures err { IfErr result (IsRefusedBy (rows_of (found_of matches.now))) }
+    ensures err { IfErr result
+        (AreRefused (rows_of (found_of matches.now)) NamesFile NoneOdd) }
 {
     let file = file(alloc, "check", matches)?;
     let all = is_true(matches.get_str("all"));

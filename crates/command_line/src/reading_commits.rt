@@ -1,22 +1,26 @@
 //! Reading a command line that asks for the commits of a run.
 ghost use Rattle.std.specs.Prelude.{IfOk, IfErr, map};
 ghost use Rattle.clap.specs.Words.{found_of, rows_of};
-ghost use Rattle.command_line.specs.Commits.{IsCommittedBy, IsCommittedIn, IsRefusedBy, IsRefusedIn};
+ghost use Rattle.command_line.specs.Commits.{IsCommittedIn};
+ghost use Rattle.command_line.specs.Reading.{AreRefused, IsRefused};
+ghost use Rattle.command_line.specs.Rings.{HasOddRing};
+ghost use Rattle.command_line.specs.Tool.{commits as commits_word};
+ghost use Rattle.command_line.specs.Watched.{HasWatchedRun, IsWatchedBy};
 
 use crate::commands::commits;
 use crate::entered::entered;
-use crate::entries::{file, number, predictor, seed};
-use crate::ring::with_ring;
-use crate::{Committed, NoRun};
+use crate::reading_watched::{values_of, watched};
+use crate::{NoRun, Watched};
 use clap::ArgMatches;
 use std::alloc::Global;
 use std::convert::AsStr;
 
 /// The run whose commits the words ask for, of which the first is the program's name. Where they are refused, `NoRun`
 /// has what to print, and `status` gives the exit status.
-pub fn committed<'a, S: AsStr>(alloc: Global, words: &'a [S]) -> Result<Committed<'a>, NoRun>
+pub fn committed<'a, S: AsStr>(alloc: Global, words: &'a [S]) -> Result<Watched<'a>, NoRun>
     ensures ok { IfOk result (IsCommittedIn (map S.text words.entry.now)) }
-    ensures err { IfErr result (IsRefusedIn (map S.text words.entry.now)) }
+    ensures err { IfErr result (IsRefused commits_word (map S.text words.entry.now)
+        HasWatchedRun (HasOddRing HasWatchedRun)) }
 {
     let command = commits(alloc)?;
     let matches = entered(alloc, command, "commits", words)?;
@@ -24,28 +28,11 @@ pub fn committed<'a, S: AsStr>(alloc: Global, words: &'a [S]) -> Result<Committe
 }
 
 // What the matches hold, and the defaults where they hold nothing.
-fn read<'a>(alloc: Global, matches: &ArgMatches<'a>) -> Result<Committed<'a>, NoRun>
-    ensures ok { IfOk result (IsCommittedBy (rows_of (found_of matches.now))) }
-    ensures err { IfErr result (IsRefusedBy (rows_of (found_of matches.now))) }
+fn read<'a>(alloc: Global, matches: &ArgMatches<'a>) -> Result<Watched<'a>, NoRun>
+    ensures ok { IfOk result (IsWatchedBy (rows_of (found_of matches.now))) }
+    ensures err { IfErr result
+        (AreRefused (rows_of (found_of matches.now)) HasWatchedRun (HasOddRing HasWatchedRun)) }
 {
-    let file = file(alloc, "commits", matches)?;
-    let queue = number(alloc, "commits", matches, "lsq-size", 2, 32, 8)?;
-    let predictor = predictor(alloc, "commits", matches)?;
-    let limit = number(
-        alloc,
-        "commits",
-        matches,
-        "limit",
-        0,
-        0xffff_ffff,
-        1_000_000,
-    )?;
-    let seed = seed(alloc, "commits", matches, "seed")?;
-    let config = with_ring(alloc, "commits", matches, queue, 2, limit, 0xffff_ffff)?;
-    Ok(Committed {
-        file,
-        config,
-        predictor,
-        seed,
-    })
+    let values = values_of(alloc, "commits", matches)?;
+    watched(alloc, "commits", matches, values)
 }

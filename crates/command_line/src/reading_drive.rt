@@ -1,7 +1,9 @@
 //! Reading a command line that asks for a unit to drive.
 ghost use Rattle.std.specs.Prelude.{IfOk, IfErr, map};
 ghost use Rattle.clap.specs.Words.{found_of, rows_of};
-ghost use Rattle.command_line.specs.Drive.{IsDrivenBy, IsDrivenIn, IsRefusedBy, IsRefusedIn};
+ghost use Rattle.command_line.specs.Drive.{CanBeDriven, IsDrivenBy, IsDrivenIn};
+ghost use Rattle.command_line.specs.Reading.{AreRefused, IsRefused, NoneOdd};
+ghost use Rattle.command_line.specs.Tool.{drive as drive_word};
 
 use crate::commands::drive;
 use crate::entered::entered;
@@ -19,7 +21,8 @@ use std::convert::AsStr;
 /// what to print, and `status` gives the exit status.
 pub fn driven<'a, S: AsStr>(alloc: Global, words: &'a [S]) -> Result<ByHand<'a>, NoRun>
     ensures ok { IfOk result (IsDrivenIn (map S.text words.entry.now)) }
-    ensures err { IfErr result (IsRefusedIn (map S.text words.entry.now)) }
+    ensures err { IfErr result
+        (IsRefused drive_word (map S.text words.entry.now) CanBeDriven NoneOdd) }
 {
     let command = drive(alloc)?;
     let matches = entered(alloc, command, "drive", words)?;
@@ -29,7 +32,8 @@ pub fn driven<'a, S: AsStr>(alloc: Global, words: &'a [S]) -> Result<ByHand<'a>,
 // What the matches hold, and the defaults where they hold nothing.
 fn read<'a>(alloc: Global, matches: &ArgMatches<'a>) -> Result<ByHand<'a>, NoRun>
     ensures ok { IfOk result (IsDrivenBy (rows_of (found_of matches.now))) }
-    ensures err { IfErr result (IsRefusedBy (rows_of (found_of matches.now))) }
+    ensures err { IfErr result
+        (AreRefused (rows_of (found_of matches.now)) CanBeDriven NoneOdd) }
 {
     let file = file(alloc, "drive", matches)?;
     if is_standard_input(file) {

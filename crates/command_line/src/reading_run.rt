@@ -1,7 +1,10 @@
 //! Reading a command line that asks for a run.
 ghost use Rattle.std.specs.Prelude.{IfOk, IfErr, map};
 ghost use Rattle.clap.specs.Words.{found_of, rows_of};
-ghost use Rattle.command_line.specs.Run.{IsAskedBy, IsAskedIn, IsRefusedBy, IsRefusedIn};
+ghost use Rattle.command_line.specs.Run.{IsAskedBy, IsAskedIn, HasAskedRun};
+ghost use Rattle.command_line.specs.Reading.{AreRefused, IsRefused};
+ghost use Rattle.command_line.specs.Rings.{HasOddRing};
+ghost use Rattle.command_line.specs.Tool.{run as run_word};
 
 use crate::commands::run;
 use crate::entered::entered;
@@ -18,7 +21,8 @@ use std::convert::AsStr;
 /// to print, and `status` gives the exit status.
 pub fn asked<'a, S: AsStr>(alloc: Global, words: &'a [S]) -> Result<Asked<'a>, NoRun>
     ensures ok { IfOk result (IsAskedIn (map S.text words.entry.now)) }
-    ensures err { IfErr result (IsRefusedIn (map S.text words.entry.now)) }
+    ensures err { IfErr result
+        (IsRefused run_word (map S.text words.entry.now) HasAskedRun (HasOddRing HasAskedRun)) }
 {
     let command = run(alloc)?;
     let matches = entered(alloc, command, "run", words)?;
@@ -28,7 +32,8 @@ pub fn asked<'a, S: AsStr>(alloc: Global, words: &'a [S]) -> Result<Asked<'a>, N
 // What the matches hold, and the defaults where they hold nothing.
 fn read<'a>(alloc: Global, matches: &ArgMatches<'a>) -> Result<Asked<'a>, NoRun>
     ensures ok { IfOk result (IsAskedBy (rows_of (found_of matches.now))) }
-    ensures err { IfErr result (IsRefusedBy (rows_of (found_of matches.now))) }
+    ensures err { IfErr result
+        (AreRefused (rows_of (found_of matches.now)) HasAskedRun (HasOddRing HasAskedRun)) }
 {
     let file = file(alloc, "run", matches)?;
     let queue = number(alloc, "run", matches, "lsq-size", 2, 32, 8)?;

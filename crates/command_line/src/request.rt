@@ -29,30 +29,24 @@ pub struct Asked<'a> {
     pub shake: Option<u64>,
 }
 
-/// A run of the one-thread unit whose chart is asked for. Its units and turns are those of a run that is asked for
+/// A run of the one-thread unit that is watched turn by turn. Its units and turns are those of a run that is asked for
 /// nothing more.
 #[derive(Clone, Copy)]
-pub struct Charted<'a> {
+pub struct Watched<'a> {
     /// The file of the listing.
     pub file: &'a str,
     pub config: Config,
     pub predictor: BranchPredictor,
     /// The seed by which turns are chosen.
     pub seed: Option<u64>,
-    /// The file that gets the log; never the one of the listing.
-    pub log: Option<&'a str>,
 }
 
-/// A run of the one-thread unit whose commits are asked for. Its units and turns are those of a run that is asked for
-/// nothing more.
+/// A run whose chart is asked for.
 #[derive(Clone, Copy)]
-pub struct Committed<'a> {
-    /// The file of the listing.
-    pub file: &'a str,
-    pub config: Config,
-    pub predictor: BranchPredictor,
-    /// The seed by which turns are chosen.
-    pub seed: Option<u64>,
+pub struct Charted<'a> {
+    pub run: Watched<'a>,
+    /// The file that gets the log; never the one of the listing.
+    pub log: Option<&'a str>,
 }
 
 /// A listing that is to be read and checked, and not run.

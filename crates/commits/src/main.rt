@@ -1,8 +1,17 @@
 //! The program `commits`, which is `./ruu commits FILE`: its words, its file and its standard streams.
 #![tactic(auto)]
 
-use command_line::{Committed, REFUSED, committed, is_standard_input, refuse, words};
-use commit_log::{end, log_commits};
+mod answering;
+mod change;
+mod digits;
+mod laws;
+mod line;
+mod logging;
+mod retiring;
+mod word;
+
+use answering::log_commits;
+use command_line::{REFUSED, Watched, committed, end, is_standard_input, refuse, words};
 use counted_io::{ClosedStreams, Counted};
 use std::fs::File;
 use std::io::Read;
@@ -22,14 +31,14 @@ fn main(rt: HostRuntime) -> ExitCode {
     }
 }
 
-fn log(rt: &HostRuntime, asked: &Committed<'_>) -> ExitCode {
+fn log(rt: &HostRuntime, asked: &Watched<'_>) -> ExitCode {
     if is_standard_input(asked.file) {
         return log_from(rt, asked, Some(rt.stdin()));
     }
     log_from(rt, asked, File::open(rt, asked.file).ok())
 }
 
-fn log_from<R: Read + Drop>(rt: &HostRuntime, asked: &Committed<'_>, input: Option<R>) -> ExitCode {
+fn log_from<R: Read + Drop>(rt: &HostRuntime, asked: &Watched<'_>, input: Option<R>) -> ExitCode {
     let reader = input.map(Counted::new);
     let mut writer = Counted::new(rt.stdout());
     end(rt, log_commits(rt.alloc(), asked, reader, &mut writer))

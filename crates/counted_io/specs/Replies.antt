@@ -2,8 +2,8 @@
 use Rattle.std.specs.Prelude.{◌≡◌, ℕ, ◌+◌, Option, List, IfSome, take}
 use Rattle.counted_io.specs.Counted.{failures_of, known_by, Gives, GivesPart, Takes, TakesUpTo}
 use Rattle.counted_io.specs.declared.counted.Counted.{Counted}
-use Rattle.counted_io.specs.declared.reply.Unanswered.{Unanswered}
-use Rattle.counted_io.specs.declared.reply.Unanswered.TheVariants.{Read, Refused, Write}
+use Rattle.counted_io.specs.declared.fault.Fault.{Fault}
+use Rattle.counted_io.specs.declared.fault.Fault.TheVariants.{Memory, Read, Write}
 
 -- P of some text of this kind
 pub record HasText (Is P : List ℕ → Type 0) : Type 0 where
@@ -26,6 +26,12 @@ pub record HasBegunToRead {R : Type 0} (failed : ℕ) (remaining : R → Option 
     (old new : Counted R) : Type 0 where
   pub taken : TakesUpTo most remaining old new
   pub failures : failures_of new ≡ failures_of old + failed
+
+-- how a reader is left where its input was not taken: it is blamed for one failed call, and only then
+abbrev pub IsUnread : {R : Type 0} → (R → Option (List ℕ)) → (most : ℕ) → (reader reader_new : Counted R) → Fault → Type 0
+IsUnread remaining most r r' Read = HasBegunToRead 1 remaining most r r'
+IsUnread remaining most r r' Memory = HasBegunToRead 0 remaining most r r'
+IsUnread remaining most r r' Write = ⊥
 
 -- a text for the input was written whole, and no call of a device failed
 pub record HasReplied {R W : Type 0} (remaining : R → Option (List ℕ)) (contents : W → Option (List ℕ)) (most : ℕ)
@@ -50,10 +56,10 @@ pub record HasNoReply {R W : Type 0} (failed : ℕ) (remaining : R → Option (L
   pub silent : writer_new ≡ writer
 
 -- how reader and writer are left where an input was not answered
-abbrev pub IsUnanswered : {R W E : Type 0} → (R → Option (List ℕ)) → (W → Option (List ℕ)) → (most : ℕ)
+abbrev pub IsUnanswered : {R W : Type 0} → (R → Option (List ℕ)) → (W → Option (List ℕ)) → (most : ℕ)
     → (reader reader_new : Counted R) → (writer writer_new : Counted W)
-    → (IsText : (input text : List ℕ) → Type 0) → Unanswered E → Type 0
+    → (IsText : (input text : List ℕ) → Type 0) → Fault → Type 0
 IsUnanswered remaining contents most r r' w w' IsText Read = HasNoReply 1 remaining most r r' w w'
-IsUnanswered remaining contents most r r' w w' IsText (Refused why) = HasNoReply 0 remaining most r r' w w'
+IsUnanswered remaining contents most r r' w w' IsText Memory = HasNoReply 0 remaining most r r' w w'
 IsUnanswered remaining contents most r r' w w' IsText Write =
     HasReplyBegun remaining contents most r r' w w' IsText

@@ -2,13 +2,13 @@
 #![tactic(auto)]
 
 mod counted;
+mod fault;
 mod input;
 mod output;
-mod reply;
 mod streams;
 
 pub use counted::Counted;
-pub use input::{InputFault, read_up_to};
+pub use fault::Fault;
+pub use input::read_up_to;
 pub use output::{WriteFailed, write_whole};
-pub use reply::{Reply, Unanswered, reply_to};
 pub use streams::ClosedStreams;

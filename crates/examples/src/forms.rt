@@ -1,11 +1,11 @@
 //! The forms in which a listing is run: under a command line, from bytes to bytes on one thread, and in order.
 use crate::example::Example;
-use bench::alone;
+use bench::{alone, read_listing};
 use command::{asked, go};
 use counted_io::Counted;
 use inorder::{Ended, Machine};
 use instructions::{End, Ending, NotTaken};
-use isa::{parse, report_text};
+use isa::report_text;
 use pool::Gate;
 use std::alloc::Global;
 use std::io::{self, ErrorKind};
@@ -114,7 +114,7 @@ pub fn in_order(alloc: Global, options: &[&str], listing: &[u8]) -> io::Result<V
     let Ok(asked) = asked(alloc, words.as_slice()) else {
         return Err(mistake());
     };
-    let Ok(program) = parse(alloc, listing) else {
+    let Ok(Ok(program)) = read_listing(alloc, &mut Counted::new(listing)) else {
         return Err(io::Error::from(ErrorKind::InvalidData));
     };
     let Ok(mut machine) = Machine::new(alloc, &program) else {

@@ -1,3 +1,2 @@
 pub mod Listings
 pub mod Statuses
-pub mod Whole

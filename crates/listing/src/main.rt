@@ -9,8 +9,7 @@ mod converting;
 mod no_listing;
 
 use converting::convert;
-use counted_io::{ClosedStreams, Counted, Unanswered};
-use disassembly::Refusal;
+use counted_io::{ClosedStreams, Counted};
 use no_listing::NoListing;
 use std::env;
 use std::fs::File;
@@ -50,30 +49,12 @@ fn requested(words: &[String]) -> Option<Request<'_>> {
     }
 }
 
-fn status(why: &Unanswered<NoListing>) -> u8
-    ensures { result ≡ status_without_listing why.now }
-{
-    match why {
-        Unanswered::Refused(
-            NoListing::Refused {
-                why: Refusal::Memory,
-            },
-        ) => 5,
-        Unanswered::Refused(_) => 2,
-        Unanswered::Read | Unanswered::Write => 5,
-    }
-}
-
 // A failure to print changes no status.
-fn refuse(rt: &HostRuntime, file: &str, why: &Unanswered<NoListing>) -> ExitCode
+fn refuse(rt: &HostRuntime, file: &str, why: &NoListing) -> ExitCode
     ensures { exit_status result ≡ status_without_listing why.now }
 {
-    let _ = match why {
-        Unanswered::Read => eprintln!(rt; "ruu: {file}: it cannot be read to its end"),
-        Unanswered::Refused(no_listing) => eprintln!(rt; "ruu: {file}: {no_listing}"),
-        Unanswered::Write => eprintln!(rt; "ruu: {file}: the listing cannot be written to its end"),
-    };
-    ExitCode::from(status(why))
+    let _ = eprintln!(rt; "ruu: {file}: {why}");
+    ExitCode::from(why.status())
 }
 
 fn write_listing(rt: &HostRuntime, file: &str) -> ExitCode {

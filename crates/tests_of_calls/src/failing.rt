@@ -1,6 +1,6 @@
 //! Devices that fail in the middle.
 use crate::same::same;
-use counted_io::{Counted, InputFault, WriteFailed, read_up_to, write_whole};
+use counted_io::{Counted, Fault, WriteFailed, read_up_to, write_whole};
 use std::io::{self, ErrorKind, Read, Write};
 
 /// Gives so many bytes, one a call, and then fails.
@@ -58,7 +58,7 @@ fn a_failed_read_is_a_fault_and_is_counted(rt: HostRuntime) {
     for left in 0..4 {
         let mut reader = Counted::new(FailingReader { left });
         let went = read_up_to(rt.alloc(), &mut reader, 10);
-        assert!(rt; matches!(&went, Err(InputFault::Read)));
+        assert!(rt; matches!(&went, Err(Fault::Read)));
         same(&rt, &reader.failures(), &1);
     }
 }

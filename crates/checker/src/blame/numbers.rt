@@ -2,8 +2,9 @@
 ghost use Rattle.std.specs.Prelude.{◌≤◌};
 ghost use Rattle.checker.specs.Parts.{IsPartOf, LiesIn};
 
+use super::super::forms::has_offset;
 use super::super::parts::{Part, trimmed};
-use super::operands::{end_of_first, has_offset, last_operand, offset_in};
+use super::splitting::{end_of_first, last_operand, offset_in};
 use lexical::number_in;
 
 // The first operand of `.word` that is no number in its range.

@@ -1,70 +1,11 @@
 //! The operand that is of another kind than the form has, missing, or one too many.
-ghost use Rattle.std.specs.Prelude.{◌≤◌, ◌<◌, IfSome};
+ghost use Rattle.std.specs.Prelude.{◌≤◌, IfSome};
 ghost use Rattle.checker.specs.Parts.{IsPartOf, LiesIn};
 
 use super::super::parts::{Part, find, trimmed};
-use isa::{Form, Operands, Slot, directive_text, form_of, forms};
+use super::splitting::{from_operand, how_many, next_operand, offset_in, register_in};
+use isa::{Slot, directive_text, form_of, forms};
 use lexical::{begins_number, first_is, is_blank, is_name};
-
-/// The end of the first operand: its comma, or the end of all operands.
-pub(crate) fn end_of_first(line: &[u8], operands: Part) -> usize
-    requires { IsPartOf line.now operands }
-    ensures least { operands.from ≤ result }
-    ensures most { result ≤ operands.to }
-{
-    match find(line, operands, b',') {
-        Some(at) => at,
-        None => operands.to,
-    }
-}
-
-/// The last operand, where a form has its label, and most forms their number.
-pub(crate) fn last_operand(line: &[u8], operands: Part) -> Part
-    requires { IsPartOf line.now operands }
-    ensures { LiesIn operands result }
-{
-    let to = operands.to;
-    let mut from = operands.from;
-    while let Some(at) = find(line, Part { from, to }, b',') {
-        from = at + 1;
-    }
-    trimmed(line, Part { from, to })
-}
-
-/// Whether a form of the word has an offset with a register.
-pub(crate) fn has_offset(word: &[u8]) -> bool {
-    let has_offset = |form: &Form| matches!(form.operands, Operands::Load | Operands::Store);
-    forms()
-        .iter()
-        .any(|form| form.has_word(word) && has_offset(form))
-}
-
-/// The offset of an operand `offset(register)`: all before its first parenthesis.
-pub(crate) fn offset_in(line: &[u8], operand: Part) -> Part
-    requires { IsPartOf line.now operand }
-    ensures { LiesIn operand result }
-{
-    let to = find(line, operand, b'(').unwrap_or(operand.to);
-    let front = Part {
-        from: operand.from,
-        to,
-    };
-    trimmed(line, front)
-}
-
-/// The register of an operand `offset(register)`: all behind its first parenthesis but the last byte, which is the
-/// closing one.
-pub(crate) fn register_in(line: &[u8], operand: Part) -> Part
-    requires { IsPartOf line.now operand }
-    ensures { LiesIn operand result }
-{
-    let Some(open) = find(line, operand, b'(') else {
-        return operand;
-    };
-    let from = open + 1;
-    let to = from.max(operand.to - 1);
-    trimmed(line, Part { from, to })
-}
 
 // The part of an offset with a register that is of another kind: the register, or the offset, or all where there are no
 // parentheses.
@@ -102,27 +43,6 @@ fn other_kind(line: &[u8], slot: Slot, operand: Part) -> Option<Part>
         Slot::Offset => return other_address(line, operand),
     };
     if is_right { None } else { Some(operand) }
-}
-
-// The first operand, and the operands behind its comma, if it has one.
-fn next_operand(line: &[u8], operands: Part) -> (Part, Option<Part>)
-    requires { IsPartOf line.now operands }
-    ensures first { LiesIn operands result.0 }
-    ensures rest { IfSome result.1 (λ rest. LiesIn operands rest) }
-    ensures shorter { IfSome result.1 (λ rest. operands.from < rest.from) }
-{
-    let to = operands.to;
-    let end = end_of_first(line, operands);
-    let first = Part {
-        from: operands.from,
-        to: end,
-    };
-    let rest = if end < to {
-        Some(Part { from: end + 1, to })
-    } else {
-        None
-    };
-    (trimmed(line, first), rest)
 }
 
 // The first part of operands that is of another kind than its slot; all operands where there is none.
@@ -192,33 +112,6 @@ fn without_comma(line: &[u8], operands: Part) -> Option<Part>
         rest = behind;
     }
     None
-}
-
-// The operands from one on, by its number counted from 0, if there are as many.
-fn from_operand(line: &[u8], operands: Part, number: usize) -> Option<Part>
-    requires { IsPartOf line.now operands }
-    ensures { IfSome result (LiesIn operands) }
-{
-    let to = operands.to;
-    let mut from = operands.from;
-    for _ in 0..number {
-        from = find(line, Part { from, to }, b',')? + 1;
-    }
-    Some(trimmed(line, Part { from, to }))
-}
-
-// The number of operands: one more than commas, or none where there is no byte.
-fn how_many(line: &[u8], operands: Part) -> usize
-    requires { IsPartOf line.now operands }
-{
-    let text = &line[operands.from..operands.to];
-    if text.is_empty() {
-        return 0;
-    }
-    text.iter()
-        .filter(|byte| **byte == b',')
-        .count()
-        .wrapping_add(1)
 }
 
 // The most operands of a form of the word.

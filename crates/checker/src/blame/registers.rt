@@ -2,9 +2,10 @@
 ghost use Rattle.std.specs.Prelude.{◌≤◌, IfOk};
 ghost use Rattle.checker.specs.Parts.{IsPartOf, LiesIn};
 
+use super::super::forms::has_offset;
 use super::super::parts::{Part, trimmed};
 use super::super::registers::is_register;
-use super::operands::{end_of_first, has_offset, register_in};
+use super::splitting::{end_of_first, register_in};
 use std::alloc::{AllocError, Global};
 
 /// The first operand that begins as a register and is none, or the register in it behind an offset.

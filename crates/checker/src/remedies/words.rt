@@ -2,7 +2,7 @@
 
 use super::super::statements::Statement;
 use super::lists::{OPERATIONS, OTHERS};
-use super::operands::{less, with_number};
+use super::numbers::{less, with_number};
 use super::templates::{filled, row_of, written};
 use super::{joined, nothing};
 use isa::{directive_text, forms};

@@ -1,5 +1,4 @@
-use Rattle.std.proofs.Common.{subst, sym, rules}
-use Rattle.checker.specs.Faults.{IsLonger}
+use Rattle.std.proofs.Common.{rules}
 use Rattle.checker.proofs.LongerTexts.{one_longer}
 use Rattle.checker.proofs.clearing.push_label.Goals as goal
 use Rattle.checker.proofs.clearing.push_label.Goals.{then-byte-ne10+in_ok-push, else-byte-ne10}

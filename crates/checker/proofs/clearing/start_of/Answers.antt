@@ -1,5 +1,4 @@
-use Rattle.std.proofs.Common.{◌≡◌, ◌+◌, length, take, arith}
-use Rattle.checker.specs.Faults.{feeds}
+use Rattle.std.proofs.Common.{arith}
 use Rattle.checker.proofs.LongerTexts.{feeds_more}
 use Rattle.checker.proofs.clearing.start_of.Goals as goal
 use Rattle.checker.proofs.clearing.start_of.Goals.{then-byte-eq10, else-byte-eq10}

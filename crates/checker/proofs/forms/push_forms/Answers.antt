@@ -1,4 +1,3 @@
-use Rattle.isa.specs.Forms.{form_view, forms}
 use Rattle.checker.specs.Forms.{forms_of}
 use Rattle.checker.proofs.forms.push_forms.Goals as goal
 

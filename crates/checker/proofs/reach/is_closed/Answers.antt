@@ -1,6 +1,4 @@
-use Rattle.std.proofs.Common.{◌≡◌, ◌<◌, ◌+◌, ℕ, true, Some, slice_get, subst, sym, arith, inl, inr, rules}
-use Rattle.std.proofs.lemmas.Bool.{cases_lt}
-use Rattle.checker.specs.Reach.{HasSuccessors}
+use Rattle.std.proofs.Common.{rules}
 use Rattle.checker.proofs.Reached.{below_and, not_in}
 use Rattle.checker.proofs.reach.is_closed.Goals as goal
 use Rattle.checker.proofs.reach.is_closed.Goals.{else-reached-k-via-then-reached-k+else-not-has_successors, else-reached-k-via-else-reached-k}

@@ -1,4 +1,4 @@
-use Rattle.std.proofs.Common.{◌∙◌, ◌≡◌, ◌∷◌, sym, arith, drop}
+use Rattle.std.proofs.Common.{◌≡◌, ◌∷◌, arith, drop}
 use Rattle.std.specs.Option.{option_map}
 use Rattle.lexical.specs.Line.{lines_of, lines_left}
 use Rattle.checker.proofs.LinesCounted.{few_lines, next_is, next_rest}

@@ -1,6 +1,6 @@
-use Rattle.std.proofs.Common.{◌≡◌, ◌∙◌, ◌++◌, ap}
+use Rattle.std.proofs.Common.{◌∙◌, ◌++◌, ap}
 use Rattle.checker.specs.Spots.{spot_text}
-use Rattle.checker.specs.Warnings.{Warned, warning, said}
+use Rattle.checker.specs.Warnings.{Warned, warning}
 use Rattle.checker.proofs.Warned.{one_warned}
 use Rattle.checker.proofs.warnings.push_warning.Goals as goal
 

@@ -6,4 +6,4 @@ pub returns-in-Ok-clause-same : goal.returns-in-Ok-clause-same
 returns-in-Ok-clause-same g c = λ written whole.
     let is = c.in-Some.is in
     reader_as_alone g.R.Read.remaining c.args.reader c.in-Some.reader (cc) c.args.asked.now c.in-Ok.went
-    (Gives g.W.Write.contents c.args.writer.now c.ended.new.writer) whole c.in-Ok.ensures.ok.text
+    (Gives g.W.Write.contents c.args.writer.now c.answered.new.writer) whole c.in-Ok.ensures.ok.text

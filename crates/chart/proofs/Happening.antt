@@ -1,0 +1,248 @@
+-- What is told of a turn has happened.
+use Rattle.std.proofs.Common.{◌≡◌, ◌<◌, ◌≤◌, ℕ, zero, suc, ◌+◌, ◌^◌, Bool, true, false, cond, List, [], ◌∷◌, ◌++◌, length, map, take, drop, Option, Some, None, refl, sym, ap, ◌∙◌, subst, arith}
+use Rattle.std.proofs.lemmas.Bool.{le-ltb, ltb-false}
+use Rattle.std.proofs.lemmas.List.{append-nil}
+use Rattle.std.specs.List.{AllByRecursion}
+use Rattle.std.specs.Prelude.{nat_lt, slice_get}
+use Rattle.instructions.specs.Programs.{Program}
+use Rattle.inorder.specs.Tenants.{Retired as HasRetired, Squashed, Tenant}
+use Rattle.inorder.specs.Unit.{Sizes, UpdateUnit}
+use Rattle.one_thread.specs.declared.bench.Turn.{Turn}
+use Rattle.one_thread.specs.declared.bench.Turn.TheVariants.{Halved, Let, Loaded, Over, Ran, Recovered, Retired}
+use Rattle.one_thread.specs.declared.station.Station.{Station}
+use Rattle.one_thread.specs.Turns.{Before, Does, Now, Nowhere}
+use Rattle.one_thread.specs.Window.{window}
+use Rattle.chart.specs.declared.event.Event.TheVariants.{Moved}
+use Rattle.chart.specs.declared.row.Row.{Row}
+use Rattle.chart.specs.Events.{entry_events, events, is_same, left_events, went_on, moved_events, retirement, squash, squashes}
+use Rattle.chart.specs.Happened.{Happened, HasGone, StandsAs}
+use Rattle.chart.specs.Named.{IsRowOf, StandsIn, live_positions}
+use Rattle.chart.specs.Rows.{SoFar, all_seen, is_recovery, let_row, newcomer, phase_of, retires as leaves_one, staying}
+use Rattle.chart.specs.Watched.{AreTurns, Passed, unit_behind, events_at, kept_behind}
+use Rattle.counted_io.specs.Counted.{raised}
+use Rattle.chart.proofs.LivePositions.{Fewer, OneLess, OneMore}
+use Rattle.chart.proofs.RowsNamed.{Named, as_before, each_row, fewer_left, matched, named, one_less, position_of, positions_length, row_count, stands_at}
+use Rattle.chart.proofs.TurnPositions.{grows, lets, loads, recovers, retires, runs}
+
+-- Lists
+
+all_both : {X : Type 0} (Q : X → Type 0) (xs ys : List X) → AllByRecursion Q xs → AllByRecursion Q ys → AllByRecursion Q (xs ++ ys)
+all_both Q [] ys h k = k
+all_both Q (x ∷ xs) ys h k = (h.0, all_both Q xs ys h.1 k)
+
+all_get : {X : Type 0} (Q : X → Type 0) (xs : List X) → AllByRecursion Q xs → (i : ℕ) (x : X) → slice_get xs i ≡ Some x → Q x
+all_get Q [] h i x e = absurd (cc)
+all_get Q (y ∷ ys) h zero x e = let same : y ≡ x = cc in subst Q same h.0
+all_get Q (y ∷ ys) h (suc i) x e = all_get Q ys h.1 i x e
+
+all_take : {X : Type 0} (Q : X → Type 0) (n : ℕ) (xs : List X) → AllByRecursion Q xs → AllByRecursion Q (take n xs)
+all_take Q zero xs h = tt
+all_take Q (suc n) [] h = tt
+all_take Q (suc n) (x ∷ xs) h = (h.0, all_take Q n xs h.1)
+
+all_but_first : {X : Type 0} (Q : X → Type 0) (xs : List X) → AllByRecursion Q xs → AllByRecursion Q (drop 1 xs)
+all_but_first Q [] h = tt
+all_but_first Q (x ∷ xs) h = h.1
+
+-- behind others
+all_behind : {X : Type 0} (Q : X → Type 0) (xs ys : List X) → AllByRecursion Q ys → (i : ℕ) (x : X) → length xs ≤ i →
+    slice_get (xs ++ ys) i ≡ Some x → Q x
+all_behind Q [] ys h i x l e = all_get Q ys h i x e
+all_behind Q (z ∷ xs) ys h zero x l e = absurd (omega (arith, l))
+all_behind Q (z ∷ xs) ys h (suc i) x l e = all_behind Q xs ys h i x (omega (arith, l)) e
+
+get_before : {X : Type 0} (xs ys : List X) (i : ℕ) (x : X) → slice_get xs i ≡ Some x → slice_get (xs ++ ys) i ≡ Some x
+get_before [] ys i x e = absurd (cc)
+get_before (z ∷ xs) ys zero x e = e
+get_before (z ∷ xs) ys (suc i) x e = get_before xs ys i x e
+
+get_last : {X : Type 0} (xs : List X) (x : X) → slice_get (xs ++ x ∷ []) (length xs) ≡ Some x
+get_last [] x = refl
+get_last (z ∷ xs) x = get_last xs x
+
+get_position : (rows : List Row) (i : ℕ) (r : Row) → slice_get rows i ≡ Some r → slice_get (map position_of rows) i ≡ Some r.position
+get_position [] i r e = absurd (cc)
+get_position (x ∷ rows) zero r e = let same : x ≡ r = cc in ap (λ (z : Row). Some z.position) same
+get_position (x ∷ rows) (suc i) r e = get_position rows i r e
+
+module _ (P : Program) (us vs : List Tenant) where
+  -- Who has left
+
+  retired_happened : (first : ℕ) (rows : List Row) (others : ℕ) → StandsAs vs first HasRetired → map position_of rows ≡ first ∷ live_positions vs →
+      AllByRecursion (IsRowOf P us) rows → AllByRecursion (Happened P us vs) (retirement others rows)
+  retired_happened first [] others left e h = tt
+  retired_happened first (r ∷ rs) others left e h =
+      let same : first ≡ r.position = cc in
+      (record { stood = h.0; left = subst (λ p. StandsAs vs p HasRetired) same left }, tt)
+
+  squashes_happened : (rows : List Row) (live n : ℕ) → ((i : ℕ) (r : Row) → live ≤ i → slice_get rows i ≡ Some r → HasGone P us vs r Squashed) →
+      AllByRecursion (Happened P us vs) (squashes live rows n)
+  squashes_happened rows live zero f = tt
+  squashes_happened rows live (suc n) f = go (nat_lt n live) refl (squashes_happened rows live n f)
+    where
+      one : (o : Option Row) → slice_get rows n ≡ o → live ≤ n → AllByRecursion (Happened P us vs) (squash o)
+      one None e l = tt
+      one (Some r) e l = (f n r l e, tt)
+
+      go : (b : Bool) → nat_lt n live ≡ b → AllByRecursion (Happened P us vs) (squashes live rows n) →
+          AllByRecursion (Happened P us vs) (cond b [] (squash (slice_get rows n) ++ squashes live rows n))
+      go true e more = tt
+      go false e more =
+          all_both (Happened P us vs) (squash (slice_get rows n)) (squashes live rows n) (one (slice_get rows n) refl (ltb-false n live e)) more
+
+  -- Who has gone on
+
+  moves_happened : (W : List Station) (i : ℕ) (rows : List Row) → AllByRecursion (IsRowOf P us) rows →
+      ((j : ℕ) (r : Row) (w : Station) → slice_get rows j ≡ Some r → slice_get W (i + j) ≡ Some w → StandsIn P vs r.position w) →
+      AllByRecursion (Happened P us vs) (moved_events W i rows)
+  moves_happened W i [] h f = tt
+  moves_happened W i (r ∷ rs) h f =
+      all_both (Happened P us vs) (went_on r (slice_get W i)) (moved_events W (i + 1) rs) (one (slice_get W i) refl) (moves_happened W (i + 1) rs h.1 more)
+    where
+      more : (j : ℕ) (s : Row) (w : Station) → slice_get rs j ≡ Some s → slice_get W (i + 1 + j) ≡ Some w → StandsIn P vs s.position w
+      more j s w e g = let next : i + suc j ≡ i + 1 + j = omega arith in f (suc j) s w e (ap (slice_get W) next ∙ g)
+
+      one : (o : Option Station) → slice_get W i ≡ o → AllByRecursion (Happened P us vs) (went_on r o)
+      one None e = tt
+      one (Some w) e = go (is_same (phase_of r.station.stage) (phase_of w.stage))
+        where
+          here : i + 0 ≡ i
+          here = omega arith
+
+          go : (b : Bool) → AllByRecursion (Happened P us vs) (cond b [] (Moved r.position (phase_of r.station.stage) (phase_of w.stage) ∷ []))
+          go true = tt
+          go false = (
+            record {
+              old = r.station;
+              new = w;
+              stood = h.0;
+              stands = f 0 r w refl (ap (slice_get W) here ∙ e);
+              from_is = refl;
+              to_is = refl;
+            },
+            tt,
+          )
+
+  some_stay : (answer : Turn) (live : ℕ) (rows : List Row) → AllByRecursion (IsRowOf P us) rows → AllByRecursion (IsRowOf P us) (staying answer live rows)
+  some_stay answer live rows h = go (is_recovery answer) (leaves_one answer live (length rows))
+    where
+      go : (a b : Bool) → AllByRecursion (IsRowOf P us) (cond a (take live rows) (cond b (drop 1 rows) rows))
+      go true b = all_take (IsRowOf P us) live rows h
+      go false true = all_but_first (IsRowOf P us) rows h
+      go false false = h
+
+  -- all that is told, where those who stay have these positions
+  together : (k : SoFar) (answer : Turn) (extra : List ℕ) → AllByRecursion (IsRowOf P us) k.rows →
+      map position_of (staying answer (length (window P vs)) k.rows) ++ extra ≡ live_positions vs →
+      AllByRecursion (Happened P us vs) (left_events answer (length (window P vs)) k.retirements k.rows) →
+      AllByRecursion (Happened P us vs)
+      (entry_events (all_seen (raised k.turns) (window P vs) 0 (staying answer (length (window P vs)) k.rows)) (newcomer k answer (window P vs))) →
+      AllByRecursion (Happened P us vs) (events k answer (window P vs))
+  together k answer extra h stay left entry =
+      let W = window P vs in
+      let rows = staying answer (length W) k.rows in
+      let went = left_events answer (length W) k.retirements k.rows in
+      let came = entry_events (all_seen (raised k.turns) W 0 rows) (newcomer k answer W) in
+      let there : (j : ℕ) (r : Row) (w : Station) → slice_get rows j ≡ Some r → slice_get W (0 + j) ≡ Some w → StandsIn P vs r.position w =
+      λ j r w e f.
+      let at_j : slice_get (live_positions vs) j ≡ Some r.position =
+      ap (λ l. slice_get l j) (sym stay) ∙ get_before (map position_of rows) extra j r.position (get_position rows j r e) in
+      let same : j ≡ 0 + j = omega arith in
+      stands_at P vs (live_positions vs) W (matched P vs) j r.position w at_j (ap (slice_get W) same ∙ f) in
+      all_both (Happened P us vs) went (moved_events W 0 rows ++ came) left
+      (all_both (Happened P us vs) (moved_events W 0 rows) came (moves_happened W 0 rows (some_stay answer (length W) k.rows h) there) entry)
+
+module _ (P : Program) (C : Sizes) (U V : UpdateUnit) (k : SoFar) (n : Named P U.tenants k) where
+  each : AllByRecursion (IsRowOf P U.tenants) k.rows
+  each = each_row P U.tenants k n
+
+  -- those who stay, and nobody else
+  all_of : (stay : List Row) → map position_of stay ≡ live_positions V.tenants → map position_of stay ++ [] ≡ live_positions V.tenants
+  all_of stay e = append-nil (map position_of stay) ∙ e
+
+  -- the oldest has left
+  one_left : (o : OneLess U.tenants V.tenants) →
+      AllByRecursion (Happened P U.tenants V.tenants) (cond (nat_lt (length (window P V.tenants)) (length k.rows)) (retirement k.retirements k.rows) [])
+  one_left o = go (nat_lt (length (window P V.tenants)) (length k.rows))
+    where
+      go : (b : Bool) → AllByRecursion (Happened P U.tenants V.tenants) (cond b (retirement k.retirements k.rows) [])
+      go true = retired_happened P U.tenants V.tenants o.first k.rows k.retirements o.left (n.positions ∙ o.positions) each
+      go false = tt
+
+  -- nobody has
+  none_left : V ≡ U →
+      AllByRecursion (Happened P U.tenants V.tenants) (cond (nat_lt (length (window P V.tenants)) (length k.rows)) (retirement k.retirements k.rows) [])
+  none_left e =
+      let same : live_positions U.tenants ≡ live_positions V.tenants = ap (λ X. live_positions X.tenants) (sym e) in
+      let all : length k.rows ≤ length (window P V.tenants) =
+      omega (arith, row_count P C U V k n, ap (λ l. length l) same, positions_length P V.tenants) in
+      subst (λ b. AllByRecursion (Happened P U.tenants V.tenants) (cond b (retirement k.retirements k.rows) []))
+      (sym (le-ltb (length (window P V.tenants)) (length k.rows) all)) tt
+
+  -- the youngest have
+  some_left : (f : Fewer U.tenants V.tenants) →
+      AllByRecursion (Happened P U.tenants V.tenants) (squashes (length (window P V.tenants)) k.rows (length k.rows))
+  some_left f = squashes_happened P U.tenants V.tenants k.rows (length (window P V.tenants)) (length k.rows) gone
+    where
+      gone : (i : ℕ) (r : Row) → length (window P V.tenants) ≤ i → slice_get k.rows i ≡ Some r → HasGone P U.tenants V.tenants r Squashed
+      gone i r l e =
+          let at_i : slice_get (live_positions V.tenants ++ f.gone) i ≡ Some r.position =
+          ap (λ x. slice_get x i) (sym (n.positions ∙ f.positions)) ∙ get_position k.rows i r e in
+          let past : length (live_positions V.tenants) ≤ i = omega (arith, l, positions_length P V.tenants) in
+          record {
+            stood = all_get (IsRowOf P U.tenants) k.rows each i r e;
+            left = all_behind (λ p. StandsAs V.tenants p Squashed) (live_positions V.tenants) f.gone f.left i r.position past at_i;
+          }
+
+  -- one has come
+  one_came : OneMore U.tenants V.tenants → (rows : List Row) →
+      AllByRecursion (Happened P U.tenants V.tenants) (entry_events rows (newcomer k Let (window P V.tenants)))
+  one_came o rows = go (slice_get (window P V.tenants) (length k.rows)) refl
+    where
+      go : (w : Option Station) → slice_get (window P V.tenants) (length k.rows) ≡ w →
+          AllByRecursion (Happened P U.tenants V.tenants) (entry_events rows (let_row Let w k.lets (raised k.turns)))
+      go None e = tt
+      go (Some w) e =
+          let last : slice_get (live_positions V.tenants) (length k.rows) ≡ Some k.lets =
+          ap (λ l. slice_get l (length k.rows)) o.positions
+          ∙ ap (slice_get (live_positions U.tenants ++ length U.tenants ∷ [])) (row_count P C U V k n)
+          ∙ get_last (live_positions U.tenants) (length U.tenants)
+          ∙ ap Some (sym n.lets) in (
+            record {
+              position = n.lets;
+              stands = stands_at P V.tenants (live_positions V.tenants) (window P V.tenants) (matched P V.tenants) (length k.rows) k.lets w last e;
+            },
+            tt,
+          )
+
+  happened : (answer : Turn) → Does P C U V answer → AllByRecursion (Happened P U.tenants V.tenants) (events k answer (window P V.tenants))
+  happened Recovered d =
+      let f = recovers P C U V d in
+      together P U.tenants V.tenants k Recovered [] each (all_of (take (length (window P V.tenants)) k.rows) (fewer_left P C U V k n f)) (some_left f) tt
+  happened Let d =
+      let o = lets P C U V d in
+      let stay : map position_of k.rows ++ length U.tenants ∷ [] ≡ live_positions V.tenants =
+      ap (λ l. l ++ length U.tenants ∷ []) n.positions ∙ sym o.positions in
+      together P U.tenants V.tenants k Let (length U.tenants ∷ []) each stay tt
+      (one_came o (all_seen (raised k.turns) (window P V.tenants) 0 k.rows))
+  happened Ran d = together P U.tenants V.tenants k Ran [] each (all_of k.rows (n.positions ∙ sym (runs P C U V d).positions)) tt tt
+  happened Loaded d = together P U.tenants V.tenants k Loaded [] each (all_of k.rows (n.positions ∙ sym (loads P C U V d).positions)) tt tt
+  happened Halved d =
+      let o = retires P C U V d.retires in
+      together P U.tenants V.tenants k Halved [] each (all_of (staying Halved (length (window P V.tenants)) k.rows) (one_less P C U V k n o)) (one_left o) tt
+  happened Retired d =
+      let o = retires P C U V d in
+      together P U.tenants V.tenants k Retired [] each (all_of (staying Retired (length (window P V.tenants)) k.rows) (one_less P C U V k n o)) (one_left o) tt
+  happened (Over c) (Before stopped same) =
+      together P U.tenants V.tenants k (Over c) [] each (all_of (staying (Over c) (length (window P V.tenants)) k.rows) (as_before P C U V k n same)) (none_left same) tt
+  happened (Over c) (Now r stopped) =
+      let o = retires P C U V r in
+      together P U.tenants V.tenants k (Over c) [] each (all_of (staying (Over c) (length (window P V.tenants)) k.rows) (one_less P C U V k n o)) (one_left o) tt
+  happened (Over c) (Nowhere bad nowhere same) =
+      together P U.tenants V.tenants k (Over c) [] each (all_of (staying (Over c) (length (window P V.tenants)) k.rows) (as_before P C U V k n same)) (none_left same) tt
+
+pub all_happened : (P : Program) (C : Sizes) (turns : List Passed) (t : Passed) → AreTurns P C (t ∷ turns) → length t.unit.tenants < 2 ^ 64 →
+    AllByRecursion (Happened P (unit_behind turns).tenants t.unit.tenants) (events_at P turns t)
+all_happened P C turns t a small =
+    let more = grows P C (unit_behind turns) t.unit t.answer a.1 in
+    happened P C (unit_behind turns) t.unit (kept_behind P turns) (named P C turns a.0 (omega (arith, more, small))) t.answer a.1

@@ -1,0 +1,252 @@
+-- Each row is that of the tenant at its position.
+use Rattle.std.proofs.Common.{◌≡◌, ◌<◌, ◌≤◌, ℕ, zero, suc, ◌+◌, ◌^◌, Bool, true, false, cond, List, [], ◌∷◌, ◌++◌, length, map, take, drop, Option, Some, None, refl, sym, ap, ◌∙◌, subst, arith}
+use Rattle.std.proofs.Common.{add-one, length-append}
+use Rattle.std.proofs.lemmas.Bool.{le-ltb, lt-ltb}
+use Rattle.std.proofs.lemmas.List.{drop-map, length-map, map-append, take-map}
+use Rattle.std.proofs.Math.Seq.{take-append_seam, take-length}
+use Rattle.std.specs.List.{AllByRecursion}
+use Rattle.std.specs.Prelude.{is_some, nat_lt, slice_get}
+use Rattle.instructions.specs.Programs.{Program}
+use Rattle.inorder.specs.Tenants.{Live, Retired as HasRetired, Squashed, Standing, Tenant, is_live, stands_live}
+use Rattle.inorder.specs.Unit.{Sizes, UpdateUnit}
+use Rattle.inorder.proofs.Positions.{at_more, at_new}
+use Rattle.one_thread.specs.declared.bench.Turn.{Turn}
+use Rattle.one_thread.specs.declared.bench.Turn.TheVariants.{Halved, Let, Loaded, Over, Ran, Recovered, Retired}
+use Rattle.one_thread.specs.declared.station.Station.{Station}
+use Rattle.one_thread.specs.Turns.{Before, Does, Now, Nowhere}
+use Rattle.one_thread.specs.Window.{station_of, window}
+use Rattle.chart.specs.declared.row.Row.{Row}
+use Rattle.chart.specs.Named.{AreNamed, IsRowOf, StandsIn, live_positions}
+use Rattle.chart.specs.Rows.{SoFar, all_seen, let_row, listed, newcomer, next_kept, seen_in, staying, with_row}
+use Rattle.chart.specs.Watched.{AreTurns, Passed, unit_behind, kept_behind}
+use Rattle.counted_io.specs.Counted.{counted, raised}
+use Rattle.chart.proofs.LivePositions.{Fewer, OneLess, OneMore}
+use Rattle.chart.proofs.Lists.{take_next}
+use Rattle.chart.proofs.TurnPositions.{grows, lets, loads, recovers, retires, runs}
+
+-- Rows behind a turn
+
+abbrev pub position_of : Row → ℕ
+position_of r = r.position
+
+abbrev pub station_in : Row → Station
+station_in r = r.station
+
+pub positions_length : (P : Program) (ts : List Tenant) → length (live_positions ts) ≡ length (window P ts)
+positions_length P [] = refl
+positions_length P (t ∷ ts) = go (is_live t) (positions_length P ts)
+  where
+    go : (b : Bool) → length (live_positions ts) ≡ length (window P ts) →
+        length (cond b (live_positions ts ++ length ts ∷ []) (live_positions ts)) ≡ length (cond b (window P ts ++ station_of P t ∷ []) (window P ts))
+    go true e =
+        omega (arith, e, length-append (live_positions ts) (length ts ∷ []), length-append (window P ts) (station_of P t ∷ []))
+    go false e = e
+
+pub slice_there : {X : Type 0} (xs : List X) (i : ℕ) → i < length xs → (x : X) × (slice_get xs i ≡ Some x)
+slice_there [] i l = absurd (omega (arith, l))
+slice_there (x ∷ xs) zero l = (x, refl)
+slice_there (x ∷ xs) (suc i) l = slice_there xs i (omega (arith, l))
+
+drop_there : {X : Type 0} (xs : List X) (i : ℕ) (x : X) → slice_get xs i ≡ Some x → drop i xs ≡ x ∷ drop (suc i) xs
+drop_there [] i x e = absurd (cc)
+drop_there (y ∷ ys) zero x e = let same : y ≡ x = cc in ap (λ z. z ∷ ys) same
+drop_there (y ∷ ys) (suc i) x e = drop_there ys i x e
+
+seen_positions : (turn : ℕ) (W : List Station) (i : ℕ) (rows : List Row) → map position_of (all_seen turn W i rows) ≡ map position_of rows
+seen_positions turn W i [] = refl
+seen_positions turn W i (r ∷ rs) =
+    ap (λ p. p ∷ map position_of (all_seen turn W (i + 1) rs)) (one (slice_get W i))
+    ∙ ap (λ l. r.position ∷ l) (seen_positions turn W (i + 1) rs)
+  where
+    one : (o : Option Station) → (seen_in turn r o).position ≡ r.position
+    one None = refl
+    one (Some w) = refl
+
+seen_stations : (turn : ℕ) (W : List Station) (i : ℕ) (rows : List Row) → i + length rows ≤ length W →
+    map station_in (all_seen turn W i rows) ≡ take (length rows) (drop i W)
+seen_stations turn W i [] h = refl
+seen_stations turn W i (r ∷ rs) h =
+    let there = slice_there W i (omega (arith, h)) in
+    let w : Station = there.0 in
+    let more = seen_stations turn W (i + 1) rs (omega (arith, h)) in
+    ap (λ o. (seen_in turn r o).station ∷ map station_in (all_seen turn W (i + 1) rs)) there.1
+    ∙ ap (λ l. w ∷ l) more
+    ∙ ap (λ k. w ∷ take (length rs) (drop k W)) (add-one i)
+    ∙ ap (take (suc (length rs))) (sym (drop_there W i w there.1))
+
+-- The rows are those of the live tenants
+pub record Named (P : Program) (ts : List Tenant) (k : SoFar) : Type 0 where
+  pub lets : k.lets ≡ length ts
+  pub positions : map position_of k.rows ≡ live_positions ts
+  pub stations : map station_in k.rows ≡ window P ts
+
+module _ (P : Program) (C : Sizes) (U V : UpdateUnit) (k : SoFar) (n : Named P U.tenants k) where
+  pub row_count : length k.rows ≡ length (live_positions U.tenants)
+  row_count = sym (length-map k.rows position_of) ∙ ap (λ l. length l) n.positions
+
+  -- nobody has come
+  plain_next : (answer : Turn) → length V.tenants ≡ length U.tenants → newcomer k answer (window P V.tenants) ≡ None →
+      map position_of (staying answer (length (window P V.tenants)) k.rows) ≡ live_positions V.tenants →
+      Named P V.tenants (next_kept k answer (window P V.tenants))
+  plain_next answer counts none here =
+      let S = window P V.tenants in
+      let stay = staying answer (length S) k.rows in
+      let seen = all_seen (raised k.turns) S 0 stay in
+      let count : length stay ≡ length S = sym (length-map stay position_of) ∙ ap (λ l. length l) here ∙ positions_length P V.tenants in
+      record {
+        lets = ap (λ o. counted (is_some o) k.lets) none ∙ n.lets ∙ sym counts;
+        positions = ap (λ o. map position_of (with_row seen o)) none ∙ seen_positions (raised k.turns) S 0 stay ∙ here;
+        stations =
+            ap (λ o. map station_in (with_row seen o)) none
+            ∙ seen_stations (raised k.turns) S 0 stay (omega (arith, count))
+            ∙ ap (λ m. take m S) count
+            ∙ take-length S;
+      }
+
+  -- one was let
+  let_next : OneMore U.tenants V.tenants → length V.tenants < 2 ^ 64 → Named P V.tenants (next_kept k Let (window P V.tenants))
+  let_next one small =
+      let S = window P V.tenants in
+      let m : ℕ = length k.rows in
+      let more : length (live_positions V.tenants) ≡ m + 1 =
+      omega (arith, row_count, ap (λ l. length l) one.positions, length-append (live_positions U.tenants) (length U.tenants ∷ [])) in
+      let wide : m + 1 ≡ length S = sym more ∙ positions_length P V.tenants in
+      let there = slice_there S m (omega (arith, wide)) in
+      let w : Station = there.0 in
+      let seen = all_seen (raised k.turns) S 0 k.rows in
+      let row : Row = record { position = k.lets; let_at = raised k.turns; ran = None; settled = None; station = w } in
+      let new : newcomer k Let S ≡ Some row = ap (λ o. let_row Let o k.lets (raised k.turns)) there.1 in
+      let next : raised (length U.tenants) ≡ length V.tenants = omega (arith, one.count, small) in
+      record {
+        lets = ap (λ o. counted (is_some o) k.lets) new ∙ ap raised n.lets ∙ next;
+        positions =
+            ap (λ o. map position_of (with_row seen o)) new
+            ∙ map-append position_of seen (row ∷ [])
+            ∙ ap (λ l. l ++ k.lets ∷ []) (seen_positions (raised k.turns) S 0 k.rows ∙ n.positions)
+            ∙ ap (λ p. live_positions U.tenants ++ p ∷ []) n.lets
+            ∙ sym one.positions;
+        stations =
+            ap (λ o. map station_in (with_row seen o)) new
+            ∙ map-append station_in seen (row ∷ [])
+            ∙ ap (λ l. l ++ w ∷ []) (seen_stations (raised k.turns) S 0 k.rows (omega (arith, wide)))
+            ∙ ap (λ o. take m S ++ listed o) (sym there.1)
+            ∙ sym (take_next S m)
+            ∙ ap (λ j. take j S) wide
+            ∙ take-length S;
+      }
+
+  -- the oldest has left
+  pub one_less : OneLess U.tenants V.tenants →
+      map position_of (cond (nat_lt (length (window P V.tenants)) (length k.rows)) (drop 1 k.rows) k.rows) ≡ live_positions V.tenants
+  one_less o =
+      let less : length (window P V.tenants) < length k.rows = omega (arith, row_count, ap (λ l. length l) o.positions, positions_length P V.tenants) in
+      ap (λ b. map position_of (cond b (drop 1 k.rows) k.rows)) (lt-ltb (length (window P V.tenants)) (length k.rows) less)
+      ∙ sym (drop-map position_of 1 k.rows)
+      ∙ ap (drop 1) (n.positions ∙ o.positions)
+
+  -- nothing was done
+  pub as_before : V ≡ U →
+      map position_of (cond (nat_lt (length (window P V.tenants)) (length k.rows)) (drop 1 k.rows) k.rows) ≡ live_positions V.tenants
+  as_before e =
+      let same : live_positions U.tenants ≡ live_positions V.tenants = ap (λ X. live_positions X.tenants) (sym e) in
+      let all : length k.rows ≤ length (window P V.tenants) = omega (arith, row_count, ap (λ l. length l) same, positions_length P V.tenants) in
+      ap (λ b. map position_of (cond b (drop 1 k.rows) k.rows)) (le-ltb (length (window P V.tenants)) (length k.rows) all)
+      ∙ n.positions
+      ∙ same
+
+  pub fewer_left : Fewer U.tenants V.tenants → map position_of (take (length (window P V.tenants)) k.rows) ≡ live_positions V.tenants
+  fewer_left f =
+      sym (take-map position_of (length (window P V.tenants)) k.rows)
+      ∙ ap (take (length (window P V.tenants))) (n.positions ∙ f.positions)
+      ∙ ap (λ m. take m (live_positions V.tenants ++ f.gone)) (sym (positions_length P V.tenants))
+      ∙ take-append_seam (live_positions V.tenants) f.gone
+
+  next : (answer : Turn) → Does P C U V answer → length V.tenants < 2 ^ 64 → Named P V.tenants (next_kept k answer (window P V.tenants))
+  next Recovered d small = let f = recovers P C U V d in plain_next Recovered f.count refl (fewer_left f)
+  next Let d small = let_next (lets P C U V d) small
+  next Ran d small = let s = runs P C U V d in plain_next Ran s.count refl (n.positions ∙ sym s.positions)
+  next Loaded d small = let s = loads P C U V d in plain_next Loaded s.count refl (n.positions ∙ sym s.positions)
+  next Halved d small = let o = retires P C U V d.retires in plain_next Halved o.count refl (one_less o)
+  next Retired d small = let o = retires P C U V d in plain_next Retired o.count refl (one_less o)
+  next (Over c) (Before stopped same) small = plain_next (Over c) (ap (λ X. length X.tenants) same) refl (as_before same)
+  next (Over c) (Now r stopped) small = let o = retires P C U V r in plain_next (Over c) o.count refl (one_less o)
+  next (Over c) (Nowhere bad nowhere same) small = plain_next (Over c) (ap (λ X. length X.tenants) same) refl (as_before same)
+
+pub named : (P : Program) (C : Sizes) (turns : List Passed) → AreTurns P C turns → length (unit_behind turns).tenants < 2 ^ 64 →
+    Named P (unit_behind turns).tenants (kept_behind P turns)
+named P C [] a small = record { lets = refl; positions = refl; stations = refl }
+named P C (t ∷ ts) a small =
+    let more = grows P C (unit_behind ts) t.unit t.answer a.1 in
+    next P C (unit_behind ts) t.unit (kept_behind P ts) (named P C ts a.0 (omega (arith, more, small))) t.answer a.1 small
+
+-- Row by row
+
+pub Matched : Program → List Tenant → List ℕ → List Station → Type 0
+Matched P ts [] [] = Unit {0}
+Matched P ts (p ∷ ps) (w ∷ ws) = StandsIn P ts p w × Matched P ts ps ws
+Matched P ts [] (w ∷ ws) = ⊥
+Matched P ts (p ∷ ps) [] = ⊥
+
+matched_end : (P : Program) (ts : List Tenant) (ps : List ℕ) (ws : List Station) (p : ℕ) (w : Station) → Matched P ts ps ws →
+    StandsIn P ts p w → Matched P ts (ps ++ p ∷ []) (ws ++ w ∷ [])
+unfolding Matched
+matched_end P ts [] [] p w m h = (h, tt)
+matched_end P ts (q ∷ ps) (v ∷ ws) p w m h = (m.0, matched_end P ts ps ws p w m.1 h)
+matched_end P ts [] (v ∷ ws) p w m h = absurd m
+matched_end P ts (q ∷ ps) [] p w m h = absurd m
+
+pub stands_at : (P : Program) (ts : List Tenant) (ps : List ℕ) (ws : List Station) → Matched P ts ps ws → (i p : ℕ) (w : Station) →
+    slice_get ps i ≡ Some p → slice_get ws i ≡ Some w → StandsIn P ts p w
+unfolding Matched
+stands_at P ts [] [] m i p w e f = absurd (cc)
+stands_at P ts (q ∷ ps) (v ∷ ws) m zero p w e f =
+    let here : q ≡ p = cc in
+    let there : v ≡ w = cc in
+    subst (λ x. StandsIn P ts x w) here (subst (StandsIn P ts q) there m.0)
+stands_at P ts (q ∷ ps) (v ∷ ws) m (suc i) p w e f = stands_at P ts ps ws m.1 i p w e f
+stands_at P ts [] (v ∷ ws) m i p w e f = absurd m
+stands_at P ts (q ∷ ps) [] m i p w e f = absurd m
+
+matched_more : (P : Program) (t : Tenant) (ts : List Tenant) (ps : List ℕ) (ws : List Station) → Matched P ts ps ws → Matched P (t ∷ ts) ps ws
+unfolding Matched
+matched_more P t ts [] [] m = tt
+matched_more P t ts (p ∷ ps) (w ∷ ws) m = (
+  record { tenant = m.0.tenant; is = at_more t ts p m.0.tenant m.0.is; live = m.0.live; station = m.0.station },
+  matched_more P t ts ps ws m.1,
+)
+matched_more P t ts [] (w ∷ ws) m = absurd m
+matched_more P t ts (p ∷ ps) [] m = absurd m
+
+pub matched : (P : Program) (ts : List Tenant) → Matched P ts (live_positions ts) (window P ts)
+unfolding Matched
+matched P [] = tt
+matched P (t ∷ ts) = go t.standing refl (matched_more P t ts (live_positions ts) (window P ts) (matched P ts))
+  where
+    gone : stands_live t.standing ≡ false → Matched P (t ∷ ts) (live_positions ts) (window P ts) → Matched P (t ∷ ts) (live_positions (t ∷ ts)) (window P (t ∷ ts))
+    gone e m = subst (λ b. Matched P (t ∷ ts) (cond b (live_positions ts ++ length ts ∷ []) (live_positions ts)) (cond b (window P ts ++ station_of P t ∷ []) (window P ts))) (sym e) m
+
+    go : (st : Standing) → t.standing ≡ st → Matched P (t ∷ ts) (live_positions ts) (window P ts) →
+        Matched P (t ∷ ts) (live_positions (t ∷ ts)) (window P (t ∷ ts))
+    go Live e m =
+        let here : StandsIn P (t ∷ ts) (length ts) (station_of P t) = record { tenant = t; is = at_new t ts; live = e; station = refl } in
+        subst (λ b. Matched P (t ∷ ts) (cond b (live_positions ts ++ length ts ∷ []) (live_positions ts)) (cond b (window P ts ++ station_of P t ∷ []) (window P ts)))
+        (sym (ap stands_live e)) (matched_end P (t ∷ ts) (live_positions ts) (window P ts) (length ts) (station_of P t) m here)
+    go HasRetired e m = gone (ap stands_live e) m
+    go Squashed e m = gone (ap stands_live e) m
+
+row_by_row : (P : Program) (ts : List Tenant) (rows : List Row) → Matched P ts (map position_of rows) (map station_in rows) → AllByRecursion (IsRowOf P ts) rows
+unfolding Matched
+row_by_row P ts [] m = tt
+row_by_row P ts (r ∷ rs) m = (m.0, row_by_row P ts rs m.1)
+
+pub each_row : (P : Program) (ts : List Tenant) (k : SoFar) → Named P ts k → AllByRecursion (IsRowOf P ts) k.rows
+each_row P ts k n =
+    row_by_row P ts k.rows
+    (subst (λ ps. Matched P ts ps (map station_in k.rows)) (sym n.positions)
+    (subst (Matched P ts (live_positions ts)) (sym n.stations) (matched P ts)))
+
+pub rows_are_named : (P : Program) (C : Sizes) (turns : List Passed) → AreTurns P C turns → length (unit_behind turns).tenants < 2 ^ 64 →
+    AreNamed P (unit_behind turns).tenants (kept_behind P turns).rows
+rows_are_named P C turns a small =
+    let n = named P C turns a small in
+    record { positions = n.positions; each = each_row P (unit_behind turns).tenants (kept_behind P turns) n }

@@ -1,0 +1,35 @@
+use Rattle.std.proofs.Common.{◌≡◌, ◌∙◌, ◌++◌, ap, length}
+use Rattle.std.specs.Prelude.{slice_get}
+use Rattle.chart.specs.Rows.{SoFar, all_seen, kept, let_row, newcomer, retires}
+use Rattle.chart.specs.Events.{entry_events, moved_events}
+use Rattle.counted_io.specs.Counted.{counted}
+use Rattle.chart.proofs.BooksKept.{turn_events, turn_kept}
+use Rattle.chart.proofs.books.Books.turn.Goals as goal
+
+pub returns-clause-events : goal.returns-clause-events
+returns-clause-events c =
+    let k : SoFar = kept c.args.self.now in
+    let W = c.args.window.now in
+    let there : c.station_at.result ≡ slice_get W (length k.rows) = c.station_at.ensures ∙ ap (slice_get W) c.row_count-count.ensures in
+    let new : c.let_row-new.result ≡ newcomer k c.args.answer W = c.let_row-new.ensures
+    ∙ ap (λ o. let_row c.args.answer o k.lets c.raised-turn.result) there
+    ∙ ap (λ n. let_row c.args.answer (slice_get W (length k.rows)) k.lets n) c.raised-turn.ensures in
+    turn_events k c.args.answer W _ _ _ _ _ _ _ _ c.raised-turn.ensures new c.new-events.ensures.items c.in_ok-leave.ensures.events c.in_ok-leave.ensures.rows
+    (c.in_ok-push_moves.ensures ∙ ap (λ l. c.leave.new.events.items ++ moved_events W 0 l) c.as_slice.ensures.value)
+    (c.in_ok-rows.ensures ∙ ap (λ l. all_seen c.raised-turn.result W 0 l) c.as_slice-2.ensures.value)
+    (c.in_ok-push_entry.ensures ∙ ap (λ l. c.push_moves.new.events.items ++ entry_events l c.let_row-new.result) c.as_slice-3.ensures.value)
+
+pub returns-clause-kept : goal.returns-clause-kept
+returns-clause-kept c =
+    let k : SoFar = kept c.args.self.now in
+    let W = c.args.window.now in
+    let there : c.station_at.result ≡ slice_get W (length k.rows) = c.station_at.ensures ∙ ap (slice_get W) c.row_count-count.ensures in
+    let new : c.let_row-new.result ≡ newcomer k c.args.answer W = c.let_row-new.ensures
+    ∙ ap (λ o. let_row c.args.answer o k.lets c.raised-turn.result) there
+    ∙ ap (λ n. let_row c.args.answer (slice_get W (length k.rows)) k.lets n) c.raised-turn.ensures in
+    turn_kept k c.args.answer W c.raised-turn.result _ _ _ _ _ _ c.raised-turn.ensures new
+    (c.counted-lets.ensures ∙ ap (λ b. counted b k.lets) c.is_some.ensures)
+    (c.counted-retired.ensures ∙ ap (λ b. counted b k.retirements) (c.retires.ensures ∙ ap (retires c.args.answer (length W)) c.row_count-count.ensures))
+    c.in_ok-leave.ensures.rows
+    (c.in_ok-rows.ensures ∙ ap (λ l. all_seen c.raised-turn.result W 0 l) c.as_slice-2.ensures.value)
+    c.in_ok-push_row.ensures

@@ -1,0 +1,46 @@
+-- What became of tenants at a turn, by the tenants before it and behind it.
+use Rattle.std.specs.Prelude.{◌≡◌, ℕ, List, length, Some}
+use Rattle.instructions.specs.Programs.{Program}
+use Rattle.inorder.specs.Tenants.{Standing, Tenant}
+use Rattle.inorder.specs.Tenants as tenant
+use Rattle.inorder.specs.Unit.{at}
+use Rattle.one_thread.specs.declared.station.Station.{Station}
+use Rattle.chart.specs.declared.event.Event.{Event}
+use Rattle.chart.specs.declared.event.Event.TheVariants.{Left, Let, Moved}
+use Rattle.chart.specs.declared.event.Way.TheVariants.{Retired, Squashed}
+use Rattle.chart.specs.declared.row.Phase.{Phase}
+use Rattle.chart.specs.declared.row.Row.{Row}
+use Rattle.chart.specs.Named.{IsRowOf, StandsIn}
+use Rattle.chart.specs.Rows.{phase_of}
+
+-- The tenant at this position is live, has retired, or was squashed
+pub record StandsAs (ts : List Tenant) (position : ℕ) (standing : Standing) : Type 0 where
+  pub tenant : Tenant
+  pub is : at ts position ≡ Some tenant
+  pub stands : tenant.standing ≡ standing
+
+-- The tenant of a row was let: there were as many tenants before it as its position says
+pub record WasLet (P : Program) (before behind : List Tenant) (r : Row) : Type 0 where
+  pub position : r.position ≡ length before
+  pub stands : IsRowOf P behind r
+
+-- The tenant at a position has gone on, from one phase to another
+pub record HasGoneOn (P : Program) (before behind : List Tenant) (position : ℕ) (from to : Phase) : Type 0 where
+  pub old : Station
+  pub new : Station
+  pub stood : StandsIn P before position old
+  pub stands : StandsIn P behind position new
+  pub from_is : from ≡ phase_of old.stage
+  pub to_is : to ≡ phase_of new.stage
+
+-- The tenant of a row was live, and has left
+pub record HasGone (P : Program) (before behind : List Tenant) (r : Row) (standing : Standing) : Type 0 where
+  pub stood : IsRowOf P before r
+  pub left : StandsAs behind r.position standing
+
+-- An event tells what became of the tenant at its position
+abbrev pub Happened : Program → List Tenant → List Tenant → Event → Type 0
+Happened P before behind (Let r first second) = WasLet P before behind r
+Happened P before behind (Moved position from to) = HasGoneOn P before behind position from to
+Happened P before behind (Left r (Retired others)) = HasGone P before behind r tenant.Retired
+Happened P before behind (Left r Squashed) = HasGone P before behind r tenant.Squashed

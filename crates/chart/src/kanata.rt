@@ -1,0 +1,87 @@
+//! A log of the format Kanata, version 0004.
+ghost use Rattle.std.specs.Prelude.{◌≡◌, ◌++◌, OnOk, string_bytes};
+ghost use Rattle.chart.specs.Kanata.{head, tick, stage_text as stage_text_of, wait_line, let_lines, way_text, event_lines};
+
+use crate::drawing::half_text;
+use crate::event::{Event, Way};
+use crate::row::{Phase, Row};
+use isa::{Hexadecimal, InstrText};
+use std::alloc::AllocError;
+
+pub(crate) fn push_head(out: &mut String) -> Result<(), AllocError>
+    ensures { OnOk result (string_bytes out.new ≡ string_bytes out.old ++ head) }
+{
+    out.push_str("Kanata\t0004\nC=\t0\n")
+}
+
+pub(crate) fn push_tick(out: &mut String) -> Result<(), AllocError>
+    ensures { OnOk result (string_bytes out.new ≡ string_bytes out.old ++ tick) }
+{
+    out.push_str("C\t1\n")
+}
+
+fn stage_text(phase: Phase) -> &'static str
+    ensures { result.now ≡ stage_text_of phase }
+{
+    match phase {
+        Phase::Waiting => "Ds",
+        Phase::Address => "Ad",
+        Phase::Done => "Cm",
+        Phase::Miss => "Ms",
+        Phase::Stop => "St",
+    }
+}
+
+fn push_wait(out: &mut String, position: u64, producer: Option<u64>) -> Result<(), AllocError>
+    ensures { OnOk result (string_bytes out.new
+        ≡ string_bytes out.old ++ wait_line position producer) }
+{
+    match producer {
+        None => Ok(()),
+        Some(producer) => write!(out, "W\t{position}\t{producer}\t0\n"),
+    }
+}
+
+fn push_let(out: &mut String, row: &Row) -> Result<(), AllocError>
+    ensures { OnOk result (string_bytes out.new ≡ string_bytes out.old ++ let_lines row.now) }
+{
+    let position = row.position;
+    let pc = Hexadecimal(row.station.pc);
+    let instr = row.station.instr.to_instr();
+    let half = half_text(&instr, row.station.half);
+    let instr = InstrText::by_numbers(instr);
+    write!(
+        out,
+        "I\t{position}\t{position}\t0\nL\t{position}\t0\t{pc} {instr}{half}\nS\t{position}\t0\tDs\n"
+    )
+}
+
+fn push_way(out: &mut String, way: Way) -> Result<(), AllocError>
+    ensures { OnOk result (string_bytes out.new ≡ string_bytes out.old ++ way_text way) }
+{
+    match way {
+        Way::Retired(before) => write!(out, "{before}\t0\n"),
+        Way::Squashed => out.push_str("0\t1\n"),
+    }
+}
+
+pub(crate) fn push_event(out: &mut String, event: &Event) -> Result<(), AllocError>
+    ensures { OnOk result (string_bytes out.new ≡ string_bytes out.old ++ event_lines event.now) }
+{
+    match event {
+        Event::Let { row, first, second } => {
+            push_let(out, row)?;
+            push_wait(out, row.position, *first)?;
+            push_wait(out, row.position, *second)
+        }
+        Event::Moved { position, from, to } => {
+            let (from, to) = (stage_text(*from), stage_text(*to));
+            write!(out, "E\t{position}\t0\t{from}\nS\t{position}\t0\t{to}\n")
+        }
+        Event::Left { row, way } => {
+            let position = row.position;
+            write!(out, "R\t{position}\t")?;
+            push_way(out, *way)
+        }
+    }
+}

@@ -1,0 +1,25 @@
+//! Laws of charts and logs: whom a row and an event tell of.
+ghost use Rattle.std.specs.Prelude.{◌<◌, ◌^◌, List, ◌∷◌, length};
+ghost use Rattle.std.specs.List.{AllByRecursion};
+ghost use Rattle.instructions.specs.Programs.{Program};
+ghost use Rattle.inorder.specs.Unit.{Sizes};
+ghost use Rattle.chart.specs.Happened.{Happened};
+ghost use Rattle.chart.specs.Named.{AreNamed};
+ghost use Rattle.chart.specs.Watched.{AreTurns, Passed, unit_behind, events_at, kept_behind};
+
+/// Each row is that of the tenant at its position, which is live and stands in the row's station, and each live
+/// tenant has one: behind any turns, while tenants can be counted.
+pub fn a_row_names_its_tenant()
+    ensures { (p : Program) (c : Sizes) (turns : List Passed) → AreTurns p c turns →
+        length (unit_behind turns).tenants < 2 ^ 64 →
+        AreNamed p (unit_behind turns).tenants (kept_behind p turns).rows }
+{}
+
+/// Each event of a turn has become of the tenant that it names: who was let is the youngest, who has gone on was in
+/// the one phase before the turn and is in the other behind it, who has left was live before it.
+pub fn what_is_told_has_happened()
+    ensures { (p : Program) (c : Sizes) (turns : List Passed) (t : Passed) →
+        AreTurns p c (t ∷ turns) → length t.unit.tenants < 2 ^ 64 →
+        AllByRecursion (Happened p (unit_behind turns).tenants t.unit.tenants)
+        (events_at p turns t) }
+{}

@@ -1,0 +1,100 @@
+//! The row of a live tenant.
+ghost use Rattle.std.specs.Prelude.{◌≡◌};
+ghost use Rattle.chart.specs.Events.{is_same as is_same_in};
+ghost use Rattle.chart.specs.Rows.{phase_of as phase_in, ran_by as ran_in, settled_turn, seen};
+
+use one_thread::{Stage, Station};
+
+/// How far a tenant has come.
+#[derive(Clone, Copy, Debug, PartialEq, Eq)]
+pub enum Phase {
+    /// The tenant waits for its operands, or for its turn.
+    Waiting,
+    /// A load or store has its address.
+    Address,
+    /// The tenant has its value, or its next pc as predicted.
+    Done,
+    /// The next pc of a branch or jump was mispredicted.
+    Miss,
+    /// The tenant stops the program, should it retire.
+    Stop,
+}
+
+/// A live tenant: the station as it stood behind a turn, and what became of it so far. Turns are
+/// counted from 1.
+#[derive(Clone, Copy)]
+pub struct Row {
+    /// How many tenants were let before it.
+    pub position: u64,
+    /// The turn of its let.
+    pub let_at: u64,
+    /// The turn at which it was claimed and finished.
+    pub ran: Option<u64>,
+    /// The turn at which a load got its value, or a miss was mended.
+    pub settled: Option<u64>,
+    pub station: Station,
+}
+
+/// How far a station says that its tenant has come.
+pub(crate) fn phase_of(stage: Stage) -> Phase
+    ensures { result ≡ phase_in stage }
+{
+    match stage {
+        Stage::Open => Phase::Waiting,
+        Stage::Addr(_) => Phase::Address,
+        Stage::Done => Phase::Done,
+        Stage::Miss(_) => Phase::Miss,
+        Stage::Stops(_) => Phase::Stop,
+    }
+}
+
+/// Whether two phases are one.
+pub(crate) fn is_same(one: Phase, other: Phase) -> bool
+    ensures { result ≡ is_same_in one other }
+{
+    matches!(
+        (one, other),
+        (Phase::Waiting, Phase::Waiting)
+            | (Phase::Address, Phase::Address)
+            | (Phase::Done, Phase::Done)
+            | (Phase::Miss, Phase::Miss)
+            | (Phase::Stop, Phase::Stop)
+    )
+}
+
+fn ran_by(turn: u64, before: Phase, behind: Phase, ran: Option<u64>) -> Option<u64>
+    ensures { result ≡ ran_in turn before behind ran }
+{
+    match (before, behind) {
+        (Phase::Waiting, Phase::Waiting) => ran,
+        (Phase::Waiting, _) => Some(turn),
+        _ => ran,
+    }
+}
+
+fn settled_by(turn: u64, before: Phase, behind: Phase, settled: Option<u64>) -> Option<u64>
+    ensures { result ≡ settled_turn turn before behind settled }
+{
+    match (before, behind) {
+        (Phase::Address, Phase::Done) => Some(turn),
+        (Phase::Miss, Phase::Done) => Some(turn),
+        _ => settled,
+    }
+}
+
+impl Row {
+    /// The row of a tenant that a turn left in this station.
+    pub(crate) fn seen(&self, turn: u64, station: Station) -> Row
+        ensures { result ≡ seen turn self.now station }
+    {
+        let before = phase_of(self.station.stage);
+        let behind = phase_of(station.stage);
+        Row {
+            position: self.position,
+            let_at: self.let_at,
+            ran: ran_by(turn, before, behind, self.ran),
+            settled: settled_by(turn, before, behind, self.settled),
+            station,
+        }
+    }
+}

@@ -1,0 +1,55 @@
+//! A run that is told while it goes.
+ghost use Rattle.std.specs.Prelude.{◌≡◌, ◌≢◌, ◌<◌, ◌+◌, ◌-◌, ◌^◌, IfErr, IfOk, OnErr, OnOk};
+ghost use Rattle.counted_io.specs.Counted.{failures_of, known_by};
+ghost use Rattle.inorder.specs.Runs.{end_of, end_state};
+ghost use Rattle.chart.specs.Watched.{IsBegun, IsTold, guides, sizes_by};
+
+use crate::books::Books;
+use crate::telling::Format;
+use crate::watching::{tell_first, tell_last, tell_turns};
+use counted_io::{Counted, Fault};
+use instructions::{Config, End, Predictor, Program};
+use one_thread::{Bench, Chooser, Order};
+use std::alloc::Global;
+use std::io::Write;
+
+/// Runs a program on the one-thread unit, up to the limit of the configuration and in an order, and tells each turn
+/// before the next one is made. A row for each live tenant is all that is kept of the run.
+pub fn watch<P: Predictor + Drop, C: Chooser + Drop, W: Write>(
+    alloc: Global,
+    program: &Program,
+    config: &Config,
+    predictor: P,
+    order: Order<C>,
+    format: Format,
+    writer: &mut Counted<W>,
+) -> Result<End, Fault>
+    requires { failures_of writer.old < 2 ^ 64 - 1 }
+    // The run ends as the in-order machine does, and what was written is told of all its turns, which
+    // are legal ones by this predictor's guesses, and those that the order asks for.
+    ensures end { IfOk result (λ end. end_state end ≡ end_of program.now config.now.limit) }
+    ensures told { IfOk result (λ end. IsTold P.Predicts P.Learns C.Chooses format program.now
+        (sizes_by config.now) config.now.limit (guides predictor order) (end_state end)
+        (known_by W.contents writer.old) (known_by W.contents writer.new)) }
+    ensures quiet { OnOk result (failures_of writer.new ≡ failures_of writer.old) }
+    // The text that was written before a fault is a beginning of what is told of such turns.
+    ensures begun { OnErr result (IsBegun P.Predicts P.Learns C.Chooses format program.now
+        (sizes_by config.now) (guides predictor order)
+        (known_by W.contents writer.old) (known_by W.contents writer.new)) }
+    ensures write { IfErr result (λ fault. fault ≡ Fault.Write →
+        failures_of writer.new ≡ failures_of writer.old + 1) }
+    ensures memory { IfErr result (λ fault. fault ≡ Fault.Memory →
+        failures_of writer.new ≡ failures_of writer.old) }
+    ensures read { IfErr result (λ fault. fault ≢ Fault.Read) }
+{
+    let mut bench = Bench::new(alloc, program, config, predictor)?;
+    let mut order = order;
+    let mut books = Books::new(alloc);
+    let limit = u64::from(config.limit());
+    tell_first(alloc, format, writer)?;
+    tell_turns(
+        alloc, &mut bench, &mut order, &mut books, format, limit, writer,
+    )?;
+    tell_last(alloc, &books, format, writer)?;
+    Ok(bench.run(limit))
+}

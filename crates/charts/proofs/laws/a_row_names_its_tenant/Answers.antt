@@ -1,5 +1,0 @@
-use Rattle.charts.proofs.RowsNamed.{rows_are_named}
-use Rattle.charts.proofs.laws.a_row_names_its_tenant.Goals as goal
-
-pub returns : goal.returns
-returns c = λ p sizes turns. rows_are_named p sizes turns

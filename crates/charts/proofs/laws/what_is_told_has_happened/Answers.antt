@@ -1,5 +1,0 @@
-use Rattle.charts.proofs.Happening.{all_happened}
-use Rattle.charts.proofs.laws.what_is_told_has_happened.Goals as goal
-
-pub returns : goal.returns
-returns c = λ p sizes turns t. all_happened p sizes turns t

@@ -1,4 +1,0 @@
-mod LogKept
-mod Retirement
-mod Taken
-mod WordFound

@@ -1,0 +1,3 @@
+mod LogKept
+mod Retirement
+mod WordFound
