@@ -50,9 +50,9 @@ fn takes_a_chart_and_a_log(rt: HostRuntime) {
     for (words, seed, log) in cases {
         match charted(rt.alloc(), words) {
             Ok(charted) => {
-                same_in(&rt, &words, &charted.seed, &seed);
+                same_in(&rt, &words, &charted.run.seed, &seed);
                 same_in(&rt, &words, &charted.log, &log);
-                same(&rt, &charted.file, &"sum.s");
+                same(&rt, &charted.run.file, &"sum.s");
             },
             Err(_no_run) => assert!(rt; false, "{words:?}"),
         }
