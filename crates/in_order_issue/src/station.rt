@@ -69,7 +69,8 @@ impl<'a> OneStation<'a> {
     // Stores the value of source 2 at an address, or gives what a load finds there.
     fn access(&mut self, instr: &Instr, at: usize, second: u32) -> u32
         requires { at + width_of instr.now.op ≤ length self.old.state.memory }
-        ensures value { result ≡ value_by (kind_of instr.now.op) instr.now at self.old.state.memory }
+        ensures value { result ≡
+            value_by (kind_of instr.now.op) instr.now at self.old.state.memory }
         ensures memory { self.new ≡ record self.old {
           state = record self.old.state {
             memory = memory_by (kind_of instr.now.op) instr.now at second self.old.state.memory;

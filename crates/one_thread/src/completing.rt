@@ -26,8 +26,8 @@ impl<'a> Pipeline<'a> {
     #[inline(always)]
     fn value_behind(&self, stores: &[Entry], op: Op, address: u32) -> Option<u32>
         requires { address + width_in op ≤ length self.now.committed.memory }
-        ensures { result ≡
-            value_by (answer_of stores.now address (width_in op)) self.now.committed.memory op address }
+        ensures { let older = answer_of stores.now address (width_in op) in
+            result ≡ value_by older self.now.committed.memory op address }
     {
         match answer_over(stores, address, access_width(op)) {
             Answer::Forward(raw) => Some(loaded(op, raw)),
@@ -63,7 +63,8 @@ impl<'a> Pipeline<'a> {
         operands: &Operands,
     ) -> Option<Done>
         requires half { half ≡ flow.now.half }
-        requires inside { (a : ℕ) → outcome_in self.now flow.now instr.now operands.now ≡ Address a →
+        requires inside { (a : ℕ) →
+            outcome_in self.now flow.now instr.now operands.now ≡ Address a →
             a + width_in instr.now.op ≤ length self.now.committed.memory }
         ensures { Completes self.now flow.now instr.now predicted operands.now result }
     {

@@ -1,8 +1,9 @@
 //! Decoded instructions.
-ghost use Rattle.std.specs.Prelude.{◌≡◌};
+ghost use Rattle.std.specs.Prelude.{◌≡◌, ◌≤◌};
 ghost use Rattle.instructions.specs.Instruction.{destination as destination_of, first_of, fixed_next as fixed_next_of, fixed_next_by, is_access as is_access_of, is_first_half as first_half, is_pair as is_pair_of, kind as kind_of, second_of};
 ghost use Rattle.inorder.specs.Unit.{half_after};
 ghost use Rattle.one_thread.specs.Decoding.{goes_of as goes_in};
+ghost use Rattle.one_thread.specs.Window.{access_of};
 
 use instructions::{Half, Instr, Kind, Op, Reg, pc_plus_4};
 use std::marker::Model;
@@ -58,6 +59,14 @@ fn goes_of(op: Op) -> Goes
         op if op.is_branch() || op.is_pair() => Goes::Varies,
         _ => Goes::Behind,
     }
+}
+
+/// 1 for an instruction that reaches memory, else 0.
+pub fn access(instr: &Decoded) -> usize
+    ensures value { result ≡ access_of instr.now }
+    ensures small { result ≤ 1 }
+{
+    if instr.is_access() { 1 } else { 0 }
 }
 
 impl Decoded {

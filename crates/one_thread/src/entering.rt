@@ -5,13 +5,12 @@ ghost use Rattle.one_thread.specs.Decoding.{HasInstr, IsDecoded};
 ghost use Rattle.one_thread.specs.Flow.{CanEnter, HasEntered, HasPlace, IsFlow, IsLast, Upcoming, enters_as};
 ghost use Rattle.one_thread.specs.Givers.{Chosen};
 
-use crate::decoded::Decoded;
+use crate::decoded::{Decoded, access};
 use crate::fetch::{fetch, fetch_known};
 use crate::flow::Flow;
 use crate::leaver::guess;
 use crate::pipeline::Pipeline;
 use crate::station::{Stage, Station, made_at_let};
-use crate::window::access;
 use instructions::{Half, Leaver, Predictor};
 
 // Who has left a station, if the predictor is told of it: it is told once.

@@ -10,10 +10,9 @@ ghost use Rattle.one_thread.specs.Window.{access_of};
 
 use crate::completed_ring::{Completed, CompletedRing};
 use crate::completing::Done;
-use crate::decoded::Decoded;
+use crate::decoded::{Decoded, access};
 use crate::future::Future;
 use crate::station::Station;
-use crate::window::access;
 use inorder::access_entry;
 use instructions::{Half, Kind};
 

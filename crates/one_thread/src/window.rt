@@ -1,10 +1,10 @@
 //! The stations of the live tenants, the oldest first, and who makes what they read.
 ghost use Rattle.std.specs.Prelude.{◌≡◌, ◌<◌, ◌≤◌, ◌-◌, [], ◌∷◌, ◌++◌, length, take, drop, slice_get, slice_set, option_copied, Some};
 ghost use Rattle.one_thread.specs.Creators.{CreatorsAt, IsCreator, IsOfSame};
-ghost use Rattle.one_thread.specs.Window.{HasReached, IsAdvanced, access_of, accesses as accesses_of, let_at};
+ghost use Rattle.one_thread.specs.Window.{HasReached, IsAdvanced, accesses as accesses_of, let_at};
 
 use crate::creators::Creators;
-use crate::decoded::Decoded;
+use crate::decoded::{Decoded, access};
 use crate::places::{place_of, slot_of};
 use crate::station::{Stage, Station, made_at_let, unused};
 use instructions::{Half, Reg};
@@ -39,14 +39,6 @@ impl Model for Window {
 
     ghost invariant = { λ w. IsWindow w.stations w.creators w.newest w.start w.len
         × (w.accesses ≡ accesses_of (ring_of w.stations w.start w.len) w.len) };
-}
-
-/// 1 for an instruction that reaches memory, else 0.
-pub fn access(instr: &Decoded) -> usize
-    ensures value { result ≡ access_of instr.now }
-    ensures small { result ≤ 1 }
-{
-    if instr.is_access() { 1 } else { 0 }
 }
 
 impl Window {
