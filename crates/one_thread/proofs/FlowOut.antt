@@ -25,7 +25,7 @@ use Rattle.one_thread.proofs.Futures.{foresees_left, made_value}
 use Rattle.one_thread.proofs.Idle.{Shows}
 use Rattle.one_thread.proofs.Reopened.{none_reopened}
 use Rattle.one_thread.proofs.Stores.{stores_passed}
-use Rattle.one_thread.proofs.FlowPassed.{IsFilled, answer_by, filled_ended, passed_counts, passed_from, passed_less, passed_runs, passed_shows}
+use Rattle.one_thread.proofs.FlowPassed.{IsFilled, answer_by, filled_ended, passed_from, passed_less, passed_runs, passed_shows}
 
 left_accesses : (n m a k j : ℕ) → m ≡ n - a → n ≡ a + k → j ≡ k → m ≡ j
 left_accesses n m a k j less more same = omega (arith, less, more, same)
@@ -194,12 +194,6 @@ module _ (x y : Pipeline) (flow after : Flow) (i : Instr) (c : Completed) (l : H
       let ring : y.ring ≡ x.ring = ap (λ (p : Pipeline). p.ring) l.rest in
       let long = stations_long y.program.now after.ring.completed in
       omega (arith, ap length rest_is, length-drop 1 W, flows.most, l.here.stuck.some, ring, long)
-
-  pub left_program : y.program ≡ x.program
-  left_program = ap (λ (p : Pipeline). p.program) l.rest
-
-  pub left_more : x.committed.count ≤ y.committed.count
-  left_more = passed_counts b later w whole first later_is
 
   pub left_runs : (limit : ℕ) → x.committed.count < limit → run_from y limit ≡ run_from x limit
   left_runs = passed_runs b later w whole first later_is

@@ -111,14 +111,6 @@ pub passed_runs : (b later : Pipeline) (w : Station) → IsFilled b → slice_ge
     run_from later limit ≡ run_from b limit
 passed_runs b later w d is e limit less = runs_by (is_first_half w.instr.op w.half) b later d.unit (passed_shows b later w d is e) limit less
 
-more_by : (h : Bool) (b later : Pipeline) → Shows b (answer_by h) later → b.committed.count ≤ later.committed.count
-more_by true b later s = let same = ap (λ x. x.count) s.falls.0 in omega (arith, same)
-more_by false b later s = let one = s.falls in omega (arith, one)
-
-pub passed_counts : (b later : Pipeline) (w : Station) → IsFilled b → slice_get b.window 0 ≡ Some w → later ≡ passed_from (is_first_half w.instr.op w.half) b w →
-    b.committed.count ≤ later.committed.count
-passed_counts b later w d is e = more_by (is_first_half w.instr.op w.half) b later (passed_shows b later w d is e)
-
 -- and less is to be done
 
 abbrev waiting : Option ℕ → ℕ

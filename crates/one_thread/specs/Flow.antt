@@ -188,14 +188,6 @@ abbrev pub low_by : Bool → Station → Option ℕ
 low_by true w = Some (unwrap_or w.made 0)
 low_by false w = None
 
--- What it leaves behind
-abbrev pub passed_on : Station → Pipeline → Pipeline
-passed_on w b =
-    record b {
-      committed = committed_by (is_first_half w.instr.op w.half) w b.low b.committed;
-      low = low_by (is_first_half w.instr.op w.half) w;
-    }
-
 -- How many retirements there are up to a limit at the most
 abbrev pub to_do : ℕ → Pipeline → ℕ
 to_do limit b = (limit - b.committed.count) * 2 + (if is_none b.low then 1 else 0)

@@ -1,6 +1,5 @@
-use Rattle.std.proofs.Common.{◌≡◌, ◌≤◌, ◌+◌, true, Some, sym, ap, ◌∙◌, arith}
-use Rattle.one_thread.specs.Window.{reaches_memory}
-use Rattle.one_thread.proofs.FlowLast.{few_accesses, last_decoded, last_full, last_none, last_room}
+use Rattle.std.proofs.Common.{◌+◌, sym, ap, ◌∙◌, arith}
+use Rattle.one_thread.proofs.FlowLast.{few_accesses, last_decoded, last_full, last_room}
 use Rattle.one_thread.proofs.pipeline.Pipeline.is_last.Goals as goal
 
 pub returns-then-len-self : goal.returns-then-len-self
