@@ -1,15 +1,17 @@
 -- The oldest instruction of a flow leaves it.
-use Rattle.std.proofs.Common.{◌≡◌, ◌<◌, ◌≤◌, ℕ, ◌+◌, ◌-◌, ◌%◌, Bool, true, false, List, [], ◌∷◌, length, drop, Some, None, refl, sym, ap, ◌∙◌, subst, arith, length-drop}
-use Rattle.std.specs.Prelude.{slice_get, unwrap_or}
+use Rattle.std.proofs.Common.{◌≡◌, ◌<◌, ◌≤◌, ℕ, suc, ◌+◌, ◌-◌, ◌%◌, Bool, true, false, List, [], ◌∷◌, length, drop, Some, None, refl, sym, ap, ◌∙◌, subst, arith, length-drop}
+use Rattle.std.specs.Prelude.{slice_get, slice_set, unwrap_or, Option}
 use Rattle.instructions.specs.Instruction.{is_first_half, kind, width}
 use Rattle.instructions.specs.Registers.{lo}
-use Rattle.instructions.specs.Programs.{instr_at}
+use Rattle.instructions.specs.Programs.{Program, instr_at}
+use Rattle.instructions.specs.declared.guessing.Leaver.{Leaver}
 use Rattle.instructions.specs.declared.instr.Instr.{Instr}
 use Rattle.instructions.specs.declared.op.Kind.TheVariants.{Stores}
 use Rattle.inorder.specs.Committed.{with_low}
 use Rattle.inorder.specs.Machine.{write}
 use Rattle.one_thread.specs.Changes.{registers_of, run_from}
-use Rattle.one_thread.specs.Flow.{AreThere, HaveCompleted, IsFlow, IsFlowing, IsStuck, committed_by, filled, low_by, to_do, window_of}
+use Rattle.one_thread.specs.Decoding.{IsDecoded}
+use Rattle.one_thread.specs.Flow.{AreThere, CanEnter, HasDeparted, HasPlace, HaveCompleted, IsFlow, IsFlowing, IsStuck, committed_by, filled, low_by, to_do, window_of, with_leaver}
 use Rattle.one_thread.specs.CompletedRing.{stage_by, station_by, stations, stores, stores_behind}
 use Rattle.one_thread.specs.Leaves.{HasEnded, leavers_with}
 use Rattle.one_thread.specs.Futures.{Foresees}
@@ -20,9 +22,11 @@ use Rattle.one_thread.specs.declared.pipeline.Pipeline.{Pipeline}
 use Rattle.one_thread.specs.declared.station.Station.{Station}
 use Rattle.one_thread.proofs.Accesses.{accesses_drop}
 use Rattle.one_thread.proofs.Completions.{station_is, stations_get, stations_less, stations_long, there_less}
+use Rattle.one_thread.proofs.FreeStation.{set_back}
 use Rattle.one_thread.proofs.Flowing.{completed_less, half_less, path_any, registers_all}
 use Rattle.one_thread.proofs.Futures.{foresees_left, made_value}
 use Rattle.one_thread.proofs.Idle.{Shows}
+use Rattle.one_thread.proofs.Ring.{once_around}
 use Rattle.one_thread.proofs.Reopened.{none_reopened}
 use Rattle.one_thread.proofs.Stores.{stores_passed}
 use Rattle.one_thread.proofs.FlowPassed.{IsFilled, answer_by, filled_ended, passed_from, passed_less, passed_runs, passed_shows}
@@ -47,6 +51,11 @@ pub record IsOldest (x : Pipeline) (flow : Flow) (i : Instr) (c : Completed) : T
   pub stuck : IsStuck x flow
   pub is : slice_get flow.ring.completed 0 ≡ Some c
   pub instr : instr_at x.program.now c.pc ≡ Some i
+
+pub oldest_of : (x : Pipeline) (flow : Flow) (i : Instr) (c : Completed) (code : List Instr) → IsFlow x flow → IsStuck x flow → slice_get flow.ring.completed 0 ≡ Some c →
+    code ≡ x.code.items → ((P : Program) → IsDecoded code P → instr_at P c.pc ≡ Some i) → IsOldest x flow i c
+oldest_of x flow i c code flows stuck is same found =
+    record { flows = flows; stuck = stuck; is = is; instr = found x.program.now (subst (λ l. IsDecoded l x.program.now) (sym same) flows.unit.code) }
 
 module _ (x : Pipeline) (flow : Flow) (i : Instr) (c : Completed) (here : IsOldest x flow i c) where
   pub oldest_is : slice_get (window_of x flow) 0 ≡ Some (station_by i c)
@@ -188,15 +197,36 @@ module _ (x y : Pipeline) (flow after : Flow) (i : Instr) (c : Completed) (l : H
         reopens = none_reopened later after.from all shows.unit;
       }
 
-  -- there is room for another
-  pub left_shorter : length after.ring.completed < y.ring
+  -- it was one of them
+  pub left_shorter : length flow.ring.completed ≡ suc (length after.ring.completed)
   left_shorter =
-      let ring : y.ring ≡ x.ring = ap (λ (p : Pipeline). p.ring) l.rest in
-      let long = stations_long y.program.now after.ring.completed in
-      omega (arith, ap length rest_is, length-drop 1 W, flows.most, l.here.stuck.some, ring, long)
+      let long = stations_long x.program.now flow.ring.completed in
+      omega (arith, ap length l.completed, length-drop 1 flow.ring.completed, l.here.stuck.some, long)
 
   pub left_runs : (limit : ℕ) → x.committed.count < limit → run_from y limit ≡ run_from x limit
   left_runs = passed_runs b later w whole first later_is
 
   pub left_less : (limit : ℕ) → x.committed.count < limit → to_do limit y < to_do limit x
   left_less = passed_less b later w whole first later_is
+
+-- there is room for another
+pub has_room : (x y : Pipeline) (flow after : Flow) (left : Option Leaver) → IsFlow x flow → HasDeparted x flow left y after → length after.ring.completed < y.ring
+has_room x y flow after left h d =
+    let long = stations_long x.program.now flow.ring.completed in
+    omega (arith, long, h.most, d.shorter, d.ring)
+
+-- the next enters the station that was left
+pub has_place : (x y : Pipeline) (flow after : Flow) (left : Option Leaver) → HasDeparted x flow left y after → length flow.ring.completed ≡ x.ring → CanEnter y after → HasPlace y after
+has_place x y flow after left d full can =
+    let long = stations_long y.program.now after.ring.completed in
+    let there : (y.oldest + length (window_of y after)) % y.ring ≡ x.oldest =
+    ap (λ r. (y.oldest + length (window_of y after)) % r) d.ring
+    ∙ ap (λ k. (k + length (window_of y after)) % x.ring) d.place
+    ∙ once_around x.oldest (length (window_of y after)) x.ring d.inside (omega (arith, long, d.shorter, full)) in
+    record {
+      before = with_leaver x.oldest left y;
+      flows = d.flows;
+      can = record { instr = can.instr; is = can.is; free = can.free; room = can.room };
+      leavers = sym (ap (λ k. slice_set (slice_set y.leavers x.oldest left) k None) there ∙ set_back y.leavers x.oldest None left d.untold);
+      rest = refl;
+    }

@@ -1,5 +1,5 @@
 -- The flow of a full ring: how the next instruction enters it and completes, and the oldest leaves it.
-use Rattle.std.specs.Prelude.{⊤, ◌≡◌, ◌≢◌, ◌≤◌, ◌<◌, ℕ, ◌+◌, ◌-◌, ◌*◌, ◌%◌, Bool, true, false, List, [], ◌∷◌, ◌++◌, length, Option, Some, None, is_some, is_none, unwrap_or, if◌then◌else◌, slice_get, slice_set}
+use Rattle.std.specs.Prelude.{⊤, ◌≡◌, ◌≢◌, ◌≤◌, ◌<◌, ℕ, suc, ◌+◌, ◌-◌, ◌*◌, ◌%◌, Bool, true, false, List, [], ◌∷◌, ◌++◌, length, Option, Some, None, is_some, is_none, unwrap_or, if◌then◌else◌, slice_get, slice_set}
 use Rattle.instructions.specs.Instruction.{is_first_half, kind, width}
 use Rattle.instructions.specs.Operations.{outcome_of}
 use Rattle.instructions.specs.Programs.{Program, instr_at}
@@ -8,6 +8,7 @@ use Rattle.instructions.specs.declared.instr.Instr.{Instr}
 use Rattle.instructions.specs.declared.op.Kind.{Kind}
 use Rattle.instructions.specs.declared.op.Kind.TheVariants.{Loads as LoadKind}
 use Rattle.instructions.specs.declared.op.Op.{Op}
+use Rattle.instructions.specs.declared.guessing.Leaver.{Leaver}
 use Rattle.instructions.specs.declared.stop.Outcome.{Outcome}
 use Rattle.instructions.specs.declared.stop.Outcome.TheVariants.{Address, Next}
 use Rattle.instructions.specs.declared.stop.Stop.{Stop}
@@ -15,7 +16,7 @@ use Rattle.inorder.specs.Committed.{ahead_by}
 use Rattle.inorder.specs.Machine.{State}
 use Rattle.lsq.specs.LoadRule.{answer_over}
 use Rattle.lsq.specs.declared.entry.Entry.{Entry}
-use Rattle.one_thread.specs.Changes.{registers_of}
+use Rattle.one_thread.specs.Changes.{registers_of, run_from}
 use Rattle.one_thread.specs.CompletedRing.{station_by, stations, stores}
 use Rattle.one_thread.specs.Leaves.{with_station}
 use Rattle.one_thread.specs.Loads.{value_by}
@@ -102,6 +103,10 @@ pub record CanEnter (b : Pipeline) (flow : Flow) : Type 0 where
   pub is : instr_at b.program.now flow.future.pc ≡ Some instr
   pub free : reaches_memory instr.op ≡ true → flow.accesses < b.queue
   pub room : length (window_of b flow) < b.ring
+
+-- The fields where it is untold who has left a station
+abbrev pub with_leaver : ℕ → Option Leaver → Pipeline → Pipeline
+with_leaver station left b = record b { leavers = slice_set b.leavers station left }
 
 -- The next instruction can enter, and who has left its station was told of
 pub record HasPlace (b : Pipeline) (flow : Flow) : Type 0 where
@@ -191,3 +196,20 @@ low_by false w = None
 -- How many retirements there are up to a limit at the most
 abbrev pub to_do : ℕ → Pipeline → ℕ
 to_do limit b = (limit - b.committed.count) * 2 + (if is_none b.low then 1 else 0)
+
+-- How much there is to do up to a limit at the most, where an instruction that enters is something done
+abbrev pub ahead_to : ℕ → Pipeline → Flow → ℕ
+ahead_to limit b flow = to_do limit b * 64 + (32 - length flow.ring.completed)
+
+-- The oldest instruction of a flow has retired, and this is to be told of who has left its station
+pub record HasDeparted (b : Pipeline) (flow : Flow) (left : Option Leaver) (later : Pipeline) (after : Flow) : Type 0 where
+  pub flows : IsFlow (with_leaver b.oldest left later) after
+  pub shorter : length flow.ring.completed ≡ suc (length after.ring.completed)
+  pub untold : slice_get later.leavers b.oldest ≡ Some None
+  pub inside : b.oldest < b.ring
+  pub place : later.oldest ≡ (b.oldest + 1) % b.ring
+  pub ring : later.ring ≡ b.ring
+  pub code : later.code ≡ b.code
+  pub program : later.program ≡ b.program
+  pub ends : (limit : ℕ) → b.committed.count < limit → run_from later limit ≡ run_from b limit
+  pub less : (limit : ℕ) → b.committed.count < limit → to_do limit later < to_do limit b

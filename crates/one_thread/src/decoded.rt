@@ -1,34 +1,42 @@
 //! Decoded instructions.
-ghost use Rattle.std.specs.Prelude.{◌≡◌, ◌≤◌};
+ghost use Rattle.std.specs.Prelude.{◌≡◌, ◌≤◌, IsTrue, false};
+ghost use Rattle.instructions.specs.declared.op.Kind.TheVariants.{Computes};
 ghost use Rattle.instructions.specs.Instruction.{destination as destination_of, first_of, fixed_next as fixed_next_of, fixed_next_by, is_access as is_access_of, is_first_half as first_half, is_pair as is_pair_of, kind as kind_of, second_of};
 ghost use Rattle.inorder.specs.Unit.{half_after};
-ghost use Rattle.one_thread.specs.Decoding.{goes_of as goes_in};
+ghost use Rattle.one_thread.specs.Decoding.{class_of as class_in};
 ghost use Rattle.one_thread.specs.Window.{access_of};
 
 use instructions::{Half, Instr, Kind, Op, Reg, pc_plus_4};
 use std::marker::Model;
 
-/// Where an operation goes on.
+/// What an operation is to the unit.
 #[derive(Clone, Copy)]
-pub enum Goes {
-    Behind,
-    To,
-    /// A predictor is asked, or the half tells.
-    Varies,
+pub enum Class {
+    /// It computes one value.
+    Plain,
+    /// It is a multiplication or division, of two halves.
+    Pair,
+    Load,
+    Store,
+    /// A predictor is asked where it goes on.
+    Branch,
+    /// It goes on where it says.
+    Jump,
+    /// A jump that links.
+    Call,
+    /// A jump that links, for which a predictor is asked.
+    IndirectCall,
 }
 
 /// An instruction, with what its window, its claim and its retirement ask of it, found out once.
 #[derive(Clone, Copy)]
 pub struct Decoded {
     instr: Instr,
-    kind: Kind,
-    access: bool,
-    pair: bool,
+    class: Class,
     first: Reg,
     second: Reg,
     low: Reg,
     high: Reg,
-    goes: Goes,
 }
 
 impl Model for Decoded {
@@ -49,15 +57,19 @@ impl Model for Decoded {
     ghost inverse_ok = { λ d h. sym h };
 }
 
-// Where an operation goes on, as far as it tells.
-fn goes_of(op: Op) -> Goes
-    ensures { result ≡ goes_in op }
+// What an operation is.
+fn class_of(op: Op) -> Class
+    ensures { result ≡ class_in op }
 {
-    match op {
-        Op::J | Op::Jal => Goes::To,
-        Op::Jr | Op::Jalr => Goes::Varies,
-        op if op.is_branch() || op.is_pair() => Goes::Varies,
-        _ => Goes::Behind,
+    match (op.kind(), op) {
+        (Kind::Loads, _) => Class::Load,
+        (Kind::Stores, _) => Class::Store,
+        (Kind::Jumps, Op::J) => Class::Jump,
+        (Kind::Jumps, _) => Class::Branch,
+        (Kind::Links, Op::Jal) => Class::Call,
+        (Kind::Links, _) => Class::IndirectCall,
+        (Kind::Computes, op) if op.is_pair() => Class::Pair,
+        (Kind::Computes, _) => Class::Plain,
     }
 }
 
@@ -76,14 +88,11 @@ impl Decoded {
         let op = instr.op();
         Decoded {
             instr,
-            kind: op.kind(),
-            access: op.is_access(),
-            pair: op.is_pair(),
+            class: class_of(op),
             first: instr.first(),
             second: instr.second(),
             low: instr.destination(Half::Low),
             high: instr.destination(Half::High),
-            goes: goes_of(op),
         }
     }
 
@@ -105,14 +114,29 @@ impl Decoded {
     pub(crate) fn kind(&self) -> Kind
         ensures { result ≡ kind_of self.now.op }
     {
-        self.kind
+        match self.class {
+            Class::Plain | Class::Pair => Kind::Computes,
+            Class::Load => Kind::Loads,
+            Class::Store => Kind::Stores,
+            Class::Branch | Class::Jump => Kind::Jumps,
+            Class::Call | Class::IndirectCall => Kind::Links,
+        }
+    }
+
+    /// Its operation computes one value.
+    #[inline(always)]
+    pub(crate) fn is_plain(&self) -> bool
+        ensures computes { IsTrue result → kind_of self.now.op ≡ Computes }
+        ensures whole { IsTrue result → is_pair_of self.now.op ≡ false }
+    {
+        matches!(self.class, Class::Plain)
     }
 
     /// The operation is a load or store.
     pub(crate) fn is_access(&self) -> bool
         ensures { result ≡ is_access_of (kind_of self.now.op) }
     {
-        self.access
+        matches!(self.class, Class::Load | Class::Store)
     }
 
     /// The register of source 1; register 0 where it has none.
@@ -133,14 +157,14 @@ impl Decoded {
     pub(crate) fn is_pair(&self) -> bool
         ensures { result ≡ is_pair_of self.now.op }
     {
-        self.pair
+        matches!(self.class, Class::Pair)
     }
 
     /// This half is the first of two.
     pub(crate) fn is_first_half(&self, half: Half) -> bool
         ensures { result ≡ first_half self.now.op half }
     {
-        self.pair && half == Half::Low
+        self.is_pair() && half == Half::Low
     }
 
     /// The half that comes behind one: behind a first half its second.
@@ -168,12 +192,12 @@ impl Decoded {
     pub(crate) fn fixed_next(&self, half: Half, pc: u32) -> Option<u32>
         ensures { result ≡ fixed_next_of self.now half pc }
     {
-        match self.goes {
-            Goes::Behind => Some(pc_plus_4(pc)),
-            Goes::To => Some(self.instr.number),
-            Goes::Varies if self.is_first_half(half) => Some(pc),
-            Goes::Varies if self.pair => Some(pc_plus_4(pc)),
-            Goes::Varies => None,
+        match self.class {
+            Class::Plain | Class::Load | Class::Store => Some(pc_plus_4(pc)),
+            Class::Jump | Class::Call => Some(self.instr.number),
+            Class::Pair if half == Half::Low => Some(pc),
+            Class::Pair => Some(pc_plus_4(pc)),
+            Class::Branch | Class::IndirectCall => None,
         }
     }
 }

@@ -155,6 +155,53 @@ impl<'a> Pipeline<'a> {
         flow.half != Half::Low || fetch_known(self.code.as_slice(), flow.future.pc).is_pair()
     }
 
+    // Whether the next instruction computes one value.
+    #[inline(always)]
+    fn is_plain(&self, flow: &Flow) -> bool
+        requires { HasInstr self.now.code.items flow.now.future.pc }
+    {
+        fetch_known(self.code.as_slice(), flow.future.pc).is_plain()
+    }
+
+    /// Whether the next instruction can enter.
+    #[inline(always)]
+    pub fn can_enter(&self, flow: &Flow) -> bool
+        requires room { length flow.now.ring.completed < self.now.ring }
+        requires code { IsDecoded self.now.code.items self.now.program.now }
+        ensures { IsTrue result → CanEnter self.now flow.now }
+    {
+        let Some(instr) = fetch(self.code.as_slice(), flow.future.pc) else {
+            return false;
+        };
+        if instr.is_access() && self.queue <= flow.accesses {
+            return false;
+        }
+        true
+    }
+
+    /// Lets the next instruction, and runs it as far as it comes, where the predictor is to be told of who has left its
+    /// station. Answers whether it has completed. One that computes a value takes a way of its own, compiled apart.
+    #[inline(always)]
+    pub fn enters_behind<P: Predictor>(
+        &self,
+        predictor: &mut P,
+        flow: &mut Flow,
+        left: Option<Leaver>,
+    ) -> bool
+        requires { HasPlace self.now flow.old }
+        ensures entered { HasEntered self.now flow.new result }
+        ensures longer { Chosen result (length flow.new.ring.completed ≡
+            suc (length flow.old.ring.completed)) ⊤ }
+    {
+        if self.is_half(flow) {
+            return self.runs_half(predictor, flow, left);
+        }
+        if self.is_plain(flow) {
+            return self.runs_next(predictor, flow, left, Half::Low);
+        }
+        self.runs_next(predictor, flow, left, Half::Low)
+    }
+
     /// Lets the next instruction, and runs it as far as it comes. Answers whether it has completed.
     #[inline(always)]
     pub fn enters_flow<P: Predictor>(&mut self, predictor: &mut P, flow: &mut Flow) -> bool
@@ -167,9 +214,6 @@ impl<'a> Pipeline<'a> {
     {
         let station = self.station_at(flow.ring.len());
         let left = take_leaver(&mut self.leavers, station);
-        if self.is_half(flow) {
-            return self.runs_half(predictor, flow, left);
-        }
-        self.runs_next(predictor, flow, left, Half::Low)
+        self.enters_behind(predictor, flow, left)
     }
 }

@@ -64,13 +64,15 @@ impl Flow {
         ensures from { self.new.from ≡ self.old.from }
         ensures last { self.new.last ≡ self.old.last }
     {
+        let stores = matches!(instr.kind(), Kind::Stores);
+        let destination = instr.destination(completed.half);
+        let half = instr.half_behind(completed.half);
         self.accesses += access(instr);
         self.ring.push(completed);
-        let destination = instr.destination(completed.half);
         self.future
             .follows(destination, completed.value, completed.next);
-        self.half = instr.half_behind(completed.half);
-        if let Kind::Stores = instr.kind() {
+        self.half = half;
+        if stores {
             let entry = access_entry(instr.op(), Some(completed.value), Some(content));
             self.ring.push_store(entry);
         }

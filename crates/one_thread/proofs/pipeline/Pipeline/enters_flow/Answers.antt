@@ -9,21 +9,8 @@ station_at-station-requires-clause-near g c =
     let long = stations_long b.program.now c.args.flow.now.ring.completed in
     omega (arith, long, c.len.ensures.value, c.requires.can.room)
 
-pub runs_half-requires : goal.runs_half-requires
-runs_half-requires g c =
-    let b = c.args.self.now in
-    let flow = c.args.flow.now in
-    let place = c.station_at-station.ensures.value ∙ ap (λ n. (b.oldest + n) % b.ring) (c.len.ensures.value ∙ sym (stations_long b.program.now flow.ring.completed)) in
-    record {
-      before = b;
-      flows = c.requires.flow;
-      can = c.requires.can;
-      leavers = c.take_leaver-left.ensures.none ∙ ap (λ k. slice_set b.leavers k None) place;
-      rest = refl;
-    }
-
-pub runs_next-requires-clause-place : goal.runs_next-requires-clause-place
-runs_next-requires-clause-place g c =
+pub enters_behind-requires : goal.enters_behind-requires
+enters_behind-requires g c =
     let b = c.args.self.now in
     let flow = c.args.flow.now in
     let place = c.station_at-station.ensures.value ∙ ap (λ n. (b.oldest + n) % b.ring) (c.len.ensures.value ∙ sym (stations_long b.program.now flow.ring.completed)) in

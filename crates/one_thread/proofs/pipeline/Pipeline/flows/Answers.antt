@@ -1,8 +1,8 @@
-use Rattle.std.proofs.Common.{◌≡◌, ◌<◌, ◌-◌, sym, ap, ◌∙◌, arith}
+use Rattle.std.proofs.Common.{◌≡◌, ◌<◌, ◌-◌, ap, ◌∙◌, arith}
 use Rattle.inorder.specs.Runs.{end_from}
 use Rattle.one_thread.specs.Changes.{run_from}
 use Rattle.one_thread.specs.declared.pipeline.Pipeline.{Pipeline}
-use Rattle.one_thread.proofs.FlowStays.{can_restore, no_room}
+use Rattle.one_thread.proofs.FlowStays.{can_restore}
 use Rattle.one_thread.proofs.pipeline.Pipeline.flows.Goals as goal
 
 pub returns-in_default-clause-flow : goal.returns-in_default-clause-flow
@@ -25,26 +25,21 @@ loop-self-preserved-then-not-fits g c =
       ends = left.ends c.args.limit less ∙ before.ends;
     }
 
-pub leaves_flow-requires-then-len-self-clause-stuck : goal.leaves_flow-requires-then-len-self-clause-stuck
-leaves_flow-requires-then-len-self-clause-stuck g c =
-    no_room c.enters_flow.new.self c.enters_flow.new.flow c.if-not-enters_flow.ensures.entered (sym c.len.ensures.value ∙ c.if-len-self.true)
-
-pub loop-self-preserved-then-len-self : goal.loop-self-preserved-then-len-self
-loop-self-preserved-then-len-self g c =
+pub loop-self-preserved : goal.loop-self-preserved
+loop-self-preserved g c =
     let b = c.loop-self.self in
     let mid = c.enters_flow.new.self in
     let limit = c.args.limit in
     let before = c.loop-self.invariant in
-    let left = c.leaves_flow-then-len-self.ensures in
+    let on = c.rounds.ensures in
     let same : mid.committed ≡ b.committed = ap (λ (p : Pipeline). p.committed) c.enters_flow.ensures.rest in
     let program : mid.program ≡ b.program = ap (λ (p : Pipeline). p.program) c.enters_flow.ensures.rest in
     let run : run_from mid limit ≡ run_from b limit = ap (λ s. end_from mid.program.now (limit - s.count) s) same ∙ ap (λ p. end_from p.now (limit - b.committed.count) b.committed) program in
-    let less : mid.committed.count < limit = omega (arith, c.loop-self-test.true, c.count.ensures, ap (λ s. s.count) same) in
     record {
-      flow = left.flow;
-      room = left.room;
-      code = left.code ∙ ap (λ (p : Pipeline). p.code) c.enters_flow.ensures.rest ∙ before.code;
-      program = left.program ∙ program ∙ before.program;
-      more = omega (arith, left.more, ap (λ s. s.count) same, before.more);
-      ends = left.ends limit less ∙ run ∙ before.ends;
+      flow = c.if-not-rounds.ensures.entered;
+      room = c.if-not-rounds.ensures.room;
+      code = on.code ∙ ap (λ (p : Pipeline). p.code) c.enters_flow.ensures.rest ∙ before.code;
+      program = on.program ∙ program ∙ before.program;
+      more = omega (arith, on.more, ap (λ s. s.count) same, before.more);
+      ends = on.ends ∙ run ∙ before.ends;
     }

@@ -1,0 +1,34 @@
+use Rattle.std.proofs.Common.{refl, sym, ◌∙◌, arith}
+use Rattle.one_thread.proofs.Completions.{stations_long}
+use Rattle.one_thread.proofs.FlowOut.{has_place}
+use Rattle.one_thread.proofs.FlowStays.{no_room}
+use Rattle.one_thread.proofs.pipeline.Pipeline.rounds.Goals as goal
+
+pub departs-left-requires-clause-stuck : goal.departs-left-requires-clause-stuck
+departs-left-requires-clause-stuck g c =
+    no_room c.loop-self.self c.loop-self.flow c.loop-self.invariant.flow (sym c.len.ensures.value ∙ c.loop-self-test.true)
+
+pub enters_behind-requires : goal.enters_behind-requires
+enters_behind-requires g c =
+    has_place c.loop-self.self c.departs-left.new.self c.loop-self.flow c.departs-left.new.flow c.departs-left.result c.departs-left.ensures.departed (sym c.len.ensures.value ∙ c.loop-self-test.true)
+    (c.if-not-can_enter.ensures refl)
+
+pub loop-self-preserved : goal.loop-self-preserved
+loop-self-preserved g c =
+    let before = c.loop-self.invariant in
+    let d = c.departs-left.ensures.departed in
+    let less = d.less c.args.limit before.below in
+    record {
+      flow = c.if-not-enters_behind.ensures.entered;
+      below = omega (arith, c.if-limit-count.false, c.count.ensures);
+      code = d.code ∙ before.code;
+      program = d.program ∙ before.program;
+      more = omega (arith, c.departs-left.ensures.more, before.more);
+      ends = d.ends c.args.limit before.below ∙ before.ends;
+      less = omega (arith, less, before.less);
+    }
+
+pub returns-clause-room : goal.returns-clause-room
+returns-clause-room g c =
+    let long = stations_long c.loop-self.self.program.now c.loop-self.flow.ring.completed in
+    omega (arith, long, c.loop-self.invariant.flow.most, c.len.ensures.value, c.loop-self-test.false)
