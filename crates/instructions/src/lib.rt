@@ -24,5 +24,5 @@ pub use op::{Half, Kind, Op};
 pub use predictor::{Bimod, NotTaken, Predictor, Taken};
 pub use program::Program;
 pub use reg::Reg;
-pub use semantics::{loaded, outcome, outcome_of, pc_plus_4};
+pub use semantics::{loaded, outcome, outcome_by_kind, outcome_of, pc_plus_4};
 pub use stop::{Outcome, Stop};

@@ -179,8 +179,26 @@ pub fn outcome_of(instr: &Instr, half: Half, pc: u32, a: u32, b: u32, size: u32)
     ensures value { result ≡ half_outcome instr.now half pc a b size }
     ensures inside { AddressIsInside result (width_of instr.now.op) size }
 {
+    outcome_by_kind(instr.op.kind(), instr, half, pc, a, b, size)
+}
+
+/// The outcome of a half of an instruction, as `outcome_of` has it, for who has its kind at hand.
+#[inline(always)]
+pub fn outcome_by_kind(
+    kind: Kind,
+    instr: &Instr,
+    half: Half,
+    pc: u32,
+    a: u32,
+    b: u32,
+    size: u32,
+) -> Outcome
+    requires { kind ≡ kind_of instr.now.op }
+    ensures value { result ≡ half_outcome instr.now half pc a b size }
+    ensures inside { AddressIsInside result (width_of instr.now.op) size }
+{
     let op = instr.op;
-    match op.kind() {
+    match kind {
         Kind::Computes => match computed(op, half, a, b, instr.number) {
             Ok(value) => Outcome::Value(value),
             Err(stop) => Outcome::Stop(stop),

@@ -1,6 +1,6 @@
 -- What is kept of a decoded instruction.
 use Rattle.std.specs.Prelude.{◌≡◌, ◌≤◌, ℕ, List, length, Some, if◌then◌else◌}
-use Rattle.instructions.specs.Instruction.{destination, first_of, is_pair, kind, second_of}
+use Rattle.instructions.specs.Instruction.{destination, first_of, is_access, is_pair, kind, second_of}
 use Rattle.instructions.specs.Programs.{Program, instr_at}
 use Rattle.instructions.specs.declared.instr.Instr.{Instr}
 use Rattle.instructions.specs.declared.op.Half.TheVariants.{Low, High}
@@ -32,6 +32,7 @@ decode i =
     record {
       instr = i;
       class = class_of i.op;
+      access = is_access (kind i.op);
       first = first_of i;
       second = second_of i;
       low = destination i Low;

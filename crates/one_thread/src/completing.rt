@@ -1,6 +1,7 @@
 //! What the next instruction of a flow completes with.
-ghost use Rattle.std.specs.Prelude.{◌≡◌, ◌≤◌, ◌+◌, ℕ, length};
-ghost use Rattle.instructions.specs.Instruction.{width as width_in};
+ghost use Rattle.std.specs.Prelude.{◌≡◌, ◌≤◌, ◌+◌, ℕ, length, IsTrue};
+ghost use Rattle.instructions.specs.Instruction.{kind as kind_in, width as width_in};
+ghost use Rattle.instructions.specs.declared.op.Kind.TheVariants.{Computes};
 ghost use Rattle.instructions.specs.declared.stop.Outcome.TheVariants.{Address};
 ghost use Rattle.lsq.specs.LoadRule.{answer_over as answer_of};
 ghost use Rattle.one_thread.specs.Flow.{Completes, outcome_in};
@@ -11,7 +12,7 @@ use crate::execute::Operands;
 use crate::flow::Flow;
 use crate::pipeline::Pipeline;
 use inorder::access_width;
-use instructions::{Half, Kind, Op, Outcome, loaded, outcome_of, pc_plus_4};
+use instructions::{Half, Kind, Op, Outcome, loaded, outcome_by_kind, pc_plus_4};
 use lsq::{Answer, Entry, answer_over};
 
 /// What an instruction completes with: what it has made, or where it stores, and where it goes on.
@@ -41,20 +42,29 @@ impl<'a> Pipeline<'a> {
         }
     }
 
-    // The outcome of the next instruction.
+    // The outcome of the next instruction, which is of this kind.
     #[inline(always)]
-    fn outcome(&self, flow: &Flow, instr: &Decoded, half: Half, operands: &Operands) -> Outcome
-        requires { half ≡ flow.now.half }
+    fn outcome(
+        &self,
+        kind: Kind,
+        flow: &Flow,
+        instr: &Decoded,
+        half: Half,
+        operands: &Operands,
+    ) -> Outcome
+        requires kind { kind ≡ kind_in instr.now.op }
+        requires half { half ≡ flow.now.half }
         ensures { result ≡ outcome_in self.now flow.now instr.now operands.now }
     {
         let Operands { a, b } = *operands;
         let size = self.program.size();
-        outcome_of(&instr.to_instr(), half, flow.future.pc, a, b, size)
+        let pc = flow.future.pc;
+        outcome_by_kind(kind, &instr.to_instr(), half, pc, a, b, size)
     }
 
-    /// What the next instruction completes with, unless it stops or waits.
+    // What the next instruction completes with, where it computes, unless it stops.
     #[inline(always)]
-    pub fn completes(
+    fn computes(
         &self,
         flow: &Flow,
         instr: &Decoded,
@@ -63,12 +73,41 @@ impl<'a> Pipeline<'a> {
         operands: &Operands,
     ) -> Option<Done>
         requires half { half ≡ flow.now.half }
+        requires kind { kind_in instr.now.op ≡ Computes }
+        ensures { Completes self.now flow.now instr.now predicted operands.now result }
+    {
+        match self.outcome(Kind::Computes, flow, instr, half, operands) {
+            Outcome::Value(value) => Some(Done {
+                value,
+                next: predicted,
+            }),
+            _ => None,
+        }
+    }
+
+    /// What the next instruction completes with, unless it stops or waits. Where `plain` says that it computes, nothing
+    /// else is looked at.
+    #[inline(always)]
+    pub fn completes(
+        &self,
+        flow: &Flow,
+        instr: &Decoded,
+        half: Half,
+        predicted: u32,
+        operands: &Operands,
+        plain: bool,
+    ) -> Option<Done>
+        requires half { half ≡ flow.now.half }
+        requires plain { IsTrue plain → kind_in instr.now.op ≡ Computes }
         requires inside { (a : ℕ) →
             outcome_in self.now flow.now instr.now operands.now ≡ Address a →
             a + width_in instr.now.op ≤ length self.now.committed.memory }
         ensures { Completes self.now flow.now instr.now predicted operands.now result }
     {
-        let (value, next) = match self.outcome(flow, instr, half, operands) {
+        if plain {
+            return self.computes(flow, instr, half, predicted, operands);
+        }
+        let (value, next) = match self.outcome(instr.kind(), flow, instr, half, operands) {
             Outcome::Value(v) | Outcome::Pair(v, _) => (v, predicted),
             Outcome::Next(x) => match instr.kind() {
                 Kind::Links => (pc_plus_4(flow.future.pc), x),

@@ -33,6 +33,7 @@ pub enum Class {
 pub struct Decoded {
     instr: Instr,
     class: Class,
+    access: bool,
     first: Reg,
     second: Reg,
     low: Reg,
@@ -89,6 +90,7 @@ impl Decoded {
         Decoded {
             instr,
             class: class_of(op),
+            access: op.is_access(),
             first: instr.first(),
             second: instr.second(),
             low: instr.destination(Half::Low),
@@ -136,7 +138,7 @@ impl Decoded {
     pub(crate) fn is_access(&self) -> bool
         ensures { result ≡ is_access_of (kind_of self.now.op) }
     {
-        matches!(self.class, Class::Load | Class::Store)
+        self.access
     }
 
     /// The register of source 1; register 0 where it has none.

@@ -171,12 +171,13 @@ fn retire(
     ensures low { low.new ≡ low_by (is_first_half instr.now.op oldest.now.half)
         (station_by instr.now oldest.now) }
 {
-    let told = leaver_of(instr, oldest.half, oldest.pc, oldest.next);
     if instr.is_plain() {
+        let told = leaver_of(instr, oldest.half, oldest.pc, oldest.next);
         flow.leaves(instr);
         commit_value(committed, low, instr, oldest);
         return told;
     }
+    let told = leaver_of(instr, oldest.half, oldest.pc, oldest.next);
     flow.leaves(instr);
     commit(committed, low, &mut flow.ring, instr, oldest);
     told

@@ -93,7 +93,8 @@ impl<'a> Pipeline<'a> {
     }
 
     // Lets the next instruction, and runs it as far as it comes. Answers whether it has completed: else it is left as it
-    // was let. A miss is mended where no other was let with it and nothing can be let behind it.
+    // was let. A miss is mended where no other was let with it and nothing can be let behind it. Where it is `plain`, it
+    // computes one value.
     #[inline(always)]
     fn runs_next<P: Predictor>(
         &self,
@@ -101,6 +102,7 @@ impl<'a> Pipeline<'a> {
         flow: &mut Flow,
         left: Option<Leaver>,
         half: Half,
+        plain: bool,
     ) -> bool
         requires place { HasPlace self.now flow.old }
         requires half { half ≡ flow.old.half }
@@ -112,7 +114,8 @@ impl<'a> Pipeline<'a> {
         let instr = fetch_known(self.code.as_slice(), pc);
         let predicted = guess(predictor, left, instr, half, pc);
         let operands = flow.future.operands(instr);
-        let Some(done) = self.completes(flow, instr, half, predicted, &operands) else {
+        let plain = plain && instr.is_plain();
+        let Some(done) = self.completes(flow, instr, half, predicted, &operands, plain) else {
             Self::stays(flow, instr, predicted);
             return false;
         };
@@ -143,7 +146,7 @@ impl<'a> Pipeline<'a> {
             suc (length flow.old.ring.completed)) ⊤ }
     {
         let half = flow.half;
-        self.runs_next(predictor, flow, left, half)
+        self.runs_next(predictor, flow, left, half, false)
     }
 
     // Whether the next instruction is half of a pair.
@@ -197,9 +200,9 @@ impl<'a> Pipeline<'a> {
             return self.runs_half(predictor, flow, left);
         }
         if self.is_plain(flow) {
-            return self.runs_next(predictor, flow, left, Half::Low);
+            return self.runs_next(predictor, flow, left, Half::Low, true);
         }
-        self.runs_next(predictor, flow, left, Half::Low)
+        self.runs_next(predictor, flow, left, Half::Low, false)
     }
 
     /// Lets the next instruction, and runs it as far as it comes. Answers whether it has completed.
