@@ -1,42 +1,48 @@
 -- What is kept of a decoded instruction.
-use Rattle.std.specs.Prelude.{◌≡◌, ◌≤◌, ℕ, List, length, Some, if◌then◌else◌}
-use Rattle.instructions.specs.Instruction.{destination, first_of, is_access, is_pair, kind, second_of}
+use Rattle.std.specs.Prelude.{◌≡◌, ◌≤◌, ℕ, Bool, false, not, List, length, Some, if◌then◌else◌}
+use Rattle.instructions.specs.Instruction.{destination, first_of, is_access, is_branch, is_pair, kind, second_of}
 use Rattle.instructions.specs.Programs.{Program, instr_at}
 use Rattle.instructions.specs.declared.instr.Instr.{Instr}
 use Rattle.instructions.specs.declared.op.Half.TheVariants.{Low, High}
-use Rattle.instructions.specs.declared.op.Op.{Op}
 use Rattle.instructions.specs.declared.op.Kind.{Kind}
-use Rattle.instructions.specs.declared.op.Kind.TheVariants.{Computes, Jumps, Links, Loads, Stores}
-use Rattle.instructions.specs.declared.op.Op.TheVariants.{J, Jal}
+use Rattle.instructions.specs.declared.op.Kind.TheVariants.{Computes}
+use Rattle.instructions.specs.declared.op.Op.{Op}
+use Rattle.instructions.specs.declared.op.Op.TheVariants.{J, Jal, Jr, Jalr}
 use Rattle.one_thread.specs.declared.decoded.Decoded.TheInside.{Inside}
-use Rattle.one_thread.specs.declared.decoded.Class.{Class}
-use Rattle.one_thread.specs.declared.decoded.Class.TheVariants.{Branch, Call, IndirectCall, Jump, Load, Pair, Plain, Store}
+use Rattle.one_thread.specs.declared.decoded.Goes.{Goes}
+use Rattle.one_thread.specs.declared.decoded.Goes.TheVariants.{Behind, To, Varies}
 
--- What an operation of a kind is
-abbrev pub class_by : Kind → Op → Class
-class_by Loads op = Load
-class_by Stores op = Store
-class_by Jumps J = Jump
-class_by Jumps op = Branch
-class_by Links Jal = Call
-class_by Links op = IndirectCall
-class_by Computes op = if is_pair op then Pair else Plain
+-- Where an operation goes on, as far as it tells
+abbrev pub goes_of : Op → Goes
+goes_of J = To
+goes_of Jal = To
+goes_of Jr = Varies
+goes_of Jalr = Varies
+goes_of op = if is_branch op then Varies else (if is_pair op then Varies else Behind)
 
--- What an operation is
-abbrev pub class_of : Op → Class
-class_of op = class_by (kind op) op
+-- An operation of a kind computes one value
+abbrev pub plain_by : Kind → Op → Bool
+plain_by Computes op = not (is_pair op)
+plain_by k op = false
+
+-- An operation computes one value
+abbrev pub plain_of : Op → Bool
+plain_of op = plain_by (kind op) op
 
 -- An instruction, and what is asked of it
 abbrev pub decode : Instr → Inside
 decode i =
     record {
       instr = i;
-      class = class_of i.op;
+      plain = plain_of i.op;
+      kind = kind i.op;
       access = is_access (kind i.op);
+      pair = is_pair i.op;
       first = first_of i;
       second = second_of i;
       low = destination i Low;
       high = destination i High;
+      goes = goes_of i.op;
     }
 
 -- These are the decoded instructions of a program

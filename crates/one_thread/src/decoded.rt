@@ -1,43 +1,37 @@
 //! Decoded instructions.
-ghost use Rattle.std.specs.Prelude.{◌≡◌, ◌≤◌, IsTrue, false};
+ghost use Rattle.std.specs.Prelude.{◌≡◌, ◌≤◌, ℕ, IsTrue, Some, false};
+ghost use Rattle.instructions.specs.declared.op.Half.{Half};
 ghost use Rattle.instructions.specs.declared.op.Kind.TheVariants.{Computes};
-ghost use Rattle.instructions.specs.Instruction.{destination as destination_of, first_of, fixed_next as fixed_next_of, fixed_next_by, is_access as is_access_of, is_first_half as first_half, is_pair as is_pair_of, kind as kind_of, second_of};
+ghost use Rattle.instructions.specs.Instruction.{destination as destination_of, first_of, fixed_next as fixed_next_of, fixed_next_by, is_access as is_access_of, is_first_half as first_half, is_pair as is_pair_of, kind as kind_of, pc_plus_4 as pc_plus_4_of, second_of};
 ghost use Rattle.inorder.specs.Unit.{half_after};
-ghost use Rattle.one_thread.specs.Decoding.{class_of as class_in};
+ghost use Rattle.one_thread.specs.Decoding.{goes_of as goes_in, plain_of};
 ghost use Rattle.one_thread.specs.Window.{access_of};
 
 use instructions::{Half, Instr, Kind, Op, Reg, pc_plus_4};
 use std::marker::Model;
 
-/// What an operation is to the unit.
+/// Where an operation goes on.
 #[derive(Clone, Copy)]
-pub enum Class {
-    /// It computes one value.
-    Plain,
-    /// It is a multiplication or division, of two halves.
-    Pair,
-    Load,
-    Store,
-    /// A predictor is asked where it goes on.
-    Branch,
-    /// It goes on where it says.
-    Jump,
-    /// A jump that links.
-    Call,
-    /// A jump that links, for which a predictor is asked.
-    IndirectCall,
+pub enum Goes {
+    Behind,
+    To,
+    /// A predictor is asked, or the half tells.
+    Varies,
 }
 
 /// An instruction, with what its window, its claim and its retirement ask of it, found out once.
 #[derive(Clone, Copy)]
 pub struct Decoded {
     instr: Instr,
-    class: Class,
+    plain: bool,
+    kind: Kind,
     access: bool,
+    pair: bool,
     first: Reg,
     second: Reg,
     low: Reg,
     high: Reg,
+    goes: Goes,
 }
 
 impl Model for Decoded {
@@ -58,20 +52,23 @@ impl Model for Decoded {
     ghost inverse_ok = { λ d h. sym h };
 }
 
-// What an operation is.
-fn class_of(op: Op) -> Class
-    ensures { result ≡ class_in op }
+// Where an operation goes on, as far as it tells.
+fn goes_of(op: Op) -> Goes
+    ensures { result ≡ goes_in op }
 {
-    match (op.kind(), op) {
-        (Kind::Loads, _) => Class::Load,
-        (Kind::Stores, _) => Class::Store,
-        (Kind::Jumps, Op::J) => Class::Jump,
-        (Kind::Jumps, _) => Class::Branch,
-        (Kind::Links, Op::Jal) => Class::Call,
-        (Kind::Links, _) => Class::IndirectCall,
-        (Kind::Computes, op) if op.is_pair() => Class::Pair,
-        (Kind::Computes, _) => Class::Plain,
+    match op {
+        Op::J | Op::Jal => Goes::To,
+        Op::Jr | Op::Jalr => Goes::Varies,
+        op if op.is_branch() || op.is_pair() => Goes::Varies,
+        _ => Goes::Behind,
     }
+}
+
+// Whether an operation computes one value, behind which the path goes on.
+fn is_plain(op: Op) -> bool
+    ensures { result ≡ plain_of op }
+{
+    matches!(op.kind(), Kind::Computes) && !op.is_pair()
 }
 
 /// 1 for an instruction that reaches memory, else 0.
@@ -89,12 +86,15 @@ impl Decoded {
         let op = instr.op();
         Decoded {
             instr,
-            class: class_of(op),
+            plain: is_plain(op),
+            kind: op.kind(),
             access: op.is_access(),
+            pair: op.is_pair(),
             first: instr.first(),
             second: instr.second(),
             low: instr.destination(Half::Low),
             high: instr.destination(Half::High),
+            goes: goes_of(op),
         }
     }
 
@@ -116,22 +116,18 @@ impl Decoded {
     pub(crate) fn kind(&self) -> Kind
         ensures { result ≡ kind_of self.now.op }
     {
-        match self.class {
-            Class::Plain | Class::Pair => Kind::Computes,
-            Class::Load => Kind::Loads,
-            Class::Store => Kind::Stores,
-            Class::Branch | Class::Jump => Kind::Jumps,
-            Class::Call | Class::IndirectCall => Kind::Links,
-        }
+        self.kind
     }
 
-    /// Its operation computes one value.
+    /// Its operation computes one value, behind which the path goes on: nothing else is to be looked at.
     #[inline(always)]
     pub(crate) fn is_plain(&self) -> bool
         ensures computes { IsTrue result → kind_of self.now.op ≡ Computes }
         ensures whole { IsTrue result → is_pair_of self.now.op ≡ false }
+        ensures fixed { IsTrue result → (half : Half) (pc : ℕ) →
+            fixed_next_of self.now half pc ≡ Some (pc_plus_4_of pc) }
     {
-        matches!(self.class, Class::Plain)
+        self.plain
     }
 
     /// The operation is a load or store.
@@ -159,14 +155,14 @@ impl Decoded {
     pub(crate) fn is_pair(&self) -> bool
         ensures { result ≡ is_pair_of self.now.op }
     {
-        matches!(self.class, Class::Pair)
+        self.pair
     }
 
     /// This half is the first of two.
     pub(crate) fn is_first_half(&self, half: Half) -> bool
         ensures { result ≡ first_half self.now.op half }
     {
-        self.is_pair() && half == Half::Low
+        self.pair && half == Half::Low
     }
 
     /// The half that comes behind one: behind a first half its second.
@@ -194,12 +190,12 @@ impl Decoded {
     pub(crate) fn fixed_next(&self, half: Half, pc: u32) -> Option<u32>
         ensures { result ≡ fixed_next_of self.now half pc }
     {
-        match self.class {
-            Class::Plain | Class::Load | Class::Store => Some(pc_plus_4(pc)),
-            Class::Jump | Class::Call => Some(self.instr.number),
-            Class::Pair if half == Half::Low => Some(pc),
-            Class::Pair => Some(pc_plus_4(pc)),
-            Class::Branch | Class::IndirectCall => None,
+        match self.goes {
+            Goes::Behind => Some(pc_plus_4(pc)),
+            Goes::To => Some(self.instr.number),
+            Goes::Varies if self.is_first_half(half) => Some(pc),
+            Goes::Varies if self.pair => Some(pc_plus_4(pc)),
+            Goes::Varies => None,
         }
     }
 }

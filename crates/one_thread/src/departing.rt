@@ -172,13 +172,12 @@ fn retire(
         (station_by instr.now oldest.now) }
 {
     if instr.is_plain() {
-        let told = leaver_of(instr, oldest.half, oldest.pc, oldest.next);
-        flow.leaves(instr);
+        flow.leaves(instr, true);
         commit_value(committed, low, instr, oldest);
-        return told;
+        return None;
     }
     let told = leaver_of(instr, oldest.half, oldest.pc, oldest.next);
-    flow.leaves(instr);
+    flow.leaves(instr, false);
     commit(committed, low, &mut flow.ring, instr, oldest);
     told
 }

@@ -8,7 +8,7 @@ ghost use Rattle.one_thread.specs.Givers.{Chosen};
 use crate::decoded::{Decoded, access};
 use crate::fetch::{fetch, fetch_known};
 use crate::flow::Flow;
-use crate::leaver::guess;
+use crate::leaver::guess_behind;
 use crate::pipeline::Pipeline;
 use crate::station::{Stage, Station, made_at_let};
 use instructions::{Half, Leaver, Predictor};
@@ -112,9 +112,9 @@ impl<'a> Pipeline<'a> {
     {
         let pc = flow.future.pc;
         let instr = fetch_known(self.code.as_slice(), pc);
-        let predicted = guess(predictor, left, instr, half, pc);
-        let operands = flow.future.operands(instr);
         let plain = plain && instr.is_plain();
+        let predicted = guess_behind(predictor, left, instr, half, pc, plain);
+        let operands = flow.future.operands(instr);
         let Some(done) = self.completes(flow, instr, half, predicted, &operands, plain) else {
             Self::stays(flow, instr, predicted);
             return false;
@@ -124,7 +124,12 @@ impl<'a> Pipeline<'a> {
             Self::stays(flow, instr, predicted);
             return false;
         }
-        flow.joins(instr, flow.completed(half, predicted, done), operands.b);
+        flow.joins(
+            instr,
+            flow.completed(half, predicted, done),
+            operands.b,
+            plain,
+        );
         if is_miss {
             flow.from = flow.ring.len();
         }
@@ -196,11 +201,11 @@ impl<'a> Pipeline<'a> {
         ensures longer { Chosen result (length flow.new.ring.completed ≡
             suc (length flow.old.ring.completed)) ⊤ }
     {
+        if flow.half == Half::Low && self.is_plain(flow) {
+            return self.runs_next(predictor, flow, left, Half::Low, true);
+        }
         if self.is_half(flow) {
             return self.runs_half(predictor, flow, left);
-        }
-        if self.is_plain(flow) {
-            return self.runs_next(predictor, flow, left, Half::Low, true);
         }
         self.runs_next(predictor, flow, left, Half::Low, false)
     }

@@ -1,7 +1,8 @@
 //! The flow: live tenants that have all completed, and what the next instruction finds.
-ghost use Rattle.std.specs.Prelude.{◌≡◌, ◌<◌, ◌≤◌, ◌+◌, ◌-◌, ◌∷◌, ◌++◌, [], drop, length};
+ghost use Rattle.std.specs.Prelude.{◌≡◌, ◌<◌, ◌≤◌, ◌+◌, ◌-◌, ◌∷◌, ◌++◌, [], drop, length, IsTrue, false};
+ghost use Rattle.instructions.specs.declared.op.Kind.TheVariants.{Computes};
 ghost use Rattle.inorder.specs.Unit.{half_after};
-ghost use Rattle.instructions.specs.Instruction.{is_first_half};
+ghost use Rattle.instructions.specs.Instruction.{is_first_half, is_pair, kind as kind_of};
 ghost use Rattle.one_thread.specs.Flow.{completed_as};
 ghost use Rattle.one_thread.specs.CompletedRing.{station_by, store_with};
 ghost use Rattle.one_thread.specs.Futures.{GoesOnBehind};
@@ -47,9 +48,10 @@ impl Flow {
         }
     }
 
-    /// A completed instruction joins, with its content, if it is a store.
+    /// A completed instruction joins, with its content, if it is a store. One that is `plain` computes one value.
     #[inline(always)]
-    pub fn joins(&mut self, instr: &Decoded, completed: Completed, content: u32)
+    pub fn joins(&mut self, instr: &Decoded, completed: Completed, content: u32, plain: bool)
+        requires plain { IsTrue plain → (kind_of instr.now.op ≡ Computes) × (is_pair instr.now.op ≡ false) }
         requires room { length self.old.ring.completed < 32 }
         requires few { length self.old.ring.stores < 32 }
         requires all { length self.old.future.values ≡ 34 }
@@ -64,15 +66,17 @@ impl Flow {
         ensures from { self.new.from ≡ self.old.from }
         ensures last { self.new.last ≡ self.old.last }
     {
-        let stores = matches!(instr.kind(), Kind::Stores);
         let destination = instr.destination(completed.half);
-        let half = instr.half_behind(completed.half);
-        self.accesses += access(instr);
         self.ring.push(completed);
         self.future
             .follows(destination, completed.value, completed.next);
-        self.half = half;
-        if stores {
+        if plain {
+            self.half = Half::Low;
+            return;
+        }
+        self.accesses += access(instr);
+        self.half = instr.half_behind(completed.half);
+        if let Kind::Stores = instr.kind() {
             let entry = access_entry(instr.op(), Some(completed.value), Some(content));
             self.ring.push_store(entry);
         }
@@ -80,7 +84,8 @@ impl Flow {
 
     /// The oldest instruction leaves, without its entry: those behind it have completed for good.
     #[inline(always)]
-    pub fn leaves(&mut self, instr: &Decoded)
+    pub fn leaves(&mut self, instr: &Decoded, plain: bool)
+        requires plain { IsTrue plain → kind_of instr.now.op ≡ Computes }
         requires some { 0 < length self.old.ring.completed }
         requires counted { access_of instr.now ≤ self.old.accesses }
         ensures completed { self.new.ring.completed ≡ drop 1 self.old.ring.completed }
@@ -93,7 +98,9 @@ impl Flow {
           from = self.new.from;
         } }
     {
-        self.accesses -= access(instr);
+        if !plain {
+            self.accesses -= access(instr);
+        }
         self.ring.shift();
         self.from = self.ring.len();
     }

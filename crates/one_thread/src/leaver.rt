@@ -1,12 +1,12 @@
 //! Who has left a station, for the predictor.
-ghost use Rattle.std.specs.Prelude.{◌≡◌};
+ghost use Rattle.std.specs.Prelude.{◌≡◌, IsTrue, Some};
 ghost use Rattle.instructions.specs.Guesses.{Guesses};
-ghost use Rattle.instructions.specs.Instruction.{fixed_next};
+ghost use Rattle.instructions.specs.Instruction.{fixed_next, pc_plus_4 as pc_plus_4_of};
 ghost use Rattle.one_thread.specs.Leavers.{leaver_by, told_at};
 
 use crate::decoded::Decoded;
 use crate::station::Station;
-use instructions::{Half, Leaver, Predictor, tell};
+use instructions::{Half, Leaver, Predictor, pc_plus_4, tell};
 
 /// What the predictor is told of a half of an instruction that has gone on at `next`, unless that was fixed.
 #[inline(always)]
@@ -43,4 +43,25 @@ pub fn guess<P: Predictor>(
         Some(fixed) => fixed,
         None => predictor.predict(pc, &instr.to_instr()),
     }
+}
+
+/// Asks a predictor as `guess` does. Where the instruction is `plain`, the path goes on behind it.
+#[inline(always)]
+pub fn guess_behind<P: Predictor>(
+    predictor: &mut P,
+    left: Option<Leaver>,
+    instr: &Decoded,
+    half: Half,
+    pc: u32,
+    plain: bool,
+) -> u32
+    requires { IsTrue plain → fixed_next instr.now half pc ≡ Some (pc_plus_4_of pc) }
+    ensures { Guesses P.Predicts P.Learns left instr.now half pc
+        result predictor.old predictor.new }
+{
+    if plain {
+        tell(predictor, left);
+        return pc_plus_4(pc);
+    }
+    guess(predictor, left, instr, half, pc)
 }

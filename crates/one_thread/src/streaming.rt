@@ -92,7 +92,7 @@ impl<'a> Pipeline<'a> {
             let station = self.window.get(i);
             let completed = self.completed(&station)?;
             let content = flow.future.operands(&station.instr).b;
-            flow.joins(&station.instr, completed, content);
+            flow.joins(&station.instr, completed, content, false);
         }
         flow.from = flow.ring.len();
         Some(flow)

@@ -5,15 +5,22 @@ use Rattle.instructions.specs.Instruction.{kind}
 use Rattle.one_thread.proofs.Completions.{made_where}
 use Rattle.one_thread.proofs.flow.Flow.joins.Goals as goal
 
-pub returns-then-stores-clause-future : goal.returns-then-stores-clause-future
-returns-then-stores-clause-future c =
+pub returns-in-Stores-clause-future : goal.returns-in-Stores-clause-future
+returns-in-Stores-clause-future c =
     let i = c.args.instr.now in
     let x = c.args.completed in
     subst (λ d. GoesOnBehind c.args.self.now.future d (made_by (kind i.op) x.value) x.next c.follows.new.self) c.destination-destination.ensures
     (c.follows.ensures (made_by (kind i.op) x.value) (λ n. made_where i x.half x.value (λ z. n (c.destination-destination.ensures ∙ z))))
 
-pub returns-else-stores-clause-future : goal.returns-else-stores-clause-future
-returns-else-stores-clause-future c =
+pub returns-in_default-clause-future : goal.returns-in_default-clause-future
+returns-in_default-clause-future c =
+    let i = c.args.instr.now in
+    let x = c.args.completed in
+    subst (λ d. GoesOnBehind c.args.self.now.future d (made_by (kind i.op) x.value) x.next c.follows.new.self) c.destination-destination.ensures
+    (c.follows.ensures (made_by (kind i.op) x.value) (λ n. made_where i x.half x.value (λ z. n (c.destination-destination.ensures ∙ z))))
+
+pub returns-then-plain-clause-future : goal.returns-then-plain-clause-future
+returns-then-plain-clause-future c =
     let i = c.args.instr.now in
     let x = c.args.completed in
     subst (λ d. GoesOnBehind c.args.self.now.future d (made_by (kind i.op) x.value) x.next c.follows.new.self) c.destination-destination.ensures

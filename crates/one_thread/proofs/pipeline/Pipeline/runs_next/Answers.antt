@@ -14,13 +14,13 @@ completes-requires-clause-inside g c =
     let b = c.requires.place.before in
     let flow = c.args.flow.now in
     let i = c.fetch_known-instr.result.now in
-    let p = c.guess-predicted.result in
+    let p = c.guess_behind-predicted.result in
     let o = c.operands-operands.result in
     let is = c.fetch_known-instr.ensures b.program.now (place_decoded x flow c.as_slice.result.now c.requires.place c.as_slice.ensures.value) in
-    let guess : Guesses g.P.Predictor.Predicts g.P.Predictor.Learns c.args.left i flow.half flow.future.pc p c.args.predictor.now c.guess-predicted.new.predictor =
-    subst (λ k. Guesses g.P.Predictor.Predicts g.P.Predictor.Learns c.args.left i k flow.future.pc p c.args.predictor.now c.guess-predicted.new.predictor) c.requires.half c.guess-predicted.ensures in
+    let guess : Guesses g.P.Predictor.Predicts g.P.Predictor.Learns c.args.left i flow.half flow.future.pc p c.args.predictor.now c.guess_behind-predicted.new.predictor =
+    subst (λ k. Guesses g.P.Predictor.Predicts g.P.Predictor.Learns c.args.left i k flow.future.pc p c.args.predictor.now c.guess_behind-predicted.new.predictor) c.requires.half c.guess_behind-predicted.ensures in
     let h : Enters b x flow i p o =
-    enters x flow i p o c.args.left _ _ c.requires.place is c.guess-predicted.type_inv guess c.operands-operands.ensures.registers c.operands-operands.ensures.first c.operands-operands.ensures.second in
+    enters x flow i p o c.args.left _ _ c.requires.place is c.guess_behind-predicted.type_inv guess c.operands-operands.ensures.registers c.operands-operands.ensures.first c.operands-operands.ensures.second in
     subst (λ (q : Pipeline). (a : ℕ) → outcome_in q flow i o ≡ Address a → a + width i.op ≤ length q.committed.memory) (sym c.requires.place.rest) (entered_inside b x flow i p o h)
 
 pub returns-in_default-clause-entered : goal.returns-in_default-clause-entered
@@ -29,13 +29,13 @@ returns-in_default-clause-entered g c =
     let b = c.requires.place.before in
     let flow = c.args.flow.now in
     let i = c.fetch_known-instr.result.now in
-    let p = c.guess-predicted.result in
+    let p = c.guess_behind-predicted.result in
     let o = c.operands-operands.result in
     let is = c.fetch_known-instr.ensures b.program.now (place_decoded x flow c.as_slice.result.now c.requires.place c.as_slice.ensures.value) in
-    let guess : Guesses g.P.Predictor.Predicts g.P.Predictor.Learns c.args.left i flow.half flow.future.pc p c.args.predictor.now c.guess-predicted.new.predictor =
-    subst (λ k. Guesses g.P.Predictor.Predicts g.P.Predictor.Learns c.args.left i k flow.future.pc p c.args.predictor.now c.guess-predicted.new.predictor) c.requires.half c.guess-predicted.ensures in
+    let guess : Guesses g.P.Predictor.Predicts g.P.Predictor.Learns c.args.left i flow.half flow.future.pc p c.args.predictor.now c.guess_behind-predicted.new.predictor =
+    subst (λ k. Guesses g.P.Predictor.Predicts g.P.Predictor.Learns c.args.left i k flow.future.pc p c.args.predictor.now c.guess_behind-predicted.new.predictor) c.requires.half c.guess_behind-predicted.ensures in
     let h : Enters b x flow i p o =
-    enters x flow i p o c.args.left _ _ c.requires.place is c.guess-predicted.type_inv guess c.operands-operands.ensures.registers c.operands-operands.ensures.first c.operands-operands.ensures.second in
+    enters x flow i p o c.args.left _ _ c.requires.place is c.guess_behind-predicted.type_inv guess c.operands-operands.ensures.registers c.operands-operands.ensures.first c.operands-operands.ensures.second in
     subst (CanRestore x) (sym c.stays.ensures) (entered_stays b x flow i p o h)
 
 pub returns-then-not-is_alone-clause-entered : goal.returns-then-not-is_alone-clause-entered
@@ -44,13 +44,13 @@ returns-then-not-is_alone-clause-entered g c =
     let b = c.requires.place.before in
     let flow = c.args.flow.now in
     let i = c.fetch_known-instr.result.now in
-    let p = c.guess-predicted.result in
+    let p = c.guess_behind-predicted.result in
     let o = c.operands-operands.result in
     let is = c.fetch_known-instr.ensures b.program.now (place_decoded x flow c.as_slice.result.now c.requires.place c.as_slice.ensures.value) in
-    let guess : Guesses g.P.Predictor.Predicts g.P.Predictor.Learns c.args.left i flow.half flow.future.pc p c.args.predictor.now c.guess-predicted.new.predictor =
-    subst (λ k. Guesses g.P.Predictor.Predicts g.P.Predictor.Learns c.args.left i k flow.future.pc p c.args.predictor.now c.guess-predicted.new.predictor) c.requires.half c.guess-predicted.ensures in
+    let guess : Guesses g.P.Predictor.Predicts g.P.Predictor.Learns c.args.left i flow.half flow.future.pc p c.args.predictor.now c.guess_behind-predicted.new.predictor =
+    subst (λ k. Guesses g.P.Predictor.Predicts g.P.Predictor.Learns c.args.left i k flow.future.pc p c.args.predictor.now c.guess_behind-predicted.new.predictor) c.requires.half c.guess_behind-predicted.ensures in
     let h : Enters b x flow i p o =
-    enters x flow i p o c.args.left _ _ c.requires.place is c.guess-predicted.type_inv guess c.operands-operands.ensures.registers c.operands-operands.ensures.first c.operands-operands.ensures.second in
+    enters x flow i p o c.args.left _ _ c.requires.place is c.guess_behind-predicted.type_inv guess c.operands-operands.ensures.registers c.operands-operands.ensures.first c.operands-operands.ensures.second in
     subst (CanRestore x) (sym c.stays-then-not-is_alone.ensures) (entered_stays b x flow i p o h)
 
 pub joins-requires-clause-room : goal.joins-requires-clause-room
@@ -59,13 +59,13 @@ joins-requires-clause-room g c =
     let b = c.requires.place.before in
     let flow = c.args.flow.now in
     let i = c.fetch_known-instr.result.now in
-    let p = c.guess-predicted.result in
+    let p = c.guess_behind-predicted.result in
     let o = c.operands-operands.result in
     let is = c.fetch_known-instr.ensures b.program.now (place_decoded x flow c.as_slice.result.now c.requires.place c.as_slice.ensures.value) in
-    let guess : Guesses g.P.Predictor.Predicts g.P.Predictor.Learns c.args.left i flow.half flow.future.pc p c.args.predictor.now c.guess-predicted.new.predictor =
-    subst (λ k. Guesses g.P.Predictor.Predicts g.P.Predictor.Learns c.args.left i k flow.future.pc p c.args.predictor.now c.guess-predicted.new.predictor) c.requires.half c.guess-predicted.ensures in
+    let guess : Guesses g.P.Predictor.Predicts g.P.Predictor.Learns c.args.left i flow.half flow.future.pc p c.args.predictor.now c.guess_behind-predicted.new.predictor =
+    subst (λ k. Guesses g.P.Predictor.Predicts g.P.Predictor.Learns c.args.left i k flow.future.pc p c.args.predictor.now c.guess_behind-predicted.new.predictor) c.requires.half c.guess_behind-predicted.ensures in
     let h : Enters b x flow i p o =
-    enters x flow i p o c.args.left _ _ c.requires.place is c.guess-predicted.type_inv guess c.operands-operands.ensures.registers c.operands-operands.ensures.first c.operands-operands.ensures.second in
+    enters x flow i p o c.args.left _ _ c.requires.place is c.guess_behind-predicted.type_inv guess c.operands-operands.ensures.registers c.operands-operands.ensures.first c.operands-operands.ensures.second in
     (entered_room b x flow i p o h).0
 
 pub joins-requires-clause-few : goal.joins-requires-clause-few
@@ -74,13 +74,13 @@ joins-requires-clause-few g c =
     let b = c.requires.place.before in
     let flow = c.args.flow.now in
     let i = c.fetch_known-instr.result.now in
-    let p = c.guess-predicted.result in
+    let p = c.guess_behind-predicted.result in
     let o = c.operands-operands.result in
     let is = c.fetch_known-instr.ensures b.program.now (place_decoded x flow c.as_slice.result.now c.requires.place c.as_slice.ensures.value) in
-    let guess : Guesses g.P.Predictor.Predicts g.P.Predictor.Learns c.args.left i flow.half flow.future.pc p c.args.predictor.now c.guess-predicted.new.predictor =
-    subst (λ k. Guesses g.P.Predictor.Predicts g.P.Predictor.Learns c.args.left i k flow.future.pc p c.args.predictor.now c.guess-predicted.new.predictor) c.requires.half c.guess-predicted.ensures in
+    let guess : Guesses g.P.Predictor.Predicts g.P.Predictor.Learns c.args.left i flow.half flow.future.pc p c.args.predictor.now c.guess_behind-predicted.new.predictor =
+    subst (λ k. Guesses g.P.Predictor.Predicts g.P.Predictor.Learns c.args.left i k flow.future.pc p c.args.predictor.now c.guess_behind-predicted.new.predictor) c.requires.half c.guess_behind-predicted.ensures in
     let h : Enters b x flow i p o =
-    enters x flow i p o c.args.left _ _ c.requires.place is c.guess-predicted.type_inv guess c.operands-operands.ensures.registers c.operands-operands.ensures.first c.operands-operands.ensures.second in
+    enters x flow i p o c.args.left _ _ c.requires.place is c.guess_behind-predicted.type_inv guess c.operands-operands.ensures.registers c.operands-operands.ensures.first c.operands-operands.ensures.second in
     (entered_room b x flow i p o h).1
 
 pub joins-requires-clause-accesses : goal.joins-requires-clause-accesses
@@ -89,13 +89,13 @@ joins-requires-clause-accesses g c =
     let b = c.requires.place.before in
     let flow = c.args.flow.now in
     let i = c.fetch_known-instr.result.now in
-    let p = c.guess-predicted.result in
+    let p = c.guess_behind-predicted.result in
     let o = c.operands-operands.result in
     let is = c.fetch_known-instr.ensures b.program.now (place_decoded x flow c.as_slice.result.now c.requires.place c.as_slice.ensures.value) in
-    let guess : Guesses g.P.Predictor.Predicts g.P.Predictor.Learns c.args.left i flow.half flow.future.pc p c.args.predictor.now c.guess-predicted.new.predictor =
-    subst (λ k. Guesses g.P.Predictor.Predicts g.P.Predictor.Learns c.args.left i k flow.future.pc p c.args.predictor.now c.guess-predicted.new.predictor) c.requires.half c.guess-predicted.ensures in
+    let guess : Guesses g.P.Predictor.Predicts g.P.Predictor.Learns c.args.left i flow.half flow.future.pc p c.args.predictor.now c.guess_behind-predicted.new.predictor =
+    subst (λ k. Guesses g.P.Predictor.Predicts g.P.Predictor.Learns c.args.left i k flow.future.pc p c.args.predictor.now c.guess_behind-predicted.new.predictor) c.requires.half c.guess_behind-predicted.ensures in
     let h : Enters b x flow i p o =
-    enters x flow i p o c.args.left _ _ c.requires.place is c.guess-predicted.type_inv guess c.operands-operands.ensures.registers c.operands-operands.ensures.first c.operands-operands.ensures.second in
+    enters x flow i p o c.args.left _ _ c.requires.place is c.guess_behind-predicted.type_inv guess c.operands-operands.ensures.registers c.operands-operands.ensures.first c.operands-operands.ensures.second in
     (entered_room b x flow i p o h).2
 
 pub returns-then-is_miss-2-clause-entered : goal.returns-then-is_miss-2-clause-entered
@@ -104,13 +104,13 @@ returns-then-is_miss-2-clause-entered g c =
     let b = c.requires.place.before in
     let flow = c.args.flow.now in
     let i = c.fetch_known-instr.result.now in
-    let p = c.guess-predicted.result in
+    let p = c.guess_behind-predicted.result in
     let o = c.operands-operands.result in
     let is = c.fetch_known-instr.ensures b.program.now (place_decoded x flow c.as_slice.result.now c.requires.place c.as_slice.ensures.value) in
-    let guess : Guesses g.P.Predictor.Predicts g.P.Predictor.Learns c.args.left i flow.half flow.future.pc p c.args.predictor.now c.guess-predicted.new.predictor =
-    subst (λ k. Guesses g.P.Predictor.Predicts g.P.Predictor.Learns c.args.left i k flow.future.pc p c.args.predictor.now c.guess-predicted.new.predictor) c.requires.half c.guess-predicted.ensures in
+    let guess : Guesses g.P.Predictor.Predicts g.P.Predictor.Learns c.args.left i flow.half flow.future.pc p c.args.predictor.now c.guess_behind-predicted.new.predictor =
+    subst (λ k. Guesses g.P.Predictor.Predicts g.P.Predictor.Learns c.args.left i k flow.future.pc p c.args.predictor.now c.guess_behind-predicted.new.predictor) c.requires.half c.guess_behind-predicted.ensures in
     let h : Enters b x flow i p o =
-    enters x flow i p o c.args.left _ _ c.requires.place is c.guess-predicted.type_inv guess c.operands-operands.ensures.registers c.operands-operands.ensures.first c.operands-operands.ensures.second in
+    enters x flow i p o c.args.left _ _ c.requires.place is c.guess_behind-predicted.type_inv guess c.operands-operands.ensures.registers c.operands-operands.ensures.first c.operands-operands.ensures.second in
     let d = c.in-Some.done in
     let done : Completes b flow i p o (Some d) = subst (λ (q : Pipeline). Completes q flow i p o (Some d)) c.requires.place.rest c.in-Some.ensures in
     let j : HasJoined flow c.joins.new.self i (completed_as flow p d) o.b =
@@ -132,13 +132,13 @@ returns-else-is_miss-2-clause-entered g c =
     let b = c.requires.place.before in
     let flow = c.args.flow.now in
     let i = c.fetch_known-instr.result.now in
-    let p = c.guess-predicted.result in
+    let p = c.guess_behind-predicted.result in
     let o = c.operands-operands.result in
     let is = c.fetch_known-instr.ensures b.program.now (place_decoded x flow c.as_slice.result.now c.requires.place c.as_slice.ensures.value) in
-    let guess : Guesses g.P.Predictor.Predicts g.P.Predictor.Learns c.args.left i flow.half flow.future.pc p c.args.predictor.now c.guess-predicted.new.predictor =
-    subst (λ k. Guesses g.P.Predictor.Predicts g.P.Predictor.Learns c.args.left i k flow.future.pc p c.args.predictor.now c.guess-predicted.new.predictor) c.requires.half c.guess-predicted.ensures in
+    let guess : Guesses g.P.Predictor.Predicts g.P.Predictor.Learns c.args.left i flow.half flow.future.pc p c.args.predictor.now c.guess_behind-predicted.new.predictor =
+    subst (λ k. Guesses g.P.Predictor.Predicts g.P.Predictor.Learns c.args.left i k flow.future.pc p c.args.predictor.now c.guess_behind-predicted.new.predictor) c.requires.half c.guess_behind-predicted.ensures in
     let h : Enters b x flow i p o =
-    enters x flow i p o c.args.left _ _ c.requires.place is c.guess-predicted.type_inv guess c.operands-operands.ensures.registers c.operands-operands.ensures.first c.operands-operands.ensures.second in
+    enters x flow i p o c.args.left _ _ c.requires.place is c.guess_behind-predicted.type_inv guess c.operands-operands.ensures.registers c.operands-operands.ensures.first c.operands-operands.ensures.second in
     let d = c.in-Some.done in
     let done : Completes b flow i p o (Some d) = subst (λ (q : Pipeline). Completes q flow i p o (Some d)) c.requires.place.rest c.in-Some.ensures in
     let j : HasJoined flow c.joins.new.self i (completed_as flow p d) o.b =
