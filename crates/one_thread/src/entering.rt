@@ -181,7 +181,8 @@ impl<'a> Pipeline<'a> {
         let Some(instr) = fetch(self.code.as_slice(), flow.future.pc) else {
             return false;
         };
-        if instr.is_access() && self.queue <= flow.accesses {
+        let is_full = self.queue <= flow.accesses;
+        if instr.is_access() && is_full {
             return false;
         }
         true

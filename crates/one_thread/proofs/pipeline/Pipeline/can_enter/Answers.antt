@@ -1,7 +1,7 @@
 use Rattle.std.proofs.Common.{sym, ◌∙◌, subst, arith, true≢false}
 use Rattle.one_thread.specs.Decoding.{IsDecoded}
 use Rattle.one_thread.proofs.Completions.{stations_long}
-use Rattle.one_thread.proofs.pipeline.Pipeline.can_enter.Goals.{else-is_access-via-then-is_access+else-self-flow, else-is_access-via-else-is_access}
+use Rattle.one_thread.proofs.pipeline.Pipeline.can_enter.Goals.{else-is_access-via-then-is_access+else-is_full, else-is_access-via-else-is_access}
 use Rattle.one_thread.proofs.pipeline.Pipeline.can_enter.Goals as goal
 
 pub returns : goal.returns
@@ -14,7 +14,7 @@ returns c =
       instr = i;
       is = sym (c.in-Some.ensures b.program.now (subst (λ l. IsDecoded l b.program.now) (sym c.as_slice.ensures.value) c.requires.code));
       free = λ e. elim c.else-is_access.branch [
-        | else-is_access-via-then-is_access+else-self-flow w ↦ w.if-self-flow.false
+        | else-is_access-via-then-is_access+else-is_full w ↦ w.if-is_full.false
         | else-is_access-via-else-is_access w ↦ absurd (true≢false (sym e ∙ sym c.is_access.ensures ∙ w.if-is_access.false))
       ];
       room = omega (arith, long, c.requires.room);
