@@ -146,14 +146,14 @@ impl<'a> Pipeline<'a> {
         requires flow { CanRestore self.old flow.now }
         ensures { self.new ≡ restored self.old flow.now }
     {
-        let mut window = Window::new();
+        self.window.clear();
         for i in 0..flow.ring.len() {
-            window.join(&self.station_at_exit(flow, i));
+            let station = self.station_at_exit(flow, i);
+            self.window.join(&station);
         }
         if let Some(station) = flow.last {
-            window.join(&station);
+            self.window.join(&station);
         }
-        self.window = window;
         self.missed = false;
         self.settled = flow.from;
     }
@@ -217,7 +217,7 @@ impl<'a> Pipeline<'a> {
 
     /// Turns as long as all live tenants have completed and the count has not reached a limit. Answers at which count
     /// that is to be looked for again: what keeps the unit out of it leaves within a ring of instructions.
-    #[inline(never)]
+    #[inline(always)]
     pub fn streams<P: Predictor>(&mut self, predictor: &mut P, limit: u64) -> u64
         requires unit { StandsForSome self.old }
         ensures unit { StandsForSome self.new }
@@ -228,6 +228,20 @@ impl<'a> Pipeline<'a> {
         if self.over.is_some() || self.ring < 2 || self.settled < self.window.len() {
             return 0;
         }
+        self.streams_on(predictor, limit)
+    }
+
+    // Turns where nothing that is live waits, as `streams` makes them.
+    #[inline(never)]
+    fn streams_on<P: Predictor>(&mut self, predictor: &mut P, limit: u64) -> u64
+        requires unit { StandsForSome self.old }
+        requires goes_on { self.old.over ≡ None }
+        requires two { 2 ≤ self.old.ring }
+        ensures unit { StandsForSome self.new }
+        ensures program { self.new.program ≡ self.old.program }
+        ensures more { self.old.committed.count ≤ self.new.committed.count }
+        ensures ends { run_from self.new limit ≡ run_from self.old limit }
+    {
         let Some(flow) = self.flow() else {
             return self.committed.count().saturating_add(self.ring as u64);
         };

@@ -225,6 +225,14 @@ impl Window {
         self.len = last;
     }
 
+    /// Takes all out.
+    pub fn clear(&mut self)
+        ensures { self.new ≡ [] }
+    {
+        self.len = 0;
+        self.accesses = 0;
+    }
+
     /// Keeps the oldest `len`.
     pub fn cut(&mut self, len: usize)
         ensures { self.new ≡ take len self.old }

@@ -1,4 +1,5 @@
-use Rattle.std.proofs.Common.{◌≡◌, ◌++◌, ◌∷◌, [], List, length, refl, sym, ap, ◌∙◌, arith, false, length-take}
+use Rattle.std.proofs.Common.{◌≡◌, ◌++◌, ◌∷◌, [], List, Some, length, take, refl, sym, ap, ◌∙◌, subst, arith, false, length-take}
+use Rattle.std.specs.Prelude.{slice_get}
 use Rattle.std.proofs.lemmas.List.{take_all}
 use Rattle.one_thread.specs.Flow.{window_of, with_last}
 use Rattle.one_thread.specs.Reopened.{reopened}
@@ -13,11 +14,17 @@ use Rattle.one_thread.proofs.pipeline.Pipeline.restores.Goals as goal
 pub join-requires : goal.join-requires
 join-requires c =
     let V = reopened c.args.flow.now.from (window_of c.args.self.now c.args.flow.now) in
-    omega (arith, ap length c.loop-i.invariant, length-take c.loop-i.i V, c.loop-i-test.true, c.len-i-end.ensures.value, c.len-i-end.ensures.most)
+    omega (arith, ap (λ (p : Pipeline). length p.window) c.loop-i.invariant, length-take c.loop-i.i V, c.loop-i-test.true, c.len-i-end.ensures.value, c.len-i-end.ensures.most)
 
 pub loop-i-preserved : goal.loop-i-preserved
 loop-i-preserved c =
-    c.join.ensures ∙ taken c.loop-i.window (reopened c.args.flow.now.from (window_of c.args.self.now c.args.flow.now)) c.loop-i.i c.station_at_exit.result c.station_at_exit.result c.loop-i.invariant c.station_at_exit.ensures refl
+    let b = c.args.self.now in
+    let flow = c.args.flow.now in
+    let V = reopened flow.from (window_of b flow) in
+    let there = subst (λ (p : Pipeline). slice_get (reopened flow.from (window_of p flow)) c.loop-i.i ≡ Some c.station_at_exit-station.result) c.loop-i.invariant c.station_at_exit-station.ensures in
+    let same : c.loop-i.self.window ≡ take c.loop-i.i V = ap (λ (p : Pipeline). p.window) c.loop-i.invariant in
+    let more = c.join.ensures ∙ taken c.loop-i.self.window V c.loop-i.i c.station_at_exit-station.result c.station_at_exit-station.result same there refl in
+    ap (λ (p : Pipeline). record p { window = c.join.new.self }) c.loop-i.invariant ∙ ap (λ W. record b { window = W }) more
 
 pub returns : goal.returns
 returns c =
@@ -26,11 +33,13 @@ returns c =
     let V = reopened flow.from (window_of b flow) in
     let long = stations_long b.program.now flow.ring.completed in
     let same = reopened_long flow.from (window_of b flow) in
-    let all : c.loop-i.window ≡ V = c.loop-i.invariant ∙ take_all c.loop-i.i V (omega (arith, long, same, c.loop-i-test.false, c.len-i-end.ensures.value)) in
-    let with : List Station → Pipeline = λ W. record b { window = W; missed = false; settled = flow.from } in
-    let is : c.match-flow.window ≡ with_last V flow.last =
+    let with : List Station → Pipeline = λ W. record b { window = W } in
+    let all : c.loop-i.self ≡ with V =
+    c.loop-i.invariant ∙ ap with (take_all c.loop-i.i V (omega (arith, long, same, c.loop-i-test.false, c.len-i-end.ensures.value))) in
+    let is : c.match-flow.self ≡ with (with_last V flow.last) =
     elim c.match-flow.branch [
-      | in-Some w ↦ w.window-is ∙ w.join-in-Some.ensures ∙ ap (λ l. l ++ w.in-Some.station ∷ []) all ∙ sym (ap (with_last V) w.in-Some.is)
-      | in_default w ↦ w.window-is ∙ all ∙ sym (ap (with_last V) w.in_default.is)
+      | in-Some w ↦ w.self-is ∙ ap (λ (p : Pipeline). record p { window = w.join-in-Some.new.self }) all
+          ∙ ap with (w.join-in-Some.ensures ∙ ap (λ (p : Pipeline). p.window ++ w.in-Some.station ∷ []) all ∙ sym (ap (with_last V) w.in-Some.is))
+      | in_default w ↦ w.self-is ∙ all ∙ ap with (sym (ap (with_last V) w.in_default.is))
     ] in
-    ap with is
+    ap (λ (p : Pipeline). record p { missed = false; settled = flow.from }) is

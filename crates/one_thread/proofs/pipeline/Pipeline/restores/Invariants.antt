@@ -4,4 +4,4 @@ use Rattle.one_thread.specs.Reopened.{reopened}
 use Rattle.one_thread.proofs.pipeline.Pipeline.restores.Given as goal
 
 abbrev pub invariant-loop-i : goal.invariant-loop-i
-invariant-loop-i l = l.window ≡ take l.i (reopened l.flow.from (window_of l.self l.flow))
+invariant-loop-i l = l.self ≡ record l.fn.self { window = take l.i (reopened l.flow.from (window_of l.fn.self l.flow)) }
