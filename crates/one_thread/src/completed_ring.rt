@@ -28,10 +28,14 @@ pub struct CompletedRing {
     // the slot of the oldest
     start: usize,
     len: usize,
+    // the entries of its stores, behind some that have left
     stores: ArrayVec<Entry, 32>,
+    // how many of them have left
+    past: usize,
 }
 
 impl Model for CompletedRing {
+    ghost use Rattle.std.specs.Prelude.{◌≤◌, drop, length};
     ghost use Rattle.one_thread.specs.CompletedRing.{Contents, IsRing};
     ghost use Rattle.one_thread.specs.Slots.{ring_of};
 
@@ -39,10 +43,10 @@ impl Model for CompletedRing {
 
     ghost view = { λ r. record {
       completed = ring_of r.slots r.start r.len;
-      stores = r.stores.items;
+      stores = drop r.past r.stores.items;
     } };
 
-    ghost invariant = { λ r. IsRing r.slots r.start r.len };
+    ghost invariant = { λ r. IsRing r.slots r.start r.len × (r.past ≤ length r.stores.items) };
 }
 
 // The content of a slot that nobody has used.
@@ -53,6 +57,24 @@ fn unused() -> Completed {
         predicted: 0,
         next: 0,
         value: 0,
+    }
+}
+
+// The entries without the first.
+fn forget_first(stores: &mut ArrayVec<Entry, 32>)
+    ensures { stores.new.items ≡ drop 1 stores.old.items }
+{
+    stores.pop_at(0);
+}
+
+// The entries without the first `past`: an item that leaves moves those behind it, so many leave at once.
+#[cold]
+#[inline(never)]
+fn forget(stores: &mut ArrayVec<Entry, 32>, past: usize)
+    ensures { stores.new.items ≡ drop past stores.old.items }
+{
+    for _i in 0..past {
+        forget_first(stores);
     }
 }
 
@@ -67,6 +89,7 @@ impl CompletedRing {
             start: 0,
             len: 0,
             stores: ArrayVec::new(),
+            past: 0,
         }
     }
 
@@ -82,7 +105,7 @@ impl CompletedRing {
     pub fn stores(&self) -> &[Entry]
         ensures { result.now ≡ self.now.stores }
     {
-        self.stores.as_slice()
+        &self.stores.as_slice()[self.past..]
     }
 
     /// The instruction at `i`.
@@ -121,6 +144,10 @@ impl CompletedRing {
         requires { length self.old.stores < 32 }
         ensures { self.new ≡ record self.old { stores = self.old.stores ++ entry ∷ [] } }
     {
+        if self.stores.len() == 32 {
+            forget(&mut self.stores, self.past);
+            self.past = 0;
+        }
         self.stores.push(entry);
     }
 
@@ -139,6 +166,8 @@ impl CompletedRing {
     pub fn shift_store(&mut self)
         ensures { self.new ≡ record self.old { stores = drop 1 self.old.stores } }
     {
-        self.stores.pop_at(0);
+        if self.past < self.stores.len() {
+            self.past += 1;
+        }
     }
 }

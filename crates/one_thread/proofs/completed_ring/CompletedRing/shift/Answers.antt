@@ -8,8 +8,8 @@ use Rattle.one_thread.proofs.completed_ring.CompletedRing.shift.Goals as goal
 pub returns : goal.returns
 returns c =
     let s = c.self.inside in
-    let h = c.self.invariant in
-    let with : List Completed → Contents = λ l. record { completed = l; stores = s.stores.items } in
+    let h = c.self.invariant.0 in
+    let with : List Completed → Contents = λ l. record { completed = l; stores = drop s.past s.stores.items } in
     let long = ring_length s.slots s.start s.len h.every_slot h.begins h.most in
     let some : 0 < s.len = omega (arith, c.requires, ap (λ r. length r.completed) c.self.view_is, long) in
     ap with (ap (λ k. ring_of s.slots k (s.len - 1)) c.slot_of-self-inside.ensures.value ∙ ring_shift s.slots s.start s.len h.every_slot h.begins h.most some)
