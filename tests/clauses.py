@@ -153,11 +153,11 @@ def rows_of(owner, calls):
 
 PAGE = """# Calls and their clauses
 
-Written by `tests/clauses.py --page` from the sources; [PROMISES.md](PROMISES.md) tells what the clauses come to. A line has the
-calls of one type, or functions of none, that other crates can make and whose clauses (`ensures`) have the same names; these stand
-behind the colon, `-` for one without a name. Calls without a colon have one clause, without a name. A call with no clause promises
-what each call does: nothing undefined, and it returns if it takes neither `Wait` nor `Threads`. A call with `*` has conditions
-(`requires`). Crates of tests are left out, and of a program functions without clauses.
+Written by `tests/clauses.py --page` from the sources; [PROMISES.md](PROMISES.md) says what the clauses mean. A line has public
+calls of one type, or functions of none, whose clauses (`ensures`) have the same names. These follow the colon, `-` for one without
+a name; calls without a colon have one clause, without a name. Also without a clause a call does nothing undefined, and returns if it
+takes neither `Wait` nor `Threads`. A call with `*` has conditions (`requires`). Crates of tests are left out, and a program's
+functions without clauses.
 """
 
 

@@ -18,7 +18,7 @@ LAYERS = [
     ("Threads", "hints counts workers pool"),
     ("What a command line asks for", "command_line command"),
     ("Programs", "alone ruu checker chart commits drive listing"),
-    ("What is run to see that all is well", "examples tests_of_calls tests_of_runs speed"),
+    ("Tests and measurements", "examples tests_of_calls tests_of_runs speed"),
 ]
 
 PICTURE = """\
@@ -50,9 +50,9 @@ Written by `tests/map.py` from `crates.txt` and the first sentence of each crate
 {picture}
 ```
 
-The picture has the crates that a run passes through, the lowest at its foot. The list has all, the lowest layer first: a crate
-stands on crates of its own layer and of earlier ones. [CONTRIBUTING.md](CONTRIBUTING.md) tells a crate's folders; `ruu` runs the
-programs, `prove` proves crates side by side, `check` with the scripts of `tests/` is the gate.
+The picture has the crates that a run passes through. The list has all, the lowest layer first: a crate stands on crates of its own
+layer and of earlier ones. [CONTRIBUTING.md](CONTRIBUTING.md) tells a crate's folders; `ruu` runs the programs, `prove` proves
+crates side by side, `check` is the gate.
 """
 
 

@@ -9,7 +9,8 @@ use Rattle.inorder.specs.declared.history.Event.{Event}
 use Rattle.inorder.specs.declared.history.Event.TheVariants.{Refuses}
 use Rattle.inorder.specs.declared.history.Refusal.TheVariants.{Over}
 use Rattle.inorder.specs.Callers.{GoesOn}
-use Rattle.inorder.specs.History.{IsLegal, back, entry, unit_of, StartsWith}
+use Rattle.inorder.specs.History.{IsLegal, back, entry, unit_of}
+use Rattle.instructions.specs.Histories.{StartsWith}
 use Rattle.inorder.specs.OneHistory.{Adds}
 use Rattle.inorder.specs.Machine.{State}
 use Rattle.inorder.specs.Replies.{IsOver}

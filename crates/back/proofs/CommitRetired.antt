@@ -24,7 +24,7 @@ use Rattle.back.specs.Backs.{TheBack, back_of, back_state, unit_in}
 use Rattle.back.specs.Commits.{HasCommitted, HasEndedWith, HasHalved}
 use Rattle.back.specs.Commits.HowEnded.{Stops}
 use Rattle.back.specs.Kept.{BackIsKept, KeepsUnit}
-use Rattle.back.specs.Retirement.{StoreIsInside, low_by, low_in, state_behind, state_behind_by, stop_in}
+use Rattle.back.specs.Retirement.{StoreIsInside, waiting_low, low_in, state_behind, state_behind_by, stop_in}
 use Rattle.back.proofs.Committing.{IsDone}
 use Rattle.back.proofs.Retired.{HasRetired, commits_still, has_retired}
 use Rattle.back.proofs.SeatKept.{plain, state_is}
@@ -94,7 +94,7 @@ module _ {P : Program} {old : TheBack} {core : TheCore} {seat : Caller} {state :
   no_low : (code : Stop) → low_in i half (WasStop code) ≡ None
   no_low code = go (is_first_half i.op half)
     where
-      go : (b : Bool) → low_by b (WasStop code) ≡ None
+      go : (b : Bool) → waiting_low b (WasStop code) ≡ None
       go true = refl
       go false = refl
 
@@ -126,10 +126,10 @@ module _ {P : Program} {old : TheBack} {core : TheCore} {seat : Caller} {state :
   not_first : low_in i half last ≡ None → is_first_half i.op half ≡ false
   not_first n = go (is_first_half i.op half) did.done n
     where
-      go : (b : Bool) → (b ≡ true → IsDone last) → low_by b last ≡ None → b ≡ false
+      go : (b : Bool) → (b ≡ true → IsDone last) → waiting_low b last ≡ None → b ≡ false
       go true d n =
           let v = d refl in
-          let x = sym (ap (low_by true) v.1) ∙ n in
+          let x = sym (ap (waiting_low true) v.1) ∙ n in
           absurd (cc x)
       go false d n = refl
 
@@ -155,11 +155,11 @@ module _ {P : Program} {old : TheBack} {core : TheCore} {seat : Caller} {state :
   }
 
   -- a value waits: it is a first half
-  half_first : (b : Bool) (v : ℕ) → low_by b last ≡ Some v → b ≡ true
+  half_first : (b : Bool) (v : ℕ) → waiting_low b last ≡ Some v → b ≡ true
   half_first true v w = refl
   half_first false v w = absurd (cc w)
 
-  half_no_stop : (b : Bool) (last : Last) (v : ℕ) → low_by b last ≡ Some v → stop_in last ≡ None
+  half_no_stop : (b : Bool) (last : Last) (v : ℕ) → waiting_low b last ≡ Some v → stop_in last ≡ None
   half_no_stop b (Done x) v w = refl
   half_no_stop b (Stored a d) v w = refl
   half_no_stop true (WasStop c) v w = absurd (cc w)

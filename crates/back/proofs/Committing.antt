@@ -18,7 +18,7 @@ use Rattle.inorder.proofs.Sound.{DoneIs, FateIs}
 use Rattle.station.specs.declared.answers.Last.{Last}
 use Rattle.station.specs.declared.answers.Last.TheVariants.{Done as WasDone, Stop as WasStop, Stored}
 use Rattle.station.specs.Retirement.{EndsAs}
-use Rattle.back.specs.Retirement.{StoreIsInside, goes_on_at, with_done, with_last, with_store, value_written}
+use Rattle.back.specs.Retirement.{StoreIsInside, goes_on_at, with_done, behind_last, with_store, value_written}
 
 abbrev state_at : List ℕ → List ℕ → ℕ → ℕ → State
 state_at registers memory pc count = record { registers = registers; memory = memory; pc = pc; count = count }
@@ -91,7 +91,7 @@ module _ (P : Program) (t : Tenant) (n : ℕ) (s : State) (pc : t.pc ≡ s.pc) (
       built (unwrap_or gone.made 0) 0 _ _ (computed_next P t) (pc_plus_4 s.pc) (no_write s.registers (destination_of P t) (unwrap_or gone.made 0) 0 none) put (ap (next_by (behind_it P t)) h ∙ after)
 
   -- a stop commits nothing, any other what it was answered to be
-  pub committed_as : (last : Last) → EndsAs P last t → FateIs P t t.fate → cond (commits gone) (with_tenant P gone s) s ≡ with_last (instr P t) t.half last s
+  pub committed_as : (last : Last) → EndsAs P last t → FateIs P t t.fate → cond (commits gone) (with_tenant P gone s) s ≡ behind_last (instr P t) t.half last s
   committed_as (WasDone v) e f = ap (λ b. cond b (with_tenant P gone s) s) (ap (commits_by Retired) e) ∙ done_as v (kind_of P t) refl e (subst (FateIs P t) e f).0
   committed_as (Stored a c) e f = ap (λ b. cond b (with_tenant P gone s) s) (ap (commits_by Retired) e.1) ∙ store_as a c e.0 e.1 e.2 (subst (FateIs P t) e.1 f).1
   committed_as (WasStop c) e f = ap (λ b. cond b (with_tenant P gone s) s) (ap (commits_by Retired) e)

@@ -27,4 +27,5 @@ pub mod Refreshing
 pub mod Wakings
 pub mod ScanSteps
 pub mod TrialFacts
+pub mod SearchFacts
 pub mod Behind

@@ -4,7 +4,7 @@ use Rattle.std.proofs.lemmas.Bool.{cases_lt}
 use Rattle.std.proofs.Math.Nat.{add-mod_right, mod-add-mod, mod-eq_of_lt}
 use Rattle.instructions.specs.Programs.{Program}
 use Rattle.inorder.specs.Callers.{head_station, is_retired, stands_retired}
-use Rattle.inorder.specs.Laws.{IsRing}
+use Rattle.inorder.specs.Laws.{FitsRing}
 use Rattle.inorder.specs.Tenants.{IsNotLive, Live, Retired, Squashed, Standing, Tenant, is_live, on_path, stands_live, stands_on_path}
 use Rattle.inorder.specs.Unit.{at, how_many, newest_of, older, recent, Sizes, UpdateUnit, younger}
 use Rattle.inorder.proofs.Basics.{eqb_less, split_at}
@@ -162,7 +162,7 @@ rank_newest (suc n) (u ∷ ts) r t gone e = ⊎_elim
 
 -- The tenants let since the last renewal stand in the ring, and all others have left
 pub record InRing (C : Sizes) (U : UpdateUnit) : Type 0 where
-  pub ring : IsRing C (recent U)
+  pub ring : FitsRing C (recent U)
   pub gone : OldGone U
 
 pub in_ring : (P : Program) (C : Sizes) (h : List Entry) → IsLegal P C h → InRing C (unit_of P C h)

@@ -15,7 +15,8 @@ use Rattle.inorder.specs.OneHistory.{Adds}
 use Rattle.inorder.specs.Replies.{Has}
 use Rattle.inorder.specs.Tenants.{Tenant}
 use Rattle.inorder.specs.Unit.{Sizes, at, is_old}
-use Rattle.inorder.proofs.Histories.{adds_on, starts_same, none_from, legal_before}
+use Rattle.inorder.proofs.Histories.{adds_on, none_from, legal_before}
+use Rattle.instructions.proofs.Histories.{starts_same}
 use Rattle.ruu_words.specs.Kinds.{IsNamed}
 use Rattle.station.specs.Seats.{TheCore}
 use Rattle.station.specs.Writeback.{IsDeliveryOf, IsWalk}

@@ -13,7 +13,8 @@ use Rattle.inorder.specs.declared.history.Source.TheVariants.{Second}
 use Rattle.inorder.specs.declared.history.Step.{Step}
 use Rattle.inorder.specs.declared.history.Step.TheVariants.{On}
 use Rattle.inorder.specs.Committed.{ahead_by, commits, commits_by}
-use Rattle.inorder.specs.History.{IsLegal, back, entry, unit_of, renewals, StartsWith}
+use Rattle.inorder.specs.History.{IsLegal, back, entry, unit_of, renewals}
+use Rattle.instructions.specs.Histories.{StartsWith}
 use Rattle.inorder.specs.OneHistory.{Adds}
 use Rattle.inorder.specs.Legal.{Allowed, applied, changed}
 use Rattle.inorder.specs.Machine.{State}

@@ -31,7 +31,7 @@ use Rattle.station.specs.declared.answers.Last.TheVariants.{Done as WasDone, Sto
 use Rattle.station.specs.Retirement.{EndsAs}
 use Rattle.back.specs.Kept.{EndIs, KeepsUnit}
 use Rattle.back.specs.Kept.WhyEnded.{ByStop}
-use Rattle.back.specs.Retirement.{low_by, low_in, state_behind, state_behind_by, stop_in, with_last}
+use Rattle.back.specs.Retirement.{waiting_low, low_in, state_behind, state_behind_by, stop_in, behind_last}
 use Rattle.back.proofs.Committing.{committed_as, first_as, first_done}
 use Rattle.inorder.proofs.Recent.{live_recent, recent_change}
 use Rattle.inorder.proofs.Stations.{OldGone}
@@ -146,13 +146,13 @@ module _ (P : Program) (C : Sizes) (U : UpdateUnit) (by p n : ℕ) (a : Allowed 
 
   -- with it its instruction is whole
   module _ (whole : is_first P t ≡ false) (last : Last) (e : EndsAs P last t) where
-    leaves_whole : cond (commits (retired t n)) (with_tenant P (retired t n) (ahead P us)) (ahead P us) ≡ with_last (instr P t) t.half last (ahead P us)
+    leaves_whole : cond (commits (retired t n)) (with_tenant P (retired t n) (ahead P us)) (ahead P us) ≡ behind_last (instr P t) t.half last (ahead P us)
     leaves_whole = committed_as P t n (ahead P us) (pc_is ∙ (same_rest P us).1) whole last e own_sound.own.fate
 
-    whole_ahead : ahead P V.tenants ≡ with_last (instr P t) t.half last (ahead P us)
+    whole_ahead : ahead P V.tenants ≡ behind_last (instr P t) t.half last (ahead P us)
     whole_ahead = now_ahead ∙ (ap (λ b. cond (commits (retired t n)) (with_retired b P (retired t n) (ahead P us)) (ahead P us)) whole ∙ leaves_whole)
 
-    whole_committed : committed P V.tenants ≡ with_last (instr P t) t.half last (ahead P us)
+    whole_committed : committed P V.tenants ≡ behind_last (instr P t) t.half last (ahead P us)
     whole_committed =
         now_committed ∙ (ap (λ b. cond (commits (retired t n) && not b) (with_tenant P (retired t n) (ahead P us)) (committed P us)) whole
         ∙ (other (commits (retired t n)) (level_else last e) ∙ leaves_whole))
@@ -206,7 +206,7 @@ module _ (P : Program) (C : Sizes) (U : UpdateUnit) (by p n : ℕ) (a : Allowed 
       next_head = ap (λ h. (h + 1) % C.ring) k.head_is ∙ sym (head_more gone_all)
 
       Goal : Bool → Last → Type 0
-      Goal b last = KeepsUnit P C V (state_behind_by (low_by b last) (instr P t) t.half last low state) (low_by b last) ((head + 1) % C.ring) (stop_in last)
+      Goal b last = KeepsUnit P C V (state_behind_by (waiting_low b last) (instr P t) t.half last low state) (waiting_low b last) ((head + 1) % C.ring) (stop_in last)
 
       go : (b : Bool) → is_first P t ≡ b → (last : Last) → EndsAs P last t → Goal b last
       go true f (WasDone v) e = record {
@@ -218,8 +218,8 @@ module _ (P : Program) (C : Sizes) (U : UpdateUnit) (by p n : ℕ) (a : Allowed 
       go true f (Stored x d) e = let none = first_done P t f (Stored x d) e own_sound.own.fate in let q = none.1 in absurd (cc q)
       go true f (WasStop c) e = let none = first_done P t f (WasStop c) e own_sound.own.fate in let q = none.1 in absurd (cc q)
       go false f last e = record {
-        state_is = ap (with_last (instr P t) t.half last) k.low_is ∙ sym (whole_committed f last e);
-        low_is = ap (with_last (instr P t) t.half last) k.low_is ∙ sym (whole_ahead f last e);
+        state_is = ap (behind_last (instr P t) t.half last) k.low_is ∙ sym (whole_committed f last e);
+        low_is = ap (behind_last (instr P t) t.half last) k.low_is ∙ sym (whole_ahead f last e);
         head_is = next_head;
         end_is = end_after last e k.end_is;
       }

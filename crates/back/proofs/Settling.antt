@@ -15,7 +15,8 @@ use Rattle.inorder.specs.declared.history.Source.TheVariants.{First, Second}
 use Rattle.inorder.specs.declared.history.Step.{Step}
 use Rattle.inorder.specs.declared.history.Step.TheVariants.{On}
 use Rattle.inorder.specs.Callers.{CanLoad}
-use Rattle.inorder.specs.History.{IsLegal, StartsWith, back, entry, unit_of, renewals}
+use Rattle.inorder.specs.History.{IsLegal, back, entry, unit_of, renewals}
+use Rattle.instructions.specs.Histories.{StartsWith}
 use Rattle.inorder.specs.OneHistory.{Adds}
 use Rattle.inorder.specs.Legal.{Allowed, May, applied, changed}
 use Rattle.inorder.specs.Memory.{load_value}
@@ -37,7 +38,8 @@ use Rattle.back.specs.Trials.{DidLoad, HasHeldBack, HasPassed, HoldsBack, IsLoad
 use Rattle.back.specs.declared.port.Load.{Load}
 use Rattle.back.proofs.OwnEntries.{EndsWith, added_own, split_last}
 use Rattle.back.proofs.PortStays.{asked_stays}
-use Rattle.back.proofs.Moments.{once_earlier, once_later, once_now, starts_on}
+use Rattle.back.proofs.Moments.{once_earlier, once_later, once_now}
+use Rattle.instructions.proofs.Histories.{starts_on}
 use Rattle.inorder.proofs.Recent.{live_is_recent}
 
 apart : Live ≡ Squashed → ⊥
@@ -198,11 +200,11 @@ module _ (P : Program) (C : Sizes) (old mid late : List Entry) (first : Adds P C
     module _ (new : List Entry) where
       -- no other waits
       others : StartsWith new late → NoOtherWaits P C old new station w.p
-      others starts q other h = once_later P C old mid new (λ U. ¬ Has U q (IsWaitingLoad P)) (starts_on new late mid starts then.begins) (w.others q other h)
+      others starts q other h = once_later P C old mid new (λ U. ¬ Has U q (IsWaitingLoad P)) (starts_on mid late new then.begins starts) (w.others q other h)
 
       none : StartsWith new late → ¬ Has (unit_of P C new) w.p (IsWaitingLoad P) → NoLoadWaits P C old new station
       none starts no_wait q h = dite (ℕ_discrete q w.p)
-          (λ same. once_now P C old new (λ U. ¬ Has U q (IsWaitingLoad P)) (starts_on new late old starts both.begins) (λ x. no_wait (subst (λ z. Has (unit_of P C new) z (IsWaitingLoad P)) same x)))
+          (λ same. once_now P C old new (λ U. ¬ Has U q (IsWaitingLoad P)) (starts_on old late new both.begins starts) (λ x. no_wait (subst (λ z. Has (unit_of P C new) z (IsWaitingLoad P)) same x)))
           (λ other. others starts q other h)
 
       pub did_load : (address v : ℕ) →

@@ -6,7 +6,8 @@ use Rattle.instructions.specs.Programs.{Program}
 use Rattle.inorder.specs.declared.history.Entry.{Entry}
 use Rattle.inorder.specs.declared.history.Event.{Event}
 use Rattle.inorder.specs.Callers.{head_station}
-use Rattle.inorder.specs.History.{IsLegal, StartsWith, back, unit_of}
+use Rattle.inorder.specs.History.{IsLegal, back, unit_of}
+use Rattle.instructions.specs.Histories.{StartsWith}
 use Rattle.inorder.specs.OneHistory.{Adds}
 use Rattle.inorder.specs.Replies.{Has}
 use Rattle.inorder.specs.Tenants.{Live, Tenant}

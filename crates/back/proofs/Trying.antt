@@ -30,7 +30,8 @@ use Rattle.back.proofs.PortStays.{asked_stays, length_grows, shown_stays}
 use Rattle.back.proofs.Seeing.{index_inside, was_there}
 use Rattle.inorder.proofs.Recent.{names_recent, old_since, live_is_recent}
 use Rattle.std.proofs.lemmas.Option.{same_Some}
-use Rattle.back.proofs.Moments.{once_later, once_now, starts_on}
+use Rattle.back.proofs.Moments.{once_later, once_now}
+use Rattle.instructions.proofs.Histories.{starts_on}
 use Rattle.back.proofs.AtStation.{no_other, shown_by, shows_it}
 use Rattle.back.proofs.ReadLoads.{load_says, load_there}
 
@@ -120,7 +121,7 @@ module _ (P : Program) (C : Sizes) (old mid new : List Entry) (a : Adds P C back
 
   pub none_read : load_of_index P index tag address ≡ None → NoLoadWaits P C old new station
   none_read e q h = dite (ℕ_discrete q p)
-      (λ same. once_now P C old new (λ U. ¬ Has U q (IsWaitingLoad P)) (starts_on new mid old b.begins a.begins) (λ w. none_new e (subst (λ x. Has (unit_of P C new) x (IsWaitingLoad P)) same w)))
+      (λ same. once_now P C old new (λ U. ¬ Has U q (IsWaitingLoad P)) (starts_on old mid new a.begins b.begins) (λ w. none_new e (subst (λ x. Has (unit_of P C new) x (IsWaitingLoad P)) same w)))
       (λ other. others_new q other h)
 
 module _ (P : Program) (C : Sizes) (old new : List Entry) (a : Adds P C back old new []) (station tag : ℕ) (state : StationState) (value : ℕ)

@@ -37,7 +37,7 @@ use Rattle.ruu_words.proofs.Stays.{not_backs}
 use Rattle.back.specs.Commits.{IsRetiredStopOf}
 use Rattle.back.specs.Kept.{EndIs, KeepsUnit}
 use Rattle.back.specs.Kept.WhyEnded.{ByStop, Nowhere}
-use Rattle.station.specs.Moments.{IsWithin}
+use Rattle.instructions.specs.Histories.{IsWithin}
 use Rattle.back.proofs.OwnEntries.{added_legal, added_own, heads}
 use Rattle.inorder.proofs.Recent.{counts_same}
 

@@ -18,8 +18,8 @@ use Rattle.back.specs.declared.answers.Commit.{Commit}
 use Rattle.back.specs.declared.answers.Commit.TheVariants.{Empty, Ended, Half, NotDone, Retired}
 
 -- The back has added these events to what it has seen
-abbrev pub HasAdded : TheBack → TheBack → List Event → Type 0
-HasAdded old new events = Adds old.core.program old.core.sizes old.by old.seen new.seen events
+abbrev pub BackAdds : TheBack → TheBack → List Event → Type 0
+BackAdds old new events = Adds old.core.program old.core.sizes old.by old.seen new.seen events
 
 -- The back had not ended, and there was an instruction at its pc
 pub record WentOn (old : TheBack) : Type 0 where
@@ -45,7 +45,7 @@ pub record HasCommitted (old new : TheBack) (pc n : ℕ) : Type 0 where
   pub p : ℕ
   pub made : ℕ
   pub tenant : Has (unit_in new.core new.seen) p (IsCommitted old.core.program pc)
-  pub adds : HasAdded old new (Does (On p (Retire made)) ∷ [])
+  pub adds : BackAdds old new (Does (On p (Retire made)) ∷ [])
   pub n_is : n ≡ (back_state new).count
   pub one_more : n ≡ suc (back_state old).count
 
@@ -57,7 +57,7 @@ pub record HasHalved (old new : TheBack) (pc : ℕ) : Type 0 where
   pub p : ℕ
   pub made : ℕ
   pub tenant : Has (unit_in new.core new.seen) p (IsRetiredHalf old.core.program pc)
-  pub adds : HasAdded old new (Does (On p (Retire made)) ∷ [])
+  pub adds : BackAdds old new (Does (On p (Retire made)) ∷ [])
   pub pc_is : pc ≡ (back_state old).pc
   pub state : back_state new ≡ back_state old
 
@@ -65,7 +65,7 @@ pub record HasHalved (old new : TheBack) (pc : ℕ) : Type 0 where
 pub record WasRefused (old new : TheBack) (event : Event) : Type 0 where
   pub went_on : WentOn old
   pub not_ended : new.ended ≡ None
-  pub adds : HasAdded old new (event ∷ [])
+  pub adds : BackAdds old new (event ∷ [])
   pub state : back_state new ≡ back_state old
 
 -- The tenant is a stop with this code, and has retired
@@ -79,7 +79,7 @@ pub data HowEnded (old new : TheBack) (code : Stop) : Type 0 where
   Nowhere : old.ended ≡ None → code ≡ BadPc → instr_at old.core.program (back_state old).pc ≡ None →
       new ≡ record old { ended = Some BadPc } → HowEnded old new code
   Stops : WentOn old → (p made : ℕ) → Has (unit_in new.core new.seen) p (IsRetiredStopOf code) →
-      HasAdded old new (Does (On p (Retire made)) ∷ []) → HowEnded old new code
+      BackAdds old new (Does (On p (Retire made)) ∷ []) → HowEnded old new code
 
 -- The back has ended, with the code with which the machine in order stops there
 pub record HasEndedWith (old new : TheBack) (code : Stop) : Type 0 where

@@ -44,25 +44,25 @@ with_store i half address content s =
     }
 
 -- The state behind an instruction that retired whole; a stop leaves it
-abbrev pub with_last : Instr → Half → Last → State → State
-with_last i half (Done v) s = with_done i half v s
-with_last i half (Stored address content) s = with_store i half address content s
-with_last i half (WasStop code) s = s
+abbrev pub behind_last : Instr → Half → Last → State → State
+behind_last i half (Done v) s = with_done i half v s
+behind_last i half (Stored address content) s = with_store i half address content s
+behind_last i half (WasStop code) s = s
 
 -- The value of a first half, which waits for the second
-abbrev pub low_by : Bool → Last → Option ℕ
-low_by true (Done v) = Some v
-low_by _ _ = None
+abbrev pub waiting_low : Bool → Last → Option ℕ
+waiting_low true (Done v) = Some v
+waiting_low _ _ = None
 
 -- The low value that waits behind a retired tenant, if one does
 abbrev pub low_in : Instr → Half → Last → Option ℕ
-low_in i half last = low_by (is_first_half i.op half) last
+low_in i half last = waiting_low (is_first_half i.op half) last
 
 -- The state behind a retired tenant: a first half, whose value waits now, leaves it as it is; with
 -- any other its instruction is whole, and what waited for it is written first
 abbrev pub state_behind_by : (waits : Option ℕ) → Instr → Half → Last → (waited : Option ℕ) → State → State
 state_behind_by (Some v) i half last waited s = s
-state_behind_by None i half last waited s = with_last i half last (ahead_by waited s)
+state_behind_by None i half last waited s = behind_last i half last (ahead_by waited s)
 
 -- The state behind a retired tenant, by its instruction and half
 abbrev pub state_behind : Instr → Half → Last → Option ℕ → State → State

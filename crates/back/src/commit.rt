@@ -3,7 +3,7 @@ ghost use Rattle.std.specs.Prelude.{◌≡◌, ◌<◌, ◌-◌, ◌^◌, length
 ghost use Rattle.back.specs.Backs.{back_state};
 ghost use Rattle.back.specs.Commits.{CommitAnswers};
 ghost use Rattle.station.specs.declared.answers.Last.TheVariants.{Stored};
-ghost use Rattle.back.specs.Retirement.{StoreIsInside, low_in, goes_on_at, state_behind, stop_in, with_done, with_last, with_store, value_written};
+ghost use Rattle.back.specs.Retirement.{StoreIsInside, low_in, goes_on_at, state_behind, stop_in, with_done, behind_last, with_store, value_written};
 
 use crate::answers::Commit;
 use crate::backs::Back;
@@ -61,7 +61,7 @@ fn commit_store(committed: &mut Committed, instr: &Instr, half: Half, address: u
 fn commit_last(committed: &mut Committed, instr: &Instr, half: Half, last: Last)
     requires count { committed.old.count < 2 ^ 64 - 1 }
     requires inside { StoreIsInside (length committed.old.memory) instr.now last }
-    ensures { committed.new ≡ with_last instr.now half last committed.old }
+    ensures { committed.new ≡ behind_last instr.now half last committed.old }
 {
     match last {
         Last::Done(v) => commit_done(committed, instr, half, v),

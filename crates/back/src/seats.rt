@@ -1,6 +1,6 @@
 //! What the back's seat sees and is told.
 ghost use Rattle.std.specs.Prelude.{◌≡◌, ◌<◌};
-ghost use Rattle.inorder.specs.History.{StartsWith};
+ghost use Rattle.instructions.specs.Histories.{StartsWith};
 ghost use Rattle.station.specs.Looking.{SeesInfo, SeesLink, SeesOperand, SeesStation};
 ghost use Rattle.station.specs.Seats.{IsSameSeat};
 ghost use Rattle.back.specs.Backs.{IsSameBack, SeesMore};
@@ -78,7 +78,7 @@ impl<J: Naming> Back<J> {
         ensures history { SeesMore core.now self.old.by self.old.seen self.new.seen }
         ensures told { StartsWith self.new.seen other.old.seen }
         ensures other_kept { IsSameSeat other.old other.new }
-        ensures other_heirs { other.new.heirs ≡ other.old.heirs }
+        ensures other_spare { other.new.spare ≡ other.old.spare }
         ensures other_woken { other.new.woken ≡ other.old.woken }
         ensures other_history { SeesMore core.now other.old.by other.old.seen other.new.seen }
         ensures other_told { StartsWith other.new.seen self.new.seen }

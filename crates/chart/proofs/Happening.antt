@@ -14,7 +14,7 @@ use Rattle.one_thread.specs.Turns.{Before, Does, Now, Nowhere}
 use Rattle.one_thread.specs.Window.{window}
 use Rattle.chart.specs.declared.event.Event.TheVariants.{Moved}
 use Rattle.chart.specs.declared.row.Row.{Row}
-use Rattle.chart.specs.Events.{entry_events, events, is_same, left_events, went_on, moved_events, retirement, squash, squashes}
+use Rattle.chart.specs.Events.{entry_events, events, is_same, left_events, went_on, moved_events, retired_event, squash, squashes}
 use Rattle.chart.specs.Happened.{Happened, HasGone, StandsAs}
 use Rattle.chart.specs.Named.{IsRowOf, StandsIn, live_positions}
 use Rattle.chart.specs.Rows.{SoFar, all_seen, is_recovery, let_row, newcomer, phase_of, retires as leaves_one, staying}
@@ -69,7 +69,7 @@ module _ (P : Program) (us vs : List Tenant) where
   -- Who has left
 
   retired_happened : (first : ℕ) (rows : List Row) (others : ℕ) → StandsAs vs first HasRetired → map position_of rows ≡ first ∷ live_positions vs →
-      AllByRecursion (IsRowOf P us) rows → AllByRecursion (Happened P us vs) (retirement others rows)
+      AllByRecursion (IsRowOf P us) rows → AllByRecursion (Happened P us vs) (retired_event others rows)
   retired_happened first [] others left e h = tt
   retired_happened first (r ∷ rs) others left e h =
       let same : first ≡ r.position = cc in
@@ -162,21 +162,21 @@ module _ (P : Program) (C : Sizes) (U V : UpdateUnit) (k : SoFar) (n : Named P U
 
   -- the oldest has left
   one_left : (o : OneLess U.tenants V.tenants) →
-      AllByRecursion (Happened P U.tenants V.tenants) (cond (nat_lt (length (window P V.tenants)) (length k.rows)) (retirement k.retirements k.rows) [])
+      AllByRecursion (Happened P U.tenants V.tenants) (cond (nat_lt (length (window P V.tenants)) (length k.rows)) (retired_event k.retirements k.rows) [])
   one_left o = go (nat_lt (length (window P V.tenants)) (length k.rows))
     where
-      go : (b : Bool) → AllByRecursion (Happened P U.tenants V.tenants) (cond b (retirement k.retirements k.rows) [])
+      go : (b : Bool) → AllByRecursion (Happened P U.tenants V.tenants) (cond b (retired_event k.retirements k.rows) [])
       go true = retired_happened P U.tenants V.tenants o.first k.rows k.retirements o.left (n.positions ∙ o.positions) each
       go false = tt
 
   -- nobody has
   none_left : V ≡ U →
-      AllByRecursion (Happened P U.tenants V.tenants) (cond (nat_lt (length (window P V.tenants)) (length k.rows)) (retirement k.retirements k.rows) [])
+      AllByRecursion (Happened P U.tenants V.tenants) (cond (nat_lt (length (window P V.tenants)) (length k.rows)) (retired_event k.retirements k.rows) [])
   none_left e =
       let same : live_positions U.tenants ≡ live_positions V.tenants = ap (λ X. live_positions X.tenants) (sym e) in
       let all : length k.rows ≤ length (window P V.tenants) =
       omega (arith, row_count P C U V k n, ap (λ l. length l) same, positions_length P V.tenants) in
-      subst (λ b. AllByRecursion (Happened P U.tenants V.tenants) (cond b (retirement k.retirements k.rows) []))
+      subst (λ b. AllByRecursion (Happened P U.tenants V.tenants) (cond b (retired_event k.retirements k.rows) []))
       (sym (le-ltb (length (window P V.tenants)) (length k.rows) all)) tt
 
   -- the youngest have

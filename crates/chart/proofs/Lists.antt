@@ -7,7 +7,7 @@ use Rattle.std.specs.Prelude.{nat_lt, slice_get}
 use Rattle.chart.specs.declared.event.Event.{Event}
 use Rattle.chart.specs.declared.row.Row.{Row}
 use Rattle.one_thread.specs.declared.station.Station.{Station}
-use Rattle.chart.specs.Rows.{all_seen, listed, seen_in}
+use Rattle.chart.specs.Rows.{all_seen, as_list, seen_in}
 use Rattle.chart.specs.Events.{went_on, moved_events, squash, squashes}
 
 not_less : (n live : ℕ) → live ≤ n → nat_lt n live ≡ false
@@ -26,7 +26,7 @@ squashes_none live zero rows h = refl
 squashes_none live (suc n) rows h = rw (is_less n live (omega (arith, h))) refl
 
 -- one more station
-pub take_next : (W : List Station) (i : ℕ) → take (i + 1) W ≡ take i W ++ listed (slice_get W i)
+pub take_next : (W : List Station) (i : ℕ) → take (i + 1) W ≡ take i W ++ as_list (slice_get W i)
 take_next [] i = grind (arith, common_steps)
 take_next (w ∷ ws) zero = refl
 take_next (w ∷ ws) (suc i) = ap (λ n. take n (w ∷ ws)) (add-one (suc i)) ∙ ap (λ n. w ∷ take n ws) (sym (add-one i)) ∙ ap (λ l. w ∷ l) (take_next ws i)

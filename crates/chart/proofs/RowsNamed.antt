@@ -17,7 +17,7 @@ use Rattle.one_thread.specs.Turns.{Before, Does, Now, Nowhere}
 use Rattle.one_thread.specs.Window.{station_of, window}
 use Rattle.chart.specs.declared.row.Row.{Row}
 use Rattle.chart.specs.Named.{AreNamed, IsRowOf, StandsIn, live_positions}
-use Rattle.chart.specs.Rows.{SoFar, all_seen, let_row, listed, newcomer, next_kept, seen_in, staying, with_row}
+use Rattle.chart.specs.Rows.{SoFar, all_seen, let_row, as_list, newcomer, next_kept, seen_in, staying, with_row}
 use Rattle.chart.specs.Watched.{AreTurns, Passed, unit_behind, kept_behind}
 use Rattle.counted_io.specs.Counted.{counted, raised}
 use Rattle.chart.proofs.LivePositions.{Fewer, OneLess, OneMore}
@@ -129,7 +129,7 @@ module _ (P : Program) (C : Sizes) (U V : UpdateUnit) (k : SoFar) (n : Named P U
             ap (λ o. map station_in (with_row seen o)) new
             ∙ map-append station_in seen (row ∷ [])
             ∙ ap (λ l. l ++ w ∷ []) (seen_stations (raised k.turns) S 0 k.rows (omega (arith, wide)))
-            ∙ ap (λ o. take m S ++ listed o) (sym there.1)
+            ∙ ap (λ o. take m S ++ as_list o) (sym there.1)
             ∙ sym (take_next S m)
             ∙ ap (λ j. take j S) wide
             ∙ take-length S;

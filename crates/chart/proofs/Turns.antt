@@ -28,7 +28,7 @@ use Rattle.chart.specs.declared.telling.Format.{Format}
 use Rattle.chart.specs.Events.{events}
 use Rattle.chart.specs.Rows.{SoFar, next_kept}
 use Rattle.chart.specs.Telling.{last_text, turn_text}
-use Rattle.chart.specs.Watched.{GoesOn, Guides, HasEnded, IsBegun, IsDue, IsOver, IsThrough, Passed, Stood, count_behind, unit_behind, events_at, kept_behind, told}
+use Rattle.chart.specs.Watched.{GoesOn, Guides, LastIsOver, IsBegun, IsDue, NoTurnIsDue, IsThrough, Passed, Stood, count_behind, unit_behind, events_at, kept_behind, told}
 
 -- Beginnings
 
@@ -119,8 +119,8 @@ module _ {S Q : Type 0} (Predicts : S → ℕ → Instr → ℕ → S → Type 0
   -- the bench behind a turn, and what the turn answered
   record StoodNext (later : BenchFields S) (o' : Order Q) (k' : SoFar) (answer : Turn) (new : Option (List ℕ)) : Type 0 where
     pub stood : Stood Predicts Learns Chooses f P C limit later o' k' first start new
-    pub over : (c : Stop) → answer ≡ Over c → HasEnded stood.turns c
-    pub going : ((c : Stop) → answer ≡ Over c → ⊥) → (c : Stop) → HasEnded stood.turns c → ⊥
+    pub over : (c : Stop) → answer ≡ Over c → LastIsOver stood.turns c
+    pub going : ((c : Stop) → answer ≡ Over c → ⊥) → (c : Stop) → LastIsOver stood.turns c → ⊥
 
   stood_next : (b later : BenchFields S) (o o' : Order Q) (k k' : SoFar) (answer : Turn) (now new : Option (List ℕ)) →
       IsTurnIn Predicts Learns Chooses b o answer later o' → SizesStay b.pipeline later.pipeline →
@@ -175,7 +175,7 @@ module _ {S Q : Type 0} (Predicts : S → ℕ → Instr → ℕ → S → Type 0
       GoesOn Predicts Learns Chooses f P C limit b o k first start now → IsThrough Predicts Learns Chooses f P C limit later o' k' first start new
   through_next b later o o' k k' answer now new turned same next says less c is ends g =
       let n = stood_next b later o o' k k' answer now new turned same next says less g in
-      record { stood = n.stood; over = subst (IsOver P limit n.stood.turns) (sym (ap (λ e. e.0) ends)) (n.over c is) }
+      record { stood = n.stood; over = subst (NoTurnIsDue P limit n.stood.turns) (sym (ap (λ e. e.0) ends)) (n.over c is) }
 
   -- as it is where the limit is reached
   pub through_limit : (b : BenchFields S) (o : Order Q) (k : SoFar) (now : Option (List ℕ)) → limit ≤ b.pipeline.committed.count →
@@ -184,7 +184,7 @@ module _ {S Q : Type 0} (Predicts : S → ℕ → Instr → ℕ → S → Type 0
       let full : b.pipeline.committed.count ≡ limit = omega (arith, reached, g.within) in
       record {
         stood = g.stood;
-        over = subst (IsOver P limit g.stood.turns) (sym (ap (λ e. e.0) (at_limit limit b.pipeline reached))) (sym (count_is b o k now g.stood) ∙ full);
+        over = subst (NoTurnIsDue P limit g.stood.turns) (sym (ap (λ e. e.0) (at_limit limit b.pipeline reached))) (sym (count_is b o k now g.stood) ∙ full);
       }
 
   -- a turn that was told in part, or not at all

@@ -19,7 +19,7 @@ use Rattle.one_thread.specs.Turns.{BenchFields}
 use Rattle.chart.specs.declared.telling.Format.{Format}
 use Rattle.chart.specs.Rows.{SoFar, start_kept}
 use Rattle.chart.specs.Telling.{first_text, last_text}
-use Rattle.chart.specs.Watched.{GoesOn, Guides, IsBegun, IsOver, IsThrough, IsTold, Stood, unit_behind, kept_behind, sizes_by, told}
+use Rattle.chart.specs.Watched.{GoesOn, Guides, IsBegun, NoTurnIsDue, IsThrough, IsTold, Stood, unit_behind, kept_behind, sizes_by, told}
 
 pub appends_none : (known : Option (List ℕ)) → Appends known known []
 appends_none None = tt
@@ -103,7 +103,7 @@ module _ {S Q : Type 0} (Predicts : S → ℕ → Instr → ℕ → S → Type 0
     turns = s.turns;
     are = s.are;
     due = s.due;
-    over = subst (IsOver P limit s.turns) (sym (ap (λ e. e.0) ends)) t.over;
+    over = subst (NoTurnIsDue P limit s.turns) (sym (ap (λ e. e.0) ends)) t.over;
     last = record { predictor = b.predictor; order = o };
     guessed = s.guessed;
     ordered = s.ordered;

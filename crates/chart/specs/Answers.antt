@@ -60,14 +60,14 @@ pub record HasPictures (asked : Charted) (P : Program) (before after : Outputs) 
   pub log : IsLogged (is_some asked.log) asked P before.log after.log
 
 -- What is written for a listing: with its pictures, or the line of its fault
-abbrev pub IsTextOf : Charted → Result Program (ℕ × FaultKind) → (before after : Outputs) → Type 0
-IsTextOf asked (Ok P) before after = HasPictures asked P before after
-IsTextOf asked (Err f) before after = IsReported asked (Err f) before.text after.text × (after.log ≡ before.log)
+abbrev pub IsOutputOf : Charted → Result Program (ℕ × FaultKind) → (before after : Outputs) → Type 0
+IsOutputOf asked (Ok P) before after = HasPictures asked P before after
+IsOutputOf asked (Err f) before after = IsReported asked (Err f) before.text after.text × (after.log ≡ before.log)
 
 -- All was written for a listing, and the status is that of its run
 abbrev pub IsWatched : Charted → Result Program (ℕ × FaultKind) → (status : ℕ) → (before after : Outputs) → Type 0
 IsWatched asked found status before after =
-    (status ≡ status_number (status_for asked.run.config.limit found)) × IsTextOf asked found before after
+    (status ≡ status_number (status_for asked.run.config.limit found)) × IsOutputOf asked found before after
 
 -- The reasons for which a log can break off
 abbrev pub IsOfLog : Refusal → Type 0

@@ -24,15 +24,15 @@ squashes live rows (suc n) =
     if nat_lt n live then [] else squash (slice_get rows n) ++ squashes live rows n
 
 -- The retirement of the oldest tenant, behind so many others
-abbrev pub retirement : (before : ℕ) → List Row → List Event
-retirement before [] = []
-retirement before (r ∷ rs) = Left r (Retired before) ∷ []
+abbrev pub retired_event : (before : ℕ) → List Row → List Event
+retired_event before [] = []
+retired_event before (r ∷ rs) = Left r (Retired before) ∷ []
 
 -- The tenants that have left at a turn that leaves so many
 abbrev pub left_events : Turn → (live before : ℕ) → List Row → List Event
 left_events answer live before rows =
     if is_recovery answer then squashes live rows (length rows)
-    else if retires answer live (length rows) then retirement before rows else []
+    else if retires answer live (length rows) then retired_event before rows else []
 
 -- Two phases are one
 abbrev pub is_same : Phase → Phase → Bool

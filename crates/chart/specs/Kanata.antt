@@ -12,8 +12,8 @@ use Rattle.chart.specs.declared.row.Row.{Row}
 use Rattle.chart.specs.Drawings.{tenant_text}
 
 -- The first lines
-abbrev pub head : List ℕ
-head = codes "Kanata\t0004\nC=\t0\n"
+abbrev pub first_lines : List ℕ
+first_lines = codes "Kanata\t0004\nC=\t0\n"
 
 -- The next turn
 abbrev pub tick : List ℕ

@@ -112,9 +112,9 @@ abbrev pub awaited : (register : ℕ) → List Row → Option ℕ
 awaited register rows = if register == 0 then None else unmade (writer_of register rows)
 
 -- The station, if there is one
-abbrev pub listed : Option Station → List Station
-listed None = []
-listed (Some w) = w ∷ []
+abbrev pub as_list : Option Station → List Station
+as_list None = []
+as_list (Some w) = w ∷ []
 
 -- The books
 

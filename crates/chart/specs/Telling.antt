@@ -5,14 +5,14 @@ use Rattle.chart.specs.declared.event.Event.TheVariants.{Left}
 use Rattle.chart.specs.declared.telling.Format.{Format}
 use Rattle.chart.specs.declared.telling.Format.TheVariants.{Chart, Kanata}
 use Rattle.chart.specs.Drawings.{line, live_lines, way_mark}
-use Rattle.chart.specs.Kanata.{event_lines, head, tick}
+use Rattle.chart.specs.Kanata.{event_lines, first_lines, tick}
 use Rattle.chart.specs.Rows.{SoFar}
 use Rattle.counted_io.specs.Counted.{raised}
 
 -- The text before the first turn
 abbrev pub first_text : Format → List ℕ
 first_text Chart = []
-first_text Kanata = head
+first_text Kanata = first_lines
 
 -- The text of an event in a chart: a line of the tenant that has left
 abbrev pub drawn : (turn : ℕ) → Event → List ℕ

@@ -47,13 +47,13 @@ abbrev pub count_behind : Program → List Passed → ℕ
 count_behind P ts = (committed P (unit_behind ts).tenants).count
 
 -- The last of these turns says that the unit has ended with this code
-abbrev pub HasEnded : List Passed → Stop → Type 0
-HasEnded [] code = ⊥
-HasEnded (t ∷ ts) code = t.answer ≡ Over code
+abbrev pub LastIsOver : List Passed → Stop → Type 0
+LastIsOver [] code = ⊥
+LastIsOver (t ∷ ts) code = t.answer ≡ Over code
 
 -- A further turn is due: the unit has not ended, and the count is below the limit
 pub record IsDue (P : Program) (limit : ℕ) (ts : List Passed) : Type 0 where
-  pub going : (code : Stop) → HasEnded ts code → ⊥
+  pub going : (code : Stop) → LastIsOver ts code → ⊥
   pub below : count_behind P ts < limit
 
 -- Each of these turns was due behind those before it
@@ -62,9 +62,9 @@ AreDue P limit [] = ⊤
 AreDue P limit (t ∷ ts) = AreDue P limit ts × IsDue P limit ts
 
 -- Behind these turns none is due: the unit has ended so, or its count is the limit
-abbrev pub IsOver : Program → (limit : ℕ) → List Passed → Ending → Type 0
-IsOver P limit ts (ByStop code) = HasEnded ts code
-IsOver P limit ts ByLimit = count_behind P ts ≡ limit
+abbrev pub NoTurnIsDue : Program → (limit : ℕ) → List Passed → Ending → Type 0
+NoTurnIsDue P limit ts (ByStop code) = LastIsOver ts code
+NoTurnIsDue P limit ts ByLimit = count_behind P ts ≡ limit
 
 -- The rows and counts behind these turns
 abbrev pub kept_behind : Program → List Passed → SoFar
@@ -139,14 +139,14 @@ module _ {S Q : Type 0} (Predicts : S → ℕ → Instr → ℕ → S → Type 0
   pub record GoesOn (f : Format) (P : Program) (C : Sizes) (limit : ℕ) (b : BenchFields S) (order : Order Q)
       (k : SoFar) (first : Guides S Q) (start now : Option (List ℕ)) : Type 0 where
     pub stood : Stood f P C limit b order k first start now
-    pub going : (code : Stop) → HasEnded stood.turns code → ⊥
+    pub going : (code : Stop) → LastIsOver stood.turns code → ⊥
     pub within : b.pipeline.committed.count ≤ limit
 
   -- The bench stood so, and all turns of its run were told
   pub record IsThrough (f : Format) (P : Program) (C : Sizes) (limit : ℕ) (b : BenchFields S) (order : Order Q)
       (k : SoFar) (first : Guides S Q) (start now : Option (List ℕ)) : Type 0 where
     pub stood : Stood f P C limit b order k first start now
-    pub over : IsOver P limit stood.turns (run_from b.pipeline limit).0
+    pub over : NoTurnIsDue P limit stood.turns (run_from b.pipeline limit).0
 
   -- A run up to a limit was told from its first turn to its last one: legal turns by the guesses of this
   -- predictor and in this order, each of which was due, until none was. The last of them leaves the state in which
@@ -156,7 +156,7 @@ module _ {S Q : Type 0} (Predicts : S → ℕ → Instr → ℕ → S → Type 0
     pub turns : List Passed
     pub are : AreTurns P C turns
     pub due : AreDue P limit turns
-    pub over : IsOver P limit turns end.0
+    pub over : NoTurnIsDue P limit turns end.0
     pub last : Guides S Q
     pub guessed : HasGuessed Predicts Learns P first.predictor turns last.predictor
     pub ordered : AreOrdered Chooses P C first.order turns are last.order

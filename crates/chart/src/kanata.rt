@@ -1,6 +1,6 @@
 //! A log of the format Kanata, version 0004.
 ghost use Rattle.std.specs.Prelude.{◌≡◌, ◌++◌, OnOk, string_bytes};
-ghost use Rattle.chart.specs.Kanata.{head, tick, stage_text as stage_text_of, wait_line, let_lines, way_text, event_lines};
+ghost use Rattle.chart.specs.Kanata.{first_lines, tick, stage_text as stage_text_of, wait_line, let_lines, way_text, event_lines};
 
 use crate::drawing::half_text;
 use crate::event::{Event, Way};
@@ -9,7 +9,7 @@ use isa::{Hexadecimal, InstrText};
 use std::alloc::AllocError;
 
 pub(crate) fn push_head(out: &mut String) -> Result<(), AllocError>
-    ensures { OnOk result (string_bytes out.new ≡ string_bytes out.old ++ head) }
+    ensures { OnOk result (string_bytes out.new ≡ string_bytes out.old ++ first_lines) }
 {
     out.push_str("Kanata\t0004\nC=\t0\n")
 }

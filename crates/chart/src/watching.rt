@@ -6,7 +6,7 @@ ghost use Rattle.instructions.specs.Programs.{Program};
 ghost use Rattle.inorder.specs.Unit.{Sizes};
 ghost use Rattle.one_thread.specs.Changes.{run_from};
 ghost use Rattle.chart.specs.Events.{events};
-ghost use Rattle.chart.specs.Rows.{kept, listed, next_kept};
+ghost use Rattle.chart.specs.Rows.{kept, as_list, next_kept};
 ghost use Rattle.counted_io.specs.Counted.{raised as raised_of};
 ghost use Rattle.chart.specs.Telling.{first_text, last_text, turn_text};
 ghost use Rattle.chart.specs.Watched.{GivesUpTo, GoesOn, Guides, IsBegun, IsThrough};
@@ -22,7 +22,7 @@ use std::io::Write;
 
 // Adds a station, if there is one.
 fn push_station(window: &mut Vec<Station>, station: Option<Station>) -> Result<(), AllocError>
-    ensures { OnOk result (window.new.items ≡ window.old.items ++ listed station) }
+    ensures { OnOk result (window.new.items ≡ window.old.items ++ as_list station) }
 {
     if let Some(station) = station {
         window.push(station)?;

@@ -3,39 +3,41 @@ use Rattle.std.proofs.Common.{◌≡◌, ◌≢◌, ℕ, List, length, refl, sym
 use mathlib.Core.Logic.{dite}
 use native.Mathlib.Decide.{ℕ_discrete}
 use Rattle.inorder.specs.declared.history.Entry.{Entry}
-use Rattle.inorder.specs.History.{IsUnit, StartsWith, back, front, own}
-use Rattle.ruu_words.specs.Views.{IsHeir}
+use Rattle.inorder.specs.History.{IsUnit, back, front, own}
+use Rattle.instructions.specs.Histories.{StartsWith}
+use Rattle.ruu_words.specs.Views.{IsSpare}
 use Rattle.station.specs.Finishing.{OnlyUnits}
 use Rattle.station.specs.Quiet.{IsQuiet}
 use Rattle.station.specs.Seats.{Caller, TheCore}
 use Rattle.client.specs.declared.seats.Seats.{Seats}
 use Rattle.client.specs.Hands.{AreAll, HaveHeard, HasHeardMore}
-use Rattle.client.proofs.Histories.{at_least, same_between, starts_on}
+use Rattle.client.proofs.Histories.{at_least, same_between}
+use Rattle.instructions.proofs.Histories.{starts_on}
 
 -- All but the first unit have only looked and met from s to z
 pub record Stand (s z : Seats) : Type 0 where
   pub front_by : z.front.by ≡ s.front.by
   pub back_by : z.back.by ≡ s.back.by
   pub other_by : z.other.by ≡ s.other.by
-  pub one_heirs : z.one.heirs ≡ s.one.heirs
-  pub other_heirs : z.other.heirs ≡ s.other.heirs
+  pub one_spare : z.one.spare ≡ s.one.spare
+  pub other_spare : z.other.spare ≡ s.other.spare
   pub fronts : own s.front.by z.front.seen ≡ own s.front.by s.front.seen
   pub backs : own s.back.by z.back.seen ≡ own s.back.by s.back.seen
   pub others : own s.other.by z.other.seen ≡ own s.other.by s.other.seen
 
 pub stand_still : (s : Seats) → Stand s s
-stand_still s = record { front_by = refl; back_by = refl; other_by = refl; one_heirs = refl; other_heirs = refl; fronts = refl; backs = refl; others = refl }
+stand_still s = record { front_by = refl; back_by = refl; other_by = refl; one_spare = refl; other_spare = refl; fronts = refl; backs = refl; others = refl }
 
 own_later : (core : TheCore) (u v w : Caller) → v.by ≡ u.by → own u.by v.seen ≡ own u.by u.seen → HasHeardMore core v w → own u.by w.seen ≡ own u.by u.seen
 own_later core u v w by e l = subst (λ n. own n w.seen ≡ own n v.seen) by l.adds.mine ∙ e
 
-pub stand_on : (core : TheCore) (s t u : Seats) (o : Caller) → o.heirs ≡ t.one.heirs → Stand s t → HaveHeard core (record t { one = o }) u → Stand s u
-stand_on core s t u o heirs a m = record {
+pub stand_on : (core : TheCore) (s t u : Seats) (o : Caller) → o.spare ≡ t.one.spare → Stand s t → HaveHeard core (record t { one = o }) u → Stand s u
+stand_on core s t u o spare a m = record {
   front_by = m.front.by_is ∙ a.front_by;
   back_by = m.back.by_is ∙ a.back_by;
   other_by = m.other.by_is ∙ a.other_by;
-  one_heirs = m.one.heirs_are ∙ (heirs ∙ a.one_heirs);
-  other_heirs = m.other.heirs_are ∙ a.other_heirs;
+  one_spare = m.one.spare_is ∙ (spare ∙ a.one_spare);
+  other_spare = m.other.spare_is ∙ a.other_spare;
   fronts = own_later core s.front t.front u.front a.front_by a.fronts m.front;
   backs = own_later core s.back t.back u.back a.back_by a.backs m.back;
   others = own_later core s.other t.other u.other a.other_by a.others m.other;
@@ -68,10 +70,10 @@ module _ (core : TheCore) (r s t z : Seats) (o : Caller) (all : AreAll core s) (
         (λ e. absurd (ne e))
         (λ rest. ⊎_elim
         (λ e. subst (λ i. own i y ≡ own i x) (sym e) (held s.other.by s.other.seen z.other.seen a.of_other b.to_other stand.others))
-        (λ heirs. ⊎_elim
-        (λ h. none n z.one.seen b.one.adds.begins (b.no_more_of_one n (subst (λ i. IsHeir i n) (sym stand.one_heirs) h)))
-        (λ h. none n z.other.seen b.to_other (b.no_more_of_other n (subst (λ i. IsHeir i n) (sym stand.other_heirs) h)))
-        heirs)
+        (λ spare. ⊎_elim
+        (λ h. none n z.one.seen b.one.adds.begins (b.no_more_of_one n (subst (λ i. IsSpare i n) (sym stand.one_spare) h)))
+        (λ h. none n z.other.seen b.to_other (b.no_more_of_other n (subst (λ i. IsSpare i n) (sym stand.other_spare) h)))
+        spare)
         rest)
         (all.no_third n unit)
 

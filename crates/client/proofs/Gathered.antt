@@ -3,10 +3,10 @@ use Rattle.std.proofs.Common.{◌≡◌, [], ◌∙◌, subst}
 use Rattle.inorder.specs.OneHistory.{Adds}
 use Rattle.station.specs.Seats.{Caller, IsSameSeat, TheCore}
 use Rattle.client.specs.Hands.{HasHeardMore}
-use Rattle.client.proofs.Histories.{starts_on}
+use Rattle.instructions.proofs.Histories.{starts_on}
 
-pub later : (core : TheCore) (v w : Caller) → IsSameSeat v w → w.heirs ≡ v.heirs → Adds core.program core.sizes v.by v.seen w.seen [] → HasHeardMore core v w
-later core v w same heirs adds = record { core_is = same.core; by_is = same.by; heirs_are = heirs; adds = adds }
+pub later : (core : TheCore) (v w : Caller) → IsSameSeat v w → w.spare ≡ v.spare → Adds core.program core.sizes v.by v.seen w.seen [] → HasHeardMore core v w
+later core v w same spare adds = record { core_is = same.core; by_is = same.by; spare_is = spare; adds = adds }
 
 pub later_on : (core : TheCore) (u v w : Caller) → HasHeardMore core u v → HasHeardMore core v w → HasHeardMore core u w
 later_on core u v w a b =
@@ -14,6 +14,6 @@ later_on core u v w a b =
     record {
       core_is = b.core_is ∙ a.core_is;
       by_is = b.by_is ∙ a.by_is;
-      heirs_are = b.heirs_are ∙ a.heirs_are;
+      spare_is = b.spare_is ∙ a.spare_is;
       adds = record { begins = starts_on u.seen v.seen w.seen a.adds.begins b.adds.begins; legal = b.adds.legal; one_table = b.adds.one_table ∙ a.adds.one_table; mine = again.mine ∙ a.adds.mine };
     }

@@ -5,14 +5,16 @@ use mathlib.Core.Logic.{dite}
 use native.Mathlib.Decide.{ℕ_discrete}
 use Rattle.inorder.specs.declared.history.Entry.{Entry}
 use Rattle.inorder.specs.declared.history.Event.{Event}
-use Rattle.inorder.specs.History.{IsLegal, IsUnit, StartsWith, back, entry, front, own, renewals}
+use Rattle.inorder.specs.History.{IsLegal, IsUnit, back, entry, front, own, renewals}
+use Rattle.instructions.specs.Histories.{StartsWith}
 use Rattle.inorder.specs.OneHistory.{Adds}
-use Rattle.ruu_words.specs.Views.{IsHeir}
+use Rattle.ruu_words.specs.Views.{IsSpare}
 use Rattle.station.specs.Seats.{Caller, TheCore}
 use Rattle.client.specs.declared.seats.Seats.{Seats}
 use Rattle.client.specs.Done.{GoesOnAlone, HaveDone}
 use Rattle.client.specs.Hands.{AreAll, HaveMetTwice, HasHeardMore}
-use Rattle.client.proofs.Histories.{at_least, own-append, same_between, starts_on, starts_same}
+use Rattle.client.proofs.Histories.{at_least, own-append, same_between}
+use Rattle.instructions.proofs.Histories.{starts_on, starts_same}
 use Rattle.inorder.proofs.Histories.{none_from, own_else, own_here}
 
 -- Histories
@@ -56,8 +58,8 @@ pub record AllMove (by : ℕ) (seen : List Entry) (s t : Seats) : Type 0 where
   pub back : Moves by seen s.back t.back
   pub one : Moves by seen s.one t.one
   pub other : Moves by seen s.other t.other
-  pub one_heirs : t.one.heirs ≡ s.one.heirs
-  pub other_heirs : t.other.heirs ≡ s.other.heirs
+  pub one_spare : t.one.spare ≡ s.one.spare
+  pub other_spare : t.other.spare ≡ s.other.spare
 
 module _ (core : TheCore) (s t u : Seats) (all : AreAll core s) (met : HaveMetTwice core t u) (by : ℕ) (seen : List Entry) (move : AllMove by seen s t)
     (known : StartsWith met.once.one.seen seen) (old : List Entry) (on : StartsWith seen old) (done : HaveDone core s old) where
@@ -107,10 +109,10 @@ module _ (core : TheCore) (s t u : Seats) (all : AreAll core s) (met : HaveMetTw
       (λ e. of_seat s.one.by by_one n e ne)
       (λ rest. ⊎_elim
       (λ e. of_seat s.other.by by_other n e ne)
-      (λ heirs. ⊎_elim
-      (λ h. nobody n u.one.seen met.second.one.adds.begins (met.second.no_more_of_one n (subst (λ i. IsHeir i n) (sym (met.second.one.heirs_are ∙ (met.first.one.heirs_are ∙ move.one_heirs))) h)))
-      (λ h. nobody n u.other.seen met.second.to_other (met.second.no_more_of_other n (subst (λ i. IsHeir i n) (sym (met.second.other.heirs_are ∙ (met.first.other.heirs_are ∙ move.other_heirs))) h)))
-      heirs)
+      (λ spare. ⊎_elim
+      (λ h. nobody n u.one.seen met.second.one.adds.begins (met.second.no_more_of_one n (subst (λ i. IsSpare i n) (sym (met.second.one.spare_is ∙ (met.first.one.spare_is ∙ move.one_spare))) h)))
+      (λ h. nobody n u.other.seen met.second.to_other (met.second.no_more_of_other n (subst (λ i. IsSpare i n) (sym (met.second.other.spare_is ∙ (met.first.other.spare_is ∙ move.other_spare))) h)))
+      spare)
       rest)
       (all.no_third n unit)
 
@@ -178,8 +180,8 @@ front_goes_on core s u all f by_is begins met Reply reply old done =
       back = stands front f.seen s.back (λ e. one_two (sym e ∙ all.back_by));
       one = stands front f.seen s.one (λ e. zero_unit (subst IsUnit e all.one_by));
       other = stands front f.seen s.other (λ e. zero_unit (subst IsUnit e all.other_by));
-      one_heirs = refl;
-      other_heirs = refl;
+      one_spare = refl;
+      other_spare = refl;
     })
     (starts_on f.seen met.once.front.seen met.once.one.seen met.first.front.adds.begins met.first.of_front)
     old (starts_on old s.front.seen f.seen d.begins begins) done
@@ -191,9 +193,9 @@ front_goes_on core s u all f by_is begins met Reply reply old done =
     zero_unit : ¬ IsUnit front
     zero_unit e = omega arith
 
-pub unit_goes_on : (core : TheCore) (s u : Seats) → AreAll core s → (o : Caller) → o.by ≡ s.one.by → o.heirs ≡ s.one.heirs → StartsWith o.seen s.one.seen → HaveMetTwice core (record s { one = o }) u
+pub unit_goes_on : (core : TheCore) (s u : Seats) → AreAll core s → (o : Caller) → o.by ≡ s.one.by → o.spare ≡ s.one.spare → StartsWith o.seen s.one.seen → HaveMetTwice core (record s { one = o }) u
     → (Reply : List Entry → List Entry → Type 0) → Reply s.one.seen o.seen → (old : List Entry) → HaveDone core s old → GoesOnAlone core u s.one.by old Reply
-unit_goes_on core s u all o by_is heirs begins met Reply reply old done =
+unit_goes_on core s u all o by_is spare begins met Reply reply old done =
     let d = done.one in
     goes_on core s (record s { one = o }) u all met s.one.by o.seen
     (record {
@@ -201,8 +203,8 @@ unit_goes_on core s u all o by_is heirs begins met Reply reply old done =
       back = stands s.one.by o.seen s.back (λ e. few' (all.back_by) e all.one_by);
       one = record { by_is = by_is; its = λ e. refl; others = λ ne. absurd (ne refl) };
       other = stands s.one.by o.seen s.other all.two;
-      one_heirs = heirs;
-      other_heirs = refl;
+      one_spare = spare;
+      other_spare = refl;
     })
     (starts_on o.seen met.once.one.seen met.once.one.seen met.first.one.adds.begins (starts_same met.once.one.seen))
     old (starts_on old s.one.seen o.seen d.begins begins) done

@@ -1,12 +1,13 @@
 -- Seats in one hand, of which some have seen more.
 use Rattle.std.proofs.Common.{◌≡◌, refl, sym, ◌∙◌, subst, inl, inr, ⊎_elim}
-use Rattle.inorder.specs.History.{IsUnit, StartsWith}
-use Rattle.ruu_words.specs.declared.rule.Heirs.{Heirs}
-use Rattle.ruu_words.specs.Views.{IsHeir}
+use Rattle.inorder.specs.History.{IsUnit}
+use Rattle.instructions.specs.Histories.{StartsWith}
+use Rattle.ruu_words.specs.declared.rule.SpareNumbers.{SpareNumbers}
+use Rattle.ruu_words.specs.Views.{IsSpare}
 use Rattle.station.specs.Seats.{Caller, IsSameSeat, TheCore}
 use Rattle.client.specs.declared.seats.Seats.{Seats}
 use Rattle.client.specs.Hands.{AreAll}
-use Rattle.client.proofs.Histories.{starts_on, starts_same}
+use Rattle.instructions.proofs.Histories.{starts_on, starts_same}
 
 pub record GoesOn (v w : Caller) : Type 0 where
   pub core : w.core ≡ v.core
@@ -23,7 +24,7 @@ pub then : (u v w : Caller) → GoesOn u v → GoesOn v w → GoesOn u w
 then u v w a b = record { core = b.core ∙ a.core; by = b.by ∙ a.by; begins = starts_on u.seen v.seen w.seen a.begins b.begins }
 
 pub same_all : (core : TheCore) (s t : Seats) → AreAll core s → GoesOn s.front t.front → GoesOn s.back t.back → GoesOn s.one t.one → GoesOn s.other t.other
-    → t.one.heirs ≡ s.one.heirs → t.other.heirs ≡ s.other.heirs → AreAll core t
+    → t.one.spare ≡ s.one.spare → t.other.spare ≡ s.other.spare → AreAll core t
 same_all core s t all f b o e one other = record {
   front_opened = starts_on core.opening s.front.seen t.front.seen all.front_opened f.begins;
   one_opened = starts_on core.opening s.one.seen t.one.seen all.one_opened o.begins;
@@ -40,10 +41,10 @@ same_all core s t all f b o e one other = record {
       (λ z. inl (z ∙ sym o.by))
       (λ rest. inr (⊎_elim
       (λ z. inl (z ∙ sym e.by))
-      (λ heirs. inr (⊎_elim
-      (λ h. inl (subst (λ (k : Heirs). IsHeir k n) (sym one) h))
-      (λ h. inr (subst (λ (k : Heirs). IsHeir k n) (sym other) h))
-      heirs))
+      (λ spare. inr (⊎_elim
+      (λ h. inl (subst (λ (k : SpareNumbers). IsSpare k n) (sym one) h))
+      (λ h. inr (subst (λ (k : SpareNumbers). IsSpare k n) (sym other) h))
+      spare))
       rest))
       (all.no_third n unit);
 }

@@ -6,7 +6,7 @@ use Rattle.instructions.specs.Programs.{Program, address, instr_of}
 use Rattle.instructions.specs.Settings.{Settings}
 use Rattle.instructions.specs.declared.op.Half.TheVariants.{Low}
 use Rattle.inorder.specs.declared.history.Entry.{Entry}
-use Rattle.inorder.specs.History.{StartsWith}
+use Rattle.instructions.specs.Histories.{StartsWith}
 use Rattle.inorder.specs.OneHistory.{Adds}
 use Rattle.inorder.specs.Replies.{last_tag}
 use Rattle.inorder.specs.Unit.{Sizes}
@@ -18,7 +18,7 @@ use Rattle.client.specs.Chains.{IsChain}
 use Rattle.client.specs.Done.{HaveDone}
 use Rattle.client.specs.Hands.{AreNew}
 use Rattle.client.proofs.First.{predicts as predicts_it}
-use Rattle.client.proofs.Histories.{starts_same}
+use Rattle.instructions.proofs.Histories.{starts_same}
 
 abbrev pub first_of_two : NewTenant
 first_of_two = record { index = 0; half = Low; predicted = address 1; sources = (Known 0, Known 0) }

@@ -3,12 +3,13 @@ use Rattle.std.proofs.Common.{◌≡◌, ℕ, List, [], ◌∷◌, length, Some,
 use Rattle.instructions.specs.Programs.{Program}
 use Rattle.instructions.specs.declared.stop.Outcome.{Outcome}
 use Rattle.inorder.specs.declared.history.Entry.{Entry}
-use Rattle.inorder.specs.History.{IsUnit, StartsWith, front, own, unit_of}
+use Rattle.inorder.specs.History.{IsUnit, front, own, unit_of}
+use Rattle.instructions.specs.Histories.{StartsWith}
 use Rattle.inorder.specs.OneHistory.{Adds}
 use Rattle.inorder.specs.Tenants.{Tenant, kind_of, missing, missing_of}
 use Rattle.inorder.specs.Unit.{Sizes, front_pc, next_station, next_tag, recent}
 use Rattle.ruu_words.specs.Kinds.{IsTenant}
-use Rattle.ruu_words.specs.Views.{IsHeir}
+use Rattle.ruu_words.specs.Views.{IsSpare}
 use Rattle.station.specs.declared.answers.Claim.{Claim}
 use Rattle.station.specs.declared.answers.Claim.TheVariants.{Job as Claimed}
 use Rattle.station.specs.declared.answers.Finish.{Finish}
@@ -27,7 +28,8 @@ use Rattle.client.specs.Hands.{AreAll, HaveHeard, KnowsUnits}
 use Rattle.client.specs.Works.{HasCome, HasBothValues, unit_at}
 use Rattle.client.proofs.Begins.{claim_begins, finish_begins}
 use Rattle.client.proofs.Alone.{Stand, only_units, quiet, stand_on, stand_still}
-use Rattle.client.proofs.Histories.{at_least, same_between, starts_on, starts_same}
+use Rattle.client.proofs.Histories.{at_least, same_between}
+use Rattle.instructions.proofs.Histories.{starts_on, starts_same}
 use Rattle.inorder.proofs.Histories.{same_fronts}
 use Rattle.client.proofs.ItsJob.{IsItsJob, its_fields}
 
@@ -51,15 +53,15 @@ was_let a k v y e l b n = record { all = a; knows = k; values = v; may = y; kept
 -- The first unit, as o, was answered so for its claim, and then all have met as n
 pub record WasClaimed (core : TheCore) (s m : Seats) (o : Caller) (station : ℕ) (answer : Claim) (n : Seats) : Type 0 where
   pub same : IsSameSeat m.one o
-  pub heirs : o.heirs ≡ m.one.heirs
+  pub spare : o.spare ≡ m.one.spare
   pub at_station : station ≡ next_station core.sizes (recent (unit_at core s))
   pub reply : ClaimAnswers core.program core.sizes m.one.by m.one.seen o.seen station answer
   pub end : HaveHeard core (record m { one = o }) n
 
-pub was_claimed : {core : TheCore} {s m n : Seats} {t : NewTenant} {f o : Caller} {station : ℕ} (answer : Claim) → WasLet core s t f m → IsSameSeat m.one o → o.heirs ≡ m.one.heirs →
+pub was_claimed : {core : TheCore} {s m n : Seats} {t : NewTenant} {f o : Caller} {station : ℕ} (answer : Claim) → WasLet core s t f m → IsSameSeat m.one o → o.spare ≡ m.one.spare →
     station ≡ next_station core.sizes (recent (unit_at core s)) → ClaimAnswers core.program core.sizes m.one.by m.one.seen o.seen station answer → HaveHeard core (record m { one = o }) n →
     WasClaimed core s m o station answer n
-was_claimed answer l e h a r n = record { same = e; heirs = h; at_station = a; reply = r; end = n }
+was_claimed answer l e h a r n = record { same = e; spare = h; at_station = a; reply = r; end = n }
 
 pub as_job : {core : TheCore} {s m n : Seats} {o : Caller} {station : ℕ} {answer : Claim} {j : Job} → WasClaimed core s m o station answer n → answer ≡ Claimed j →
     WasClaimed core s m o station (Claimed j) n
@@ -68,7 +70,7 @@ as_job {core} {s} {m} {n} {o} {station} d is = subst (λ a. WasClaimed core s m 
 -- The first unit, as w, was answered so for its finish, and then all have met as z
 pub record WasFinished (core : TheCore) (n : Seats) (w : Caller) (j : Job) (answer : Finish) (z : Seats) : Type 0 where
   pub same : IsSameSeat n.one w
-  pub heirs : w.heirs ≡ n.one.heirs
+  pub spare : w.spare ≡ n.one.spare
   pub reply : FinishAnswers core.program core.sizes n.one.by n.one.seen w.seen j answer
   pub last : HaveHeard core (record n { one = w }) z
 
@@ -116,10 +118,10 @@ module _ {core : TheCore} {s m : Seats} {t : NewTenant} {f : Caller} (l : WasLet
         (λ e. subst (λ k. own k m.one.seen ≡ own k before) (sym e) by_one)
         (λ rest. ⊎_elim
         (λ e. subst (λ k. own k m.one.seen ≡ own k before) (sym e) by_other)
-        (λ heirs. ⊎_elim
-        (λ h. none z.one.seen end.one.adds.begins (end.no_more_of_one i (subst (λ k. IsHeir k i) (sym (stand.one_heirs ∙ l.met.one.heirs_are)) h)))
-        (λ h. none z.other.seen end.to_other (end.no_more_of_other i (subst (λ k. IsHeir k i) (sym (stand.other_heirs ∙ l.met.other.heirs_are)) h)))
-        heirs)
+        (λ spare. ⊎_elim
+        (λ h. none z.one.seen end.one.adds.begins (end.no_more_of_one i (subst (λ k. IsSpare k i) (sym (stand.one_spare ∙ l.met.one.spare_is)) h)))
+        (λ h. none z.other.seen end.to_other (end.no_more_of_other i (subst (λ k. IsSpare k i) (sym (stand.other_spare ∙ l.met.other.spare_is)) h)))
+        spare)
         rest)
         (l.all.no_third i unit)
       where
@@ -148,7 +150,7 @@ module _ {core : TheCore} {s m : Seats} {t : NewTenant} {f : Caller} (l : WasLet
     begins = claim_begins P C m.one.by m.one.seen o.seen station answer d.reply
 
     pub stand : Stand m z
-    stand = stand_on core m m z o d.heirs (stand_still m) d.end
+    stand = stand_on core m m z o d.spare (stand_still m) d.end
 
     pub its_job : LetsAreOut → ClaimsGiveJobs → IsItsJob P t l.values tag pc answer
     its_job lets_are_out claims_give_jobs =
@@ -183,7 +185,7 @@ module _ {core : TheCore} {s m : Seats} {t : NewTenant} {f : Caller} (l : WasLet
 
       only : (x y : List Entry) → StartsWith x m.one.seen → StartsWith y x → StartsWith w.seen y → OnlyUnits x y
       only x y from on to =
-          let until : Stand m z = stand_on core m n z w e.heirs (stand_on core m m n o d.heirs (stand_still m) d.end) e.last in
+          let until : Stand m z = stand_on core m n z w e.spare (stand_on core m m n o d.spare (stand_still m) d.end) e.last in
           only_units core (record s { front = f }) m n z w l.all_met l.met until e.last x y from on to
 
       pub finishes : ClaimedAreInFlight → JobsStayInFlight → JobsAreFinished → JobsStaySeen → HasFinished P C w.seen j answer

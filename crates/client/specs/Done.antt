@@ -2,7 +2,8 @@
 use Rattle.std.specs.Prelude.{◌≡◌, ◌≢◌, ℕ, List, [], ◌∷◌}
 use Rattle.inorder.specs.declared.history.Entry.{Entry}
 use Rattle.inorder.specs.declared.history.Source.{Source}
-use Rattle.inorder.specs.History.{StartsWith, front, own, unit_of}
+use Rattle.inorder.specs.History.{front, own, unit_of}
+use Rattle.instructions.specs.Histories.{StartsWith}
 use Rattle.inorder.specs.OneHistory.{Adds}
 use Rattle.inorder.specs.Unit.{UpdateUnit, next_tag, recent}
 use Rattle.ruu_words.specs.Kinds.{IsTenant}

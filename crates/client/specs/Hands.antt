@@ -2,17 +2,18 @@
 use Rattle.std.specs.Prelude.{◌≡◌, ◌≢◌, ◌⊎◌, ℕ, []}
 use Rattle.instructions.specs.Programs.{Program}
 use Rattle.instructions.specs.Settings.{Settings}
-use Rattle.inorder.specs.History.{IsUnit, StartsWith, back, front, own}
+use Rattle.inorder.specs.History.{IsUnit, back, front, own}
+use Rattle.instructions.specs.Histories.{StartsWith}
 use Rattle.inorder.specs.OneHistory.{Adds}
-use Rattle.ruu_words.specs.Views.{IsHeir}
-use Rattle.station.specs.Paths.{IsTakenOver, unit_in}
-use Rattle.station.specs.Seats.{Caller, TheCore}
+use Rattle.ruu_words.specs.Views.{IsSpare}
+use Rattle.station.specs.Paths.{IsTakenOver}
+use Rattle.station.specs.Seats.{unit_seen, Caller, TheCore}
 use Rattle.client.specs.declared.seats.Seats.{Seats}
 
 -- The number of one of the two units, or one that no seat was made for
 abbrev pub IsUnits : Seats → ℕ → Type 0
 IsUnits s n =
-    (n ≡ s.one.by) ⊎ ((n ≡ s.other.by) ⊎ (IsHeir s.one.heirs n ⊎ IsHeir s.other.heirs n))
+    (n ≡ s.one.by) ⊎ ((n ≡ s.other.by) ⊎ (IsSpare s.one.spare n ⊎ IsSpare s.other.spare n))
 
 -- They are of this core, whose opening the front and the first unit have seen; the units are two, and
 -- there is no third
@@ -51,7 +52,7 @@ pub record AreNew (P : Program) (config : Settings) (core : TheCore) (s : Seats)
 pub record HasHeardMore (core : TheCore) (v w : Caller) : Type 0 where
   pub core_is : w.core ≡ v.core
   pub by_is : w.by ≡ v.by
-  pub heirs_are : w.heirs ≡ v.heirs
+  pub spare_is : w.spare ≡ v.spare
   pub adds : Adds core.program core.sizes v.by v.seen w.seen []
 
 -- The first unit has heard of all that the others had seen, and they of what it had
@@ -67,8 +68,8 @@ pub record HaveHeard (core : TheCore) (s t : Seats) : Type 0 where
   pub to_back : StartsWith t.back.seen s.one.seen
   pub to_other : StartsWith t.other.seen s.one.seen
   -- in all of it there is no entry of a unit that has no seat, behind those with which the core opened
-  pub no_more_of_one : (n : ℕ) → IsHeir t.one.heirs n → own n t.one.seen ≡ own n core.opening
-  pub no_more_of_other : (n : ℕ) → IsHeir t.other.heirs n → own n t.other.seen ≡ own n core.opening
+  pub no_more_of_one : (n : ℕ) → IsSpare t.one.spare n → own n t.one.seen ≡ own n core.opening
+  pub no_more_of_other : (n : ℕ) → IsSpare t.other.spare n → own n t.other.seen ≡ own n core.opening
 
 -- They have met twice: what anybody knew after the first time, each knows after the second
 pub record HaveMetTwice (core : TheCore) (s u : Seats) : Type 0 where
@@ -79,9 +80,9 @@ pub record HaveMetTwice (core : TheCore) (s u : Seats) : Type 0 where
 
 -- They are the seats of a renewed core, which is for the program of the old one, and of its sizes. The
 -- path goes on where the front had left it, at station 0 with the first tag
-pub record AreRenewed (old : TheCore) (before : Seats) (core : TheCore) (s : Seats) : Type 0 where
+pub record AreSeatsRenewed (old : TheCore) (before : Seats) (core : TheCore) (s : Seats) : Type 0 where
   pub program : core.program ≡ old.program
   pub sizes : core.sizes ≡ old.sizes
   pub all : AreAll core s
   pub knows : KnowsUnits s
-  pub path : IsTakenOver old core (unit_in old before.front) (unit_in core s.front)
+  pub path : IsTakenOver old core (unit_seen old before.front) (unit_seen core s.front)

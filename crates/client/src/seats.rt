@@ -3,7 +3,7 @@ ghost use Rattle.std.specs.Prelude.{IfOk};
 ghost use Rattle.inorder.specs.Callers.{GoesOn};
 ghost use Rattle.inorder.specs.History.{unit_of};
 ghost use Rattle.station.specs.Renewals.{HasNobody};
-ghost use Rattle.client.specs.Hands.{AreAll, AreNew, AreRenewed, HaveHeard};
+ghost use Rattle.client.specs.Hands.{AreAll, AreNew, AreSeatsRenewed, HaveHeard};
 
 use instructions::{Config, Memory, Program};
 use station::{
@@ -55,7 +55,7 @@ pub fn renew_all(alloc: Global, core: Core, seats: Seats) -> Result<(Core, Seats
     requires all { AreAll core seats }
     requires nobody { HasNobody (unit_of core.program core.sizes seats.front.seen) }
     requires goes_on { GoesOn (unit_of core.program core.sizes seats.back.seen) }
-    ensures { IfOk result (λ made. AreRenewed core seats made.0 made.1) }
+    ensures { IfOk result (λ made. AreSeatsRenewed core seats made.0 made.1) }
 {
     numbers_are_given_once();
     a_renewal_goes_on();

@@ -5,7 +5,7 @@ use Rattle.clap.specs.Faults.{is_simple_and_free}
 use Rattle.clap.proofs.OnLiterals.{clap_on_literals}
 use Rattle.clap.specs.declared.builder.arg.Arg.{Arg}
 use Rattle.clap.specs.declared.builder.command.Command.{Command}
-use Rattle.command_line.specs.Tool.{Becomes, IsArg, IsCommand, chart, check, commits, drive, run, tool}
+use Rattle.command_line.specs.Tool.{Becomes, IsArg, IsCommand, chart_word, check_word, commits_word, drive_word, run_word, tool}
 
 pub extended : {app : App} {rule : Rule} {old new : Command} {arg : Arg}
     → IsCommand app old → IsArg rule arg → AddsArg old arg new → IsCommand (with_rule app rule) new
@@ -24,22 +24,22 @@ pub then : {one other : App → App} {old middle new : Command} → Becomes one 
 then first second = record { changes = λ app old. second.changes _ (first.changes app old) }
 
 -- clap's exact matches are known of each program
-pub run-is_simple : is_simple_and_free (tool run) ≡ true
+pub run-is_simple : is_simple_and_free (tool run_word) ≡ true
 unfolding clap_on_literals
 run-is_simple = refl
 
-pub chart-is_simple : is_simple_and_free (tool chart) ≡ true
+pub chart-is_simple : is_simple_and_free (tool chart_word) ≡ true
 unfolding clap_on_literals
 chart-is_simple = refl
 
-pub commits-is_simple : is_simple_and_free (tool commits) ≡ true
+pub commits-is_simple : is_simple_and_free (tool commits_word) ≡ true
 unfolding clap_on_literals
 commits-is_simple = refl
 
-pub check-is_simple : is_simple_and_free (tool check) ≡ true
+pub check-is_simple : is_simple_and_free (tool check_word) ≡ true
 unfolding clap_on_literals
 check-is_simple = refl
 
-pub drive-is_simple : is_simple_and_free (tool drive) ≡ true
+pub drive-is_simple : is_simple_and_free (tool drive_word) ≡ true
 unfolding clap_on_literals
 drive-is_simple = refl

@@ -8,7 +8,7 @@ use Rattle.clap.specs.declared.error.kind.ErrorKind.{ErrorKind}
 use Rattle.clap.specs.declared.error.kind.ErrorKind.TheVariants.{DisplayHelp, DisplayVersion, OutOfMemory}
 use Rattle.command_line.specs.declared.no_run.NoRun.{NoRun}
 use Rattle.command_line.specs.declared.no_run.NoRun.TheVariants as no
-use Rattle.command_line.specs.Reading.{AreRefused, HoldsIn, IsEntered, IsMistake, IsNotEntered, IsRefusalOf, IsRefused, IsUsage}
+use Rattle.command_line.specs.Reading.{AreRefused, HoldsIn, MatchesRows, IsMistake, IsNotEntered, IsRefusalOf, IsNoRunFor, IsUsage}
 use Rattle.command_line.specs.Tool.{tool}
 
 not_one : (kind : ErrorKind) (kinds : Kinds) → kinds ≡ [] → kinds ≢ kind ∷ []
@@ -25,7 +25,7 @@ mistake word words P taken not_held = record {
 
 -- clap has found nothing wrong, and entered no word of the program
 pub names_no_word : (word : App) (words : List Text) (e : NoRun) → IsUsage e → fault_of (tool word) words ≡ []
-    → ((rows : List Row) → ¬ (IsEntered word words rows)) → IsNotEntered word words e
+    → ((rows : List Row) → ¬ (MatchesRows word words rows)) → IsNotEntered word words e
 names_no_word word words (no.Help _) usage taken none = absurd usage
 names_no_word word words (no.Usage _) usage taken none =
     mistake word words (λ rows. ⊤) taken (λ held. none held.rows held.entered)
@@ -66,10 +66,10 @@ refused_by_clap word words error no.Memory has usage = tt
 
 -- words without rows are refused whatever is asked of the rows
 pub refused_unread : (app word : App) (words : List Text) (Values Odd : List Row → Type 0) (e : NoRun) → app ≡ word
-    → IsNotEntered app words e → IsRefused word words Values Odd e
+    → IsNotEntered app words e → IsNoRunFor word words Values Odd e
 refused_unread app word words Values Odd e same is = go e (subst (λ (a : App). IsNotEntered a words e) same is)
   where
-    go : (e : NoRun) → IsNotEntered word words e → IsRefused word words Values Odd e
+    go : (e : NoRun) → IsNotEntered word words e → IsNoRunFor word words Values Odd e
     go (no.Help _) is = is
     go (no.Usage _) is = record {
       no_help = is.no_help;
@@ -87,16 +87,16 @@ same_second {X} {Y} o x y z one two =
 
 -- words whose rows hold
 pub holds_in : (app word : App) (words : List Text) (rows : List Row) (P : List Row → Type 0) → app ≡ word
-    → IsEntered app words rows → P rows → HoldsIn word words P
+    → MatchesRows app words rows → P rows → HoldsIn word words P
 holds_in app word words rows P same entered holds =
-    record { rows = rows; entered = subst (λ (a : App). IsEntered a words rows) same entered; holds = holds }
+    record { rows = rows; entered = subst (λ (a : App). MatchesRows a words rows) same entered; holds = holds }
 
 -- words whose rows are refused
 pub refused_read : (app word : App) (words : List Text) (rows : List Row) (Values Odd : List Row → Type 0) (e : NoRun) → app ≡ word
-    → IsEntered app words rows → AreRefused rows Values Odd e → IsRefused word words Values Odd e
-refused_read app word words rows Values Odd e same is = go e (subst (λ (a : App). IsEntered a words rows) same is)
+    → MatchesRows app words rows → AreRefused rows Values Odd e → IsNoRunFor word words Values Odd e
+refused_read app word words rows Values Odd e same is = go e (subst (λ (a : App). MatchesRows a words rows) same is)
   where
-    go : (e : NoRun) → IsEntered word words rows → AreRefused rows Values Odd e → IsRefused word words Values Odd e
+    go : (e : NoRun) → MatchesRows word words rows → AreRefused rows Values Odd e → IsNoRunFor word words Values Odd e
     go (no.Help _) entered refused = absurd refused
     go (no.Usage _) entered refused = mistake word words Values entered.taken (λ held.
         let same : held.rows ≡ rows = same_second (subcommand_of (tool word) words) word.top.name rows held.rows entered.matches held.entered.matches in

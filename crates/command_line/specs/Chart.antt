@@ -4,7 +4,7 @@ use Rattle.clap.specs.Words.{Row, Text}
 use Rattle.command_line.specs.declared.request.Charted.{Charted}
 use Rattle.command_line.specs.Logs.{IsLog}
 use Rattle.command_line.specs.Reading.{HoldsIn}
-use Rattle.command_line.specs.Tool.{chart}
+use Rattle.command_line.specs.Tool.{chart_word}
 use Rattle.command_line.specs.Values.{text_behind}
 use Rattle.command_line.specs.Watched.{HasWatchedRun, IsWatchedBy}
 
@@ -15,7 +15,7 @@ pub record IsChartedBy (rows : List Row) (charted : Charted) : Type 0 where
 
 -- the words ask for the chart of this run
 abbrev pub IsChartedIn : List Text → Charted → Type 0
-IsChartedIn words charted = HoldsIn chart words (λ rows. IsChartedBy rows charted)
+IsChartedIn words charted = HoldsIn chart_word words (λ rows. IsChartedBy rows charted)
 
 -- the rows hold a run that can be watched, and a log that can be written or none
 pub record HasChart (rows : List Row) : Type 0 where

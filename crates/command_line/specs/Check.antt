@@ -3,7 +3,7 @@ use Rattle.std.specs.Prelude.{◌≡◌, List, Some, codes}
 use Rattle.clap.specs.Words.{Row, Text, first_of}
 use Rattle.command_line.specs.declared.request.Checked.{Checked}
 use Rattle.command_line.specs.Reading.{HoldsIn}
-use Rattle.command_line.specs.Tool.{check}
+use Rattle.command_line.specs.Tool.{check_word}
 use Rattle.command_line.specs.Values.{is_true}
 
 -- file and flag are those that the rows hold
@@ -13,7 +13,7 @@ pub record IsCheckedBy (rows : List Row) (checked : Checked) : Type 0 where
 
 -- the words ask for this check
 abbrev pub IsCheckedIn : List Text → Checked → Type 0
-IsCheckedIn words checked = HoldsIn check words (λ rows. IsCheckedBy rows checked)
+IsCheckedIn words checked = HoldsIn check_word words (λ rows. IsCheckedBy rows checked)
 
 -- the rows name a file
 pub record NamesFile (rows : List Row) : Type 0 where

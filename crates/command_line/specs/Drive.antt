@@ -7,7 +7,7 @@ use Rattle.command_line.specs.declared.request.ByHand.{ByHand}
 use Rattle.command_line.specs.Reading.{HoldsIn}
 use Rattle.command_line.specs.Rings.{greatest}
 use Rattle.command_line.specs.Steps.{AreSteps}
-use Rattle.command_line.specs.Tool.{drive}
+use Rattle.command_line.specs.Tool.{drive_word}
 use Rattle.command_line.specs.Values.{IsNumberFrom, IsPredictor, IsQueueCut, is_true}
 
 -- the configuration has what a run has that is asked for nothing more, and as many units as can be driven
@@ -33,7 +33,7 @@ pub record IsDrivenBy (rows : List Row) (hand : ByHand) : Type 0 where
 
 -- the words ask to drive this unit
 abbrev pub IsDrivenIn : List Text → ByHand → Type 0
-IsDrivenIn words hand = HoldsIn drive words (λ rows. IsDrivenBy rows hand)
+IsDrivenIn words hand = HoldsIn drive_word words (λ rows. IsDrivenBy rows hand)
 
 -- the rows ask to drive some unit
 abbrev pub CanBeDriven : List Row → Type 0

@@ -9,14 +9,14 @@ use Rattle.command_line.specs.declared.no_run.NoRun.TheVariants as no
 use Rattle.command_line.specs.Tool.{tool}
 
 -- clap finds no fault in the words of the program, and its exact matches of the program's word have these rows
-pub record IsEntered (word : App) (words : List Text) (rows : List Row) : Type 0 where
+pub record MatchesRows (word : App) (words : List Text) (rows : List Row) : Type 0 where
   pub taken : fault_of (tool word) words ≡ []
   pub matches : subcommand_of (tool word) words ≡ Some (word.top.name, rows)
 
 -- P holds of the rows that the words enter
 pub record HoldsIn (word : App) (words : List Text) (P : List Row → Type 0) : Type 0 where
   pub rows : List Row
-  pub entered : IsEntered word words rows
+  pub entered : MatchesRows word words rows
   pub holds : P rows
 
 -- neither help nor the version was asked for, and no rows of the word hold P
@@ -31,11 +31,11 @@ AsksForHelp word words =
     IsAmong DisplayHelp (fault_of (tool word) words) ⊎ IsAmong DisplayVersion (fault_of (tool word) words)
 
 -- why words are refused that are to have values, of which a ring size may be odd: one that no ring has
-abbrev pub IsRefused : App → List Text → (Values Odd : List Row → Type 0) → NoRun → Type 0
-IsRefused word words Values Odd (no.Help _) = AsksForHelp word words
-IsRefused word words Values Odd (no.Usage _) = IsMistake word words Values
-IsRefused word words Values Odd no.Ring = HoldsIn word words Odd
-IsRefused word words Values Odd no.Memory = ⊤
+abbrev pub IsNoRunFor : App → List Text → (Values Odd : List Row → Type 0) → NoRun → Type 0
+IsNoRunFor word words Values Odd (no.Help _) = AsksForHelp word words
+IsNoRunFor word words Values Odd (no.Usage _) = IsMistake word words Values
+IsNoRunFor word words Values Odd no.Ring = HoldsIn word words Odd
+IsNoRunFor word words Values Odd no.Memory = ⊤
 
 -- why rows are refused
 abbrev pub AreRefused : List Row → (Values Odd : List Row → Type 0) → NoRun → Type 0

@@ -6,7 +6,7 @@ use Rattle.command_line.specs.declared.request.BranchPredictor.{BranchPredictor}
 use Rattle.command_line.specs.Reading.{HoldsIn}
 use Rattle.command_line.specs.Rings.{AreSizes, HaveSizes, greatest}
 use Rattle.command_line.specs.Seeds.{AreSeeds}
-use Rattle.command_line.specs.Tool.{run}
+use Rattle.command_line.specs.Tool.{run_word}
 use Rattle.command_line.specs.Values.{IsNumberFrom, IsPredictor, is_true}
 
 -- file, values and flags are those that the rows hold, or the defaults, each in its range
@@ -22,7 +22,7 @@ pub record IsAskedBy (rows : List Row) (asked : Asked) : Type 0 where
 
 -- the words ask for this run
 abbrev pub IsAskedIn : List Text → Asked → Type 0
-IsAskedIn words asked = HoldsIn run words (λ rows. IsAskedBy rows asked)
+IsAskedIn words asked = HoldsIn run_word words (λ rows. IsAskedBy rows asked)
 
 -- the rows hold a file, values in their ranges or none, and seeds where they count; the ring size may be any number
 pub record HasAskedRun (rows : List Row) : Type 0 where

@@ -44,20 +44,20 @@ abbrev pub with_version : App → App
 with_version = on_top (λ s. record s { has_version = true })
 
 -- `ruu run`
-abbrev pub run : App
-run = ordered (bounded (sized (with_version (new_app (codes "run")))))
+abbrev pub run_word : App
+run_word = ordered (bounded (sized (with_version (new_app (codes "run")))))
 
 -- `ruu chart`
-abbrev pub chart : App
-chart = with_rule (watched (sized (with_version (new_app (codes "chart"))))) (option_rule (codes "trace"))
+abbrev pub chart_word : App
+chart_word = with_rule (watched (sized (with_version (new_app (codes "chart"))))) (option_rule (codes "trace"))
 
 -- `ruu commits`
-abbrev pub commits : App
-commits = watched (sized (with_version (new_app (codes "commits"))))
+abbrev pub commits_word : App
+commits_word = watched (sized (with_version (new_app (codes "commits"))))
 
 -- `ruu check`
-abbrev pub check : App
-check = with_rule (with_rule (with_version (new_app (codes "check"))) file_rule) (flag_rule (codes "all"))
+abbrev pub check_word : App
+check_word = with_rule (with_rule (with_version (new_app (codes "check"))) file_rule) (flag_rule (codes "all"))
 
 -- how commands are told and chosen
 abbrev pub commanded : App → App
@@ -65,8 +65,8 @@ commanded app = with_rule (with_rule (with_rule (with_rule app
     (flag_rule (codes "quiet-prompt"))) (flag_rule (codes "echo"))) (option_rule (codes "seed"))) (option_rule (codes "steps"))
 
 -- `ruu drive`
-abbrev pub drive : App
-drive = commanded (with_rule (with_rule (sized (with_version (new_app (codes "drive"))))
+abbrev pub drive_word : App
+drive_word = commanded (with_rule (with_rule (sized (with_version (new_app (codes "drive"))))
     (option_rule (codes "bpred"))) (option_rule (codes "first-tag")))
 
 -- the program of a word: `ruu`, with this command alone

@@ -1,6 +1,6 @@
 //! The words of the programs, each with its options.
 ghost use Rattle.std.specs.Prelude.{IfOk};
-ghost use Rattle.command_line.specs.Tool.{Becomes, IsCommand, bounded, chart, check, commits, drive, ordered, run, watched};
+ghost use Rattle.command_line.specs.Tool.{Becomes, IsCommand, bounded, chart_word, check_word, commits_word, drive_word, ordered, run_word, watched};
 
 use crate::options::{headed, with_file, with_flag, with_option, with_sizes};
 use clap::Command;
@@ -14,7 +14,7 @@ const SEED: &str = "Choose each turn by this seed: 0 to 18446744073709551615";
 
 /// `ruu run`
 pub(crate) fn run<'a>(alloc: Global) -> Result<Command<'a>, AllocError>
-    ensures { IfOk result (IsCommand run) }
+    ensures { IfOk result (IsCommand run_word) }
 {
     let named = headed(alloc, "run", RUN, RUN_NOTES);
     let sized = with_sizes(alloc, named)?;
@@ -65,7 +65,7 @@ const SHAKE: &str = "Hold units back by this seed: 0 to 18446744073709551615; no
 
 /// `ruu chart`
 pub(crate) fn chart<'a>(alloc: Global) -> Result<Command<'a>, AllocError>
-    ensures { IfOk result (IsCommand chart) }
+    ensures { IfOk result (IsCommand chart_word) }
 {
     let named = headed(alloc, "chart", CHART, CHART_NOTES);
     let sized = with_sizes(alloc, named)?;
@@ -98,7 +98,7 @@ fn with_watched_run<'a>(alloc: Global, command: Command<'a>) -> Result<Command<'
 
 /// `ruu commits`
 pub(crate) fn commits<'a>(alloc: Global) -> Result<Command<'a>, AllocError>
-    ensures { IfOk result (IsCommand commits) }
+    ensures { IfOk result (IsCommand commits_word) }
 {
     let named = headed(alloc, "commits", COMMITS, COMMITS_NOTES);
     let sized = with_sizes(alloc, named)?;
@@ -120,7 +120,7 @@ Exit status: 0 the listing ran to a break, 1 it stopped otherwise, 2 a fault in 
 
 /// `ruu check`
 pub(crate) fn check<'a>(alloc: Global) -> Result<Command<'a>, AllocError>
-    ensures { IfOk result (IsCommand check) }
+    ensures { IfOk result (IsCommand check_word) }
 {
     let named = headed(alloc, "check", CHECK, CHECK_NOTES);
     let filed = with_file(alloc, named)?;
@@ -139,7 +139,7 @@ Exit status: 0 a good listing, 2 a fault in it, 3 a mistake on the command line,
 
 /// `ruu drive`
 pub(crate) fn drive<'a>(alloc: Global) -> Result<Command<'a>, AllocError>
-    ensures { IfOk result (IsCommand drive) }
+    ensures { IfOk result (IsCommand drive_word) }
 {
     let named = headed(alloc, "drive", DRIVE, DRIVE_NOTES);
     let sized = with_sizes(alloc, named)?;

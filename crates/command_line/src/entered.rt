@@ -1,7 +1,7 @@
 //! The matches of a program's word.
 ghost use Rattle.std.specs.Prelude.{◌≡◌, IfOk, IfErr, map, true};
 ghost use Rattle.clap.specs.Words.{app_of, found_of, is_simple_and_free, rows_of};
-ghost use Rattle.command_line.specs.Reading.{IsEntered, IsNotEntered};
+ghost use Rattle.command_line.specs.Reading.{MatchesRows, IsNotEntered};
 ghost use Rattle.command_line.specs.Tool.{IsCommand, tool};
 
 use crate::NoRun;
@@ -22,7 +22,7 @@ pub(crate) fn entered<'a, S: AsStr>(
     requires simple { is_simple_and_free (tool (app_of word)) ≡ true }
     requires name { (app_of word).top.name ≡ name.now }
     ensures ok { IfOk result (λ matches.
-        IsEntered (app_of word.entry) (map S.text words.entry.now) (rows_of (found_of matches))) }
+        MatchesRows (app_of word.entry) (map S.text words.entry.now) (rows_of (found_of matches))) }
     ensures err { IfErr result (IsNotEntered (app_of word.entry) (map S.text words.entry.now)) }
 {
     let command = tool(alloc, word)?;

@@ -2,9 +2,9 @@
 ghost use Rattle.std.specs.Prelude.{IfOk, IfErr, map};
 ghost use Rattle.clap.specs.Words.{found_of, rows_of};
 ghost use Rattle.command_line.specs.Chart.{HasChart, IsChartedBy, IsChartedIn};
-ghost use Rattle.command_line.specs.Reading.{AreRefused, IsRefused};
+ghost use Rattle.command_line.specs.Reading.{AreRefused, IsNoRunFor};
 ghost use Rattle.command_line.specs.Rings.{HasOddRing};
-ghost use Rattle.command_line.specs.Tool.{chart as chart_word};
+ghost use Rattle.command_line.specs.Tool.{chart_word};
 
 use crate::commands::chart;
 use crate::entered::entered;
@@ -20,7 +20,7 @@ use std::convert::AsStr;
 pub fn charted<'a, S: AsStr>(alloc: Global, words: &'a [S]) -> Result<Charted<'a>, NoRun>
     ensures ok { IfOk result (IsChartedIn (map S.text words.entry.now)) }
     ensures err { IfErr result
-        (IsRefused chart_word (map S.text words.entry.now) HasChart (HasOddRing HasChart)) }
+        (IsNoRunFor chart_word (map S.text words.entry.now) HasChart (HasOddRing HasChart)) }
 {
     let command = chart(alloc)?;
     let matches = entered(alloc, command, "chart", words)?;

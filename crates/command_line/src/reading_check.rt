@@ -2,8 +2,8 @@
 ghost use Rattle.std.specs.Prelude.{IfOk, IfErr, map};
 ghost use Rattle.clap.specs.Words.{found_of, rows_of};
 ghost use Rattle.command_line.specs.Check.{IsCheckedBy, IsCheckedIn, NamesFile};
-ghost use Rattle.command_line.specs.Reading.{AreRefused, IsRefused, NoneOdd};
-ghost use Rattle.command_line.specs.Tool.{check as check_word};
+ghost use Rattle.command_line.specs.Reading.{AreRefused, IsNoRunFor, NoneOdd};
+ghost use Rattle.command_line.specs.Tool.{check_word};
 
 use crate::commands::check;
 use crate::entered::entered;
@@ -19,7 +19,7 @@ use std::convert::AsStr;
 pub fn checked<'a, S: AsStr>(alloc: Global, words: &'a [S]) -> Result<Checked<'a>, NoRun>
     ensures ok { IfOk result (IsCheckedIn (map S.text words.entry.now)) }
     ensures err { IfErr result
-        (IsRefused check_word (map S.text words.entry.now) NamesFile NoneOdd) }
+        (IsNoRunFor check_word (map S.text words.entry.now) NamesFile NoneOdd) }
 {
     let command = check(alloc)?;
     let matches = entered(alloc, command, "check", words)?;

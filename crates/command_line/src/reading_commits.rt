@@ -2,9 +2,9 @@
 ghost use Rattle.std.specs.Prelude.{IfOk, IfErr, map};
 ghost use Rattle.clap.specs.Words.{found_of, rows_of};
 ghost use Rattle.command_line.specs.Commits.{IsCommittedIn};
-ghost use Rattle.command_line.specs.Reading.{AreRefused, IsRefused};
+ghost use Rattle.command_line.specs.Reading.{AreRefused, IsNoRunFor};
 ghost use Rattle.command_line.specs.Rings.{HasOddRing};
-ghost use Rattle.command_line.specs.Tool.{commits as commits_word};
+ghost use Rattle.command_line.specs.Tool.{commits_word};
 ghost use Rattle.command_line.specs.Watched.{HasWatchedRun, IsWatchedBy};
 
 use crate::commands::commits;
@@ -19,7 +19,7 @@ use std::convert::AsStr;
 /// has what to print, and `status` gives the exit status.
 pub fn committed<'a, S: AsStr>(alloc: Global, words: &'a [S]) -> Result<Watched<'a>, NoRun>
     ensures ok { IfOk result (IsCommittedIn (map S.text words.entry.now)) }
-    ensures err { IfErr result (IsRefused commits_word (map S.text words.entry.now)
+    ensures err { IfErr result (IsNoRunFor commits_word (map S.text words.entry.now)
         HasWatchedRun (HasOddRing HasWatchedRun)) }
 {
     let command = commits(alloc)?;

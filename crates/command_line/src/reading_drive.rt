@@ -2,8 +2,8 @@
 ghost use Rattle.std.specs.Prelude.{IfOk, IfErr, map};
 ghost use Rattle.clap.specs.Words.{found_of, rows_of};
 ghost use Rattle.command_line.specs.Drive.{CanBeDriven, IsDrivenBy, IsDrivenIn};
-ghost use Rattle.command_line.specs.Reading.{AreRefused, IsRefused, NoneOdd};
-ghost use Rattle.command_line.specs.Tool.{drive as drive_word};
+ghost use Rattle.command_line.specs.Reading.{AreRefused, IsNoRunFor, NoneOdd};
+ghost use Rattle.command_line.specs.Tool.{drive_word};
 
 use crate::commands::drive;
 use crate::entered::entered;
@@ -22,7 +22,7 @@ use std::convert::AsStr;
 pub fn driven<'a, S: AsStr>(alloc: Global, words: &'a [S]) -> Result<ByHand<'a>, NoRun>
     ensures ok { IfOk result (IsDrivenIn (map S.text words.entry.now)) }
     ensures err { IfErr result
-        (IsRefused drive_word (map S.text words.entry.now) CanBeDriven NoneOdd) }
+        (IsNoRunFor drive_word (map S.text words.entry.now) CanBeDriven NoneOdd) }
 {
     let command = drive(alloc)?;
     let matches = entered(alloc, command, "drive", words)?;

@@ -2,9 +2,9 @@
 ghost use Rattle.std.specs.Prelude.{IfOk, IfErr, map};
 ghost use Rattle.clap.specs.Words.{found_of, rows_of};
 ghost use Rattle.command_line.specs.Run.{IsAskedBy, IsAskedIn, HasAskedRun};
-ghost use Rattle.command_line.specs.Reading.{AreRefused, IsRefused};
+ghost use Rattle.command_line.specs.Reading.{AreRefused, IsNoRunFor};
 ghost use Rattle.command_line.specs.Rings.{HasOddRing};
-ghost use Rattle.command_line.specs.Tool.{run as run_word};
+ghost use Rattle.command_line.specs.Tool.{run_word};
 
 use crate::commands::run;
 use crate::entered::entered;
@@ -22,7 +22,7 @@ use std::convert::AsStr;
 pub fn asked<'a, S: AsStr>(alloc: Global, words: &'a [S]) -> Result<Asked<'a>, NoRun>
     ensures ok { IfOk result (IsAskedIn (map S.text words.entry.now)) }
     ensures err { IfErr result
-        (IsRefused run_word (map S.text words.entry.now) HasAskedRun (HasOddRing HasAskedRun)) }
+        (IsNoRunFor run_word (map S.text words.entry.now) HasAskedRun (HasOddRing HasAskedRun)) }
 {
     let command = run(alloc)?;
     let matches = entered(alloc, command, "run", words)?;

@@ -9,8 +9,9 @@ use Rattle.atomic_table.proofs.Lists.{at_set}
 use Rattle.counts.specs.declared.shares.Known.{Known}
 use Rattle.counts.specs.declared.shares.Share.{Share}
 use Rattle.counts.specs.declared.shares.Shares.{Shares}
-use Rattle.counts.specs.Known.{StartsWith, both_known, longer, nothing_known, with_shares}
-use Rattle.counts.specs.Rule.{Kept, Summed, shares_of, weight}
+use Rattle.counts.specs.Known.{both_known, longer, nothing_known, with_shares}
+use Rattle.instructions.specs.Histories.{StartsWith}
+use Rattle.counts.specs.Rule.{AddsUp, Summed, shares_of, weight}
 use Rattle.counts.specs.Shares.{first_half, kept_half, merged, joined_of, no_parts, nothing, second_half, given_half, is_kept, share, with_kept, without_kept}
 use Rattle.counts.specs.Totals.{total_count}
 use Rattle.counts.proofs.EachShare.{share_each}
@@ -113,7 +114,7 @@ held v = v.shares
 
 -- a cut of the shares is one of what a seat knows: both have seen the same
 knows_both : (id : ℕ) (v : Known) (f g : Shares → Shares) → ((at : ℕ) → at < total_count → IsCut (share at v.shares) (share at (f v.shares)) (share at (g v.shares)))
-    → Splits Kept id v (with_shares f v) (with_shares g v)
+    → Splits AddsUp id v (with_shares f v) (with_shares g v)
 knows_both id v f g cut s h here =
     let l = with_shares f v in
     let r = with_shares g v in
@@ -131,15 +132,18 @@ knows_both id v f g cut s h here =
       };
     }
 
-pub halved : (id : ℕ) (v : Known) → Splits Kept id v (with_shares first_half v) (with_shares second_half v)
+pub halved : (id : ℕ) (v : Known) → Splits AddsUp id v (with_shares first_half v) (with_shares second_half v)
 halved id v = knows_both id v first_half second_half
     (λ at low. subst (λ (z : Share × Share). IsCut (share at v.shares) z.0 z.1)
     (λ j. (sym (share_each (λ i. kept_half (share i v.shares)) at low) j, sym (share_each (λ i. given_half (share i v.shares)) at low) j)) (halves (share at v.shares)))
 
-pub hired : (id : ℕ) (v : Known) → Splits Kept id v (with_shares with_kept v) (with_shares without_kept v)
-hired id v = knows_both id v with_kept without_kept
+pub hired : (id : ℕ) (v : Known) → Splits AddsUp id v (with_shares with_kept v) (with_shares without_kept v)
+hired id v =
+    let kept : ℕ → Share = λ i. if is_kept i then share i v.shares else kept_half (share i v.shares) in
+    let given : ℕ → Share = λ i. if is_kept i then nothing else given_half (share i v.shares) in
+    knows_both id v with_kept without_kept
     (λ at low. subst (λ (z : Share × Share). IsCut (share at v.shares) z.0 z.1)
-    (λ j. (sym (share_each (λ i. if is_kept i then share i v.shares else kept_half (share i v.shares)) at low) j, sym (share_each (λ i. if is_kept i then nothing else given_half (share i v.shares)) at low) j))
+    (λ j. (sym (share_each kept at low) j, sym (share_each given at low) j))
     (one (is_kept at) (share at v.shares)))
   where
     one : (b : Bool) (s : Share) → IsCut s (if b then s else kept_half s) (if b then nothing else given_half s)
@@ -147,12 +151,13 @@ hired id v = knows_both id v with_kept without_kept
     one false s = halves s
 
 -- a join of what two seats know: the longer one of what they have seen
-pub merges_known : (id other : ℕ) (v w : Known) → Joins Kept id v other w (both_known v w) nothing_known
+pub merges_known : (id other : ℕ) (v w : Known) → Joins AddsUp id v other w (both_known v w) nothing_known
 merges_known id other v w s h here apart after =
     let b = both_known v w in
     let there = map_at held s.views id v here in
     let once : map held (set s.views id b) ≡ set (map held s.views) id b.shares = map_set held s.views id b in
-    let after_shares : get_elem? (set (map held s.views) id b.shares) other ≡ some w.shares = subst (λ (z : List Shares). get_elem? z other ≡ some w.shares) once (map_at held (set s.views id b) other w after) in
+    let after_shares : get_elem? (set (map held s.views) id b.shares) other ≡ some w.shares =
+    subst (λ (z : List Shares). get_elem? z other ≡ some w.shares) once (map_at held (set s.views id b) other w after) in
     let views : map held (set (set s.views id b) other nothing_known) ≡ set (set (map held s.views) id b.shares) other no_parts =
     map_set held (set s.views id b) other nothing_known ∙ ap (λ z. set z other no_parts) once in
     let was : get_elem? s.views other ≡ some w = ⊎_elim (λ e. absurd (apart e.0)) (λ e. e.1) (at_set s.views id other b w after) in
@@ -160,7 +165,8 @@ merges_known id other v w s h here apart after =
     record {
       history = h.history;
       kept = record {
-        sums = subst (λ (z : List Shares). Summed (record { words = s.words; homes = s.homes; views = z })) (sym views) (merges id other v.shares w.shares (shares_of s) h.kept.sums there apart after_shares);
+        sums = subst (λ (z : List Shares). Summed (record { words = s.words; homes = s.homes; views = z })) (sym views)
+            (merges id other v.shares w.shares (shares_of s) h.kept.sums there apart after_shares);
         adds_up = λ at low. h.kept.adds_up at low ∙ sym (ap (λ z. sum_by (λ u. (share at u).added) z) views ∙ join_sum (shares_of s).views id other at v.shares w.shares low there after_shares);
         seen = every_set P (set s.views id b) other nothing_known
             (every_set P s.views id b h.kept.seen (longer_begins v.seen w.seen (h.kept.seen id v here) (h.kept.seen other w was)))

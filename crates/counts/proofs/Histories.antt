@@ -1,6 +1,6 @@
 -- Histories of additions.
-use Rattle.std.proofs.Common.{◌≡◌, ℕ, zero, suc, ◌+◌, ◌<◌, Bool, true, false, List, [], ◌∷◌, ◌++◌, map, set, sum_by, length, nat_lt, if◌then◌else◌, eq-eqb, ne_eqb, append_assoc, sym, refl, ap, ◌∙◌, subst, ⊎_elim, arith}
-use Rattle.std.proofs.Common.{◌≢◌, length-append}
+use Rattle.std.proofs.Common.{◌≡◌, ◌≢◌, ℕ, zero, suc, ◌+◌, ◌<◌, Bool, true, false, List, [], ◌∷◌, ◌++◌, map, set, sum_by, length, nat_lt}
+use Rattle.std.proofs.Common.{arith, eq-eqb, if◌then◌else◌, length-append, ne_eqb, refl, subst, sym, ap, ◌∙◌, ⊎_elim}
 use Rattle.std.proofs.lemmas.Bool.{le-ltb, ltb-false}
 use Rattle.std.proofs.lemmas.List.Sums.{sum_by-cons}
 use Rattle.atomic_table.proofs.Lists.{at_longer, set_else}
@@ -10,19 +10,17 @@ use Rattle.counts.specs.declared.shares.Addition.{Addition}
 use Rattle.counts.specs.declared.shares.Known.{Known}
 use Rattle.counts.specs.declared.shares.Shares.{Shares}
 use Rattle.counts.specs.Rule.{HasSeenAll}
-use Rattle.counts.specs.Known.{StartsWith, adds_at, longer, total_at}
+use Rattle.counts.specs.Known.{adds_at, longer, total_at}
+use Rattle.instructions.specs.Histories.{StartsWith}
+use Rattle.instructions.proofs.Histories.{starts_on}
 use Rattle.counts.specs.Shares.{raised_at, share}
 use Rattle.counts.specs.Totals.{total_count}
 use Rattle.counts.proofs.EachShare.{raised_here, raised_off, same_or_not}
 use Rattle.counts.proofs.Sums.{sum_set}
 
--- each began as itself
-pub as_itself : (h : List Addition) → StartsWith h h
-as_itself h = record { more = []; is = refl }
-
 -- what began as one that began as a third began as that
 pub further : {h p b : List Addition} → StartsWith h p → StartsWith p b → StartsWith h b
-further {h} {p} {b} x y = record { more = x.more ++ y.more; is = x.is ∙ ap (λ l. x.more ++ l) y.is ∙ sym (append_assoc x.more y.more b) }
+further {h} {p} {b} x y = starts_on b p h y x
 
 -- one addition more
 pub one_more : {h p : List Addition} → (a : Addition) → StartsWith h p → StartsWith (a ∷ h) p

@@ -1,5 +1,6 @@
 -- The knowledge of seats: their shares, and the additions that they have seen, the last one first.
-use Rattle.std.specs.Prelude.{◌≡◌, ℕ, ◌==◌, nat_lt, if◌then◌else◌, List, [], ◌∷◌, ◌++◌, length, sum_by}
+use Rattle.std.specs.Prelude.{◌≡◌, ℕ, ◌==◌, nat_lt, if◌then◌else◌, List, [], ◌∷◌, length, sum_by}
+use Rattle.instructions.specs.Histories.{StartsWith}
 use Rattle.counts.specs.declared.shares.Addition.{Addition}
 use Rattle.counts.specs.declared.shares.Known.{Known}
 use Rattle.counts.specs.declared.shares.Shares.{Shares}
@@ -14,16 +15,6 @@ adds_at at a = if a.at == at then a.k else 0
 -- The sum of all that a history adds to the total at a position
 abbrev pub total_at : ℕ → List Addition → ℕ
 total_at at history = sum_by (adds_at at) history
-
--- A history began as another: `point` was a moment of it
-pub record StartsWith (history point : List Addition) : Type 0 where
-  pub more : List Addition
-  pub is : history ≡ more ++ point
-
--- A moment of a call whose caller had seen `old` when it began, and has seen `new` at its return
-pub record IsWithin (old new point : List Addition) : Type 0 where
-  pub before_return : StartsWith new point
-  pub behind_call : StartsWith point old
 
 -- The seat has added: the last entry that it has seen is its addition, behind all that it had seen at the call
 pub record HasAddedAt (at k : ℕ) (old new : List Addition) : Type 0 where

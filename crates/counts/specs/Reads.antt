@@ -3,7 +3,8 @@ use Rattle.std.specs.Prelude.{◌≡◌, ℕ, ◌%◌, ◌^◌, List}
 use Rattle.counts.specs.declared.shares.Addition.{Addition}
 use Rattle.counts.specs.declared.shares.Shares.{Shares}
 use Rattle.counts.specs.declared.tally.Total.{Total}
-use Rattle.counts.specs.Known.{IsWithin, total_at}
+use Rattle.counts.specs.Known.{total_at}
+use Rattle.instructions.specs.Histories.{IsWithin}
 use Rattle.counts.specs.Shares.{share}
 use Rattle.counts.specs.Totals.{position_of}
 

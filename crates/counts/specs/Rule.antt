@@ -8,7 +8,8 @@ use Rattle.counts.specs.declared.shares.Addition.{Addition}
 use Rattle.counts.specs.declared.shares.Known.{Known}
 use Rattle.counts.specs.declared.shares.Share.{Share}
 use Rattle.counts.specs.declared.shares.Shares.{Shares}
-use Rattle.counts.specs.Known.{StartsWith, total_at}
+use Rattle.counts.specs.Known.{total_at}
+use Rattle.instructions.specs.Histories.{StartsWith}
 use Rattle.counts.specs.Shares.{share}
 use Rattle.counts.specs.Totals.{total_count}
 
@@ -43,13 +44,13 @@ pub record HasSeenAll (history : List Addition) (views : List Known) : Type 0 wh
 
 -- The rule for one history of additions: for each total its additions are the sum of the shares, each seat has seen a
 -- beginning of the history, and one has seen all of it
-pub record IsKept (history : List Addition) (s : State ⊤ Known) : Type 0 where
+pub record IsAddedUp (history : List Addition) (s : State ⊤ Known) : Type 0 where
   pub sums : Summed (shares_of s)
   pub adds_up : (at : ℕ) → at < total_count → total_at at history ≡ sum_by (λ v. (share at v).added) (shares_of s).views
   pub seen : (id : ℕ) (v : Known) → get_elem? s.views id ≡ some v → StartsWith history v.seen
   pub whole : HasSeenAll history s.views
 
 -- The rule: some history of additions is kept
-pub record Kept (s : State ⊤ Known) : Type 0 where
+pub record AddsUp (s : State ⊤ Known) : Type 0 where
   pub history : List Addition
-  pub kept : IsKept history s
+  pub kept : IsAddedUp history s

@@ -2,7 +2,8 @@
 use Rattle.std.specs.Prelude.{⊤, ◌≡◌, ℕ, ◌*◌, ◌%◌, ◌^◌, ◌<◌}
 use Rattle.atomic_table.specs.Table.{Me, Step}
 use Rattle.counts.specs.declared.shares.Known.{Known}
-use Rattle.counts.specs.Known.{HasAddedAt, StartsWith, total_at}
+use Rattle.counts.specs.Known.{HasAddedAt, total_at}
+use Rattle.instructions.specs.Histories.{StartsWith}
 use Rattle.counts.specs.Reads.{HoldsAllAt}
 use Rattle.counts.specs.Shares.{raised_at, share}
 use Rattle.counts.specs.Totals.{total_count}

@@ -34,10 +34,10 @@ pub struct Known {
 pub struct Sums;
 
 impl TableRule<(), Known, ()> for Sums {
-    ghost use Rattle.counts.specs.Rule.{Kept};
+    ghost use Rattle.counts.specs.Rule.{AddsUp};
     ghost use Rattle.counts.specs.Known.{all_known};
 
-    ghost holds = { λ _. Kept };
+    ghost holds = { λ _. AddsUp };
 
     ghost first = { λ _. all_known };
 }

@@ -1,6 +1,7 @@
 //! The totals, and every call on them.
 ghost use Rattle.std.specs.Prelude.{◌≡◌, ◌%◌, ◌^◌, ◌<◌, IfOk, [], false};
-ghost use Rattle.counts.specs.Known.{HasAdded, StartsWith, longer, total_at};
+ghost use Rattle.counts.specs.Known.{HasAdded, longer, total_at};
+ghost use Rattle.instructions.specs.Histories.{StartsWith};
 ghost use Rattle.counts.specs.Reads.{HoldsAll, WasTotal};
 ghost use Rattle.counts.specs.Shares.{all_parts, first_half, merged, added_to, second_half};
 ghost use Rattle.counts.specs.Shares.{is_kept, share_of, with_kept, without_kept};

@@ -1,10 +1,11 @@
 -- Comments with the names of functions.
-use Rattle.std.proofs.Common.{◌≡◌, ℕ, zero, suc, ◌+◌, ◌≤◌, true, not, nat_le, List, [], ◌∷◌, ◌++◌, length, length-take, take, drop, take_all, Option, None, Some, Ok, inl, inr, refl, ap, ◌∙◌, sym, arith, append_assoc}
+use Rattle.std.proofs.Common.{◌≡◌, ℕ, zero, suc, ◌+◌, ◌≤◌, true, not, nat_le, List, [], ◌∷◌, ◌++◌, length, take, drop, Option, None, Some, Ok, inl, inr}
+use Rattle.std.proofs.Common.{append_assoc, arith, length-take, refl, sym, take_all, ap, ◌∙◌}
 use Rattle.std.specs.Prelude.{codes, Result, Err, OnOk, position}
 use Rattle.std.specs.List.{list_all, position_or_len}
 use Rattle.std.proofs.lemmas.Bool.{and_from, and_parts, cases_Bool, cases_lt, le-leb, leb-true, lt-ltb, le-ltb}
 use Rattle.std.proofs.lemmas.List.{append-nil, length-append}
-use Rattle.elf.specs.Symbols.{is_graphic, up_to, first_at_most, name_window, printable_at}
+use Rattle.elf.specs.Symbols.{is_graphic, cut_at, first_at_most, name_window, printable_at}
 use Rattle.lexical.specs.Label.{labels_of, statement_of}
 use Rattle.isa.specs.Statement.{statement}
 use Rattle.isa.specs.Listing.{Lines}
@@ -29,7 +30,7 @@ graphic_front (x ∷ xs) = elim (cases_Bool (is_graphic x)) [
   | inr other ↦ rw other refl
 ]
 
-graphic_up_to : (xs : List ℕ) → list_all printable (up_to (position (λ b. not (is_graphic b)) xs) xs) ≡ true
+graphic_up_to : (xs : List ℕ) → list_all printable (cut_at (position (λ b. not (is_graphic b)) xs) xs) ≡ true
 graphic_up_to xs =
     let n = position_or_len (λ b. not (is_graphic b)) xs in
     elim (cases_lt n (length xs)) [
@@ -37,7 +38,7 @@ graphic_up_to xs =
       | inr le ↦ rw (le-ltb _ _ le) (ap (list_all printable) (sym (take_all n xs le)) ∙ graphic_front xs)
     ]
 
-up_to_short : (end : Option ℕ) (xs : List ℕ) → length (up_to end xs) ≤ length xs
+up_to_short : (end : Option ℕ) (xs : List ℕ) → length (cut_at end xs) ≤ length xs
 up_to_short None xs = omega arith
 up_to_short (Some n) xs = omega (arith, length-take n xs)
 

@@ -56,15 +56,15 @@ impl From<FileRefusal> for Refusal {
 impl From<AllocError> for Refusal {
     ghost from_gives = { λ _ e. e ≡ Memory };
 
-    fn from(_error: AllocError) -> Refusal {
-        Refusal::Memory
+    fn from(error: AllocError) -> Refusal {
+        Refusal::from(FileRefusal::from(error))
     }
 }
 
 impl<T: Drop> From<AllocFailed<T>> for Refusal {
     ghost from_gives = { λ _ e. e ≡ Memory };
 
-    fn from(_error: AllocFailed<T>) -> Refusal {
-        Refusal::Memory
+    fn from(failed: AllocFailed<T>) -> Refusal {
+        Refusal::from(FileRefusal::from(failed))
     }
 }

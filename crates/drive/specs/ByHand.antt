@@ -7,11 +7,7 @@ use Rattle.isa.specs.Report.{fault_line}
 use Rattle.session.specs.Sessions.{IsStartOfSession, TheSession}
 use Rattle.session.specs.Plays.{HasPlayedPart, IsPlayed}
 use Rattle.session.specs.Scripts.{HasBroken, HasDriven, HasTold}
-use Rattle.session.specs.declared.script.Fault.{Fault as ScriptFault}
-use Rattle.session.specs.declared.script.Fault.TheVariants as script
 use Rattle.command_line.specs.declared.request.ByHand.{ByHand}
-use Rattle.command_line.specs.declared.exit.Refusal.{Refusal}
-use Rattle.command_line.specs.declared.exit.Refusal.TheVariants.{Memory, Read, Write}
 
 -- all commands were answered: those of a script, each line of which is a command or not, or those that a seed chooses
 abbrev pub AreAnswered : Option ℕ → (echo : Bool) → (first last : TheSession)
@@ -20,9 +16,9 @@ AreAnswered None echo first last script before after each = HasDriven echo scrip
 AreAnswered (Some seed) echo first last script before after each = IsPlayed seed first last before after × (each ≡ true)
 
 -- the status, which tells whether each line of a script was a command
-abbrev pub status_of : Bool → ℕ
-status_of true = 0
-status_of false = 1
+abbrev pub script_status : Bool → ℕ
+script_status true = 0
+script_status false = 1
 
 -- some commands of a script were answered; of those that a seed chooses nothing was written
 abbrev pub AreSomeAnswered : Option ℕ → (echo : Bool) → (first : TheSession)
@@ -40,7 +36,7 @@ IsAnswerBroken (Some seed) echo first script before after = HasPlayedPart seed f
 pub record IsTranscriptOf (hand : ByHand) (P : Program) (status : ℕ) (script before after : Option (List ℕ)) :
     Type 0 where
   pub each : Bool
-  pub status_is : status ≡ status_of each
+  pub status_is : status ≡ script_status each
   pub first : TheSession
   pub last : TheSession
   pub starts : IsStartOfSession P hand.config first
@@ -80,9 +76,3 @@ pub record IsPart (text : List ℕ) (before after : Option (List ℕ)) : Type 0 
 abbrev pub IsBroken : ByHand → Result Program (ℕ × FaultKind) → (script before after : Option (List ℕ)) → Type 0
 IsBroken hand (Ok P) script before after = HasBrokenOff hand P script before after
 IsBroken hand (Err f) script before after = IsPart (fault_line f.0 f.1) before after
-
--- what is refused where a script was not answered to its end
-abbrev pub script_refusal : ScriptFault → Refusal
-script_refusal script.Read = Read
-script_refusal script.Memory = Memory
-script_refusal script.Write = Write

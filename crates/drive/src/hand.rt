@@ -2,8 +2,8 @@
 ghost use Rattle.std.specs.Prelude.{◌≡◌, ◌≢◌, ◌+◌, ◌-◌, ◌^◌, ◌<◌, IfSome, IfOk, IfErr, OnOk, Ok, Some, None};
 ghost use Rattle.isa.specs.Listing.{listing};
 ghost use Rattle.counted_io.specs.Counted.{failures_of, known_by};
-ghost use Rattle.session.specs.Scripts.{failed_writes};
-ghost use Rattle.drive.specs.ByHand.{AreAnswered, AreSomeAnswered, IsAnswerBroken, script_refusal, status_of};
+ghost use Rattle.session.specs.Scripts.{write_failures};
+ghost use Rattle.drive.specs.ByHand.{AreAnswered, AreSomeAnswered, IsAnswerBroken, script_status};
 ghost use Rattle.drive.specs.Replies.{HasAnswered, IsLeftByHand, IsUndrivenBy, listing_from};
 ghost use Rattle.command_line.specs.Predictors.{IsChosen};
 ghost use Rattle.command_line.specs.Replies.{IfRefused};
@@ -12,10 +12,10 @@ ghost use Rattle.command_line.specs.declared.exit.Line.TheVariants.{Nothing};
 
 use bench::MOST_TAKEN;
 use command_line::{ByHand, Chosen, Exit, Line, Refusal, choose, refused};
-use counted_io::{Counted, read_up_to, write_whole};
+use counted_io::{Counted, Fault, read_up_to, write_whole};
 use instructions::Program;
 use isa::{FaultKind, fault_text, parse};
-use session::{Fault, Session, write_play};
+use session::{Session, write_play};
 use snapshots::Naming;
 use std::alloc::Global;
 use std::io::{BufRead, Read, Write};
@@ -116,8 +116,8 @@ fn answered<T: Wait, I: BufRead, W: Write>(
 }
 
 // The status behind a script, by whether each of its lines was a command.
-fn status_of(each: bool) -> u8
-    ensures { result ≡ status_of each }
+fn script_status(each: bool) -> u8
+    ensures { result ≡ script_status each }
 {
     if each { 0 } else { 1 }
 }
@@ -144,8 +144,8 @@ fn drive_by<J: Naming, T: Wait, I: BufRead, W: Write>(
     let told = tell(wait, alloc, hand, &mut session, script, writer);
     session.end(wait);
     match told {
-        Ok(each) => Ok(status_of(each)),
-        Err(fault) => Err(script_refusal(fault)),
+        Ok(each) => Ok(script_status(each)),
+        Err(fault) => Err(Refusal::from(fault)),
     }
 }
 
@@ -164,7 +164,7 @@ fn tell<J: Naming, T: Wait, I: BufRead, W: Write>(
         (known_by W.contents writer.new)) }
     ensures quiet { OnOk result (failures_of writer.new ≡ failures_of writer.old) }
     ensures write { IfErr result (λ fault.
-        failures_of writer.new ≡ failures_of writer.old + failed_writes fault) }
+        failures_of writer.new ≡ failures_of writer.old + write_failures fault) }
     ensures told { IfErr result (λ fault. fault ≢ Fault.Write →
         AreSomeAnswered hand.now.seed hand.now.echo session.old
         (I.remaining script.old) (known_by W.contents writer.old)
@@ -181,15 +181,5 @@ fn tell<J: Naming, T: Wait, I: BufRead, W: Write>(
             write_play(wait, alloc, session, seed, steps, writer)?;
             Ok(true)
         }
-    }
-}
-
-fn script_refusal(fault: Fault) -> Refusal
-    ensures { result ≡ script_refusal fault }
-{
-    match fault {
-        Fault::Read => Refusal::Read,
-        Fault::Memory => Refusal::Memory,
-        Fault::Write => Refusal::Write,
     }
 }

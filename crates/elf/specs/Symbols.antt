@@ -86,9 +86,9 @@ abbrev pub is_graphic : ℕ → Bool
 is_graphic b = nat_le 33 b && nat_le b 126
 
 -- a text up to a place, if there is one
-abbrev pub up_to : Option ℕ → List ℕ → List ℕ
-up_to None text = text
-up_to (Some n) text = take n text
+abbrev pub cut_at : Option ℕ → List ℕ → List ℕ
+cut_at None text = text
+cut_at (Some n) text = take n text
 
 -- at most n bytes of a text
 abbrev pub first_at_most : ℕ → List ℕ → List ℕ
@@ -100,4 +100,4 @@ name_window file at = if nat_lt (length file) at then [] else first_at_most 60 (
 
 -- the printable characters from a place on, at most 60
 abbrev pub printable_at : List ℕ → ℕ → List ℕ
-printable_at file at = up_to (position (λ b. not (is_graphic b)) (name_window file at)) (name_window file at)
+printable_at file at = cut_at (position (λ b. not (is_graphic b)) (name_window file at)) (name_window file at)

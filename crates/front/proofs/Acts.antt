@@ -8,7 +8,7 @@ use Rattle.inorder.specs.declared.history.Step.{Step}
 use Rattle.inorder.specs.declared.history.Step.TheVariants.{On}
 use Rattle.inorder.specs.Legal.{Allowed, May, applied, changed}
 use Rattle.inorder.specs.Tenants.{Retired, Tenant}
-use Rattle.inorder.specs.Unit.{Sizes, UpdateUnit, at, made_by, older, value_of, younger}
+use Rattle.inorder.specs.Unit.{Sizes, UpdateUnit, at, value_made, older, value_of, younger}
 use Rattle.inorder.proofs.Ends.{Acted, exact}
 use Rattle.inorder.proofs.Moves.{came, goes}
 use Rattle.inorder.proofs.Sound.{IsSound}
@@ -63,9 +63,9 @@ module _ (P : Program) (C : Sizes) (U : UpdateUnit) (by : ℕ) (s : Step) (a : A
   still_value None v e = e
   still_value (Some p) v e = go (at U.tenants p) refl e
     where
-      go : (o : Option Tenant) → at U.tenants p ≡ o → made_by o ≡ Some v → value_of V.tenants (Some p) ≡ Some v
+      go : (o : Option Tenant) → at U.tenants p ≡ o → value_made o ≡ Some v → value_of V.tenants (Some p) ≡ Some v
       go None f g = absurd (cc g)
-      go (Some t) f g = let m = goes P C U by s a ok p t f in ap made_by m.is ∙ m.goes.made v g
+      go (Some t) f g = let m = goes P C U by s a ok p t f in ap value_made m.is ∙ m.goes.made v g
 
 -- an act lets nobody
 pub still_newest : (P : Program) (C : Sizes) (U : UpdateUnit) (by p : ℕ) (act : Act) → Allowed P C U by (On p act) → IsSound P U.tenants → (n : Note) → IsNewest U n →

@@ -1,29 +1,51 @@
--- The facts of a let, made once from what the functions that it calls answer, and what follows from them at each point.
-use Rattle.std.proofs.Common.{◌≡◌, ℕ, ◌-◌, ◌/◌, ◌<◌, ◌^◌, List, [], ◌∷◌, ◌++◌, refl, sym, subst}
+-- What is known of an instruction that is let, and that it may be let.
+use Rattle.std.proofs.Common.{◌≡◌, ℕ, ◌+◌, ◌-◌, ◌*◌, ◌/◌, ◌<◌, ◌^◌, List, length, Some, refl, sym, ap, ◌∙◌, subst, arith}
 use Rattle.std.specs.Prelude.{IfSome}
-use Rattle.instructions.specs.Instruction.{first_of, fixed_next, second_of}
-use Rattle.instructions.specs.Programs.{Program}
+use Rattle.instructions.specs.declared.op.Half.{Half}
+use Rattle.instructions.specs.Instruction.{first_of, fixed_next, is_access, kind, second_of}
+use Rattle.instructions.specs.Programs.{Program, address, instr_at, instr_of}
+use Rattle.instructions.specs.declared.instr.Instr.{Instr}
 use Rattle.inorder.specs.declared.history.Entry.{Entry}
-use Rattle.inorder.specs.declared.history.Source.TheVariants.{First, Second}
-use Rattle.inorder.specs.History.{IsLegal, front, unit_of}
-use Rattle.inorder.specs.OneHistory.{Adds}
-use Rattle.inorder.specs.Unit.{Sizes, next_tag, recent}
+use Rattle.inorder.specs.History.{IsLegal, unit_of}
+use Rattle.inorder.specs.Steps.{MayLet, MaySupply}
+use Rattle.inorder.specs.Tenants.{is_live}
+use Rattle.inorder.specs.Unit.{Sizes, UpdateUnit, creator, how_many, next_station, recent}
+use Rattle.inorder.proofs.OneCaller.Creators.{found_at}
 use Rattle.station.specs.declared.answers.Supply.{Supply}
-use Rattle.station.specs.declared.answers.Tenant.{Tenant}
-use Rattle.station.specs.Letting.{MayLetOut, let_of}
-use Rattle.front.specs.declared.fetch.Fetched.{Fetched}
+use Rattle.station.specs.declared.answers.Supply.TheVariants.{From as GivenFrom}
+use Rattle.station.specs.declared.answers.Tenant.{Tenant as NewTenant}
+use Rattle.station.specs.Letting.{MayLetOut, supply_of}
 use Rattle.front.specs.declared.path.base_state.Base.{Base}
-use Rattle.front.specs.declared.path.counted.Table.{Table}
+use Rattle.front.specs.declared.fetch.Fetched.{Fetched}
 use Rattle.front.specs.declared.path.record.Record.{Record}
 use Rattle.front.specs.Creators.{supply_in}
-use Rattle.front.specs.CreateTable.{HasTable, IsEntered, IsSupplied}
 use Rattle.front.specs.Fetching.{CanBeLet}
-use Rattle.front.specs.Knows.{FrontKnows, RecordsAreReady}
-use Rattle.front.specs.Path.{record_for, rested_at}
-use Rattle.front.specs.Questions.{Asks, IsDispatched, MayAskFor}
-use Rattle.front.proofs.Dispatching.{IsIndex, dispatched, first_pends, index_of, knows_end, may_let_out, second_pends, small_creator, table_end}
-use Rattle.front.proofs.Questioned.{may_ask, second_still}
+use Rattle.front.specs.Knows.{RecordsAreReady}
+use Rattle.front.specs.Path.{rested_at}
+use Rattle.front.specs.CreateTable.{HasTable, IsSupplied}
+use Rattle.front.specs.declared.path.counted.Table.{Table}
+use Rattle.front.proofs.Places.{notes_length}
+use Rattle.front.proofs.Stations.{live_fewer}
+use Rattle.front.proofs.Supplies.{comes_from, may_supply}
 use Rattle.front.proofs.Supplied.{supplied_at}
+
+-- The instruction by its address
+
+index_is : (k pc : ℕ) → pc ≡ address k → (pc - 4194304) / 4 ≡ k
+index_is k pc e = ap (λ z. (z - 4194304) / 4) e ∙ go k
+  where
+    go : (k : ℕ) → (4194304 + 4 * k - 4194304) / 4 ≡ k
+    go k = omega arith
+
+pub record IsIndex (P : Program) (f : Fetched) (index : ℕ) : Type 0 where
+  pub inside : index < length P.code
+  pub pc : f.pc ≡ address index
+  pub is : instr_of P index ≡ f.instr
+
+pub index_of : (P : Program) (f : Fetched) → instr_at P f.pc ≡ Some f.instr → IsIndex P f ((f.pc - 4194304) / 4)
+index_of P f e =
+    let a = found_at P f.pc f.instr e in
+    subst (IsIndex P f) (sym (index_is a.index f.pc a.pc)) (record { inside = a.inside; pc = a.pc; is = a.is })
 
 -- The instruction f of this index can be let with these sources
 pub record DispatchFacts (P : Program) (C : Sizes) (old : List Entry) (records : List Record) (base : Base) (f : Fetched) (predicted index : ℕ) (first second : Supply) : Type 0 where
@@ -37,6 +59,10 @@ pub record DispatchFacts (P : Program) (C : Sizes) (old : List Entry) (records :
   pub second_small : second_of f.instr < 34
   pub first_is : first ≡ supply_in records base (first_of f.instr)
   pub second_is : second ≡ supply_in records base (second_of f.instr)
+
+-- The tenant that is let for it
+abbrev pub tenant_of : Fetched → (predicted index : ℕ) → Supply → Supply → NewTenant
+tenant_of f predicted index first second = record { index = index; half = f.half; predicted = predicted; sources = (first, second) }
 
 -- They are made of the place of the instruction, and of both sources with the create vector that each was found in
 pub facts_of : {P : Program} {C : Sizes} {old : List Entry} {records : List Record} {base : Base} {f : Fetched} {predicted place a b : ℕ} {T later : Table} {first second : Supply} →
@@ -61,44 +87,35 @@ facts_of {P} {C} {old} {records} {base} {f} {predicted} {place} {a} {b} {T} {lat
 
 module _ {P : Program} {C : Sizes} {old : List Entry} {records : List Record} {base : Base} {f : Fetched} {predicted index : ℕ} {first second : Supply}
     (d : DispatchFacts P C old records base f predicted index first second) where
-  abbrev tenant : Tenant
-  tenant = record { index = index; half = f.half; predicted = predicted; sources = (first, second) }
+  abbrev U : UpdateUnit
+  U = unit_of P C old
 
-  pub may_let_it : MayLetOut P C (unit_of P C old) tenant
-  may_let_it = may_let_out P C old d.legal records base d.ready f d.next predicted index d.small d.fixed d.its d.first_small d.second_small first second d.first_is d.second_is
+  room : how_many is_live U.tenants < C.ring
+  room =
+      let few = live_fewer P U d.ready.stands.gone d.ready.stands.notes d.ready.stands.path d.ready.stands.retired in
+      omega (arith, few, d.ready.free, notes_length P C U records base _ d.ready.stands)
 
-  -- behind the let
-  module _ {by tag : ℕ} {new : List Entry} (by_is : by ≡ front) (history : Adds P C by old new (let_of tenant ∷ [])) (tag_is : tag ≡ next_tag C (recent (unit_of P C old))) where
-    adds : Adds P C front old new (let_of tenant ∷ [])
-    adds = subst (λ i. Adds P C i old new (let_of tenant ∷ [])) by_is history
+  -- it may be let
+  pub may_let : MayLet P C U index predicted (supply_of first) (supply_of second)
+  may_let = record {
+    room = room;
+    queue = λ a. d.next.queue (ap (λ (i : Instr). is_access (kind i.op)) (sym d.its.is) ∙ a);
+    is_there = d.its.inside;
+    pc = sym d.next.pc ∙ d.its.pc;
+    small = d.small;
+    predicts = subst (λ (z : Instr × Half × ℕ). IfSome (fixed_next z.0 z.1 z.2) (λ y. predicted ≡ y)) (λ i. (sym d.its.is i, d.next.half i, d.next.pc i)) d.fixed;
+    first_is = subst (λ (i : Instr). MaySupply P U (next_station C (recent U)) (creator P U.tenants (first_of i)) (supply_of first)) (sym d.its.is)
+        (subst (λ s. MaySupply P U (next_station C (recent U)) (creator P U.tenants (first_of f.instr)) (supply_of s)) (sym d.first_is)
+        (may_supply P C old d.legal records base d.ready (first_of f.instr) d.first_small));
+    second_is = subst (λ (i : Instr). MaySupply P U (next_station C (recent U)) (creator P U.tenants (second_of i)) (supply_of second)) (sym d.its.is)
+        (subst (λ s. MaySupply P U (next_station C (recent U)) (creator P U.tenants (second_of f.instr)) (supply_of s)) (sym d.second_is)
+        (may_supply P C old d.legal records base d.ready (second_of f.instr) d.second_small));
+  }
 
-    pub may_ask_first : MayAskFor P C new f.station tag First first
-    may_ask_first = may_ask P C new f.station tag First first _
-        (small_creator P C old d.legal records base d.ready f d.next predicted index d.small d.fixed d.its d.first_small d.second_small first second d.first_is d.second_is
-        (first_of f.instr) d.first_small first d.first_is)
-        (λ a g e. let p = first_pends P C old d.legal records base d.ready f d.next predicted index d.small d.fixed d.its d.first_small d.second_small first second d.first_is
-        d.second_is new adds tag tag_is a g e in (p.q, p.pending))
+  pub may_let_out : MayLetOut P C U (tenant_of f predicted index first second)
+  may_let_out = record { may = may_let; half = d.next.half; tag = d.next.tag }
 
-    -- behind the first question
-    module _ (mid : List Entry) (asked_first : Asks P C new mid f.station tag First first) where
-      pub may_ask_second : MayAskFor P C mid f.station tag Second second
-      may_ask_second = may_ask P C mid f.station tag Second second _
-          (small_creator P C old d.legal records base d.ready f d.next predicted index d.small d.fixed d.its d.first_small d.second_small first second d.first_is d.second_is
-          (second_of f.instr) d.second_small second d.second_is)
-          (λ a g e. let p = second_pends P C old d.legal records base d.ready f d.next predicted index d.small d.fixed d.its d.first_small d.second_small first second d.first_is
-          d.second_is new adds tag tag_is a g e in (p.q, second_still P C new mid f.station tag first asked_first _ p.q a g p.pending))
-
-      -- behind both
-      module _ (end : List Entry) (asked_second : Asks P C mid end f.station tag Second second) where
-        pub is_dispatched : IsDispatched P C old end f predicted tag
-        is_dispatched = dispatched P C old d.legal records base d.ready f d.next predicted index d.small d.fixed d.its d.first_small d.second_small first second d.first_is d.second_is
-            new adds tag tag_is mid end asked_first asked_second
-
-        pub knows_path : FrontKnows P C (unit_of P C end) (records ++ record_for f tag predicted ∷ []) base
-        knows_path = knows_end P C old d.legal records base d.ready f d.next predicted index d.small d.fixed d.its d.first_small d.second_small first second d.first_is d.second_is
-            new adds tag tag_is mid end asked_first asked_second
-
-        pub knows_table : (T T' : Table) → HasTable P (unit_of P C old) (rested_at base) T → f.station < 32 → IsEntered T T' (record_for f tag predicted) →
-            HasTable P (unit_of P C end) (rested_at base) T'
-        knows_table T T' table inside entered = table_end P C old d.legal records base d.ready f d.next predicted index d.small d.fixed d.its d.first_small d.second_small first second
-            d.first_is d.second_is new adds tag tag_is mid end asked_first asked_second T T' table inside entered
+  pub small_creator : (r : ℕ) → r < 34 → (given : Supply) → given ≡ supply_in records base r → (a g : ℕ) → given ≡ GivenFrom a g → a < C.ring
+  small_creator r r_small given e a g is =
+      let c = comes_from P C old d.legal records base d.ready r r_small a g (sym e ∙ is) in
+      subst (λ z. z < C.ring) c.station c.giver.small

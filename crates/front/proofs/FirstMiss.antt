@@ -5,7 +5,8 @@ use Rattle.std.specs.List.{AllByRecursion}
 use Rattle.std.specs.Prelude.{slice_get}
 use Rattle.instructions.specs.Programs.{Program}
 use Rattle.inorder.specs.declared.history.Entry.{Entry}
-use Rattle.inorder.specs.History.{IsLegal, StartsWith, front, unit_of, renewals}
+use Rattle.inorder.specs.History.{IsLegal, front, unit_of, renewals}
+use Rattle.instructions.specs.Histories.{StartsWith}
 use Rattle.inorder.specs.OneHistory.{Adds}
 use Rattle.inorder.specs.Callers.{IsMissing}
 use Rattle.inorder.specs.Tenants.{Tenant, stands_on_path}
@@ -18,7 +19,7 @@ use Rattle.front.specs.Path.{rested_at}
 use Rattle.front.specs.declared.path.base_state.Base.{Base}
 use Rattle.front.specs.declared.path.record.Record.{Record}
 use Rattle.front.specs.Knows.{IsFolded, IsGone, FrontKnows}
-use Rattle.front.specs.Recoveries.{IsCut, IsFirst, IsMissAt, IsNoLiveMiss, squash_event}
+use Rattle.front.specs.Recoveries.{IsCut, NoOlderMiss, IsMissAt, IsNoLiveMiss, squash_event}
 use Rattle.front.specs.declared.recovery.Missed.{Missed}
 use Rattle.station.specs.Recovery.{IsMended as IsMendedThere}
 use Rattle.front.proofs.Recovered.{Mended, mend_done}
@@ -85,7 +86,7 @@ module _ (P : Program) (C : Sizes) (h : List Entry) (legal : IsLegal P C h) (rec
       (all_both NoMissBefore (k.gone ++ s.before) (s.one ∷ s.after) (all_both NoMissBefore k.gone s.before gone before) ((λ lt x t is m. less_not s.one.at s.one.at lt refl), after))
 
   -- the miss that has its name is the first
-  pub is_first : (new : List Entry) → IsLegal P C new → StartsWith new h → renewals new ≡ renewals h → (p : ℕ) → IsNamed (unit_of P C new) p one.station one.tag → IsFirst U p
+  pub is_first : (new : List Entry) → IsLegal P C new → StartsWith new h → renewals new ≡ renewals h → (p : ℕ) → IsNamed (unit_of P C new) p one.station one.tag → NoOlderMiss U p
   is_first new new_legal starts renewed p named =
       let noted : IsNoted P U.tenants s.one = (all_rest (IsNoted P U.tenants) s.before (s.one ∷ s.after) noted_all).0 in
       let t = noted.tenant in

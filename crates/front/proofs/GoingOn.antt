@@ -7,7 +7,7 @@ use Rattle.inorder.specs.Unit.{front_half, front_pc, next_station, recent}
 use Rattle.station.specs.Seats.{Caller}
 use Rattle.front.specs.declared.path.Path.{Path}
 use Rattle.front.specs.declared.path.counted.Counted.{Counted}
-use Rattle.front.specs.Fronts.{IsFront, TheFront, unit_seen}
+use Rattle.front.specs.Fronts.{IsFront, TheFront, front_unit}
 use Rattle.front.specs.Knows.{IsFolded}
 use Rattle.front.specs.Path.{next_half, pc_behind, rested_at, station_of_next}
 use Rattle.front.proofs.Named.{small_stations, stands_right}
@@ -17,21 +17,21 @@ use Rattle.inorder.specs.Unit.{UpdateUnit}
 
 module _ {S : Type 0} (P : Program) (seat : Caller) (path : Path) (creators : Counted) (rested : Bool) (f : TheFront S) (is : IsFront P seat path creators rested)
     (core : f.core ≡ seat.core) (seen : f.seen ≡ seat.seen) where
-  same_unit : unit_of seat.core.program seat.core.sizes seat.seen ≡ unit_seen f
+  same_unit : unit_of seat.core.program seat.core.sizes seat.seen ≡ front_unit f
   same_unit i = unit_of (sym core i).program (sym core i).sizes (sym seen i)
 
-  pub pc_ahead : (pc : ℕ) → pc ≡ pc_behind path.base path.records → pc ≡ front_pc (unit_seen f).tenants
+  pub pc_ahead : (pc : ℕ) → pc ≡ pc_behind path.base path.records → pc ≡ front_pc (front_unit f).tenants
   pc_ahead pc e =
       let U = unit_of seat.core.program seat.core.sizes seat.seen in
       e ∙ (sym (known_pc seat.core.program seat.core.sizes U path.records path.base (IsFolded U (rested_at path.base)) is.knows) ∙ ap (λ (V : UpdateUnit). front_pc V.tenants) same_unit)
 
-  pub half_ahead : (half : Half) → half ≡ next_half path.base path.records → half ≡ front_half f.core.program (unit_seen f).tenants
+  pub half_ahead : (half : Half) → half ≡ next_half path.base path.records → half ≡ front_half f.core.program (front_unit f).tenants
   half_ahead half e =
       let U = unit_of seat.core.program seat.core.sizes seat.seen in
       e ∙ (sym (known_half seat.core.program seat.core.sizes U path.records path.base (IsFolded U (rested_at path.base)) is.knows)
       ∙ (λ i. front_half (sym core i).program (same_unit i).tenants))
 
-  pub station_ahead : (station : ℕ) → station ≡ station_of_next seat.core.sizes.ring path.base path.records → station ≡ next_station f.core.sizes (recent (unit_seen f))
+  pub station_ahead : (station : ℕ) → station ≡ station_of_next seat.core.sizes.ring path.base path.records → station ≡ next_station f.core.sizes (recent (front_unit f))
   station_ahead station e =
       let C = seat.core.sizes in
       let U = unit_of seat.core.program C seat.seen in
@@ -39,4 +39,6 @@ module _ {S : Type 0} (P : Program) (seat : Caller) (path : Path) (creators : Co
       ∙ (λ i. next_station (sym core i).sizes (recent (same_unit i))))
 
   pub stations_ahead : 0 < seat.core.sizes.ring → AllByRecursion (λ x. x.station < seat.core.sizes.ring) path.records
-  stations_ahead some = small_stations seat.core.program seat.core.sizes seat.seen is.legal path.records path.base (IsFolded (unit_of seat.core.program seat.core.sizes seat.seen) (rested_at path.base)) is.knows some
+  stations_ahead some =
+      let U = unit_of seat.core.program seat.core.sizes seat.seen in
+      small_stations seat.core.program seat.core.sizes seat.seen is.legal path.records path.base (IsFolded U (rested_at path.base)) is.knows some

@@ -137,9 +137,11 @@ recoveries_leave P C old new station squashed m =
     let after = path_more P C l.after (entry front (Does (On p Mend)) ∷ l.point) l.legal l.none in
     let more = l.before.begins.more in
     let is : l.point ≡ more ++ old = l.before.begins.is in
+    let legal = subst (IsLegal P C) is here.0 in
     let es = map squash_event m.squashes in
     let mine : own front more ++ own front old ≡ map (entry front) es ++ own front old = sym (own-append front more old) ∙ (ap (own front) (sym is) ∙ l.before.mine) in
-    let wide = nobody_let P C more old es (subst (IsLegal P C) is here.0) (cut_back (own front more) (map (entry front) es) (own front old) mine) (squashes_let_none P C m.squashes) in
+    let wide = nobody_let P C more old es legal (cut_back (own front more) (map (entry front) es) (own front old) mine) (squashes_let_none P C m.squashes) in
+    let room = subst (λ n. p < n) (ap (λ (h : List Entry). length (unit_of P C h).tenants) is ∙ wide) (at_below us p t a.is) in
     record {
       next = x;
       point = l.point;
@@ -156,5 +158,5 @@ recoveries_leave P C old new station squashed m =
           ∙ (creator_grows P t t' ts [] r (ap (λ (z : Tenant). z.index) made_is) (ap (λ (z : Tenant). z.half) made_is) path'
           ∙ (ap (λ (z : List Tenant). creator P z r) (sym (up_to_is us p t a.is))
           ∙ (ap (λ (h : List Entry). creator P (up_to (unit_of P C h).tenants p) r) is
-          ∙ same_up_to P C p more old (subst (IsLegal P C) is here.0) (subst (λ n. p < n) (ap (λ (h : List Entry). length (unit_of P C h).tenants) is ∙ wide) (at_below us p t a.is)) (subst (λ (h : List Entry). IsLiveAt (unit_of P C h) p) is live) r))))));
+          ∙ same_up_to P C p more old legal room (subst (λ (h : List Entry). IsLiveAt (unit_of P C h) p) is live) r))))));
     }

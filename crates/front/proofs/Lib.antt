@@ -13,7 +13,9 @@ pub mod CreateVector
 pub mod Named
 pub mod Looks
 pub mod Misses
+pub mod YoungestRecord
 pub mod Recovering
+pub mod RecoveredTable
 pub mod Counts
 pub mod Stations
 pub mod Supplies
@@ -24,6 +26,7 @@ pub mod InQueue
 pub mod Crowded
 pub mod Questioned
 pub mod Dispatching
+pub mod Dispatched
 pub mod Releasing
 pub mod Turned
 pub mod Moments

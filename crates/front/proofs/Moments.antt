@@ -11,7 +11,7 @@ use Rattle.inorder.specs.OneHistory.{Adds}
 use Rattle.inorder.specs.Replies.{HasNoInstr, IsFull, HasFullQueue, IsSpent, last_tag}
 use Rattle.inorder.specs.Unit.{Sizes, UpdateUnit, next_station, recent}
 use Rattle.inorder.proofs.Basics.{fetched_at}
-use Rattle.inorder.proofs.Histories.{starts_same}
+use Rattle.instructions.proofs.Histories.{starts_same}
 use Rattle.ruu_words.specs.declared.station.StationState.{StationState}
 use Rattle.ruu_words.specs.declared.station.StationState.TheVariants.{Free}
 use Rattle.station.specs.declared.answers.Seen.{Seen}

@@ -18,8 +18,10 @@ use Rattle.front.specs.declared.path.record.Record.{Record}
 use Rattle.front.specs.declared.recovery.Missed.{Missed}
 use Rattle.front.specs.Knows.{FrontKnows}
 use Rattle.front.specs.Path.{YoungestGoesOn, rested_at}
-use Rattle.front.specs.Recoveries.{IsCut, IsFirst, MissIsMended, IsMissAt, squash_event}
-use Rattle.front.proofs.Recovering.{last_position, may_mend, may_squash, mend_step, mend_table, squash_step, squash_table}
+use Rattle.front.specs.Recoveries.{IsCut, NoOlderMiss, MissIsMended, IsMissAt, squash_event}
+use Rattle.front.proofs.RecoveredTable.{mend_table, squash_table}
+use Rattle.front.proofs.Recovering.{mend_step, squash_step}
+use Rattle.front.proofs.YoungestRecord.{last_position, may_mend, may_squash}
 use Rattle.front.specs.CreateTable.{HasTable, IsRestored}
 use Rattle.front.specs.declared.path.counted.Table.{Table}
 
@@ -102,7 +104,7 @@ module _ (P : Program) (C : Sizes) where
     pub is : MissIsMended P C begin new m.station squashed
 
   pub mend_done : (begin old new : List Entry) (records : List Record) (base : Base) → FrontKnows P C (unit_of P C old) records base → (m : Missed) → (i : IsMissAt P C old records m)
-      → length records ≡ m.at + 1 → IsFirst (unit_of P C begin) i.miss.p → (squashed : ℕ) → IsCut P C begin old squashed → IsMendedThere P C front m.station old new
+      → length records ≡ m.at + 1 → NoOlderMiss (unit_of P C begin) i.miss.p → (squashed : ℕ) → IsCut P C begin old squashed → IsMendedThere P C front m.station old new
       → Mended begin new records base m squashed
   mend_done begin old new records base k m i n first squashed cut s =
       let rest : List Record = take m.at records in
@@ -116,7 +118,7 @@ module _ (P : Program) (C : Sizes) where
           p = s.p;
           tag = i.one.tag;
           named = subst (λ y. IsNamed (unit_of P C new) s.p y i.one.tag) (sym i.station) z.named;
-          first = subst (IsFirst (unit_of P C begin)) same first;
+          first = subst (NoOlderMiss (unit_of P C begin)) same first;
           squashes = cut.squashes;
           count = cut.count;
           adds = adds_on P C front begin old new (map squash_event cut.squashes) (Does (On s.p Mend) ∷ []) cut.adds s.adds;

@@ -13,7 +13,7 @@ use Rattle.inorder.specs.declared.history.Entry.{Entry}
 use Rattle.inorder.specs.History.{IsLegal, taken_of, unit_of}
 use Rattle.inorder.specs.Machine.{write}
 use Rattle.inorder.specs.Tenants.{IsThere, Stopped, Tenant, destination_of, kind_of, stands_on_path}
-use Rattle.inorder.specs.Unit.{Sizes, UpdateUnit, at, can_be_written, made_by, next_station, recent, value_of}
+use Rattle.inorder.specs.Unit.{Sizes, UpdateUnit, at, can_be_written, next_station, recent, value_made, value_of}
 use Rattle.inorder.proofs.Basics.{length_write, read_other, read_same, read_zero}
 use Rattle.inorder.proofs.Histories.{allowed_steps, unit_sound}
 use Rattle.inorder.proofs.Positions.{not_eqb}
@@ -79,7 +79,7 @@ module _ (P : Program) (C : Sizes) (h : List Entry) (legal : IsLegal P C h) wher
 
       note_made : n.what.destination ≢ 0 → value_of U.tenants (Some n.at) ≡ Some (made_of n.what left)
       note_made writes =
-          ap made_by noted.is ∙ (left_made n.at noted.tenant noted.is left its_left (λ z. writes (ap (λ (y : Record). y.destination) (sym noted.what) ∙ z)) ∙
+          ap value_made noted.is ∙ (left_made n.at noted.tenant noted.is left its_left (λ z. writes (ap (λ (y : Record). y.destination) (sym noted.what) ∙ z)) ∙
           ap (λ (y : Record). Some (made_of y left)) noted.what)
 
       pub base_more : (r : ℕ) → r < 34 → value_of U.tenants (position (creator_note (k.gone ++ n ∷ []) r)) ≡ Some (slice_index (write base.registers n.what.destination (made_of n.what left)) r)

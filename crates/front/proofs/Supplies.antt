@@ -12,7 +12,7 @@ use Rattle.inorder.specs.declared.history.Entry.{Entry}
 use Rattle.inorder.specs.History.{IsLegal, unit_of}
 use Rattle.inorder.specs.Steps.{MayComeFrom, MaySupply}
 use Rattle.inorder.specs.Tenants.{Addr, Busy, Done, Fate, Miss, Open, Standing, Stopped, Tenant, computed, kind_of}
-use Rattle.inorder.specs.Unit.{Sizes, UpdateUnit, at, creator, made_by, next_station, older, recent, value_of, younger}
+use Rattle.inorder.specs.Unit.{Sizes, UpdateUnit, at, creator, value_made, next_station, older, recent, value_of, younger}
 use Rattle.inorder.proofs.Basics.{split_at}
 use Rattle.inorder.proofs.Grows.{sound_mid}
 use Rattle.inorder.proofs.Histories.{unit_sound}
@@ -108,7 +108,7 @@ module _ (P : Program) (C : Sizes) (h : List Entry) (legal : IsLegal P C h) (rec
         go true e =
             let made : t.made ≡ Some (pc_plus_4 t.pc) = link_made P U.tenants (unit_sound P C h legal) n.at t g.noted.is (ap (λ (z : Record). z.links) g.noted.what ∙ e) in
             let value : value_of U.tenants (creator P U.tenants r) ≡ Some (pc_plus_4 n.what.pc) = ap (value_of U.tenants) c ∙
-            (ap made_by g.noted.is ∙ (made ∙ ap (λ (z : Record). Some (pc_plus_4 z.pc)) g.noted.what)) in
+            (ap value_made g.noted.is ∙ (made ∙ ap (λ (z : Record). Some (pc_plus_4 z.pc)) g.noted.what)) in
             subst (λ b. MaySupply P U (next_station C (recent U)) (creator P U.tenants r) (supply_of (cond b (GivenKnown (pc_plus_4 n.what.pc)) (GivenFrom n.what.station n.what.tag)))) (sym e) value
         go false e =
             let place : t.station ≡ n.what.station = ap (λ (z : Record). z.station) g.noted.what in

@@ -87,5 +87,5 @@ abbrev pub CreatorOf : {S : Type 0} → TheFront S → ℕ → Made → Type 0
 CreatorOf f r made = IsCreatorAnswer f.core.program (unit_of f.core.program f.core.sizes f.seen) f.told r made
 
 -- The unit of what the front has seen
-abbrev pub unit_seen : {S : Type 0} → TheFront S → UpdateUnit
-unit_seen f = unit_of f.core.program f.core.sizes f.seen
+abbrev pub front_unit : {S : Type 0} → TheFront S → UpdateUnit
+front_unit f = unit_of f.core.program f.core.sizes f.seen

@@ -4,7 +4,8 @@ use Rattle.instructions.specs.Programs.{Program}
 use Rattle.instructions.specs.declared.op.Half.TheVariants.{Low}
 use Rattle.inorder.specs.declared.history.Entry.{Entry}
 use Rattle.inorder.specs.Callers.{IsMissing}
-use Rattle.inorder.specs.History.{StartsWith, unit_of}
+use Rattle.inorder.specs.History.{unit_of}
+use Rattle.instructions.specs.Histories.{StartsWith}
 use Rattle.inorder.specs.Replies.{Has}
 use Rattle.inorder.specs.Tenants.{Tenant}
 use Rattle.inorder.specs.Unit.{Sizes, creator, front_half, front_pc}

@@ -24,8 +24,8 @@ abbrev pub squash_event : ℕ → Event
 squash_event p = Does (On p Squash)
 
 -- No tenant before p is a live miss
-abbrev pub IsFirst : UpdateUnit → ℕ → Type 0
-IsFirst U p =
+abbrev pub NoOlderMiss : UpdateUnit → ℕ → Type 0
+NoOlderMiss U p =
     (q x : ℕ) (t : Tenant) → q < p → at U.tenants q ≡ Some t → ¬ IsMissing x t
 
 -- A miss was mended behind the squashes of all younger tenants, the last one first. It was the oldest at the
@@ -34,7 +34,7 @@ pub record MissIsMended (P : Program) (C : Sizes) (old new : List Entry) (statio
   pub p : ℕ
   pub tag : ℕ
   pub named : IsNamed (unit_of P C new) p station tag
-  pub first : IsFirst (unit_of P C old) p
+  pub first : NoOlderMiss (unit_of P C old) p
   pub squashes : List ℕ
   pub count : length squashes ≡ squashed
   pub adds : Adds P C front old new (Does (On p Mend) ∷ map squash_event squashes)

@@ -29,11 +29,11 @@ leaver_of None = None
 leaver_of (Some x) = leaver_if x.guessed x.pc x.next
 
 -- A predictor that answers this, and does not change by it
-abbrev pub gives : {S : Type 0} → ℕ → S → ℕ → Instr → ℕ → S → Type 0
-gives next old pc i answer new = (answer ≡ next) × (new ≡ old)
+abbrev pub always_answers : {S : Type 0} → ℕ → S → ℕ → Instr → ℕ → S → Type 0
+always_answers next old pc i answer new = (answer ≡ next) × (new ≡ old)
 
 -- A given answer in place of the predictor's, if there is one
 abbrev pub given_or : {S : Type 0} → Option ℕ → (S → ℕ → Instr → ℕ → S → Type 0) →
     S → ℕ → Instr → ℕ → S → Type 0
 given_or None Predicts = Predicts
-given_or (Some next) Predicts = gives next
+given_or (Some next) Predicts = always_answers next

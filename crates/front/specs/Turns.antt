@@ -11,7 +11,8 @@ use Rattle.inorder.specs.declared.history.Source.TheVariants.{First, Second}
 use Rattle.inorder.specs.declared.history.Step.TheVariants.{Let}
 use Rattle.inorder.specs.declared.history.Supply.{Supply}
 use Rattle.inorder.specs.declared.history.Supply.TheVariants.{From, Known}
-use Rattle.inorder.specs.History.{StartsWith, entry, front, unit_of}
+use Rattle.inorder.specs.History.{entry, front, unit_of}
+use Rattle.instructions.specs.Histories.{StartsWith}
 use Rattle.inorder.specs.OneHistory.{Adds}
 use Rattle.inorder.specs.Replies.{HasNoInstr, IsFull, HasFullQueue, IsSpent}
 use Rattle.inorder.specs.StationWords.{last_of}

@@ -1,12 +1,12 @@
 //! The front, as its callers see it.
 ghost use Rattle.std.specs.Prelude.{◌≡◌, ◌<◌, ◌*◌, []};
-ghost use Rattle.inorder.specs.History.{StartsWith};
+ghost use Rattle.instructions.specs.Histories.{StartsWith};
 ghost use Rattle.inorder.specs.OneHistory.{Adds};
 ghost use Rattle.front.specs.CreateTable.{IsTouched};
 ghost use Rattle.front.specs.Fronts.{AddsNothing, CreatorOf, FrontRecoversTo, IsUnused, RestsTo, TurnsTo};
 ghost use Rattle.front.specs.Recoveries.{squashed_by};
 ghost use Rattle.front.specs.Rests.{rested_after, told_after};
-ghost use Rattle.front.specs.Training.{gives};
+ghost use Rattle.front.specs.Training.{always_answers};
 ghost use Rattle.station.specs.Looking.{SeesStation};
 ghost use Rattle.station.specs.Seats.{IsSameSeat};
 
@@ -101,7 +101,7 @@ impl<'a, P: Predictor + Drop> Front<'a, P> {
     pub fn turn_to(&mut self, core: &Core, next: u32) -> Turn
         requires { self.old.core ≡ core.now }
         ensures core { self.new.core ≡ core.now }
-        ensures reply { TurnsTo (gives next) P.Learns core.now self.old self.new result }
+        ensures reply { TurnsTo (always_answers next) P.Learns core.now self.old self.new result }
         ensures told { self.new.told ≡ self.old.told }
         ensures touched { IsTouched 16 self.old.touched self.new.touched }
     {
@@ -211,7 +211,7 @@ impl<'a, P: Predictor + Drop> Front<'a, P> {
         ensures told_kept { self.new.told ≡ self.old.told }
         ensures rested { self.new.rested ≡ self.old.rested }
         ensures other_kept { IsSameSeat other.old other.new }
-        ensures other_heirs { other.new.heirs ≡ other.old.heirs }
+        ensures other_spare { other.new.spare ≡ other.old.spare }
         ensures other_woken { other.new.woken ≡ other.old.woken }
         ensures other_history { Adds core.now.program core.now.sizes
             other.old.by other.old.seen other.new.seen [] }

@@ -36,7 +36,7 @@ pub record HasOffered (old new : TheHinter) : Type 0 where
   pub asked : new.asked ≡ old.asked
 
 -- A hint was asked for once, and none was offered
-pub record HasAsked (old new : TheHinter) : Type 0 where
+pub record HasAskedForHint (old new : TheHinter) : Type 0 where
   pub once : new.asked ≡ (old.asked + 1) % 2 ^ 64
   pub offered : new.offered ≡ old.offered
 

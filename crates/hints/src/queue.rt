@@ -1,6 +1,6 @@
 //! The queue, and every call on it.
 ghost use Rattle.std.specs.Prelude.{◌≡◌, ◌<◌, ◌≤◌, IfNone, IfOk, IfSome, IsFalse, IsTrue};
-ghost use Rattle.hints.specs.Hinted.{HasAsked, HasOffered, IsEndOf, fresh, putting, taking};
+ghost use Rattle.hints.specs.Hinted.{HasAskedForHint, HasOffered, IsEndOf, fresh, putting, taking};
 
 use crate::hands::{Below, Hand, Puts, Ring, Takes};
 use crate::hinter::Hinter;
@@ -77,7 +77,7 @@ impl<J: Ring> Hints<J> {
         ensures taken { IfSome result (λ station.
             hinter.new.hand ≡ taking station hinter.old.hand) }
         ensures kept { IfNone result (hinter.new.hand ≡ hinter.old.hand) }
-        ensures asked { HasAsked hinter.old hinter.new }
+        ensures asked { HasAskedForHint hinter.old hinter.new }
     {
         hinter.asked = hinter.asked.wrapping_add(1);
         let pass = &mut hinter.pass;

@@ -16,7 +16,7 @@ use Rattle.inorder.specs.Unit.{UpdateUnit}
 use Rattle.in_order_issue.specs.declared.station.OneStation.{OneStation}
 use Rattle.in_order_issue.specs.Moves.{ByStop, Goes, Nowhere, StopsWith}
 use Rattle.in_order_issue.specs.Runs.{EndsBehind, IsInOrderEnd}
-use Rattle.in_order_issue.specs.StandsFor.{StandsForSome, one}
+use Rattle.in_order_issue.specs.StandsFor.{ModelStandsForSome, one}
 
 -- what the law says of a unit that allowed steps reach
 module _ (P : Program) (right : (history : List Taken) → IsRight P one history) (U : UpdateUnit) (reached : IsReached P one U) where
@@ -36,7 +36,7 @@ module _ (P : Program) (right : (history : List Taken) → IsRight P one history
   }
 
 -- what the laws say of the model
-pub stands_on : ((P : Program) → SeveralLead P one 0) → (b later : OneStation) → StandsForSome b → Goes (Ok tt) b later → StandsForSome later
+pub stands_on : ((P : Program) → SeveralLead P one 0) → (b later : OneStation) → ModelStandsForSome b → Goes (Ok tt) b later → ModelStandsForSome later
 stands_on lead b later u m =
     let x = m.0 u.unit u.reached u.stands in
     record {
@@ -45,7 +45,7 @@ stands_on lead b later u m =
       stands = x.stands;
     }
 
-module _ (right : (P : Program) (history : List Taken) → IsRight P one history) (P : Program) (limit : ℕ) (b : OneStation) (same : b.program.now ≡ P) (u : StandsForSome b) (e : End) where
+module _ (right : (P : Program) (history : List Taken) → IsRight P one history) (P : Program) (limit : ℕ) (b : OneStation) (same : b.program.now ≡ P) (u : ModelStandsForSome b) (e : End) where
   -- a run that has reached its limit
   pub at_limit : b.state.count ≡ limit → end_state e ≡ (Limit, b.state) → IsInOrderEnd P limit e
   at_limit all is =

@@ -27,9 +27,9 @@ use Rattle.inorder.proofs.OneCaller.Sequences.{leads_once}
 use Rattle.inorder.proofs.Pairs.{first_half_computes}
 use Rattle.lsq.specs.Bytes.{little_endian}
 use Rattle.in_order_issue.specs.declared.station.OneStation.{OneStation}
-use Rattle.in_order_issue.specs.Left.{left_in, memory_by, value_by}
-use Rattle.in_order_issue.specs.Moves.{Ended, Moved}
-use Rattle.in_order_issue.specs.StandsFor.{StandsFor, one}
+use Rattle.in_order_issue.specs.Left.{left_in, memory_by, loaded_value}
+use Rattle.in_order_issue.specs.Moves.{Ended, MovesTo}
+use Rattle.in_order_issue.specs.StandsFor.{ModelStandsFor, one}
 use Rattle.in_order_issue.proofs.Left.{no_addresses}
 use Rattle.in_order_issue.proofs.Predicted.{goes_to, is_fixed}
 use Rattle.in_order_issue.proofs.Retiring.{act_on, ends, let_with, moves}
@@ -37,7 +37,7 @@ use Rattle.in_order_issue.proofs.Retiring.{act_on, ends, let_with, moves}
 -- the model behind a load or store
 abbrev pub accessed : Kind → OneStation → Instr → Half → (pc at d : ℕ) → OneStation
 accessed kd b i half pc at d =
-    left_in (record b { state = record b.state { memory = memory_by kd i at d b.state.memory } }) i half (value_by kd i at b.state.memory) (pc_plus_4 pc)
+    left_in (record b { state = record b.state { memory = memory_by kd i at d b.state.memory } }) i half (loaded_value kd i at b.state.memory) (pc_plus_4 pc)
 
 -- the model behind an instruction that comes to this
 abbrev pub behind : OneStation → Instr → Half → (pc d : ℕ) → Outcome → OneStation
@@ -60,7 +60,7 @@ behind_small true pc h = h
 behind_small false pc h = omega arith
 
 -- instruction k, whose sources have the values a and d
-module _ (b : OneStation) (U : UpdateUnit) (s : StandsFor b U) (k a d : ℕ) where
+module _ (b : OneStation) (U : UpdateUnit) (s : ModelStandsFor b U) (k a d : ℕ) where
   abbrev P : Program
   P = b.program.now
 
@@ -104,7 +104,7 @@ module _ (b : OneStation) (U : UpdateUnit) (s : StandsFor b U) (k a d : ℕ) whe
 
       -- one that is done and stores nothing
       done : (v : ℕ) (m : Option ℕ) (ss : List Step) → Leads P one 0 U ss (with_let U (t (Done v) m)) → (w x : ℕ) →
-          ((r : List ℕ) → write r (destination i half) (unwrap_or m 0) ≡ write r (destination i half) w) → next_by (pc_plus_4 pc) o ≡ x → Moved b U (left_in b i half w x)
+          ((r : List ℕ) → write r (destination i half) (unwrap_or m 0) ≡ write r (destination i half) w) → next_by (pc_plus_4 pc) o ≡ x → MovesTo b U (left_in b i half w x)
       done v m ss leads w x writes goes =
           moves b U s k a d pr (Done v) m ss leads tt refl b.state.memory w x writes
           (ap (λ z. with_stored z b.state.memory) (stored_done true (kind i.op) v (width i.op) (Some d))) (λ f. refl) (next x (λ f. goes))
@@ -121,27 +121,29 @@ module _ (b : OneStation) (U : UpdateUnit) (s : StandsFor b U) (k a d : ℕ) whe
     no_half kd ek n f = absurd (n (sym ek ∙ first_half_computes i.op half f))
 
     jumps : (kd : Kind) → kind i.op ≡ kd → (x : ℕ) → x < 2 ^ 32 → IfSome (fixed_next i half pc) (λ y. x ≡ y) → comes (kind i.op) ≡ Next x →
-        ((r : List ℕ) → write r (destination_by kd (target_of i half)) (unwrap_or (made_at_let kd pc) 0) ≡ write r (destination_by kd (target_of i half)) (pc_plus_4 pc)) → Moved b U (left_in b i half (pc_plus_4 pc) x)
+        ((r : List ℕ) → write r (destination_by kd (target_of i half)) (unwrap_or (made_at_let kd pc) 0) ≡ write r (destination_by kd (target_of i half)) (pc_plus_4 pc)) →
+        MovesTo b U (left_in b i half (pc_plus_4 pc) x)
     jumps kd ek x word predicts is writes =
         let may = enter x word predicts in
         let m = made_at_let (kind i.op) pc in
         done x may (Next x) is x m _ (ran x may (Next x) is (let_with b U s k a d x (Done x) m) (ap (λ q. let_with b U s k a d x (cond q (Done x) (Miss x)) m) (eq-eqb x x refl))) (pc_plus_4 pc) x
         (subst (λ q. (r : List ℕ) → write r (destination_by q (target_of i half)) (unwrap_or (made_at_let q pc) 0) ≡ write r (destination_by q (target_of i half)) (pc_plus_4 pc)) (sym ek) writes) refl
 
-    by_kind : (kd : Kind) → kind i.op ≡ kd → IsWord (comes kd) → GoesBy (comes kd) → Moved b U (behind b i half pc d (comes kd))
+    by_kind : (kd : Kind) → kind i.op ≡ kd → IsWord (comes kd) → GoesBy (comes kd) → MovesTo b U (behind b i half pc d (comes kd))
     by_kind Computes ek w n = go (computed_by i.op half a d i.number) refl n
       where
-        go : (r : Result ℕ Stop) → computed_by i.op half a d i.number ≡ r → GoesBy (as_value r) → Moved b U (behind b i half pc d (as_value r))
+        go : (r : Result ℕ Stop) → computed_by i.op half a d i.number ≡ r → GoesBy (as_value r) → MovesTo b U (behind b i half pc d (as_value r))
         go (Err c) e n = absurd (n c refl)
         go (Ok v) e n =
             let may = plain (goes Computes ek) in
             let is : comes (kind i.op) ≡ Value v = ap comes ek ∙ ap as_value e in
-            done (behind_by first pc) may (Value v) is v (Some v) _ (ran (behind_by first pc) may (Value v) is (let_with b U s k a d (behind_by first pc) (Done v) (Some v)) refl) v (pc_plus_4 pc) (λ r. refl) refl
+            let leads = ran (behind_by first pc) may (Value v) is (let_with b U s k a d (behind_by first pc) (Done v) (Some v)) refl in
+            done (behind_by first pc) may (Value v) is v (Some v) _ leads v (pc_plus_4 pc) (λ r. refl) refl
     by_kind Jumps ek w n = jumps Jumps ek _ w (goes Jumps ek) (ap comes ek) (λ r. refl)
     by_kind Links ek w n = jumps Links ek _ w (goes Links ek) (ap comes ek) (λ r. refl)
     by_kind Loads ek w n = go (checked_address (width i.op) (sum a i.number) (length P.bytes)) refl n
       where
-        go : (r : Result ℕ Stop) → checked_address (width i.op) (sum a i.number) (length P.bytes) ≡ r → GoesBy (as_address r) → Moved b U (behind b i half pc d (as_address r))
+        go : (r : Result ℕ Stop) → checked_address (width i.op) (sum a i.number) (length P.bytes) ≡ r → GoesBy (as_address r) → MovesTo b U (behind b i half pc d (as_address r))
         go (Err c) e n = absurd (n c refl)
         go (Ok at) e n =
             let may = plain (goes Loads ek) in
@@ -153,24 +155,25 @@ module _ (b : OneStation) (U : UpdateUnit) (s : StandsFor b U) (k a d : ℕ) whe
             let leads = subst (λ q. Leads P one 0 U (On (length U.tenants) Load ∷ steps (behind_by first pc) may (Address at) is) (with_let U (answered q))) read
             (act_on P U _ Load asked (record { live = refl; kind = ek; a = at; fate = refl; addresses = no_addresses P U.tenants s.nobody; bytes = bytes; read = read })
             (ran (behind_by first pc) may (Address at) is asked refl)) in
-            subst (λ q. Moved b U (accessed q b i half pc at d)) (sym ek)
+            subst (λ q. MovesTo b U (accessed q b i half pc at d)) (sym ek)
             (done (behind_by first pc) may (Address at) is (loaded i.op bytes) (Some (loaded i.op bytes)) _ leads (loaded i.op bytes) (pc_plus_4 pc) (λ r. refl) refl)
     by_kind Stores ek w n = go (checked_address (width i.op) (sum a i.number) (length P.bytes)) refl n
       where
-        go : (r : Result ℕ Stop) → checked_address (width i.op) (sum a i.number) (length P.bytes) ≡ r → GoesBy (as_address r) → Moved b U (behind b i half pc d (as_address r))
+        go : (r : Result ℕ Stop) → checked_address (width i.op) (sum a i.number) (length P.bytes) ≡ r → GoesBy (as_address r) → MovesTo b U (behind b i half pc d (as_address r))
         go (Err c) e n = absurd (n c refl)
         go (Ok at) e n =
             let may = plain (goes Stores ek) in
             let is : comes (kind i.op) ≡ Address at = ap comes ek ∙ ap as_address e in
             let m = made_at_let (kind i.op) pc in
-            subst (λ q. Moved b U (accessed q b i half pc at d)) (sym ek)
+            subst (λ q. MovesTo b U (accessed q b i half pc at d)) (sym ek)
             (moves b U s k a d (behind_by first pc) (Addr at) m _ (ran (behind_by first pc) may (Address at) is (let_with b U s k a d (behind_by first pc) (Addr at) m) refl) (ek, (d, refl)) refl
             (store_bytes b.state.memory at (width i.op) d) 0 (pc_plus_4 pc)
             (subst (λ q. (r : List ℕ) → write r (destination_by q (target_of i half)) (unwrap_or (made_at_let q pc) 0) ≡ write r (destination_by q (target_of i half)) 0) (sym ek) (λ r. refl))
-            (ap (λ q. with_stored (stored_by true q (Addr at) (width i.op) (Some d)) b.state.memory) ek) (no_half Stores ek (λ q. cc q)) (next (behind_by first pc) may (Address at) is (pc_plus_4 pc) (λ f. refl)))
+            (ap (λ q. with_stored (stored_by true q (Addr at) (width i.op) (Some d)) b.state.memory) ek) (no_half Stores ek (λ q. cc q))
+            (next (behind_by first pc) may (Address at) is (pc_plus_4 pc) (λ f. refl)))
 
-    pub issue_moves : (o : Outcome) → comes (kind i.op) ≡ o → IsWord o → GoesBy o → Moved b U (behind b i half pc d o)
-    issue_moves o is w n = subst (λ q. Moved b U (behind b i half pc d q)) is (by_kind (kind i.op) refl (subst IsWord (sym is) w) (subst GoesBy (sym is) n))
+    pub issue_moves : (o : Outcome) → comes (kind i.op) ≡ o → IsWord o → GoesBy o → MovesTo b U (behind b i half pc d o)
+    issue_moves o is w n = subst (λ q. MovesTo b U (behind b i half pc d q)) is (by_kind (kind i.op) refl (subst IsWord (sym is) w) (subst GoesBy (sym is) n))
 
     -- a stop is let, claimed, finished and retired
     pub issue_ends : (c : Stop) → comes (kind i.op) ≡ Stops c → Ended b U c

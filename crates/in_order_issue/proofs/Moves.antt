@@ -26,8 +26,8 @@ use Rattle.inorder.proofs.Sound.{IsSettled, IsSound}
 use Rattle.lsq.specs.Bytes.{little_endian}
 use Rattle.in_order_issue.specs.declared.station.OneStation.{OneStation}
 use Rattle.in_order_issue.specs.Left.{left_by, left_in}
-use Rattle.in_order_issue.specs.Moves.{Ended, IsNext, Moved, held}
-use Rattle.in_order_issue.specs.StandsFor.{StandsFor, one}
+use Rattle.in_order_issue.specs.Moves.{Ended, IsOneFurther, MovesTo, held}
+use Rattle.in_order_issue.specs.StandsFor.{ModelStandsFor, one}
 use Rattle.in_order_issue.proofs.Issuing.{GoesBy, IsWord, behind, issue_ends, issue_moves}
 use Rattle.in_order_issue.proofs.Left.{all_settled, none_of}
 use Rattle.in_order_issue.proofs.Retiring.{none_waits}
@@ -47,7 +47,7 @@ value_in b r = slice_index (with_low b.low b.state.registers) r
 abbrev pub outcome_in : OneStation → Instr → Outcome
 outcome_in b i = outcome_of i (half_in b) b.state.pc (value_in b (first_of i)) (value_in b (second_of i)) (length b.program.now.bytes)
 
-module _ (b : OneStation) (U : UpdateUnit) (reached : IsReached b.program.now one U) (s : StandsFor b U) where
+module _ (b : OneStation) (U : UpdateUnit) (reached : IsReached b.program.now one U) (s : ModelStandsFor b U) where
   abbrev P : Program
   P = b.program.now
 
@@ -97,9 +97,9 @@ module _ (b : OneStation) (U : UpdateUnit) (reached : IsReached b.program.now on
     comes_to : outcome_of (instr_of P k) (front_half P ts) (front_pc ts) (value_in b (first_of i)) (value_in b (second_of i)) (length P.bytes) ≡ outcome_in b i
     comes_to = λ j. outcome_of (found.is j) (sym s.half j) (pc_is j) (value_in b (first_of i)) (value_in b (second_of i)) (length P.bytes)
 
-    pub step_moves : (o : Outcome) → outcome_in b i ≡ o → IsWord o → GoesBy o → Moved b U (behind b i (half_in b) b.state.pc (value_in b (second_of i)) o)
+    pub step_moves : (o : Outcome) → outcome_in b i ≡ o → IsWord o → GoesBy o → MovesTo b U (behind b i (half_in b) b.state.pc (value_in b (second_of i)) o)
     step_moves o is word goes =
-        subst (Moved b U) (λ j. behind b (found.is j) (sym s.half j) (pc_is j) (value_in b (second_of i)) o)
+        subst (MovesTo b U) (λ j. behind b (found.is j) (sym s.half j) (pc_is j) (value_in b (second_of i)) o)
         (issue_moves b U s k (value_in b (first_of i)) (value_in b (second_of i)) enter (subst (λ x. x < 2 ^ 32) (sym pc_is) small) reads o (comes_to ∙ is) word goes)
 
     pub step_ends : (c : Stop) → outcome_in b i ≡ Stops c → Ended b U c
@@ -151,16 +151,16 @@ module _ (b : OneStation) (i : Instr) (m : OneStation) (v x : ℕ) (came : Came 
   left_is : left_in (with_memory b came.memory) i (half_in b) v x ≡ left_in m i (half_in b) v x
   left_is = ap (λ z. left_in z i (half_in b) v x) (sym came.kept)
 
-  pub turn_moves : (U : UpdateUnit) → IsReached b.program.now one U → StandsFor b U → instr_at b.program.now b.state.pc ≡ Some i → b.state.pc < 2 ^ 32 → Moved b U (left_in m i (half_in b) v x)
-  turn_moves U r s next small = subst (Moved b U) (sym came.same ∙ left_is) (step_moves b U r s i next small came.outcome came.is came.word came.goes)
+  pub turn_moves : (U : UpdateUnit) → IsReached b.program.now one U → ModelStandsFor b U → instr_at b.program.now b.state.pc ≡ Some i → b.state.pc < 2 ^ 32 → MovesTo b U (left_in m i (half_in b) v x)
+  turn_moves U r s next small = subst (MovesTo b U) (sym came.same ∙ left_is) (step_moves b U r s i next small came.outcome came.is came.word came.goes)
 
   few : (low : Option ℕ) → held low ≤ 1
   few None = omega arith
   few (Some w) = omega arith
 
-  pub turn_is_next : IsNext b (left_in m i (half_in b) v x)
-  turn_is_next = subst (IsNext b) left_is (go (is_first_half i.op (half_in b)) refl)
+  pub turn_is_next : IsOneFurther b (left_in m i (half_in b) v x)
+  turn_is_next = subst (IsOneFurther b) left_is (go (is_first_half i.op (half_in b)) refl)
     where
-      go : (first : Bool) → is_first_half i.op (half_in b) ≡ first → IsNext b (left_by first (with_memory b came.memory) i (half_in b) v x)
+      go : (first : Bool) → is_first_half i.op (half_in b) ≡ first → IsOneFurther b (left_by first (with_memory b came.memory) i (half_in b) v x)
       go true f = let none : held b.low ≡ 0 = ap held (none_waits b.low i.op f) in record { count = omega arith; halves = omega (arith, none) }
       go false f = let one : held b.low ≤ 1 = few b.low in record { count = omega arith; halves = omega (arith, one) }

@@ -27,8 +27,8 @@ use Rattle.inorder.proofs.OneCaller.Sequences.{leads_more, leads_once}
 use Rattle.inorder.proofs.Pairs.{and_left, and_right, first_half_computes}
 use Rattle.in_order_issue.specs.declared.station.OneStation.{OneStation}
 use Rattle.in_order_issue.specs.Left.{left_by}
-use Rattle.in_order_issue.specs.Moves.{ByStop, Ended, Moved}
-use Rattle.in_order_issue.specs.StandsFor.{StandsFor, one}
+use Rattle.in_order_issue.specs.Moves.{ByStop, Ended, MovesTo}
+use Rattle.in_order_issue.specs.StandsFor.{ModelStandsFor, one}
 
 -- an act on the youngest tenant, behind other steps
 pub act_on : (P : Program) (U : UpdateUnit) (steps : List Step) (act : Act) (t : Tenant) → May P 0 act [] t U.tenants → Leads P one 0 U steps (with_let U t) →
@@ -54,7 +54,7 @@ pub none_waits : (low : Option ℕ) (op : Op) → is_first_half op (half_after (
 none_waits None op e = refl
 none_waits (Some v) op e = absurd (true≢false (sym (and_right (is_pair op) _ e)))
 
-module _ (b : OneStation) (U : UpdateUnit) (s : StandsFor b U) (k a d predicted : ℕ) where
+module _ (b : OneStation) (U : UpdateUnit) (s : ModelStandsFor b U) (k a d predicted : ℕ) where
   abbrev P : Program
   P = b.program.now
 
@@ -100,7 +100,7 @@ module _ (b : OneStation) (U : UpdateUnit) (s : StandsFor b U) (k a d predicted 
       abbrev with_memory : OneStation
       with_memory = record b { state = record b.state { memory = memory } }
 
-      stands : (first : Bool) → is_first_half i.op half ≡ first → StandsFor (left_by first with_memory i half v x) (with_let U t')
+      stands : (first : Bool) → is_first_half i.op half ≡ first → ModelStandsFor (left_by first with_memory i half v x) (with_let U t')
       stands first f = record {
         nobody = ((λ q. cc q), s.nobody);
         goes_on = ((λ q c h. true≢false (sym commits ∙ ap (commits_by Retired) h)), s.goes_on);
@@ -123,7 +123,8 @@ module _ (b : OneStation) (U : UpdateUnit) (s : StandsFor b U) (k a d predicted 
           state true f = (λ j. record b.state { memory = keeps f j }) ∙ s.state
           state false f = leaves f
 
-          low : (first : Bool) → is_first_half i.op half ≡ first → ahead_by (left_by first with_memory i half v x).low (left_by first with_memory i half v x).state ≡ with_retired first P t' (ahead P ts)
+          low : (first : Bool) → is_first_half i.op half ≡ first →
+              ahead_by (left_by first with_memory i half v x).low (left_by first with_memory i half v x).state ≡ with_retired first P t' (ahead P ts)
           low false f = leaves f
           low true f =
               (λ j. record b.state { registers = write b.state.registers (sym (writes_lo i half f) j) v; memory = keeps f j })
@@ -135,5 +136,5 @@ module _ (b : OneStation) (U : UpdateUnit) (s : StandsFor b U) (k a d predicted 
           waits true = refl
           waits false = refl
 
-      pub moves : Moved b U (left_by (is_first_half i.op half) with_memory i half v x)
+      pub moves : MovesTo b U (left_by (is_first_half i.op half) with_memory i half v x)
       moves = record { unit = with_let U t'; steps = On (length ts) (Retire 0) ∷ steps; leads = leads'; stands = stands (is_first_half i.op half) refl }

@@ -34,6 +34,6 @@ memory_by Stores i at d memory = store_bytes memory at (width i.op) d
 memory_by _ i at d memory = memory
 
 -- The value that a load finds in memory; 0 for a store
-abbrev pub value_by : Kind → Instr → (at : ℕ) → List ℕ → ℕ
-value_by Stores i at memory = 0
-value_by _ i at memory = loaded i.op (little_endian (slice_index memory) at (width i.op))
+abbrev pub loaded_value : Kind → Instr → (at : ℕ) → List ℕ → ℕ
+loaded_value Stores i at memory = 0
+loaded_value _ i at memory = loaded i.op (little_endian (slice_index memory) at (width i.op))

@@ -9,14 +9,14 @@ use Rattle.inorder.specs.Moves.{IsReached, Leads}
 use Rattle.inorder.specs.Tenants.{Retired, Stopped, Tenant}
 use Rattle.inorder.specs.Unit.{UpdateUnit, at}
 use Rattle.in_order_issue.specs.declared.station.OneStation.{OneStation}
-use Rattle.in_order_issue.specs.StandsFor.{StandsFor, one}
+use Rattle.in_order_issue.specs.StandsFor.{ModelStandsFor, one}
 
 -- From the unit U allowed steps lead to one that the later model stands for
-pub record Moved (b : OneStation) (U : UpdateUnit) (later : OneStation) : Type 0 where
+pub record MovesTo (b : OneStation) (U : UpdateUnit) (later : OneStation) : Type 0 where
   pub unit : UpdateUnit
   pub steps : List Step
   pub leads : Leads b.program.now one 0 U steps unit
-  pub stands : StandsFor later unit
+  pub stands : ModelStandsFor later unit
 
 -- A program stops with this code: a stop has retired, or there is no instruction to go on with
 pub data StopsWith (P : Program) (ts : List Tenant) (c : Stop) : Type 0 where
@@ -35,10 +35,10 @@ pub record Ended (b : OneStation) (U : UpdateUnit) (c : Stop) : Type 0 where
 -- stops and nothing changes
 abbrev pub Goes : Result (Unit {0}) Stop → OneStation → OneStation → Type 0
 Goes (Ok u) b later =
-    ((U : UpdateUnit) → IsReached b.program.now one U → StandsFor b U → Moved b U later) ×
+    ((U : UpdateUnit) → IsReached b.program.now one U → ModelStandsFor b U → MovesTo b U later) ×
     (later.program ≡ b.program)
 Goes (Err c) b later =
-    ((U : UpdateUnit) → IsReached b.program.now one U → StandsFor b U → Ended b U c) × (later ≡ b)
+    ((U : UpdateUnit) → IsReached b.program.now one U → ModelStandsFor b U → Ended b U c) × (later ≡ b)
 
 -- One where something is there
 abbrev pub held : Option ℕ → ℕ
@@ -50,6 +50,6 @@ abbrev pub halves : OneStation → ℕ
 halves b = 2 * b.state.count + held b.low
 
 -- A transition goes on, by at most one instruction
-pub record IsNext (b later : OneStation) : Type 0 where
+pub record IsOneFurther (b later : OneStation) : Type 0 where
   pub count : later.state.count ≤ b.state.count + 1
   pub halves : halves b < halves later

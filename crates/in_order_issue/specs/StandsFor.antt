@@ -13,7 +13,7 @@ abbrev pub one : Sizes
 one = record { ring = 1; queue = 1; first_tag = 1 }
 
 -- In the unit U nobody is live and no stop has retired, and the model has what U has committed
-pub record StandsFor (b : OneStation) (U : UpdateUnit) : Type 0 where
+pub record ModelStandsFor (b : OneStation) (U : UpdateUnit) : Type 0 where
   pub nobody : AllByRecursion IsNotLive U.tenants
   pub goes_on : AllByRecursion IsNoRetiredStop U.tenants
   pub state : b.state ≡ committed b.program.now U.tenants
@@ -21,7 +21,7 @@ pub record StandsFor (b : OneStation) (U : UpdateUnit) : Type 0 where
   pub half : half_after (is_some b.low) ≡ front_half b.program.now U.tenants
 
 -- The model stands for some unit that allowed steps reach
-pub record StandsForSome (b : OneStation) : Type 0 where
+pub record ModelStandsForSome (b : OneStation) : Type 0 where
   pub unit : UpdateUnit
   pub reached : IsReached b.program.now one unit
-  pub stands : StandsFor b unit
+  pub stands : ModelStandsFor b unit

@@ -2,9 +2,9 @@
 ghost use Rattle.std.specs.Prelude.{◌≡◌, ◌<◌, ◌≤◌, ◌+◌, ◌-◌, ◌^◌, IfOk, OnOk, length};
 ghost use Rattle.instructions.specs.Instruction.{kind as kind_of, width as width_of};
 ghost use Rattle.inorder.specs.Unit.{empty_unit};
-ghost use Rattle.in_order_issue.specs.Left.{left_in, memory_by, value_by};
-ghost use Rattle.in_order_issue.specs.Moves.{Goes, IsNext};
-ghost use Rattle.in_order_issue.specs.StandsFor.{StandsFor, StandsForSome};
+ghost use Rattle.in_order_issue.specs.Left.{left_in, memory_by, loaded_value};
+ghost use Rattle.in_order_issue.specs.Moves.{Goes, IsOneFurther};
+ghost use Rattle.in_order_issue.specs.StandsFor.{ModelStandsFor, ModelStandsForSome};
 
 use inorder::Committed;
 use instructions::{
@@ -26,7 +26,7 @@ impl<'a> OneStation<'a> {
     /// The unit at the start of a program.
     pub fn new(alloc: Global, program: &'a Program) -> Result<Self, Memory>
         ensures program { IfOk result (λ b. b.program.now ≡ program.now) }
-        ensures unit { IfOk result (λ b. StandsFor b empty_unit) }
+        ensures unit { IfOk result (λ b. ModelStandsFor b empty_unit) }
     {
         let state = Committed::new(alloc, program)?;
         Ok(OneStation {
@@ -39,10 +39,10 @@ impl<'a> OneStation<'a> {
     /// Lets, claims, finishes and retires the next instruction, or the next half of one. The
     /// program stops where there is none, or where it is a stop.
     pub fn step(&mut self) -> Result<(), Stop>
-        requires unit { StandsForSome self.old }
+        requires unit { ModelStandsForSome self.old }
         requires count { self.old.state.count < 2 ^ 64 - 1 }
         ensures goes { Goes result self.old self.new }
-        ensures next { OnOk result (IsNext self.old self.new) }
+        ensures next { OnOk result (IsOneFurther self.old self.new) }
     {
         let pc = self.state.pc();
         let Some(instr) = self.program.fetch(pc) else {
@@ -70,7 +70,7 @@ impl<'a> OneStation<'a> {
     fn access(&mut self, instr: &Instr, at: usize, second: u32) -> u32
         requires { at + width_of instr.now.op ≤ length self.old.state.memory }
         ensures value { result ≡
-            value_by (kind_of instr.now.op) instr.now at self.old.state.memory }
+            loaded_value (kind_of instr.now.op) instr.now at self.old.state.memory }
         ensures memory { self.new ≡ record self.old {
           state = record self.old.state {
             memory = memory_by (kind_of instr.now.op) instr.now at second self.old.state.memory;

@@ -10,7 +10,7 @@ use Rattle.inorder.specs.declared.history.Supply.{Supply}
 use Rattle.inorder.specs.Legal.{Allowed, AreAllowed, Taken, applied, reached}
 use Rattle.inorder.specs.Steps.{new_tenant}
 use Rattle.inorder.specs.Tenants.{Tenant, operand}
-use Rattle.inorder.specs.Unit.{Sizes, UpdateUnit, at, can_be_written, creator, last_writer, made_by, older, value_of}
+use Rattle.inorder.specs.Unit.{Sizes, UpdateUnit, at, can_be_written, creator, last_writer, value_made, older, value_of}
 use Rattle.inorder.proofs.Basics.{Below, last_writer_below}
 use Rattle.inorder.proofs.Ends.{at_older}
 use Rattle.inorder.proofs.Kept.{sound}
@@ -66,4 +66,4 @@ pub value_by : (P : Program) (C : Sizes) (ss : List Taken) → AreAllowed P C ss
     → value_of (older (reached P C ss).tenants r) (operand k t).creator ≡ Some v
 value_by P C ss a r q v k t u is e there made =
     let us = (reached P C ss).tenants in
-    ap (value_of (older us r)) e ∙ (ap made_by (at_older us r q u (at_below us r t is) (are_older P C ss a r t k q is e) there) ∙ made)
+    ap (value_of (older us r)) e ∙ (ap value_made (at_older us r q u (at_below us r t is) (are_older P C ss a r t k q is e) there) ∙ made)

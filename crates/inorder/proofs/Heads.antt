@@ -9,7 +9,7 @@ use Rattle.inorder.specs.declared.history.Source.TheVariants.{First, Second}
 use Rattle.inorder.specs.declared.history.Step.{Step}
 use Rattle.inorder.specs.declared.history.Step.TheVariants.{Let, On, Renew}
 use Rattle.inorder.specs.Callers.{GoesOn, IsHead, head_station, is_retired, stands_retired}
-use Rattle.inorder.specs.Laws.{IsRing}
+use Rattle.inorder.specs.Laws.{FitsRing}
 use Rattle.inorder.specs.Legal.{Allowed, May, applied, changed}
 use Rattle.inorder.specs.Replies.{IsOver, IsRetiredStop}
 use Rattle.inorder.specs.Steps.{IsNoRetiredStop, new_tenant}
@@ -92,7 +92,7 @@ none_behind t ts (y ∷ ys) live s = go y.standing refl (none_behind t ts ys liv
         let q = all_mid IsSettled t ts ys (s.0 e) in
         absurd (subst (λ x. SettledBy x t.fate) live q)
 
-pub head_at : (P : Program) (C : Sizes) (U : UpdateUnit) → IsSound P U.tenants → IsRing C (recent U) → OldGone U → (o : Oldest U.tenants) → o.tenant.station ≡ head_station C U
+pub head_at : (P : Program) (C : Sizes) (U : UpdateUnit) → IsSound P U.tenants → FitsRing C (recent U) → OldGone U → (o : Oldest U.tenants) → o.tenant.station ≡ head_station C U
 head_at P C U ok ring gone o =
     let us = recent U in
     let here = recent_at U o.p o.tenant o.is (live_recent U gone o.p o.tenant o.is o.live) in

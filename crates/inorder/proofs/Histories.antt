@@ -8,18 +8,13 @@ use Rattle.inorder.specs.declared.history.Event.{Event}
 use Rattle.inorder.specs.declared.history.Event.TheVariants.{Does, Marks, Refuses}
 use Rattle.inorder.specs.declared.history.Step.{Step}
 use Rattle.inorder.specs.declared.history.Step.TheVariants.{Let, On, Renew}
-use Rattle.inorder.specs.History.{IsLegal, IsTheirs, MayAdd, StartsWith, entry, front, own, renewals, renewed_by, taken_of, unit_of, with_event}
+use Rattle.inorder.specs.History.{IsLegal, IsTheirs, MayAdd, entry, front, own, renewals, renewed_by, taken_of, unit_of, with_event}
+use Rattle.instructions.specs.Histories.{StartsWith}
 use Rattle.inorder.specs.OneHistory.{Adds}
 use Rattle.inorder.specs.Legal.{Allowed, AreAllowed, applied}
 use Rattle.inorder.specs.Unit.{Sizes, UpdateUnit}
 use Rattle.inorder.proofs.Kept.{sound}
 use Rattle.inorder.proofs.Sound.{IsSound}
-
-pub starts_same : (h : List Entry) → StartsWith h h
-starts_same h = record { more = []; is = refl }
-
-pub starts_longer : (h point more : List Entry) → StartsWith h point → StartsWith (more ++ h) point
-starts_longer h point more s = record { more = more ++ s.more; is = ap (λ z. more ++ z) s.is ∙ sym (append_assoc more s.more point) }
 
 -- Renewals
 

@@ -23,7 +23,7 @@ use Rattle.inorder.specs.StationWords.{left_value}
 use Rattle.inorder.specs.Steps.{CanRetire, MaySupply, finished, let_operand, linked, made_at_end, mended_as, new_tenant}
 use Rattle.inorder.specs.Tenants.{Addr, AtLet, Busy, Done, Fate, IsThere, Linked, Live, Miss, Open, Retired, Stopped, Tenant, Unlinked, computed, destination_of, instr, kind_of, made_at_let, on_path}
 use Rattle.inorder.specs.Tenants.{operand, stands_on_path}
-use Rattle.inorder.specs.Unit.{Sizes, UpdateUnit, at, can_be_written, creator, last_writer, made_by, next_station, older, recent, value_of, younger}
+use Rattle.inorder.specs.Unit.{Sizes, UpdateUnit, at, can_be_written, creator, last_writer, value_made, next_station, older, recent, value_of, younger}
 use Rattle.inorder.proofs.Basics.{Below, eqb_less, last_writer_below, split_at}
 use Rattle.inorder.proofs.Creators.{are_older, at_cases}
 use Rattle.inorder.proofs.Ends.{Acted, at_older, exact}
@@ -348,7 +348,7 @@ late_kept P C ss by (On p act) are a all r t k is late = ⊎_elim
         let m = have_makers P C ss are p a.tenant k a.is (λ w. let x = sym unlinked ∙ w in cc x) in
         let low = are_older P C ss are p a.tenant k m.q a.is m.creates in
         let there = at_older us p m.q m.tenant (at_below us p a.tenant a.is) low m.is in
-        let worth : value_of (older us p) (operand k a.tenant).creator ≡ m.tenant.made = ap (value_of (older us p)) m.creates ∙ ap made_by there in
+        let worth : value_of (older us p) (operand k a.tenant).creator ≡ m.tenant.made = ap (value_of (older us p)) m.creates ∙ ap value_made there in
         let way : (operand k t).way ≡ Linked (is_none (value_of (older us p) (operand k a.tenant).creator)) =
         ap (λ x. (operand k x).way) same ∙ (ap (λ x. (operand k (linked (older us p) a.tenant x)).way) (sym kj) ∙ linked_way (older us p) k a.tenant) in
         let is_late : is_none m.tenant.made ≡ false = sym (ap is_none worth) ∙ same_bool (is_none (value_of (older us p) (operand k a.tenant).creator)) false (sym way ∙ late) in

@@ -12,8 +12,9 @@ use Rattle.inorder.specs.declared.history.Event.TheVariants.{Does, Marks, Refuse
 use Rattle.inorder.specs.declared.history.Step.{Step}
 use Rattle.inorder.specs.declared.history.Step.TheVariants.{Let, On, Renew}
 use Rattle.inorder.specs.Callers.{IsLastAt}
-use Rattle.inorder.specs.History.{IsLegal, MayAdd, StartsWith, entry, renewals, renewed_by, taken_of, unit_of}
-use Rattle.inorder.specs.Laws.{IsRing}
+use Rattle.inorder.specs.History.{IsLegal, MayAdd, entry, renewals, renewed_by, taken_of, unit_of}
+use Rattle.instructions.specs.Histories.{StartsWith}
+use Rattle.inorder.specs.Laws.{FitsRing}
 use Rattle.inorder.specs.Legal.{Allowed, applied, change_at, changed}
 use Rattle.inorder.specs.StationWords.{last_of}
 use Rattle.inorder.specs.Steps.{new_tenant}
@@ -188,7 +189,7 @@ pub younger_recent : (U : UpdateUnit) (p : ℕ) (t : Tenant) (x : IsRecentAt U p
 younger_recent U p t x = younger_newest U.fresh U.tenants x.r t x.is ∙ ap (younger U.tenants) (sym x.position)
 
 -- a live tenant is the last of its station
-pub live_is_last : (C : Sizes) (U : UpdateUnit) → IsRing C (recent U) → OldGone U → (p : ℕ) (t : Tenant) → at U.tenants p ≡ Some t →
+pub live_is_last : (C : Sizes) (U : UpdateUnit) → FitsRing C (recent U) → OldGone U → (p : ℕ) (t : Tenant) → at U.tenants p ≡ Some t →
     t.standing ≡ Live → AllByRecursion (λ u. u.station ≢ t.station) (younger U.tenants p)
 live_is_last C U ring gone p t e live =
     let x = recent_at U p t e (live_recent U gone p t e live) in

@@ -213,7 +213,7 @@ zeros (suc n) (suc i) = zeros n i
 
 pub value_of_last : (t : Tenant) (ts : List Tenant) → value_of (t ∷ ts) (Some (length ts)) ≡ t.made
 value_of_last t ts =
-    ap (λ b. Rattle.inorder.specs.Unit.made_by (cond b (Some t) (at ts (length ts)))) (eqb_self (length ts))
+    ap (λ b. Rattle.inorder.specs.Unit.value_made (cond b (Some t) (at ts (length ts)))) (eqb_self (length ts))
 
 -- the last writer of a register has made what a new tenant finds there
 pub register_given : (P : Program) → (ts : List Tenant) → IsSound P ts → AllByRecursion IsSettled ts →

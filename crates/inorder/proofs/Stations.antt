@@ -11,7 +11,7 @@ use Rattle.inorder.specs.declared.history.Act.TheVariants.{Claim, Deliver, Finis
 use Rattle.inorder.specs.declared.history.Source.TheVariants.{First, Second}
 use Rattle.inorder.specs.declared.history.Step.{Step}
 use Rattle.inorder.specs.declared.history.Step.TheVariants.{Let, On, Renew}
-use Rattle.inorder.specs.Laws.{IsRing}
+use Rattle.inorder.specs.Laws.{FitsRing}
 use Rattle.inorder.specs.Legal.{Allowed, AreAllowed, May, Taken, applied, changed, reached}
 use Rattle.inorder.specs.Steps.{finished, mended_as, new_tenant}
 use Rattle.inorder.specs.Tenants.{Addr, Busy, Done, Fate, IsNotLive, Live, Miss, Open, Retired, Squashed, Standing, Stopped, Tenant, computed, is_live, on_path, stands_live, stands_on_path}
@@ -327,7 +327,7 @@ last_at U p t h e live = mid (younger U p) (subst AreApart (split_at U p t e) h)
     mid [] q = tt
     mid (y ∷ ys) q = ((λ same. all_mid (IsElsewhere y) t (older U p) ys q.0 live (sym same)), mid ys q.1)
 
-pub is_ring : (C : Sizes) (U : List Tenant) → Stands C U → IsRing C U
+pub is_ring : (C : Sizes) (U : List Tenant) → Stands C U → FitsRing C U
 is_ring C U s =
     record {
       room = s.room;

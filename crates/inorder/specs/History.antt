@@ -1,6 +1,7 @@
 -- Legal histories of a shared unit. A history is a list of entries, the last one first, so that
 -- what was there before an entry is what is behind it in the list.
-use Rattle.std.specs.Prelude.{⊤, ◌≡◌, ◌⊎◌, ℕ, suc, ◌<◌, ◌≤◌, true, List, [], ◌∷◌, ◌++◌, Some, ◌==◌, if◌then◌else◌}
+use Rattle.std.specs.Prelude.{⊤, ◌≡◌, ◌⊎◌, ℕ, suc, ◌<◌, ◌≤◌, true, List, [], ◌∷◌, Some, ◌==◌, if◌then◌else◌}
+use Rattle.instructions.specs.Histories.{StartsWith}
 use Rattle.instructions.specs.Programs.{Program}
 use Rattle.inorder.specs.declared.history.Act.{Act}
 use Rattle.inorder.specs.declared.history.Act.TheVariants.{Claim, Deliver, Finish, Link, Load, Mend, Retire, Squash}
@@ -67,11 +68,6 @@ renewed_by _ n = n
 abbrev pub renewals : List Entry → ℕ
 renewals [] = 0
 renewals (e ∷ h) = renewed_by e.event (renewals h)
-
--- A history began as another: `point` was a moment of it
-pub record StartsWith (h point : List Entry) : Type 0 where
-  pub more : List Entry
-  pub is : h ≡ more ++ point
 
 -- The tenant was open at an earlier point
 pub record WasOpen (P : Program) (C : Sizes) (h : List Entry) (p : ℕ) : Type 0 where

@@ -13,7 +13,7 @@ use Rattle.inorder.specs.Unit.{Sizes, UpdateUnit, at, how_many, older, recent, y
 
 -- At most as many live tenants as stations, each of the path at its place on the path, and a live
 -- one the last of its station
-pub record IsRing (C : Sizes) (ts : List Tenant) : Type 0 where
+pub record FitsRing (C : Sizes) (ts : List Tenant) : Type 0 where
   pub room : how_many is_live ts ≤ C.ring
   pub place : (p : ℕ) (t : Tenant) → at ts p ≡ Some t → on_path t ≡ true →
       t.station ≡ how_many on_path (older ts p) % C.ring
@@ -22,7 +22,7 @@ pub record IsRing (C : Sizes) (ts : List Tenant) : Type 0 where
 
 -- The tenants let since the last renewal are such a ring in each unit that allowed steps reach
 abbrev pub StandsRight : Program → Sizes → List Taken → Type 0
-StandsRight P C history = AreAllowed P C history → IsRing C (recent (reached P C history))
+StandsRight P C history = AreAllowed P C history → FitsRing C (recent (reached P C history))
 
 -- A station and a tag name one tenant
 abbrev pub Names : List Tenant → Type 0

@@ -7,7 +7,8 @@ use Rattle.std.specs.Prelude.{◌≡◌, ℕ, List, ◌∷◌, ◌++◌, map}
 use Rattle.instructions.specs.Programs.{Program}
 use Rattle.inorder.specs.declared.history.Entry.{Entry}
 use Rattle.inorder.specs.declared.history.Event.{Event}
-use Rattle.inorder.specs.History.{IsLegal, MayAdd, StartsWith, entry, own, renewals, unit_of}
+use Rattle.inorder.specs.History.{IsLegal, MayAdd, entry, own, renewals, unit_of}
+use Rattle.instructions.specs.Histories.{StartsWith}
 use Rattle.inorder.specs.Theorem.{IsInOrder}
 use Rattle.inorder.specs.Unit.{Sizes}
 

@@ -9,7 +9,8 @@ use Rattle.inorder.specs.declared.history.Source.{Source}
 use Rattle.inorder.specs.declared.history.Step.TheVariants.{Let, Renew}
 use Rattle.inorder.specs.declared.history.Supply.{Supply}
 use Rattle.inorder.specs.declared.history.Supply.TheVariants.{From}
-use Rattle.inorder.specs.History.{IsLegal, StartsWith, entry, renewals, unit_of}
+use Rattle.inorder.specs.History.{IsLegal, entry, renewals, unit_of}
+use Rattle.instructions.specs.Histories.{StartsWith}
 use Rattle.inorder.specs.Legal.{Allowed, AreAllowed, Taken, applied, reached}
 use Rattle.inorder.specs.OperandWords.{operand_word}
 use Rattle.inorder.specs.StationWords.{IsFree, station_word}

@@ -81,14 +81,14 @@ next_tag C ts = tag_after C ts (next_station C ts)
 -- What a tenant finds before it
 
 -- What a tenant has made, if there is one and it has made something
-abbrev pub made_by : Option Tenant → Option ℕ
-made_by None = None
-made_by (Some t) = t.made
+abbrev pub value_made : Option Tenant → Option ℕ
+value_made None = None
+value_made (Some t) = t.made
 
 -- The value of a source: what its creator has made, or 0 without a creator
 abbrev pub value_of : List Tenant → Option ℕ → Option ℕ
 value_of ts None = Some 0
-value_of ts (Some p) = made_by (at ts p)
+value_of ts (Some p) = value_made (at ts p)
 
 -- The last tenant of the path that writes a register
 abbrev pub last_writer : Program → List Tenant → ℕ → Option ℕ

@@ -1,3 +1,4 @@
+pub mod Histories
 pub mod WideProducts
 pub mod Quotients
 pub mod Words

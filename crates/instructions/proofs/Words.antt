@@ -5,8 +5,8 @@ use Rattle.std.specs.Ordering.{int_eq}
 use Rattle.std.specs.Int.{w32, w8, w16, cast_unsigned, int_div_euclid}
 use Rattle.std.specs.Int.Bits.{and_lt}
 use Rattle.std.proofs.lemmas.Nat.{or_of_32, xor_of_32}
-use Rattle.instructions.specs.Operations.{IsWord, as_address, as_value, checked_address, computed_by, extended, fits_word, fitted, flag, jump_target, loaded, outcome_by, shifted_left, shifted_signed, signed}
-use Rattle.instructions.specs.Operations.{taken_if}
+use Rattle.instructions.specs.Operations.{IsWord, as_address, as_value, checked_address, computed_by, extended, fits_word, fitted, flag}
+use Rattle.instructions.specs.Operations.{jump_target, loaded, outcome_by, shifted_left, shifted_signed, signed, taken_if}
 use Rattle.instructions.specs.Products.{divided, word_of_half, product, signed_divided, signed_product}
 use Rattle.instructions.specs.declared.instr.Instr.{Instr}
 use Rattle.instructions.specs.declared.op.Half.{Half}

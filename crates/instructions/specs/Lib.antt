@@ -1,3 +1,4 @@
+pub mod Histories
 pub mod Registers
 pub mod Instruction
 pub mod Targets

@@ -1,6 +1,7 @@
 -- Registers as a listing names them.
 use Rattle.std.specs.Prelude.{ℕ, nat_lt, List, [], ◌∷◌, drop, Option, Some, None, Result, Err, ok_or, if◌then◌else◌, codes}
 use Rattle.std.specs.Map.{lookup}
+use Rattle.std.specs.Option.{option_or}
 use Rattle.std.specs.Str.{bytes_eq}
 use Rattle.lexical.specs.Number.{first_is, decimal_in}
 use Rattle.isa.specs.declared.listing.fault.FaultKind.{FaultKind}
@@ -20,15 +21,10 @@ register_names =
     ∷ (codes "gp", 28) ∷ (codes "sp", 29) ∷ (codes "fp", 30) ∷ (codes "s8", 30)
     ∷ (codes "ra", 31) ∷ []
 
--- the first of two numbers that is there
-abbrev pub first_some : Option ℕ → Option ℕ → Option ℕ
-first_some None other = other
-first_some (Some n) other = Some n
-
 -- the number of a register: 0 to 31 without leading zeros, or a name in lower case
 unfoldable pub register_number : List ℕ → Option ℕ
 register_number text =
-    first_some (decimal_in 31 text) (lookup (λ k. bytes_eq k text) register_names)
+    option_or (decimal_in 31 text) (lookup (λ k. bytes_eq k text) register_names)
 
 -- the register with a number, if there is one
 abbrev pub existing : Option ℕ → Option ℕ

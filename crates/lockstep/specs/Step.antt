@@ -28,12 +28,12 @@ abbrev pub step_over : List ℕ → State → Option Ran
 step_over text s = step_at s (word_at text s.pc)
 
 -- a state of these registers, data memory and pc, whose count is 0
-abbrev pub state_of : (registers memory : List ℕ) → ℕ → State
-state_of registers memory pc =
+abbrev pub machine_state : (registers memory : List ℕ) → ℕ → State
+machine_state registers memory pc =
     record { registers = registers; memory = memory; pc = pc; count = 0 }
 
 -- registers, data memory and pc are those of a state
-pub record Holds (registers memory : List ℕ) (pc : ℕ) (s : State) : Type 0 where
+pub record HoldsState (registers memory : List ℕ) (pc : ℕ) (s : State) : Type 0 where
   pub registers_are : registers ≡ s.registers
   pub memory_is : memory ≡ s.memory
   pub pc_is : pc ≡ s.pc
@@ -41,8 +41,8 @@ pub record Holds (registers memory : List ℕ) (pc : ℕ) (s : State) : Type 0 w
 -- the answer of a step and the state after it, which is that before the step unless the instruction was run
 abbrev pub IsStepped : State → Answer → (registers memory : List ℕ) → ℕ → Option Ran → Type 0
 IsStepped old answer registers memory pc (Some (Goes t)) =
-    (answer ≡ Went) × Holds registers memory pc t
+    (answer ≡ Went) × HoldsState registers memory pc t
 IsStepped old answer registers memory pc (Some (Halts c)) =
-    (answer ≡ Stopped c) × Holds registers memory pc old
+    (answer ≡ Stopped c) × HoldsState registers memory pc old
 IsStepped old answer registers memory pc None =
-    (answer ≡ NoOperation) × Holds registers memory pc old
+    (answer ≡ NoOperation) × HoldsState registers memory pc old

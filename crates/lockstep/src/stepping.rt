@@ -3,7 +3,7 @@ ghost use Rattle.std.specs.Prelude.{◌≡◌, ◌≤◌, ◌+◌, length, slice
 ghost use Rattle.instructions.specs.Instruction.{kind as kind_of, width as width_of, pc_plus_4 as pc_plus_4_of};
 ghost use Rattle.inorder.specs.Machine.{after_access, write as written};
 ghost use Rattle.encoding.specs.Words.{decode as decode_of};
-ghost use Rattle.lockstep.specs.Step.{word_at as word_of, step_over, state_of, Holds, IsStepped};
+ghost use Rattle.lockstep.specs.Step.{word_at as word_of, step_over, machine_state, HoldsState, IsStepped};
 
 use encoding::decode;
 use inorder::data::{number, store};
@@ -61,8 +61,9 @@ fn write(registers: &mut [u32; 34], r: Reg, value: u32)
 // Runs the load or store at an address.
 fn access(memory: &mut [u8], registers: &mut [u32; 34], pc: u32, instr: &Instr, address: usize)
     requires inside { address + width_of instr.now.op ≤ length memory.old }
-    ensures { Holds registers.new memory.new (pc_plus_4_of pc) (after_access (kind_of instr.now.op)
-        (state_of registers.old memory.old pc) instr.now address) }
+    ensures { HoldsState registers.new memory.new (pc_plus_4_of pc)
+        (after_access (kind_of instr.now.op)
+        (machine_state registers.old memory.old pc) instr.now address) }
 {
     let width = instr.op().width() as usize;
     match instr.op().kind() {
@@ -86,9 +87,9 @@ fn access(memory: &mut [u8], registers: &mut [u32; 34], pc: u32, instr: &Instr, 
 pub fn step(text: &[u32], memory: &mut [u8], registers: &mut [u32; 34], pc: &mut u32) -> Answer
     requires text { length text.now ≤ 16384 }
     requires memory { length memory.old ≤ 65536 }
-    ensures { IsStepped (state_of registers.old memory.old pc.old) result
+    ensures { IsStepped (machine_state registers.old memory.old pc.old) result
         registers.new memory.new pc.new
-        (step_over text.now (state_of registers.old memory.old pc.old)) }
+        (step_over text.now (machine_state registers.old memory.old pc.old)) }
 {
     let at = *pc;
     let Some(word) = word_at(text, at) else {

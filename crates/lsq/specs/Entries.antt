@@ -5,7 +5,7 @@ use Rattle.lsq.specs.declared.entry.Width.{Width}
 use Rattle.lsq.specs.declared.entry.Width.TheVariants.{Byte, Half, Word}
 
 -- what a queue holds, and how much it can hold
-pub record Contents : Type 0 where
+pub record HeldEntries : Type 0 where
   pub capacity : ℕ
   pub entries : List Entry
 
@@ -26,8 +26,8 @@ load_by false (Some address) width = Some (record { address = address; width = b
 load_by _ _ width = None
 
 -- what the entry at a place accesses, where it is a load with its address
-abbrev pub load_at : List Entry → ℕ → Option Access
-load_at entries at =
+abbrev pub load_entry_at : List Entry → ℕ → Option Access
+load_entry_at entries at =
     option_and_then (λ e. load_by e.store e.address e.width) (slice_get entries at)
 
 -- the entries with the one at a place changed

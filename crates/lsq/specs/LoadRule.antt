@@ -4,7 +4,7 @@ use Rattle.lsq.specs.declared.entry.Entry.{Entry}
 use Rattle.lsq.specs.declared.answer.Answer.{Answer}
 use Rattle.lsq.specs.declared.answer.Answer.TheVariants.{Forward, Memory, Blocked}
 use Rattle.lsq.specs.Bytes.{byte_of, little_endian}
-use Rattle.lsq.specs.Entries.{Access, bytes, load_at}
+use Rattle.lsq.specs.Entries.{Access, bytes, load_entry_at}
 
 -- the younger of two finds, where the first is from the younger part of the list
 abbrev pub or_older : Option (ℕ × Entry) → Option (ℕ × Entry) → Option (ℕ × Entry)
@@ -76,4 +76,4 @@ answer_to (Some load) entries at = answer_over (take at entries) load.address lo
 
 -- the answer for the entry at a place
 abbrev pub answer : List Entry → ℕ → Answer
-answer entries at = answer_to (load_at entries at) entries at
+answer entries at = answer_to (load_entry_at entries at) entries at

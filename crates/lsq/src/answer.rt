@@ -1,6 +1,6 @@
 //! The rule for one load over the older stores.
 ghost use Rattle.std.specs.Prelude.{◌≡◌, ◌+◌, ◌%◌, ◌^◌, IsSome};
-ghost use Rattle.lsq.specs.Entries.{bytes, load_at};
+ghost use Rattle.lsq.specs.Entries.{bytes, load_entry_at};
 ghost use Rattle.lsq.specs.LoadRule.{lacks_address, overlaps, taken_from, youngest, answer_over, answer};
 
 use crate::{Entry, Queue, Width};
@@ -23,7 +23,7 @@ impl Queue {
     /// older store to its bytes (store-to-load forwarding); where that has only some of them, it
     /// waits too.
     pub fn answer(&self, at: usize) -> Answer
-        requires { IsSome (load_at self.now.entries at) }
+        requires { IsSome (load_entry_at self.now.entries at) }
         ensures { result ≡ answer self.now.entries at }
     {
         let entries = self.entries.as_slice();

@@ -23,9 +23,9 @@ pub struct Queue {
 impl Model for Queue {
     ghost use Rattle.std.specs.Prelude.{◌≤◌, length};
     ghost use Rattle.lsq.specs.declared.queue.TheConstants.{MOST_ENTRIES};
-    ghost use Rattle.lsq.specs.Entries.{Contents};
+    ghost use Rattle.lsq.specs.Entries.{HeldEntries};
 
-    ghost Value = { Contents };
+    ghost Value = { HeldEntries };
 
     ghost view = { λ q. record { capacity = q.capacity; entries = q.entries.items } };
 

@@ -58,7 +58,7 @@ IsReason limit c None = HasWorked c
 IsReason limit c (Some why) = Because limit c.back (c.turns).left why
 
 -- The run is not over: it has begun, and its program has not ended
-pub record MayRenew (c : TheCommitter) : Type 0 where
+pub record IsUnderWay (c : TheCommitter) : Type 0 where
   pub begun : c.over ≡ Err Memory
   pub going : c.back.ended ≡ None
   pub worked : HasWorked c

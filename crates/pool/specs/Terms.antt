@@ -15,7 +15,7 @@ use Rattle.pool.specs.declared.dispatch.Begin.{Begin}
 use Rattle.pool.specs.declared.dispatch.Begin.TheVariants.{Again, Fresh}
 use Rattle.pool.specs.declared.dispatch.Dispatcher.{Dispatcher}
 use Rattle.pool.specs.declared.terms.Term.{Term}
-use Rattle.pool.specs.Committing.{MayRenew, TheCommitter}
+use Rattle.pool.specs.Committing.{IsUnderWay, TheCommitter}
 
 -- The seat is of this core, and a front that has departed from another enters with it
 pub record Enters (core : TheCore) (departed : TheCore) (seen : List Entry) (seat : Caller) : Type 0 where
@@ -56,13 +56,13 @@ pub record HasDeparted {S : Type 0} (core : TheCore) (seat : Caller) (still : Th
   pub still_seen : still.seen ≡ seat.seen
 
 -- The front begins again behind its departure from this core
-abbrev pub BeginsAgain : {S : Type 0} → TheCore → Caller → Begin S → Type 0
-BeginsAgain core seat (Fresh predictor) = ⊥
-BeginsAgain core seat (Again still) = HasDeparted core seat still
+abbrev pub FrontBeginsAgain : {S : Type 0} → TheCore → Caller → Begin S → Type 0
+FrontBeginsAgain core seat (Fresh predictor) = ⊥
+FrontBeginsAgain core seat (Again still) = HasDeparted core seat still
 
 -- A dispatch thread gives this back: its front has departed from this core, and its count adds to these totals
 pub record IsGivenBack {S : Type 0} (core : TheCore) (counts : TableId) (dispatcher : Dispatcher S) : Type 0 where
-  pub departed : BeginsAgain core dispatcher.seat dispatcher.begin
+  pub departed : FrontBeginsAgain core dispatcher.seat dispatcher.begin
   pub count_is : dispatcher.count.of ≡ counts
 
 -- The threads of a term give this back, of this core, and the commit side is there, which may renew the core
@@ -71,7 +71,7 @@ pub record IsReturned {S : Type 0} (core : TheCore) (counts : TableId) (dispatch
   pub given : IsGivenBack core counts dispatcher
   pub unit_is : unit.core ≡ core
   pub back_is : committer.back.core ≡ core
-  pub may : MayRenew committer
+  pub may : IsUnderWay committer
 
 -- Another core of the same program and sizes, the front's seat and a unit's at it, and the back there
 pub record AreRenewed (old : TheCore) (seen : List Entry) (core : TheCore) (seat unit : Caller)

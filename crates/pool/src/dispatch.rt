@@ -5,7 +5,7 @@ ghost use Rattle.pool.specs.Dispatching.{HintsLet};
 ghost use Rattle.pool.specs.Terms.{Begins, IsGivenBack};
 ghost use Rattle.pool.specs.declared.dispatch.Stepped.TheVariants.{Ended};
 ghost use Rattle.workers.specs.Deeds.{CountsFrontDeeds};
-ghost use Rattle.workers.specs.Turns.{AreTaken, IsTakenFrom};
+ghost use Rattle.workers.specs.Turns.{TurnsAreTaken, IsTakenFrom};
 
 use counts::{Total, WorkerSeat};
 use front::{Front, FrontStill, Recovery, Rest, Turn};
@@ -127,7 +127,7 @@ fn take_turns<K: Bounds + Ring, P: Predictor + Drop, G, R: Wait>(
     ensures core { front.new.core ≡ shared.now.core.now }
     ensures count { count.new.seat.of ≡ shared.now.state.now.counts }
     ensures counted { CountsFrontDeeds front.old.seen front.new.seen count.old count.new }
-    ensures turns { AreTaken turns.old turns.new }
+    ensures turns { TurnsAreTaken turns.old turns.new }
     ensures ended { result ≡ true → front.new.rested ≡ true }
     ensures taken { result ≡ true → IsTakenFrom turns.old turns.new }
 {

@@ -10,22 +10,22 @@ are_allowed words bytes = nat_le words 16384 && (nat_le bytes 65536 && (bytes % 
 
 -- the answer of a step: -1 where the word at the pc is no operation, 0 where it was run, 1 and the stop's number where it
 -- stops
-abbrev pub number_of : Option Ran → ℤ
-number_of None = negsuc 0
-number_of (Some (Goes t)) = pos 0
-number_of (Some (Halts c)) = pos (1 + code_of c)
+abbrev pub step_number : Option Ran → ℤ
+step_number None = negsuc 0
+step_number (Some (Goes t)) = pos 0
+step_number (Some (Halts c)) = pos (1 + code_of c)
 
 -- the state after a step: that before the step, unless the word was run
-abbrev pub left_by : State → Option Ran → State
-left_by s (Some (Goes t)) = t
-left_by s _ = s
+abbrev pub state_left : State → Option Ran → State
+state_left s (Some (Goes t)) = t
+state_left s _ = s
 
 -- the answer of a call: -2 where the sizes are not allowed
-abbrev pub answer_of : List ℕ → State → ℤ
-answer_of text s =
-    if are_allowed (length text) (length s.memory) then number_of (step_over text s) else negsuc 1
+abbrev pub call_number : List ℕ → State → ℤ
+call_number text s =
+    if are_allowed (length text) (length s.memory) then step_number (step_over text s) else negsuc 1
 
 -- the state after a call
 abbrev pub left_of : List ℕ → State → State
 left_of text s =
-    if are_allowed (length text) (length s.memory) then left_by s (step_over text s) else s
+    if are_allowed (length text) (length s.memory) then state_left s (step_over text s) else s

@@ -2,8 +2,8 @@
 #![tactic(auto)]
 
 ghost use Rattle.std.specs.Prelude.{◌≡◌};
-ghost use Rattle.lockstep.specs.Step.{state_of, Holds};
-ghost use Rattle.ruu_step.specs.Numbers.{answer_of, left_of};
+ghost use Rattle.lockstep.specs.Step.{machine_state, HoldsState};
+ghost use Rattle.ruu_step.specs.Numbers.{call_number, left_of};
 
 use instructions::Program;
 use lockstep::{Answer, step};
@@ -18,9 +18,9 @@ pub extern "C" fn ruu_step(
     registers: &mut [u32; 34],
     pc: &mut u32,
 ) -> i32
-    ensures answer { result ≡ answer_of text.now (state_of registers.old memory.old pc.old) }
-    ensures state { Holds registers.new memory.new pc.new
-        (left_of text.now (state_of registers.old memory.old pc.old)) }
+    ensures answer { result ≡ call_number text.now (machine_state registers.old memory.old pc.old) }
+    ensures state { HoldsState registers.new memory.new pc.new
+        (left_of text.now (machine_state registers.old memory.old pc.old)) }
 {
     if !Program::fits(text.len(), memory.len()) {
         return -2;

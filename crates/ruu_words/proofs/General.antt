@@ -7,7 +7,8 @@ use Rattle.atomic_table.proofs.Lists.{at_set}
 use Rattle.instructions.specs.Programs.{Program}
 use Rattle.inorder.specs.declared.history.Entry.{Entry}
 use Rattle.inorder.specs.declared.history.Event.{Event}
-use Rattle.inorder.specs.History.{StartsWith, entry, front, own, renewals, unit_of}
+use Rattle.inorder.specs.History.{entry, front, own, renewals, unit_of}
+use Rattle.instructions.specs.Histories.{StartsWith}
 use Rattle.inorder.specs.Unit.{Sizes}
 use Rattle.ruu_words.specs.declared.place.Place.{Place}
 use Rattle.ruu_words.specs.declared.rule.Draft.{Draft}
@@ -18,13 +19,14 @@ use Rattle.ruu_words.specs.Plans.{Plan, Plans}
 use Rattle.ruu_words.specs.Views.{ViewFits, IsAlive, IsOf}
 use Rattle.ruu_words.specs.Rule.{IsKept, Keeps}
 use Rattle.ruu_words.specs.Telling.{Tells}
-use Rattle.inorder.proofs.Histories.{own-append, own_none, own_of_other, renewals_more, starts_longer, starts_more, starts_same}
-use Rattle.ruu_words.proofs.Heirs.{own_number}
+use Rattle.inorder.proofs.Histories.{own-append, own_none, own_of_other, renewals_more, starts_more}
+use Rattle.instructions.proofs.Histories.{starts_longer, starts_same}
+use Rattle.ruu_words.proofs.SpareNumbers.{own_number}
 use Rattle.ruu_words.proofs.Placing.{written}
 
 -- the view of a seat after its step
 abbrev pub stepped_view : View → List Entry → Draft → View
-stepped_view v h d = record { role = v.role; by = v.by; heirs = v.heirs; seen = h; told = v.told; draft = d }
+stepped_view v h d = record { role = v.role; by = v.by; spare = v.spare; seen = h; told = v.told; draft = d }
 
 module _ (P : Program) (C : Sizes) (opening : List Entry) where
   pub kept_after : (id : ℕ) (s : State ℕ View) (h : List Entry) (d : Draft) → IsKept P C opening s h d → (v : View) → get_elem? s.views id ≡ some v → (x : Place) (new : ℕ) → IsPlace C.ring x
@@ -51,7 +53,7 @@ module _ (P : Program) (C : Sizes) (opening : List Entry) where
               told = starts_longer h v.told more f.told;
               opened = λ _. starts_longer h opening more goes_on;
               all_own = λ _. refl;
-              unborn = λ _ n i. own_other n (own_number v.heirs n v.by f.above i) ∙ f.unborn alive n i;
+              unborn = λ _ n i. own_other n (own_number v.spare n v.by f.above i) ∙ f.unborn alive n i;
               caller = f.caller;
               above = f.above;
             }))
@@ -120,12 +122,12 @@ module _ (P : Program) (C : Sizes) (opening : List Entry) where
             same = p.same ∙ same;
             role = refl;
             by_is = refl;
-            heirs_are = refl;
+            spare_is = refl;
             told = starts_longer (between ++ v.seen) v.told (map (entry by) p.events) (subst (λ (x : List Entry). StartsWith x v.told) is fit.told);
             kind = p.kind;
           };
           unborn = λ m i. own-append m (map (entry by) p.events) (between ++ v.seen) ∙ (ap (λ (y : List Entry). y ++ own m (between ++ v.seen))
-              (own_of_other m by p.events (own_number v.heirs m by fit.above i)) ∙ (ap (λ (y : List Entry). own m y) (sym is) ∙ fit.unborn alive m i));
+              (own_of_other m by p.events (own_number v.spare m by fit.above i)) ∙ (ap (λ (y : List Entry). own m y) (sym is) ∙ fit.unborn alive m i));
           slots = refl;
         },
       )

@@ -1,6 +1,6 @@
 pub mod Packing
 pub mod Placing
-pub mod Heirs
+pub mod SpareNumbers
 pub mod General
 pub mod Groups
 pub mod StationWords

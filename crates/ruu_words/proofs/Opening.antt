@@ -13,7 +13,7 @@ use Rattle.inorder.specs.Steps.{MayRenew}
 use Rattle.inorder.specs.Unit.{Sizes, UpdateUnit}
 use Rattle.inorder.specs.declared.history.Entry.{Entry}
 use Rattle.inorder.specs.History.{IsLegal, front, unit_of}
-use Rattle.inorder.proofs.Histories.{starts_same}
+use Rattle.instructions.proofs.Histories.{starts_same}
 use Rattle.ruu_words.specs.declared.place.Place.{Place}
 use Rattle.ruu_words.specs.declared.place.Place.TheVariants.{Info, Link, Operand, Station}
 use Rattle.ruu_words.specs.declared.rule.Draft.TheVariants.{Nothing}

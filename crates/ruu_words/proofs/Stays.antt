@@ -31,7 +31,8 @@ use Rattle.ruu_words.specs.declared.rule.Draft.{Draft}
 use Rattle.ruu_words.specs.declared.rule.View.{View}
 use Rattle.ruu_words.specs.Kinds.{IsAny, IsNamed, IsTenant}
 use Rattle.ruu_words.specs.Telling.{Grows}
-use Rattle.inorder.proofs.Histories.{none_between, only_front_renews, starts_longer, unit_lasts, unit_lasts_apart, unit_lasts_here}
+use Rattle.inorder.proofs.Histories.{none_between, only_front_renews, unit_lasts, unit_lasts_apart, unit_lasts_here}
+use Rattle.instructions.proofs.Histories.{starts_longer}
 use Rattle.inorder.proofs.Recent.{old_same}
 use Rattle.ruu_words.proofs.StationWords.{one_tag}
 

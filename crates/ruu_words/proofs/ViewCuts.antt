@@ -7,18 +7,19 @@ use Rattle.atomic_table.specs.Table.{Splits, State}
 use Rattle.atomic_table.proofs.Lists.{at_set}
 use Rattle.instructions.specs.Programs.{Program}
 use Rattle.inorder.specs.declared.history.Entry.{Entry}
-use Rattle.inorder.specs.History.{StartsWith, front, own}
+use Rattle.inorder.specs.History.{front, own}
+use Rattle.instructions.specs.Histories.{StartsWith}
 use Rattle.inorder.specs.Unit.{Sizes}
 use Rattle.inorder.proofs.Histories.{no_length, own-append}
 use Rattle.ruu_words.specs.declared.rule.Draft.{Draft}
 use Rattle.ruu_words.specs.declared.rule.Draft.TheVariants.{Nothing}
-use Rattle.ruu_words.specs.declared.rule.Heirs.{Heirs}
+use Rattle.ruu_words.specs.declared.rule.SpareNumbers.{SpareNumbers}
 use Rattle.ruu_words.specs.declared.rule.Role.{Role}
 use Rattle.ruu_words.specs.declared.rule.Role.TheVariants.{Back, Front, Spent, Start, Worker}
 use Rattle.ruu_words.specs.declared.rule.View.{View}
-use Rattle.ruu_words.specs.Views.{ViewFits, IsAlive, IsCaller, IsHeir, IsOf, half, nobody, other_half, view, without_first}
+use Rattle.ruu_words.specs.Views.{ViewFits, IsAlive, IsCaller, IsSpare, IsOf, half, nobody, other_half, view, without_first}
 use Rattle.ruu_words.specs.Rule.{IsKept, Keeps}
-use Rattle.ruu_words.proofs.Heirs.{half_apart, half_not_first, half_of, later_of, no_heirs, not_first, other_half_of, own_number, positive}
+use Rattle.ruu_words.proofs.SpareNumbers.{half_apart, half_not_first, half_of, later_of, no_spare, not_first, other_half_of, own_number, positive}
 
 at_end : {A : Type 0} (l : List A) (a b : A) (j : ℕ) → get_elem? (l ++ a ∷ []) j ≡ some b → (get_elem? l j ≡ some b) ⊎ ((j ≡ length l) × (a ≡ b))
 at_end [] a b zero e = inr (refl, some-injective a b e)
@@ -45,10 +46,10 @@ starts_empty h = record { more = h; is = sym (append-nil h) }
 pub record IsCut (v l r : View) : Type 0 where
   pub left_caller : IsCaller l.role l.by
   pub right_caller : IsCaller r.role r.by
-  pub left_above : 1 ≤ l.heirs.every → l.by < l.heirs.first
-  pub right_above : 1 ≤ r.heirs.every → r.by < r.heirs.first
-  pub left_heirs : (n : ℕ) → IsHeir l.heirs n → IsHeir v.heirs n
-  pub given : IsAlive r.role → (n : ℕ) → IsOf r n → IsHeir v.heirs n
+  pub left_above : 1 ≤ l.spare.every → l.by < l.spare.first
+  pub right_above : 1 ≤ r.spare.every → r.by < r.spare.first
+  pub left_spare : (n : ℕ) → IsSpare l.spare n → IsSpare v.spare n
+  pub given : IsAlive r.role → (n : ℕ) → IsOf r n → IsSpare v.spare n
   pub apart : IsAlive r.role → (n : ℕ) → IsOf l n → ¬ IsOf r n
 
 -- Whose a seat is behind a cut
@@ -67,16 +68,39 @@ where_is views id l r i a e = ⊎_elim
     (at_end (set views id l) r a i e)
 
 module _ (P : Program) (C : Sizes) (opening : List Entry) where
-  module _ (id : ℕ) (v : View) (left right : Role) (kin : Heirs) (number : ℕ) (heirs : Heirs) where
+  -- Other views of the same words and history keep the rule, if they fit it, have no number in common and have its draft
+  pub with_views : (s : State ℕ View) (kept : Keeps P C opening s) (views : List View) →
+      ((i : ℕ) (a : View) → get_elem? views i ≡ some a → ViewFits opening kept.history a) →
+      ((i j n : ℕ) (a b : View) → get_elem? views i ≡ some a → get_elem? views j ≡ some b → i ≢ j → IsAlive a.role → IsAlive b.role → IsOf a n → ¬ IsOf b n) →
+      ((i : ℕ) (a : View) → get_elem? views i ≡ some a → IsAlive a.role → a.by ≡ front → a.draft ≡ kept.draft) →
+      Keeps P C opening (record { words = s.words; homes = s.homes; views = views })
+  with_views s kept views fit apart same =
+      let k = kept.kept in
+      record {
+        history = kept.history;
+        draft = kept.draft;
+        kept = record {
+          legal = k.legal;
+          one_table = k.one_table;
+          wide = k.wide;
+          words = k.words;
+          views = fit;
+          apart = apart;
+          draft = same;
+          proper = k.proper;
+        };
+      }
+
+  module _ (id : ℕ) (v : View) (left right : Role) (kin : SpareNumbers) (number : ℕ) (spare : SpareNumbers) where
     abbrev L : View
     L = view left v.by kin v.seen v.draft
 
     abbrev R : View
-    R = view right number heirs v.seen Nothing
+    R = view right number spare v.seen Nothing
 
     module _ (live : IsAlive v.role) (s : State ℕ View) (h : List Entry) (d : Draft) (k : IsKept P C opening s h d) (here : get_elem? s.views id ≡ some v) (q : IsCut v L R) where
       left_of : (n : ℕ) → IsOf L n → IsOf v n
-      left_of n x = ⊎_elim (λ e. inl e) (λ i. inr (q.left_heirs n i)) x
+      left_of n x = ⊎_elim (λ e. inl e) (λ i. inr (q.left_spare n i)) x
 
       apart_at : (i j n : ℕ) (a b : View) → Where s.views id L R i a → Where s.views id L R j b → i ≢ j → IsAlive a.role → IsAlive b.role → IsOf a n → ¬ IsOf b n
       apart_at i j n a b (IsLeft e f) (IsLeft e' f') ne la lb x y = ne (e ∙ sym e')
@@ -99,7 +123,7 @@ module _ (P : Program) (C : Sizes) (opening : List Entry) where
             told = starts_empty h;
             opened = λ _. g.opened live;
             all_own = λ _. g.all_own live;
-            unborn = λ _ n x. g.unborn live n (q.left_heirs n x);
+            unborn = λ _ n x. g.unborn live n (q.left_spare n x);
             caller = q.left_caller;
             above = q.left_above;
           })
@@ -121,76 +145,66 @@ module _ (P : Program) (C : Sizes) (opening : List Entry) where
       draft_at i a (IsElse e f) la is = k.draft i a f la is
       draft_at i a (IsRight e f) la is =
           let its = q.given (subst (λ (z : View). IsAlive z.role) (sym f) la) number (inl refl) in
-          absurd (positive v.heirs number v.by (k.views id v here).above its (ap (λ (z : View). z.by) f ∙ is))
+          absurd (positive v.spare number v.by (k.views id v here).above its (ap (λ (z : View). z.by) f ∙ is))
 
-    splits : IsAlive v.role → (IsCaller v.role v.by → (1 ≤ v.heirs.every → v.by < v.heirs.first) → IsCut v L R) → Splits (Keeps P C opening) id v L R
+    splits : IsAlive v.role → (IsCaller v.role v.by → (1 ≤ v.spare.every → v.by < v.spare.first) → IsCut v L R) → Splits (Keeps P C opening) id v L R
     splits live cut s kept here =
         let h : List Entry = kept.history in
         let d : Draft = kept.draft in
         let k : IsKept P C opening s h d = kept.kept in
         let f = k.views id v here in
         let q : IsCut v L R = cut f.caller f.above in
-        record {
-          history = h;
-          draft = d;
-          kept = record {
-            legal = k.legal;
-            one_table = k.one_table;
-            wide = k.wide;
-            words = k.words;
-            views = λ i a e. fits_at live s h d k here q i a (where_is s.views id L R i a e);
-            apart = λ i j n a b e e'. apart_at live s h d k here q i j n a b (where_is s.views id L R i a e) (where_is s.views id L R j b e');
-            draft = λ i a e. draft_at live s h d k here q i a (where_is s.views id L R i a e);
-            proper = k.proper;
-          };
-        }
+        with_views s kept (set s.views id L ++ R ∷ [])
+        (λ i a e. fits_at live s h d k here q i a (where_is s.views id L R i a e))
+        (λ i j n a b e e'. apart_at live s h d k here q i j n a b (where_is s.views id L R i a e) (where_is s.views id L R j b e'))
+        (λ i a e. draft_at live s h d k here q i a (where_is s.views id L R i a e))
 
   -- The first seat is cut into the front's and the back's
-  pub splits_back : (id : ℕ) (v : View) → v.role ≡ Start → v.heirs ≡ record { first = 1; every = 1 } →
-      Splits (Keeps P C opening) id v (view Front v.by (without_first v.heirs) v.seen v.draft) (view Back v.heirs.first nobody v.seen Nothing)
-  splits_back id v is are = splits id v Front Back (without_first v.heirs) v.heirs.first nobody (subst IsAlive (sym is) tt) (λ caller above.
-      let one : v.heirs.first ≡ 1 = ap (λ (z : Heirs). z.first) are in
-      let step : v.heirs.every ≡ 1 = ap (λ (z : Heirs). z.every) are in
-      let least : 1 ≤ v.heirs.every = omega arith in
+  pub splits_back : (id : ℕ) (v : View) → v.role ≡ Start → v.spare ≡ record { first = 1; every = 1 } →
+      Splits (Keeps P C opening) id v (view Front v.by (without_first v.spare) v.seen v.draft) (view Back v.spare.first nobody v.seen Nothing)
+  splits_back id v is are = splits id v Front Back (without_first v.spare) v.spare.first nobody (subst IsAlive (sym is) tt) (λ caller above.
+      let one : v.spare.first ≡ 1 = ap (λ (z : SpareNumbers). z.first) are in
+      let step : v.spare.every ≡ 1 = ap (λ (z : SpareNumbers). z.every) are in
+      let least : 1 ≤ v.spare.every = omega arith in
       let below = above least in
       record {
         left_caller = subst (λ r. IsCaller r v.by) is caller;
         right_caller = one;
         left_above = λ _. omega arith;
-        right_above = λ none. absurd (no_heirs none);
-        left_heirs = λ n i. later_of v.heirs n i;
-        given = λ _ n x. ⊎_elim (λ e. record { some = least; k = 0; is = e ∙ sym (first_is v.heirs) }) (λ i. absurd (no_heirs i.some)) x;
-        apart = λ _ n x y. ⊎_elim (λ (e' : n ≡ v.heirs.first). ⊎_elim (λ (e : n ≡ v.by). omega arith) (λ i. not_first v.heirs n i e') x) (λ i. no_heirs i.some) y;
+        right_above = λ none. absurd (no_spare none);
+        left_spare = λ n i. later_of v.spare n i;
+        given = λ _ n x. ⊎_elim (λ e. record { some = least; k = 0; is = e ∙ sym (first_is v.spare) }) (λ i. absurd (no_spare i.some)) x;
+        apart = λ _ n x y. ⊎_elim (λ (e' : n ≡ v.spare.first). ⊎_elim (λ (e : n ≡ v.by). omega arith) (λ i. not_first v.spare n i e') x) (λ i. no_spare i.some) y;
       })
     where
-      first_is : (heirs : Heirs) → heirs.first + 0 * heirs.every ≡ heirs.first
-      first_is heirs = omega arith
+      first_is : (spare : SpareNumbers) → spare.first + 0 * spare.every ≡ spare.first
+      first_is spare = omega arith
 
   -- The first unit's is cut from the front's
-  pub splits_first : (id : ℕ) (v : View) → v.role ≡ Front → v.heirs ≡ record { first = 2; every = 1 } →
-      Splits (Keeps P C opening) id v (view v.role v.by nobody v.seen v.draft) (view Worker v.heirs.first (without_first v.heirs) v.seen Nothing)
-  splits_first id v is are = splits id v v.role Worker nobody v.heirs.first (without_first v.heirs) (subst IsAlive (sym is) tt) (λ caller above.
-      let two : v.heirs.first ≡ 2 = ap (λ (z : Heirs). z.first) are in
-      let step : v.heirs.every ≡ 1 = ap (λ (z : Heirs). z.every) are in
-      let least : 1 ≤ v.heirs.every = omega arith in
+  pub splits_first : (id : ℕ) (v : View) → v.role ≡ Front → v.spare ≡ record { first = 2; every = 1 } →
+      Splits (Keeps P C opening) id v (view v.role v.by nobody v.seen v.draft) (view Worker v.spare.first (without_first v.spare) v.seen Nothing)
+  splits_first id v is are = splits id v v.role Worker nobody v.spare.first (without_first v.spare) (subst IsAlive (sym is) tt) (λ caller above.
+      let two : v.spare.first ≡ 2 = ap (λ (z : SpareNumbers). z.first) are in
+      let step : v.spare.every ≡ 1 = ap (λ (z : SpareNumbers). z.every) are in
+      let least : 1 ≤ v.spare.every = omega arith in
       let below = above least in
       record {
         left_caller = caller;
         right_caller = omega arith;
-        left_above = λ none. absurd (no_heirs none);
+        left_above = λ none. absurd (no_spare none);
         right_above = λ _. omega arith;
-        left_heirs = λ n i. absurd (no_heirs i.some);
-        given = λ _ n x. ⊎_elim (λ e. record { some = least; k = 0; is = e ∙ sym (first_is v.heirs) }) (λ i. later_of v.heirs n i) x;
-        apart = λ _ n x y. ⊎_elim (λ (e : n ≡ v.by). ⊎_elim (λ (e' : n ≡ v.heirs.first). omega arith) (λ i. own_number v.heirs n v.by above (later_of v.heirs n i) (sym e)) y) (λ i. no_heirs i.some) x;
+        left_spare = λ n i. absurd (no_spare i.some);
+        given = λ _ n x. ⊎_elim (λ e. record { some = least; k = 0; is = e ∙ sym (first_is v.spare) }) (λ i. later_of v.spare n i) x;
+        apart = λ _ n x y. ⊎_elim (λ (e : n ≡ v.by). ⊎_elim (λ (e' : n ≡ v.spare.first). omega arith) (λ i. own_number v.spare n v.by above (later_of v.spare n i) (sym e)) y) (λ i. no_spare i.some) x;
       })
     where
-      first_is : (heirs : Heirs) → heirs.first + 0 * heirs.every ≡ heirs.first
-      first_is heirs = omega arith
+      first_is : (spare : SpareNumbers) → spare.first + 0 * spare.every ≡ spare.first
+      first_is spare = omega arith
 
   -- A unit's is cut into two units'
-  pub splits_unit : (id : ℕ) (v : View) → v.role ≡ Worker → 1 ≤ v.heirs.every →
-      Splits (Keeps P C opening) id v (view v.role v.by (half v.heirs) v.seen v.draft) (view Worker v.heirs.first (other_half v.heirs) v.seen Nothing)
-  splits_unit id v is least = splits id v v.role Worker (half v.heirs) v.heirs.first (other_half v.heirs) (subst IsAlive (sym is) tt) (λ caller above.
+  pub splits_unit : (id : ℕ) (v : View) → v.role ≡ Worker → 1 ≤ v.spare.every →
+      Splits (Keeps P C opening) id v (view v.role v.by (half v.spare) v.seen v.draft) (view Worker v.spare.first (other_half v.spare) v.seen Nothing)
+  splits_unit id v is least = splits id v v.role Worker (half v.spare) v.spare.first (other_half v.spare) (subst IsAlive (sym is) tt) (λ caller above.
       let unit : 2 ≤ v.by = subst (λ r. IsCaller r v.by) is caller in
       let below = above least in
       record {
@@ -198,25 +212,25 @@ module _ (P : Program) (C : Sizes) (opening : List Entry) where
         right_caller = omega arith;
         left_above = λ _. omega arith;
         right_above = λ _. omega arith;
-        left_heirs = λ n i. half_of v.heirs n i;
-        given = λ _ n x. ⊎_elim (λ e. record { some = least; k = 0; is = e ∙ sym (first_is v.heirs) }) (λ i. other_half_of v.heirs n i) x;
+        left_spare = λ n i. half_of v.spare n i;
+        given = λ _ n x. ⊎_elim (λ e. record { some = least; k = 0; is = e ∙ sym (first_is v.spare) }) (λ i. other_half_of v.spare n i) x;
         apart = λ _ n x y. ⊎_elim
-            (λ (e : n ≡ v.by). ⊎_elim (λ (e' : n ≡ v.heirs.first). omega arith) (λ i. own_number v.heirs n v.by above (other_half_of v.heirs n i) (sym e)) y)
-            (λ i. ⊎_elim (λ (e' : n ≡ v.heirs.first). half_not_first v.heirs n i e') (λ j. half_apart v.heirs n i j) y)
+            (λ (e : n ≡ v.by). ⊎_elim (λ (e' : n ≡ v.spare.first). omega arith) (λ i. own_number v.spare n v.by above (other_half_of v.spare n i) (sym e)) y)
+            (λ i. ⊎_elim (λ (e' : n ≡ v.spare.first). half_not_first v.spare n i e') (λ j. half_apart v.spare n i j) y)
             x;
       })
     where
-      first_is : (heirs : Heirs) → heirs.first + 0 * heirs.every ≡ heirs.first
-      first_is heirs = omega arith
+      first_is : (spare : SpareNumbers) → spare.first + 0 * spare.every ≡ spare.first
+      first_is spare = omega arith
 
   -- A note of what a seat has seen is cut from it
-  pub splits_note : (id : ℕ) (v : View) → IsAlive v.role → Splits (Keeps P C opening) id v (view v.role v.by v.heirs v.seen v.draft) (view Spent 0 nobody v.seen Nothing)
-  splits_note id v alive = splits id v v.role Spent v.heirs 0 nobody alive (λ caller above. record {
+  pub splits_note : (id : ℕ) (v : View) → IsAlive v.role → Splits (Keeps P C opening) id v (view v.role v.by v.spare v.seen v.draft) (view Spent 0 nobody v.seen Nothing)
+  splits_note id v alive = splits id v v.role Spent v.spare 0 nobody alive (λ caller above. record {
     left_caller = caller;
     right_caller = tt;
     left_above = above;
-    right_above = λ none. absurd (no_heirs none);
-    left_heirs = λ n i. i;
+    right_above = λ none. absurd (no_spare none);
+    left_spare = λ n i. i;
     given = λ a. absurd a;
     apart = λ a. absurd a;
   })

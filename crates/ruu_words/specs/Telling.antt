@@ -4,7 +4,8 @@ use Rattle.atomic_table.specs.Table.{Me, Step}
 use Rattle.instructions.specs.Programs.{Program}
 use Rattle.inorder.specs.declared.history.Entry.{Entry}
 use Rattle.inorder.specs.declared.history.Event.{Event}
-use Rattle.inorder.specs.History.{IsLegal, StartsWith, entry, own, renewals}
+use Rattle.inorder.specs.History.{IsLegal, entry, own, renewals}
+use Rattle.instructions.specs.Histories.{StartsWith}
 use Rattle.inorder.specs.Unit.{Sizes}
 use Rattle.ruu_words.specs.declared.rule.Draft.{Draft}
 use Rattle.ruu_words.specs.declared.rule.View.{View}
@@ -22,7 +23,7 @@ pub record Grows (P : Program) (C : Sizes) (by : ℕ) (v w : View)
   pub same : renewals w.seen ≡ renewals v.seen
   pub role : w.role ≡ v.role
   pub by_is : w.by ≡ v.by
-  pub heirs_are : w.heirs ≡ v.heirs
+  pub spare_is : w.spare ≡ v.spare
   pub told : StartsWith w.seen v.told
   pub kind : Kind (between ++ v.seen) w.draft events
 

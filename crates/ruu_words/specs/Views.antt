@@ -1,10 +1,11 @@
 -- Views: what a seat of a table has seen, whose it is, and which numbers it may give away.
 use Rattle.std.specs.Prelude.{⊤, ◌≡◌, ◌⊎◌, ℕ, ◌+◌, ◌*◌, ◌<◌, ◌≤◌, List, []}
 use Rattle.inorder.specs.declared.history.Entry.{Entry}
-use Rattle.inorder.specs.History.{IsUnit, StartsWith, back, front, own}
+use Rattle.inorder.specs.History.{IsUnit, back, front, own}
+use Rattle.instructions.specs.Histories.{StartsWith}
 use Rattle.ruu_words.specs.declared.rule.Draft.{Draft}
 use Rattle.ruu_words.specs.declared.rule.Draft.TheVariants.{Nothing}
-use Rattle.ruu_words.specs.declared.rule.Heirs.{Heirs}
+use Rattle.ruu_words.specs.declared.rule.SpareNumbers.{SpareNumbers}
 use Rattle.ruu_words.specs.declared.rule.Role.{Role}
 use Rattle.ruu_words.specs.declared.rule.Role.TheVariants.{Back, Front, Spent, Start, Worker}
 use Rattle.ruu_words.specs.declared.rule.Setup.{Setup}
@@ -14,37 +15,37 @@ use Rattle.ruu_words.specs.Openings.{opening_of}
 -- The numbers of callers
 
 -- No numbers to give away
-abbrev pub nobody : Heirs
+abbrev pub nobody : SpareNumbers
 nobody = record { first = 0; every = 0 }
 
 -- One of the numbers that a seat may give away
-pub record IsHeir (heirs : Heirs) (n : ℕ) : Type 0 where
-  pub some : 1 ≤ heirs.every
+pub record IsSpare (spare : SpareNumbers) (n : ℕ) : Type 0 where
+  pub some : 1 ≤ spare.every
   pub k : ℕ
-  pub is : n ≡ heirs.first + k * heirs.every
+  pub is : n ≡ spare.first + k * spare.every
 
 -- The number is the seat's own, or one that the seat may give away
 abbrev pub IsOf : View → ℕ → Type 0
-IsOf v n = (n ≡ v.by) ⊎ IsHeir v.heirs n
+IsOf v n = (n ≡ v.by) ⊎ IsSpare v.spare n
 
 -- The numbers that are left when the first is given away
-abbrev pub without_first : Heirs → Heirs
-without_first heirs = record { first = heirs.first + heirs.every; every = heirs.every }
+abbrev pub without_first : SpareNumbers → SpareNumbers
+without_first spare = record { first = spare.first + spare.every; every = spare.every }
 
 -- Every second of these, and the others
-abbrev pub half : Heirs → Heirs
-half heirs = record { first = heirs.first + heirs.every; every = 2 * heirs.every }
+abbrev pub half : SpareNumbers → SpareNumbers
+half spare = record { first = spare.first + spare.every; every = 2 * spare.every }
 
 -- Every second of these, the others
-abbrev pub other_half : Heirs → Heirs
-other_half heirs = record { first = heirs.first + 2 * heirs.every; every = 2 * heirs.every }
+abbrev pub other_half : SpareNumbers → SpareNumbers
+other_half spare = record { first = spare.first + 2 * spare.every; every = 2 * spare.every }
 
 -- Views
 
 -- A seat's view, which nobody has told anything
-abbrev pub view : Role → ℕ → Heirs → List Entry → Draft → View
-view role by heirs seen draft =
-    record { role = role; by = by; heirs = heirs; seen = seen; told = []; draft = draft }
+abbrev pub view : Role → ℕ → SpareNumbers → List Entry → Draft → View
+view role by spare seen draft =
+    record { role = role; by = by; spare = spare; seen = seen; told = []; draft = draft }
 
 -- What the first seat knows: all numbers are its own
 abbrev pub first_view : Setup → View
@@ -56,7 +57,7 @@ informed v w =
     record {
       role = v.role;
       by = v.by;
-      heirs = v.heirs;
+      spare = v.spare;
       seen = v.seen;
       told = w.seen;
       draft = v.draft;
@@ -64,7 +65,7 @@ informed v w =
 
 -- Nobody whose number it may still give away has done anything since the opening, in what it has seen
 abbrev pub Unborn : List Entry → View → Type 0
-Unborn opening v = (n : ℕ) → IsHeir v.heirs n → own n v.seen ≡ own n opening
+Unborn opening v = (n : ℕ) → IsSpare v.spare n → own n v.seen ≡ own n opening
 
 -- Roles. The first seat is the front's once the back's is cut from it, and a spent one makes no
 -- calls
@@ -90,6 +91,6 @@ pub record ViewFits (opening h : List Entry) (v : View) : Type 0 where
   pub told : StartsWith h v.told
   pub opened : IsAlive v.role → StartsWith v.seen opening
   pub all_own : IsAlive v.role → own v.by h ≡ own v.by v.seen
-  pub unborn : IsAlive v.role → (n : ℕ) → IsHeir v.heirs n → own n h ≡ own n opening
+  pub unborn : IsAlive v.role → (n : ℕ) → IsSpare v.spare n → own n h ≡ own n opening
   pub caller : IsCaller v.role v.by
-  pub above : 1 ≤ v.heirs.every → v.by < v.heirs.first
+  pub above : 1 ≤ v.spare.every → v.by < v.spare.first

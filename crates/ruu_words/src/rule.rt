@@ -43,7 +43,7 @@ pub enum Draft {
 
 /// The numbers that a seat may give to the callers of seats cut from it: `first`, and then each that
 /// is `every` further. There are none where `every` is 0.
-pub struct Heirs {
+pub struct SpareNumbers {
     pub first: u64,
     pub every: u64,
 }
@@ -53,7 +53,7 @@ pub struct View {
     pub role: Role,
     /// The number of its caller.
     pub by: u64,
-    pub heirs: Heirs,
+    pub spare: SpareNumbers,
     pub seen: LinkedList<Entry>,
     /// What another seat had seen that this one met. A look makes it part of `seen`.
     pub told: LinkedList<Entry>,

@@ -2,7 +2,7 @@
 use Rattle.std.proofs.Common.{◌≡◌, List, Result, Ok, Err, refl, sym, ap, ◌∙◌, subst, IfOk, OnErr, OnOk}
 use Rattle.instructions.specs.declared.memory.Memory.{Memory}
 use Rattle.inorder.specs.declared.history.Entry.{Entry}
-use Rattle.inorder.specs.History.{StartsWith}
+use Rattle.instructions.specs.Histories.{StartsWith}
 use Rattle.back.specs.Backs.{IsSameBack, TheBack, committed_in, back_state}
 use Rattle.back.specs.Commits.{CommitAnswers}
 use Rattle.back.specs.declared.answers.Commit.{Commit}

@@ -1,16 +1,11 @@
 -- Histories that begin as others.
-use Rattle.std.proofs.Common.{ℕ, List, [], ◌++◌, refl, sym, ap, ◌∙◌, append_assoc}
+use Rattle.std.proofs.Common.{ℕ, List, []}
 use Rattle.inorder.specs.declared.history.Entry.{Entry}
-use Rattle.inorder.specs.History.{StartsWith}
+use Rattle.instructions.specs.Histories.{StartsWith}
+use Rattle.instructions.proofs.Histories.{starts_on}
 use Rattle.inorder.specs.OneHistory.{Adds}
 use Rattle.station.specs.Seats.{TheCore}
 use Rattle.session.specs.Moments.{GrowsLegally, IsBetween}
-
-pub starts_same : (h : List Entry) → StartsWith h h
-starts_same h = record { more = []; is = refl }
-
-pub starts_on : (a b c : List Entry) → StartsWith b a → StartsWith c b → StartsWith c a
-starts_on a b c s t = record { more = t.more ++ s.more; is = t.is ∙ (ap (λ z. t.more ++ z) s.is ∙ sym (append_assoc t.more s.more a)) }
 
 -- One who looks twice
 pub grows_twice : (core : TheCore) (by other : ℕ) (a b c : List Entry) → Adds core.program core.sizes by a b [] → Adds core.program core.sizes other b c [] → GrowsLegally core a c

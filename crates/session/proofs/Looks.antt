@@ -2,16 +2,16 @@
 use Rattle.std.proofs.Common.{◌≡◌, inl, inr, sym, ap, ◌∙◌, subst}
 use Rattle.station.specs.Seats.{TheCore}
 use Rattle.session.specs.Moments.{GrowsLegally}
-use Rattle.session.specs.Plays.{HasLooked, MayHaveLooked}
+use Rattle.session.specs.Plays.{OnlyLooked, MayHaveLooked}
 use Rattle.session.specs.Sessions.{TheSession}
 use Rattle.session.proofs.Histories.{grows_on}
 use Rattle.session.proofs.Meetings.{back_on}
 
-same_core : (a b : TheSession) → HasLooked a b → b.core ≡ a.core
+same_core : (a b : TheSession) → OnlyLooked a b → b.core ≡ a.core
 same_core a b l = ap (λ (s : TheSession). s.core) l.kept
 
 -- Two looks are one
-pub looks_on : (a b c : TheSession) → HasLooked a b → HasLooked b c → HasLooked a c
+pub looks_on : (a b c : TheSession) → OnlyLooked a b → OnlyLooked b c → OnlyLooked a c
 looks_on a b c l m = record {
   grows = grows_on a.core a.seen b.seen c.seen l.grows (subst (λ (k : TheCore). GrowsLegally k b.seen c.seen) (same_core a b l) m.grows);
   kept = m.kept ∙ ap (λ (s : TheSession). record s { seen = c.seen; commits = c.commits; fronts = c.fronts }) l.kept;
@@ -19,10 +19,10 @@ looks_on a b c l m = record {
 }
 
 -- And where nothing may have been looked at
-pub may_on : (a b c : TheSession) → MayHaveLooked a b → HasLooked b c → HasLooked a c
-may_on a b c (inl e) m = subst (λ (s : TheSession). HasLooked s c) e m
+pub may_on : (a b c : TheSession) → MayHaveLooked a b → OnlyLooked b c → OnlyLooked a c
+may_on a b c (inl e) m = subst (λ (s : TheSession). OnlyLooked s c) e m
 may_on a b c (inr l) m = looks_on a b c l m
 
-pub on_may : (a b c : TheSession) → HasLooked a b → MayHaveLooked b c → HasLooked a c
-on_may a b c l (inl e) = subst (λ (s : TheSession). HasLooked a s) (sym e) l
+pub on_may : (a b c : TheSession) → OnlyLooked a b → MayHaveLooked b c → OnlyLooked a c
+on_may a b c l (inl e) = subst (λ (s : TheSession). OnlyLooked a s) (sym e) l
 on_may a b c l (inr m) = looks_on a b c l m

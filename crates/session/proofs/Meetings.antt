@@ -1,13 +1,13 @@
 -- Some that meet the seat that has seen all, one after another.
 use Rattle.std.proofs.Common.{List, Option, ◌∙◌}
-use Rattle.inorder.specs.History.{StartsWith}
+use Rattle.instructions.specs.Histories.{StartsWith}
 use Rattle.back.specs.Backs.{IsSameBack, TheBack}
 use Rattle.session.specs.declared.parties.Party.{Party}
 use Rattle.session.specs.declared.parties.Party.TheVariants.{Back, Front, Unit}
 use Rattle.session.specs.declared.units.Worker.{Worker}
 use Rattle.session.specs.Sessions.{HasToldAll, TwoHaveMet, StaysAsSeen, TheSession, seen_by}
 use Rattle.session.specs.Workers.{StaySeen, seen_at}
-use Rattle.session.proofs.Histories.{starts_on}
+use Rattle.instructions.proofs.Histories.{starts_on}
 
 module _ (old new : TheSession) where
   pub stays : StartsWith new.fronts old.fronts → StartsWith new.commits.seen old.commits.seen → StaySeen old.units new.units → IsSameBack old.commits new.commits → StaysAsSeen old new

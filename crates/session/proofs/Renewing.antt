@@ -3,7 +3,8 @@ use Rattle.std.proofs.Common.{◌≡◌, ℕ, List, ◌∷◌, None, length, sym
 use Rattle.inorder.specs.declared.history.Entry.{Entry}
 use Rattle.inorder.specs.declared.history.Event.TheVariants.{Does}
 use Rattle.inorder.specs.declared.history.Step.TheVariants.{Renew}
-use Rattle.inorder.specs.History.{IsLegal, StartsWith, entry, front, unit_of}
+use Rattle.inorder.specs.History.{IsLegal, entry, front, unit_of}
+use Rattle.instructions.specs.Histories.{StartsWith}
 use Rattle.inorder.specs.Unit.{Sizes}
 use Rattle.instructions.specs.Programs.{Program}
 use Rattle.session.specs.Moments.{GrowsLegally}

@@ -1,10 +1,11 @@
 -- A transcript, line by line.
-use Rattle.std.proofs.Common.{◌≡◌, ◌<◌, ◌&&◌, inl, inr, Bool, true, false, ℕ, ◌+◌, suc, List, [], ◌∷◌, ◌++◌, map, length, take, Option, Some, None, Result, Ok, Err, IfErr, IfSome, refl, sym, ap, ◌∙◌, subst, add-one}
+use Rattle.std.proofs.Common.{◌≡◌, ◌<◌, ◌&&◌, inl, inr, Bool, true, false, ℕ, ◌+◌, suc, List, [], ◌∷◌, ◌++◌, map, length, take}
+use Rattle.std.proofs.Common.{Option, Some, None, Result, Ok, Err, IfErr, IfSome, refl, sym, ap, ◌∙◌, subst, add-one}
 use Rattle.std.specs.Io.BufRead.{DropsThrough, take_through}
 use Rattle.std.specs.Io.KnownBytes.{Appends}
 use Rattle.std.proofs.KnownBytes.{Appends-trans}
-use Rattle.session.specs.declared.script.Fault.{Fault}
-use Rattle.session.specs.declared.script.Fault.TheVariants.{Write}
+use Rattle.counted_io.specs.declared.fault.Fault.{Fault}
+use Rattle.counted_io.specs.declared.fault.Fault.TheVariants.{Write}
 use Rattle.session.specs.Lines.{ends_script, is_command}
 use Rattle.session.specs.declared.reading.Line.{Line}
 use Rattle.session.specs.Scripts.{AreTold, HasBroken, HasDriven, LineIsCut, NothingWasLeft, LineIsTold, ReadsScript, line_of}
@@ -47,7 +48,8 @@ reads None to old chunk empty is rest = tt
 reads (Some input) to old chunk empty is rest = (is ∙ ap (λ xs. xs ++ take_through 10 input) empty, rest)
 
 pub cut_short : (echo : Bool) (from to : Option (List ℕ)) (a b : TheSession) (number : ℕ) (out new : Option (List ℕ)) (chunk text bytes : List ℕ) →
-    ReadsScript from to chunk → IsWrittenOfLine echo a b number (line_of chunk) text → bytes ≡ text → (n : ℕ) × (n < length bytes) × Appends out new (take n bytes) → LineIsCut echo from a number out new
+    ReadsScript from to chunk → IsWrittenOfLine echo a b number (line_of chunk) text → bytes ≡ text → (n : ℕ) × (n < length bytes) × Appends out new (take n bytes) →
+    LineIsCut echo from a number out new
 cut_short echo from to a b number out new chunk text bytes read told same part =
     let whole = subst (λ (xs : List ℕ). (n : ℕ) × (n < length xs) × Appends out new (take n xs)) same part in
     record { to = to; new = b; chunk = chunk; text = text; read = read; told = told; count = whole.0; part = whole.1; written = whole.2 }

@@ -2,7 +2,7 @@
 use Rattle.std.proofs.Common.{◌≡◌, ◌≢◌, inl, inr, ℕ, zero, suc, ◌+◌, ◌%◌, ◌<◌, ◌≤◌, ◌⊎◌, Bool, true, false, List, Option, Some, None, sym, ◌∙◌, subst, add-one, arith}
 use Rattle.inorder.specs.declared.history.Entry.{Entry}
 use Rattle.inorder.specs.declared.history.Source.{Source}
-use Rattle.inorder.specs.History.{StartsWith}
+use Rattle.instructions.specs.Histories.{StartsWith}
 use Rattle.ruu_words.specs.declared.link.LinkWord.{LinkWord}
 use Rattle.ruu_words.specs.declared.station.StationState.{StationState}
 use Rattle.station.specs.declared.answers.Seen.{Seen}
@@ -13,12 +13,13 @@ use Rattle.station.specs.Seats.{TheCore}
 use Rattle.session.specs.declared.producers.Producer.{Producer}
 use Rattle.session.specs.declared.replies.Info.{Info}
 use Rattle.session.specs.declared.replies.Operand.{Operand}
-use Rattle.session.specs.Accounts.{IsFrom, IsNotFrom, IsOfOperand, IsOperandTold, IsProducerSeen, named}
+use Rattle.session.specs.Accounts.{IsFrom, IsNotFrom, IsOfOperand, IsOperandTold, IsProducerSeen, producer_named}
 use Rattle.session.specs.Replies.{IsInfoSeen, IsLinkSeen, IsLook, IsOperandSeen}
 use Rattle.session.specs.declared.replies.Head.{Head}
 use Rattle.session.specs.Rows.{AreLookedAt, head_with, is_free}
 use Rattle.std.proofs.lemmas.Bool.{cases_eq}
-use Rattle.session.proofs.Histories.{starts_same, widen}
+use Rattle.session.proofs.Histories.{widen}
+use Rattle.instructions.proofs.Histories.{starts_same}
 
 module _ (core : TheCore) (old first last new : List Entry) (s : StartsWith first old) (t : StartsWith new last) where
   pub later_link : (p c : ℕ) (k : Source) (seen : Option LinkWord) → IsLinkSeen core first last p c k seen → IsLinkSeen core old new p c k seen
@@ -43,7 +44,8 @@ module _ (core : TheCore) (old first last new : List Entry) (s : StartsWith firs
   later_producer c tag k None n = λ p inside. later_none p c tag k (n p inside)
   later_producer c tag k (Some from) f = later_from c tag k from f
 
-  pub later_awaited : (station tag : ℕ) (k : Source) (state : SourceState) (from : Option Producer) → IsOfOperand core first last station tag k state from → IsOfOperand core old new station tag k state from
+  pub later_awaited : (station tag : ℕ) (k : Source) (state : SourceState) (from : Option Producer) →
+      IsOfOperand core first last station tag k state from → IsOfOperand core old new station tag k state from
   later_awaited station tag k Unset from e = e
   later_awaited station tag k Wait from p = later_producer station tag k from p
   later_awaited station tag k Val from e = e
@@ -78,7 +80,7 @@ one_more_look core old last new tail n ring before after seen free s t same all 
 -- One more station whose link word names nobody
 pub one_more_none : (core : TheCore) (old last new : List Entry) (c tag n : ℕ) (k : Source) (seen : Option LinkWord) →
     StartsWith last old → StartsWith new last → ((p : ℕ) → p < n → IsNotFrom core old last p c tag k) → IsLinkSeen core last new n c k seen →
-    named seen n tag ≡ None → (p : ℕ) → p < n + 1 → IsNotFrom core old new p c tag k
+    producer_named seen n tag ≡ None → (p : ℕ) → p < n + 1 → IsNotFrom core old new p c tag k
 one_more_none core old last new c tag n k seen s t none look other p inside = go (cases_eq p n)
   where
     go : (p ≡ n) ⊎ (p ≢ n) → IsNotFrom core old new p c tag k

@@ -4,15 +4,16 @@ use Rattle.std.proofs.Common.{Option, Some, None, option_map, length, get_or, se
 use Rattle.std.proofs.lemmas.Bool.{cases_eq}
 use Rattle.std.proofs.lemmas.List.{append-nil, get_or_default}
 use Rattle.inorder.specs.declared.history.Entry.{Entry}
-use Rattle.inorder.specs.History.{StartsWith}
+use Rattle.instructions.specs.Histories.{StartsWith}
 use Rattle.inorder.specs.OneHistory.{Adds}
 use Rattle.session.specs.declared.units.Claimed.{Claimed}
 use Rattle.session.specs.declared.units.Claimed.TheVariants as claimed
 use Rattle.session.specs.declared.units.Worker.{Worker}
 use Rattle.session.specs.Held.{claim_of, held_job}
 use Rattle.session.specs.Replies.{HoldsWhatIs}
-use Rattle.session.specs.Workers.{AreAtWork, AreWorkers, HasNone, IsAtWork, UnitHasSeen, HasUnit, IsHolder, IsWorker, StaySeen, job_at, job_from, job_in, seen_at, seen_by_unit, station_held, worker_at}
-use Rattle.session.proofs.Histories.{starts_same}
+use Rattle.session.specs.Workers.{AreAtWork, AreWorkers, HasNone, HasUnit, IsAtWork, HoldsJob, IsWorker, StaySeen, UnitHasSeen}
+use Rattle.session.specs.Workers.{job_at, job_from, job_in, seen_at, seen_by_unit, station_held, worker_at}
+use Rattle.instructions.proofs.Histories.{starts_same}
 use Rattle.session.proofs.Jobs.{job_later}
 use Rattle.station.specs.declared.answers.Claim.{Claim}
 use Rattle.station.specs.declared.job.Job.{Job}
@@ -45,7 +46,7 @@ none_at_work w e = cc
 
 -- who is of a core holds its job there
 pub at_work : (core : TheCore) (w : Worker) → IsWorker core w → IsAtWork w
-at_work core w is job e = subst (λ (k : TheCore). IsHolder k w.seat job) (sym is.core_is) (is.holds job e)
+at_work core w is job e = subst (λ (k : TheCore). HoldsJob k w.seat job) (sym is.core_is) (is.holds job e)
 
 pub all_at_work : (core : TheCore) (units : List (Option Worker)) → AreWorkers core units → AreAtWork units
 all_at_work core units are place w here = at_work core w (are place w here)
@@ -146,14 +147,14 @@ still_works core stay w seat is same adds = record {
 }
 
 -- The job of a claim is held
-holds_by : (core : TheCore) (seat : Caller) (answer : Claimed) → HoldsWhatIs core seat (claim_of answer) → (job : Job) → job_from answer ≡ Some job → IsHolder core seat job
-holds_by core seat (claimed.Job h) holds job e = let same : held_job h ≡ job = cc in subst (λ (j : Job). IsHolder core seat j) same holds
+holds_by : (core : TheCore) (seat : Caller) (answer : Claimed) → HoldsWhatIs core seat (claim_of answer) → (job : Job) → job_from answer ≡ Some job → HoldsJob core seat job
+holds_by core seat (claimed.Job h) holds job e = let same : held_job h ≡ job = cc in subst (λ (j : Job). HoldsJob core seat j) same holds
 holds_by core seat claimed.NotOpen holds job e = absurd (cc)
 holds_by core seat (claimed.Waiting tag k) holds job e = absurd (cc)
 holds_by core seat (claimed.Moved tag) holds job e = absurd (cc)
 
 pub claimed_holds : (core : TheCore) (seat : Caller) (answer : Claimed) (claim : Claim) (job : Option Job) →
-    claim_of answer ≡ claim → HoldsWhatIs core seat claim → job ≡ job_from answer → (held : Job) → job ≡ Some held → IsHolder core seat held
+    claim_of answer ≡ claim → HoldsWhatIs core seat claim → job ≡ job_from answer → (held : Job) → job ≡ Some held → HoldsJob core seat held
 claimed_holds core seat answer claim job e holds from held is = holds_by core seat answer (subst (λ (c : Claim). HoldsWhatIs core seat c) (sym e) holds) held (sym from ∙ is)
 
 -- One more that was not made

@@ -2,7 +2,7 @@
 use Rattle.std.specs.Prelude.{◌≡◌, ◌==◌, ℕ, ◌<◌, ◌≤◌, List, Option, Some, None, if◌then◌else◌}
 use Rattle.inorder.specs.declared.history.Entry.{Entry}
 use Rattle.inorder.specs.declared.history.Source.{Source}
-use Rattle.inorder.specs.History.{StartsWith}
+use Rattle.instructions.specs.Histories.{StartsWith}
 use Rattle.front.specs.declared.answers.Turn.{Turn}
 use Rattle.front.specs.declared.answers.Turn.TheVariants.{Let}
 use Rattle.ruu_words.specs.declared.link.LinkWord.{LinkWord}
@@ -24,16 +24,16 @@ use Rattle.session.specs.Moments.{IsBetween}
 use Rattle.session.specs.Replies.{IsInfoSeen, IsLinkSeen, IsOperandSeen, IsTurn}
 
 -- The producer at a station that its link word names for the tenant with this tag
-abbrev pub named : Option LinkWord → (station tag : ℕ) → Option Producer
-named None station tag = None
-named (Some link) station tag =
+abbrev pub producer_named : Option LinkWord → (station tag : ℕ) → Option Producer
+producer_named None station tag = None
+producer_named (Some link) station tag =
     if link.consumer == tag then Some (record { station = station; tag = link.producer }) else None
 
 -- The link word from station p to source k of station c was seen, and it names no producer for this tag
 pub record IsNotFrom (core : TheCore) (old new : List Entry) (p c tag : ℕ) (k : Source) : Type 0 where
   pub seen : Option LinkWord
   pub is : IsLinkSeen core old new p c k seen
-  pub other : named seen p tag ≡ None
+  pub other : producer_named seen p tag ≡ None
 
 -- A link word was seen that names this producer for the tenant of this tag at station c
 pub record IsFrom (core : TheCore) (old new : List Entry) (c tag : ℕ) (k : Source) (from : Producer) :
@@ -41,7 +41,7 @@ pub record IsFrom (core : TheCore) (old new : List Entry) (c tag : ℕ) (k : Sou
   pub at : ℕ
   pub seen : Option LinkWord
   pub is : IsLinkSeen core old new at c k seen
-  pub names : named seen at tag ≡ Some from
+  pub names : producer_named seen at tag ≡ Some from
 
 -- The producer of source k of the tenant of this tag at station c, by the link words
 abbrev pub IsProducerSeen : TheCore → List Entry → List Entry → ℕ → ℕ → Source → Option Producer → Type 0

@@ -1,8 +1,8 @@
 -- The commands that make one call, and the texts that stand for them.
 use Rattle.std.specs.Prelude.{◌==◌, ◌&&◌, ℕ, Bool, not, List, length, codes, Option, Some, None, Result, Ok, Err, if◌then◌else◌}
-use Rattle.std.specs.Option.{option_map}
+use Rattle.std.specs.Option.{option_map, option_or}
 use Rattle.std.specs.Str.{bytes_eq}
-use Rattle.isa.specs.RegisterNames.{first_some, register}
+use Rattle.isa.specs.RegisterNames.{register}
 use Rattle.isa.specs.declared.listing.fault.FaultKind.{FaultKind}
 use Rattle.lexical.specs.Number.{decimal_in, number_in}
 use Rattle.session.specs.declared.commands.Command.{Command}
@@ -64,12 +64,12 @@ abbrev pub without_operands : {A : Type 0} → Texts → A → Option A
 without_operands w asked = if is_empty w.first then Some asked else None
 
 -- The number of a station or a register
-abbrev pub number_of : List ℕ → Option ℕ
-number_of text = decimal_in 4294967295 text
+abbrev pub whole_number : List ℕ → Option ℕ
+whole_number text = decimal_in 4294967295 text
 
 -- The number that is the only operand
 abbrev pub only_number : Texts → Option ℕ
-only_number w = if has_one w then number_of w.first else None
+only_number w = if has_one w then whole_number w.first else None
 
 -- The number that was read, if there is one
 abbrev pub read_number : Result ℕ FaultKind → Option ℕ
@@ -78,7 +78,7 @@ read_number (Err fault) = None
 
 -- A register by its number, or as a listing names it
 abbrev pub register_of : List ℕ → Option ℕ
-register_of text = first_some (number_of text) (read_number (register text))
+register_of text = option_or (whole_number text) (read_number (register text))
 
 -- The register that is the only operand
 abbrev pub only_register : Texts → Option ℕ
@@ -101,7 +101,7 @@ both (Some a) (Some b) = Some (a, b)
 
 -- A unit and the number of a station
 abbrev pub unit_and_number : Texts → Option (ℕ × ℕ)
-unit_and_number w = if has_two w then both (unit_named w.first) (number_of w.second) else None
+unit_and_number w = if has_two w then both (unit_named w.first) (whole_number w.second) else None
 
 -- The source with this number, 1 or 2
 abbrev pub source_numbered : Option ℕ → Option Which
@@ -110,11 +110,11 @@ source_numbered (Some n) = if n == 1 then Some First else if n == 2 then Some Se
 
 -- The source that an operand names
 abbrev pub source_of : List ℕ → Option Which
-source_of text = source_numbered (number_of text)
+source_of text = source_numbered (whole_number text)
 
 -- The number of a station, and one of its two sources
 abbrev pub station_and_source : Texts → Option (ℕ × Which)
-station_and_source w = if has_two w then both (number_of w.first) (source_of w.second) else None
+station_and_source w = if has_two w then both (whole_number w.first) (source_of w.second) else None
 
 -- The one with this name: the front, the back, or a unit
 abbrev pub party_of : List ℕ → Option Party

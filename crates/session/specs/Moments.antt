@@ -1,7 +1,8 @@
 -- Where a call stands in the one history of a session.
 use Rattle.std.specs.Prelude.{List}
 use Rattle.inorder.specs.declared.history.Entry.{Entry}
-use Rattle.inorder.specs.History.{IsLegal, StartsWith}
+use Rattle.inorder.specs.History.{IsLegal}
+use Rattle.instructions.specs.Histories.{StartsWith}
 use Rattle.station.specs.Seats.{TheCore}
 
 -- The history has grown, and it is legal

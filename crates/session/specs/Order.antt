@@ -17,13 +17,13 @@ pub record IsReplied (old new : TheSession) (command : Command) (reply : Reply) 
   pub kept : new ≡ after_command command old new
 
 -- The station, if it is one of the ring, and else the first one
-abbrev pub station_in : (ring : ℕ) → Option ℕ → ℕ
-station_in ring None = 0
-station_in ring (Some s) = if nat_lt s ring then s else 0
+abbrev pub station_or_first : (ring : ℕ) → Option ℕ → ℕ
+station_or_first ring None = 0
+station_or_first ring (Some s) = if nat_lt s ring then s else 0
 
 -- The oldest tenant's station, by what is told of the ring
 abbrev pub oldest_in : (ring : ℕ) → Reply → ℕ
-oldest_in ring (say.Ring head ahead) = station_in ring head.station
+oldest_in ring (say.Ring head ahead) = station_or_first ring head.station
 oldest_in ring reply = 0
 
 -- The oldest tenant's station was asked for

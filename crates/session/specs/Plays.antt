@@ -12,14 +12,14 @@ use Rattle.session.specs.Texts.{unit_text}
 use Rattle.session.specs.Transcripts.{IsWrittenOfLine}
 
 -- A session whose words were looked at: its seats have seen more, and all else is as it was
-pub record HasLooked (old new : TheSession) : Type 0 where
+pub record OnlyLooked (old new : TheSession) : Type 0 where
   pub grows : GrowsLegally old.core old.seen new.seen
   pub kept : new ≡ record old { seen = new.seen; commits = new.commits; fronts = new.fronts }
   pub commits : KeepsCommits old new
 
 -- The words may have been looked at
 abbrev pub MayHaveLooked : TheSession → TheSession → Type 0
-MayHaveLooked old new = (new ≡ old) ⊎ HasLooked old new
+MayHaveLooked old new = (new ≡ old) ⊎ OnlyLooked old new
 
 -- A command of a unit, as a script has it
 abbrev pub unit_command : List ℕ → (unit station : ℕ) → List ℕ
@@ -37,7 +37,7 @@ command_text ask.Refresh = codes "refresh"
 command_text command = codes "commit"
 
 -- The line of one of some commands, which the next word of the generator names
-pub record IsNamed (from to : Lcg) (line : List ℕ) : Type 0 where
+pub record IsChosenLine (from to : Lcg) (line : List ℕ) : Type 0 where
   pub choices : List Command
   pub word : ℕ
   pub next : ChoosesNext from (length choices) word to
@@ -59,7 +59,7 @@ IsPlay begin first (line ∷ earlier) text chooser last =
     (middle looked : TheSession) × (before : List ℕ) × (from : Lcg)
     × IsPlay begin first earlier before from middle
     × MayHaveLooked middle looked
-    × IsNamed from chooser line
+    × IsChosenLine from chooser line
     × IsWrittenBehind looked last (suc (length earlier)) line before text
 
 -- So many lines were chosen and answered

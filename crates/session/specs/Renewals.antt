@@ -3,12 +3,13 @@ use Rattle.std.specs.Prelude.{◌≡◌, ℕ, List, ◌∷◌, length, None}
 use Rattle.inorder.specs.declared.history.Entry.{Entry}
 use Rattle.inorder.specs.declared.history.Event.TheVariants.{Does}
 use Rattle.inorder.specs.declared.history.Step.TheVariants.{Renew}
-use Rattle.inorder.specs.History.{MayAdd, StartsWith, back, entry, front, unit_of}
+use Rattle.inorder.specs.History.{MayAdd, back, entry, front, unit_of}
+use Rattle.instructions.specs.Histories.{StartsWith}
 use Rattle.back.specs.Backs.{TheBack, back_state}
 use Rattle.station.specs.Seats.{Caller, TheCore}
 
 -- The seat that has seen all, the front and the back are of this core
-pub record AreAt (core : TheCore) (all : Caller) (front_core : TheCore) (commits : TheBack) :
+pub record SeatsAreAt (core : TheCore) (all : Caller) (front_core : TheCore) (commits : TheBack) :
     Type 0 where
   pub all_core : all.core ≡ core
   pub front_is : front_core ≡ core

@@ -19,7 +19,7 @@ use Rattle.session.specs.Replies.{IsLook}
 use Rattle.session.specs.Workers.{job_at}
 
 -- The job is of the tenant with this tag at a station
-pub record IsJobOf (station tag : ℕ) (job : Job) : Type 0 where
+pub record IsJobAt (station tag : ℕ) (job : Job) : Type 0 where
   pub station_is : job.station ≡ station
   pub tag_is : job.tag ≡ tag
 
@@ -27,13 +27,13 @@ pub record IsJobOf (station tag : ℕ) (job : Job) : Type 0 where
 pub record HoldsJobOf (units : List (Option Worker)) (station tag at : ℕ) : Type 0 where
   pub job : Job
   pub held : job_at units at ≡ Some job
-  pub of : IsJobOf station tag job
+  pub of : IsJobAt station tag job
 
 -- Who holds the job of the tenant with this tag at a station
 abbrev pub IsHolder : List (Option Worker) → (station tag : ℕ) → Option ℕ → Type 0
 IsHolder units station tag (Some at) = HoldsJobOf units station tag at
 IsHolder units station tag None =
-    (at : ℕ) (job : Job) → at < length units → job_at units at ≡ Some job → ¬ IsJobOf station tag job
+    (at : ℕ) (job : Job) → at < length units → job_at units at ≡ Some job → ¬ IsJobAt station tag job
 
 -- The words of a station
 pub record IsRowSeen (core : TheCore) (old new : List Entry) (units : List (Option Worker)) (station : ℕ)
@@ -68,23 +68,23 @@ AreLookedAt core old new tail (suc n) head =
     × (head ≡ head_with earlier ((tail + n) % core.sizes.ring) (is_free seen.state))
 
 -- The oldest tenant's station is the first from the next tenant's on that is not free
-abbrev pub IsHead : TheCore → List Entry → List Entry → (tail : ℕ) → Head → Type 0
-IsHead core old new tail head = AreLookedAt core old new tail core.sizes.ring head
+abbrev pub IsHeadSeen : TheCore → List Entry → List Entry → (tail : ℕ) → Head → Type 0
+IsHeadSeen core old new tail head = AreLookedAt core old new tail core.sizes.ring head
 
 -- Where the path goes on, by what was seen
-pub record IsFront (core : TheCore) (seen : List Entry) (ahead : Ahead) : Type 0 where
+pub record IsAheadOf (core : TheCore) (seen : List Entry) (ahead : Ahead) : Type 0 where
   pub station : ahead.station ≡ next_station core.sizes (recent (unit_in core seen))
   pub pc : ahead.pc ≡ front_pc (unit_in core seen).tenants
 
 -- Where the path goes on, at a moment
 abbrev pub IsAhead : TheCore → List Entry → List Entry → Ahead → Type 0
-IsAhead core old new ahead = IsBetween old new (λ before behind. IsFront core behind ahead)
+IsAhead core old new ahead = IsBetween old new (λ before behind. IsAheadOf core behind ahead)
 
 -- The ring: its oldest tenant, and where the path goes on
 pub record IsRingTold (core : TheCore) (old new : List Entry) (head : Head) (ahead : Ahead) : Type 0 where
   pub middle : List Entry
   pub ahead_is : IsAhead core old middle ahead
-  pub head_is : IsHead core middle new ahead.station head
+  pub head_is : IsHeadSeen core middle new ahead.station head
 
 -- The words of the oldest tenant's station, if one is live
 abbrev pub IsOldest : TheCore → List Entry → List Entry → List (Option Worker) → Head → Option (ℕ × Row)

@@ -7,8 +7,8 @@ use Rattle.session.specs.Sessions.{TheSession}
 use Rattle.session.specs.Transcripts.{IsTranscript, IsWrittenOfLine}
 use Rattle.session.specs.Words.{words_of}
 use Rattle.session.specs.declared.reading.Line.{Line}
-use Rattle.session.specs.declared.script.Fault.{Fault}
-use Rattle.session.specs.declared.script.Fault.TheVariants.{Read, Memory, Write}
+use Rattle.counted_io.specs.declared.fault.Fault.{Fault}
+use Rattle.counted_io.specs.declared.fault.Fault.TheVariants.{Read, Memory, Write}
 
 -- A line of a script without what ends it
 abbrev pub line_of : List ℕ → List ℕ
@@ -117,7 +117,7 @@ pub record HasBroken (echo : Bool) (from : Option (List ℕ)) (old : TheSession)
   pub cut : LineIsCut echo to new (count + 1) between after
 
 -- How many calls of the writer failed where a script was not answered to its end
-abbrev pub failed_writes : Fault → ℕ
-failed_writes Read = 0
-failed_writes Memory = 0
-failed_writes Write = 1
+abbrev pub write_failures : Fault → ℕ
+write_failures Read = 0
+write_failures Memory = 0
+write_failures Write = 1

@@ -5,7 +5,8 @@ use Rattle.instructions.specs.declared.end.End.{End}
 use Rattle.instructions.specs.Settings.{Settings}
 use Rattle.instructions.specs.Registers.{register_count}
 use Rattle.inorder.specs.declared.history.Entry.{Entry}
-use Rattle.inorder.specs.History.{IsLegal, StartsWith, back}
+use Rattle.inorder.specs.History.{IsLegal, back}
+use Rattle.instructions.specs.Histories.{StartsWith}
 use Rattle.inorder.specs.Runs.{state_in}
 use Rattle.back.specs.Backs.{IsSameBack, TheBack, back_state}
 use Rattle.back.specs.Ends.{ending_of}

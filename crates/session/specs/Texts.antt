@@ -194,14 +194,14 @@ written_text r value =
     if r == 0 then [] else codes " " ++ (register_label r ++ (codes "=" ++ hexadecimal value))
 
 -- The low bytes of a value, as many as are stored
-abbrev pub stored : (width value : ℕ) → ℕ
-stored width value = if width == 1 then value % 256 else if width == 2 then value % 65536 else value
+abbrev pub low_bytes : (width value : ℕ) → ℕ
+low_bytes width value = if width == 1 then value % 256 else if width == 2 then value % 65536 else value
 
 -- The bytes that a store has written, by its two operands
 abbrev pub memory_text : Instr → Row → List ℕ
 memory_text i row =
     codes " m " ++ (hexadecimal (sum row.first.seen.value i.number) ++ (codes "="
-    ++ hexadecimal (stored (width i.op) row.second.seen.value)))
+    ++ hexadecimal (low_bytes (width i.op) row.second.seen.value)))
 
 -- The change that the tenant at a pc makes when it retires, by the kind of its instruction. The word of a jump that links
 -- has the next pc, and its register gets the address behind the jump
@@ -275,15 +275,15 @@ reads None which = true
 reads (Some i) which = is_some (source_register (which_number which) i)
 
 -- An operand, if the instruction of its info word reads it
-abbrev pub operand_text : Program → Which → Operand → List ℕ
-operand_text P which o =
+abbrev pub operand_words : Program → Which → Operand → List ℕ
+operand_words P which o =
     if reads (indexed P o.info.index) which
     then seen_operand_text o.seen.state o.seen.value o.from else codes "NONE"
 
 -- The text of a look at an operand
 abbrev pub told_operand_text : Program → Which → Operand → List ℕ
 told_operand_text P which o =
-    codes "Seen tag " ++ (decimal o.seen.tag ++ (codes " state " ++ operand_text P which o))
+    codes "Seen tag " ++ (decimal o.seen.tag ++ (codes " state " ++ operand_words P which o))
 
 -- The text of a producer by the link words
 abbrev pub link_text : Option Producer → List ℕ
@@ -297,12 +297,12 @@ info_words info =
     ++ (codes " predicted " ++ hexadecimal info.predicted))))
 
 -- An info word with its instruction
-abbrev pub tenant_text : Program → Info → List ℕ
-tenant_text P info = info_words info ++ indexed_text P info.index
+abbrev pub instr_info : Program → Info → List ℕ
+instr_info P info = info_words info ++ indexed_text P info.index
 
 -- An info word
 abbrev pub info_text : Program → Info → List ℕ
-info_text P info = codes "Info" ++ tenant_text P info
+info_text P info = codes "Info" ++ instr_info P info
 
 -- A letter, by its place in the alphabet
 abbrev pub letter_text : ℕ → List ℕ
@@ -335,9 +335,9 @@ word_text row = state_words row.seen ++ holder_text row.unit
 -- All that is told of a station
 abbrev pub station_text : Program → Row → List ℕ
 station_text P row =
-    ((((word_text row ++ tenant_text P row.first.info) ++ codes "; 1 ")
-    ++ operand_text P which_of.First row.first) ++ codes "; 2 ")
-    ++ operand_text P which_of.Second row.second
+    ((((word_text row ++ instr_info P row.first.info) ++ codes "; 1 ")
+    ++ operand_words P which_of.First row.first) ++ codes "; 2 ")
+    ++ operand_words P which_of.Second row.second
 
 -- A station, or that there is none
 abbrev pub some_station : Option ℕ → List ℕ

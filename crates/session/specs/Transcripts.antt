@@ -20,20 +20,20 @@ use Rattle.session.specs.Texts.{reply_line}
 use Rattle.session.specs.Words.{words_of}
 
 -- The text that names the operands of a command
-abbrev pub operands_text : Verb → List ℕ
-operands_text verb.Turn = codes "no operand, or a pc"
-operands_text verb.Step = codes "a number of instructions"
-operands_text verb.Until = codes "a pc"
-operands_text verb.Claim = codes "a unit and a station"
-operands_text verb.Finish = codes "a unit and a station"
-operands_text verb.Look = codes "a station"
-operands_text verb.Info = codes "a station"
-operands_text verb.Station = codes "a station"
-operands_text verb.Operand = codes "a station and a source"
-operands_text verb.Link = codes "a station and a source"
-operands_text verb.Creator = codes "a register"
-operands_text verb.Meet = codes "two of front, back and units"
-operands_text _ = codes "no operand"
+abbrev pub operands_of_verb : Verb → List ℕ
+operands_of_verb verb.Turn = codes "no operand, or a pc"
+operands_of_verb verb.Step = codes "a number of instructions"
+operands_of_verb verb.Until = codes "a pc"
+operands_of_verb verb.Claim = codes "a unit and a station"
+operands_of_verb verb.Finish = codes "a unit and a station"
+operands_of_verb verb.Look = codes "a station"
+operands_of_verb verb.Info = codes "a station"
+operands_of_verb verb.Station = codes "a station"
+operands_of_verb verb.Operand = codes "a station and a source"
+operands_of_verb verb.Link = codes "a station and a source"
+operands_of_verb verb.Creator = codes "a register"
+operands_of_verb verb.Meet = codes "two of front, back and units"
+operands_of_verb _ = codes "no operand"
 
 -- The text for a line whose first word is none of a command
 abbrev pub unknown_text : ℕ → List ℕ
@@ -43,7 +43,7 @@ unknown_text number = codes "line " ++ (decimal number ++ codes ": unknown word\
 abbrev pub wants_text : ℕ → Verb → List ℕ
 wants_text number v =
     codes "line " ++ (decimal number ++ (codes ": " ++ (verb_name v ++ (codes " takes "
-    ++ (operands_text v ++ newline)))))
+    ++ (operands_of_verb v ++ newline)))))
 
 -- A command was answered, and the history has grown
 pub record IsAnswered (old new : TheSession) (number : ℕ) (command : Command) (text : List ℕ) : Type 0 where

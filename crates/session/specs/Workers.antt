@@ -1,6 +1,6 @@
 -- The units of a session.
 use Rattle.std.specs.Prelude.{◌≡◌, ◌≢◌, ℕ, List, [], Option, Some, None, option_map, slice_index_or}
-use Rattle.inorder.specs.History.{StartsWith}
+use Rattle.instructions.specs.Histories.{StartsWith}
 use Rattle.inorder.specs.declared.history.Entry.{Entry}
 use Rattle.session.specs.declared.units.Claimed.{Claimed}
 use Rattle.session.specs.declared.units.Claimed.TheVariants as claimed
@@ -15,17 +15,17 @@ use Rattle.station.specs.Claiming.{Holds}
 use Rattle.station.specs.Seats.{Caller, TheCore}
 
 -- The seat's caller holds this job
-abbrev pub IsHolder : TheCore → Caller → Job → Type 0
-IsHolder core seat job = Holds core.program core.sizes seat.by seat.seen job
+abbrev pub HoldsJob : TheCore → Caller → Job → Type 0
+HoldsJob core seat job = Holds core.program core.sizes seat.by seat.seen job
 
 -- A unit of this core holds the job that is kept for it
 pub record IsWorker (core : TheCore) (w : Worker) : Type 0 where
   pub core_is : w.seat.core ≡ core
-  pub holds : (job : Job) → w.job ≡ Some job → IsHolder core w.seat job
+  pub holds : (job : Job) → w.job ≡ Some job → HoldsJob core w.seat job
 
 -- A unit holds the job that is kept for it, at the core of its seat
 abbrev pub IsAtWork : Worker → Type 0
-IsAtWork w = (job : Job) → w.job ≡ Some job → IsHolder w.seat.core w.seat job
+IsAtWork w = (job : Job) → w.job ≡ Some job → HoldsJob w.seat.core w.seat job
 
 -- The unit at a place, if it was made
 abbrev pub worker_at : List (Option Worker) → ℕ → Option Worker

@@ -1,7 +1,7 @@
 //! Calls, with what words tell right behind them.
 ghost use Rattle.std.specs.Prelude.{◌≡◌, ◌<◌, None, vec_len};
 ghost use Rattle.back.specs.Backs.{IsSameBack};
-ghost use Rattle.session.specs.Accounts.{HasTurned, IsAwaited, IsLinkTold, IsOfLet, IsOfOperand, IsOperandTold};
+ghost use Rattle.session.specs.Accounts.{HasTurned, IsAwaited, IsOfLet, IsOfOperand, IsOperandTold};
 ghost use Rattle.session.specs.Moments.{GrowsLegally};
 ghost use Rattle.session.specs.Workers.{AreWorkers, HasClaimedTold, job_at};
 ghost use Rattle.station.specs.Seats.{IsSameSeat};
@@ -162,24 +162,4 @@ pub(crate) fn operand<J: Naming>(
     let seen = reads::operand(core, all, back, station, k);
     let from = from(core, all, back, station, seen.tag, k, seen.state);
     Operand { info, seen, from }
-}
-
-/// The producer that a source of a station waits for, by the link words.
-pub(crate) fn link<J: Naming>(
-    core: &Core,
-    all: &mut UnitSeat,
-    back: &mut Back<J>,
-    station: usize,
-    k: Source,
-) -> Option<Producer>
-    requires all { all.old.core ≡ core.now }
-    requires back { back.old.core ≡ core.now }
-    requires station { station < core.now.sizes.ring }
-    ensures all { IsSameSeat all.old all.new }
-    ensures back { IsSameBack back.old back.new }
-    ensures grows { GrowsLegally core.now all.old.seen all.new.seen }
-    ensures reply { IsLinkTold core.now all.old.seen all.new.seen station k result }
-{
-    let seen = reads::operand(core, all, back, station, k);
-    producer_of(core, all, back, station, seen.tag, k)
 }

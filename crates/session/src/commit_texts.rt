@@ -1,6 +1,6 @@
 //! The texts of commits.
 ghost use Rattle.std.specs.Prelude.{◌≡◌, ◌++◌, IfOk, OnOk, Some, string_bytes};
-ghost use Rattle.session.specs.Texts.{change_by, commit_text, memory_text, oldest_text, register_label, stored, written_text};
+ghost use Rattle.session.specs.Texts.{change_by, commit_text, memory_text, oldest_text, register_label, low_bytes, written_text};
 ghost use Rattle.instructions.specs.Instruction.{kind};
 
 use crate::replies::Row;
@@ -26,8 +26,8 @@ impl fmt::Display for Label {
     }
 }
 
-fn stored(width: u32, value: u32) -> u32
-    ensures { result ≡ stored width value }
+fn low_bytes(width: u32, value: u32) -> u32
+    ensures { result ≡ low_bytes width value }
 {
     match width {
         1 => value % 256,
@@ -52,7 +52,7 @@ fn push_memory(out: &mut String, instr: &Instr, row: &Row) -> Result<(), AllocEr
         (string_bytes out.new ≡ string_bytes out.old ++ memory_text instr.now row.now) }
 {
     let address = Hexadecimal(row.first.seen.value.wrapping_add(instr.number()));
-    let value = Hexadecimal(stored(instr.op().width(), row.second.seen.value));
+    let value = Hexadecimal(low_bytes(instr.op().width(), row.second.seen.value));
     write!(out, " m {address}={value}")
 }
 

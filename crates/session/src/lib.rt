@@ -53,7 +53,7 @@ pub use play::write_play;
 pub use producers::Producer;
 pub use reading::{Goal, Line, line_in};
 pub use replies::{Ahead, Finished, Head, Info, Operand, Refreshed, Refusal, Reply, Row};
-pub use script::{Fault, drive};
+pub use script::drive;
 pub use session::Session;
 pub use texts::{line_of, text_of};
 pub use units::{Claimed, Held};

@@ -1,6 +1,6 @@
 //! What is told of a line of a script.
 ghost use Rattle.std.specs.Prelude.{◌≡◌, IfOk, string_bytes};
-ghost use Rattle.session.specs.Transcripts.{LineSays, operands_text, unknown_text, wants_text};
+ghost use Rattle.session.specs.Transcripts.{LineSays, operands_of_verb, unknown_text, wants_text};
 
 use crate::advances::advances;
 use crate::help::help;
@@ -17,7 +17,7 @@ use std::alloc::{AllocError, Global};
 use std::sync::Wait;
 
 fn operands(verb: Verb) -> &'static str
-    ensures { result.now ≡ operands_text verb }
+    ensures { result.now ≡ operands_of_verb verb }
 {
     match verb {
         Verb::Turn => "no operand, or a pc",

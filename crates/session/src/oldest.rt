@@ -1,6 +1,6 @@
 //! The oldest tenant, as a session tells it.
 ghost use Rattle.std.specs.Prelude.{◌≡◌, ◌<◌};
-ghost use Rattle.session.specs.Order.{IsOldestAsked, oldest_in, station_in};
+ghost use Rattle.session.specs.Order.{IsOldestAsked, oldest_in, station_or_first};
 
 use crate::commands::Command;
 use crate::replies::Reply;
@@ -11,9 +11,9 @@ use std::alloc::Global;
 use std::sync::Wait;
 
 // The station, if it is one of the ring, and else the first one.
-fn station_in(ring: usize, station: Option<usize>) -> usize
+fn station_or_first(ring: usize, station: Option<usize>) -> usize
     requires { 0 < ring }
-    ensures value { result ≡ station_in ring station }
+    ensures value { result ≡ station_or_first ring station }
     ensures small { result < ring }
 {
     match station {
@@ -29,7 +29,7 @@ fn oldest_in(ring: usize, reply: &Reply) -> usize
     ensures small { result < ring }
 {
     match reply {
-        Reply::Ring(head, _) => station_in(ring, head.station),
+        Reply::Ring(head, _) => station_or_first(ring, head.station),
         _ => 0,
     }
 }

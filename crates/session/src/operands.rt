@@ -1,6 +1,6 @@
 //! The operands of commands.
 ghost use Rattle.std.specs.Prelude.{◌≡◌};
-ghost use Rattle.session.specs.Commands.{has_one, has_two, number_of, only_number, only_pc, only_register, source_of, station_and_source, two_parties, unit_and_number, without_operands};
+ghost use Rattle.session.specs.Commands.{has_one, has_two, whole_number, only_number, only_pc, only_register, source_of, station_and_source, two_parties, unit_and_number, without_operands};
 ghost use Rattle.session.specs.Words.{texts_of};
 
 use crate::names::{register_in, unit_in};
@@ -39,7 +39,7 @@ pub(crate) fn bare<T: Copy>(words: &Words<'_>, asked: T) -> Option<T>
 }
 
 fn number_in(text: &[u8]) -> Option<u32>
-    ensures { result ≡ number_of text.now }
+    ensures { result ≡ whole_number text.now }
 {
     decimal_in(text, 0xffff_ffff)
 }

@@ -1,16 +1,16 @@
 //! A session that is driven by a seed.
 ghost use Rattle.std.specs.Prelude.{◌≡◌, ◌≢◌, ◌<◌, ◌+◌, ◌-◌, ◌^◌, ◌%◌, IfErr, IfOk, IfSome, OnOk, [], length, slice_get, string_bytes};
 ghost use Rattle.counted_io.specs.Counted.{failures_of, known_by};
-ghost use Rattle.session.specs.Plays.{ArePlayed, HasPlayed, HasPlayedPart, IsNamed, IsPlayed, IsWrittenBehind, MayHaveLooked, command_text, unit_command};
-ghost use Rattle.session.specs.Scripts.{failed_writes};
+ghost use Rattle.session.specs.Plays.{ArePlayed, HasPlayed, HasPlayedPart, IsChosenLine, IsPlayed, IsWrittenBehind, MayHaveLooked, command_text, unit_command};
+ghost use Rattle.session.specs.Scripts.{write_failures};
 
 use crate::commands::Command;
 use crate::reading::line_in;
 use crate::row_texts::push_unit;
-use crate::script::{Fault, written};
+use crate::script::written;
 use crate::session::Session;
 use back::Naming;
-use counted_io::{Counted, write_whole};
+use counted_io::{Counted, Fault, write_whole};
 use instructions::Predictor;
 use isa::Hexadecimal;
 use one_thread::{Chooser, Seeded};
@@ -65,7 +65,7 @@ fn chosen<P: Predictor + Drop, J: Naming>(
 ) -> Result<Option<String>, AllocError>
     ensures looks { OnOk result (MayHaveLooked session.old session.new) }
     ensures named { IfOk result (λ chosen. IfSome chosen (λ line.
-        IsNamed chooser.old chooser.new (string_bytes line))) }
+        IsChosenLine chooser.old chooser.new (string_bytes line))) }
 {
     let choices = session.choices(alloc)?;
     let count = choices.len();
@@ -159,7 +159,7 @@ pub fn write_play<P: Predictor + Drop, J: Naming, R: Wait, W: Write>(
         (known_by W.contents writer.old) (known_by W.contents writer.new)) }
     ensures quiet { OnOk result (failures_of writer.new ≡ failures_of writer.old) }
     ensures write { IfErr result (λ fault.
-        failures_of writer.new ≡ failures_of writer.old + failed_writes fault) }
+        failures_of writer.new ≡ failures_of writer.old + write_failures fault) }
     ensures silent { IfErr result (λ fault. fault ≢ Fault.Write → writer.new ≡ writer.old) }
     ensures broken { IfErr result (λ fault. fault ≡ Fault.Write →
         HasPlayedPart seed session.old

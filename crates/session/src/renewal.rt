@@ -1,6 +1,6 @@
 //! A core that is renewed, with all that stands at it.
 ghost use Rattle.std.specs.Prelude.{◌≡◌, IfErr, IfOk, None, true};
-ghost use Rattle.session.specs.Renewals.{AreAt, HasBegunAgain, HasStayed};
+ghost use Rattle.session.specs.Renewals.{SeatsAreAt, HasBegunAgain, HasStayed};
 
 use back::{Back, Naming, a_back_enters_behind_a_renewal};
 use front::{Front, a_front_enters_behind_a_renewal};
@@ -22,14 +22,14 @@ pub(crate) fn renew<'a, P: Predictor + Drop, J: Naming>(
     back: Back<J>,
 ) -> Result<Stage<'a, P, J>, Stage<'a, P, J>>
     requires program { program.now ≡ core.program }
-    requires stage { AreAt core all front.core back }
+    requires stage { SeatsAreAt core all front.core back }
     requires rested { front.rested ≡ true }
     requires not_ended { back.ended ≡ None }
-    ensures ok { IfOk result (λ t. AreAt t.0 t.1 t.2.core t.3) }
+    ensures ok { IfOk result (λ t. SeatsAreAt t.0 t.1 t.2.core t.3) }
     ensures renewed { IfOk result (λ t. HasBegunAgain core t.0 all.seen
         t.1.seen back t.3 t.2.told) }
     ensures touched { IfOk result (λ t. t.2.touched ≡ front.entry.touched) }
-    ensures err { IfErr result (λ t. AreAt t.0 t.1 t.2.core t.3) }
+    ensures err { IfErr result (λ t. SeatsAreAt t.0 t.1 t.2.core t.3) }
     ensures refused { IfErr result (λ t. HasStayed core t.0 all.seen t.1.seen back t.3) }
     ensures untouched { IfErr result (λ t. t.2.touched ≡ front.entry.touched) }
 {

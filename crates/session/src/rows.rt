@@ -2,7 +2,7 @@
 ghost use Rattle.std.specs.Prelude.{◌≡◌, ◌<◌, ◌≤◌};
 ghost use Rattle.back.specs.Backs.{IsSameBack};
 ghost use Rattle.session.specs.Moments.{GrowsLegally};
-ghost use Rattle.session.specs.Rows.{IsHead, IsHolder, IsOldestTold, IsRingTold, IsRowSeen, head_with, is_free};
+ghost use Rattle.session.specs.Rows.{IsHeadSeen, IsHolder, IsOldestTold, IsRingTold, IsRowSeen, head_with, is_free};
 ghost use Rattle.station.specs.Seats.{IsSameSeat};
 
 use crate::accounts::operand;
@@ -101,7 +101,7 @@ pub(crate) fn head<J: Naming>(
     ensures all { IsSameSeat all.old all.new }
     ensures back { IsSameBack back.old back.new }
     ensures grows { GrowsLegally core.now all.old.seen all.new.seen }
-    ensures reply { IsHead core.now all.old.seen all.new.seen tail result }
+    ensures reply { IsHeadSeen core.now all.old.seen all.new.seen tail result }
 {
     what_is_seen_is_legal(all);
     let ring = core.ring();

@@ -5,50 +5,17 @@ ghost use Rattle.counted_io.specs.Counted.{failures_of, known_by};
 ghost use Rattle.session.specs.Lines.{IsLine, is_command};
 ghost use Rattle.session.specs.Words.{words_of};
 ghost use Rattle.session.specs.Transcripts.{IsWrittenOfLine, echo_text};
-ghost use Rattle.session.specs.Scripts.{HasBroken, HasDriven, HasTold, LineIsCut, LineIsTold, NothingWasLeft, failed_writes, line_of};
+ghost use Rattle.session.specs.Scripts.{HasBroken, HasDriven, HasTold, LineIsCut, LineIsTold, NothingWasLeft, write_failures, line_of};
 
 use crate::lines::told;
 use crate::reading::{Line, ends_script, is_command, line_in};
 use crate::session::Session;
 use back::Naming;
-use counted_io::{Counted, WriteFailed, write_whole};
+use counted_io::{Counted, Fault, write_whole};
 use instructions::Predictor;
 use std::alloc::{AllocError, Global};
 use std::io::{BufRead, ErrorKind, Write};
 use std::sync::Wait;
-
-/// Why a script was not answered to its end. There is no second try.
-#[derive(Clone, Copy)]
-pub enum Fault {
-    /// The script could not be read.
-    Read,
-    /// Memory ran out.
-    Memory,
-    /// An answer could not be written.
-    Write,
-}
-
-impl From<AllocError> for Fault {
-    ghost use Rattle.std.specs.Prelude.{◌≡◌};
-    ghost use Rattle.session.specs.declared.script.Fault.TheVariants.{Memory};
-
-    ghost from_gives = { λ _ fault. fault ≡ Memory };
-
-    fn from(_error: AllocError) -> Fault {
-        Fault::Memory
-    }
-}
-
-impl From<WriteFailed> for Fault {
-    ghost use Rattle.std.specs.Prelude.{◌≡◌};
-    ghost use Rattle.session.specs.declared.script.Fault.TheVariants.{Write};
-
-    ghost from_gives = { λ _ fault. fault ≡ Write };
-
-    fn from(_failed: WriteFailed) -> Fault {
-        Fault::Write
-    }
-}
 
 fn without_last(text: &[u8], last: u8) -> &[u8]
     ensures { result.now ≡ strip_last last text.now }
@@ -121,7 +88,7 @@ fn tell_line<P: Predictor + Drop, J: Naming, R: Wait, I: BufRead, W: Write>(
         (known_by W.contents writer.old) (known_by W.contents writer.new))) }
     ensures silent { IfErr result (λ fault. fault ≢ Fault.Write → writer.new ≡ writer.old) }
     ensures write { IfErr result (λ fault.
-        failures_of writer.new ≡ failures_of writer.old + failed_writes fault) }
+        failures_of writer.new ≡ failures_of writer.old + write_failures fault) }
     ensures cut { IfErr result (λ fault. fault ≡ Fault.Write →
         LineIsCut echo (I.remaining reader.old) session.old number
         (known_by W.contents writer.old) (known_by W.contents writer.new)) }
@@ -169,7 +136,7 @@ pub fn drive<P: Predictor + Drop, J: Naming, R: Wait, I: BufRead, W: Write>(
     ensures quiet { OnOk result (failures_of writer.new ≡ failures_of writer.old) }
     // The writer is blamed for one failed call, and only then.
     ensures write { IfErr result (λ fault.
-        failures_of writer.new ≡ failures_of writer.old + failed_writes fault) }
+        failures_of writer.new ≡ failures_of writer.old + write_failures fault) }
     // Where the script or memory ends early, some of its lines were answered, and those alone.
     ensures told { IfErr result (λ fault. fault ≢ Fault.Write →
         HasTold echo (I.remaining reader.old) session.old

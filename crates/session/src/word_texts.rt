@@ -1,6 +1,6 @@
 //! The texts of what is read of words, and of a rest.
 ghost use Rattle.std.specs.Prelude.{◌≡◌, ◌++◌, IfOk, OnOk, string_bytes};
-ghost use Rattle.session.specs.Texts.{info_text, info_words, link_text, operand_state_text, operand_text, reads, rest_text, seen_operand_text, tenant_text, told_operand_text, which_number};
+ghost use Rattle.session.specs.Texts.{info_text, info_words, instr_info, link_text, operand_state_text, operand_words, reads, rest_text, seen_operand_text, told_operand_text, which_number};
 
 use crate::instruction_texts::{indexed, push_from, push_instr};
 use crate::operands::Which;
@@ -63,7 +63,7 @@ pub(crate) fn push_operand(
     operand: &Operand,
 ) -> Result<(), AllocError>
     ensures { OnOk result (string_bytes out.new
-        ≡ string_bytes out.old ++ operand_text program.now which operand.now) }
+        ≡ string_bytes out.old ++ operand_words program.now which operand.now) }
 {
     if reads(indexed(program, operand.info.index), which) {
         push_seen(out, operand)
@@ -116,7 +116,7 @@ pub(crate) fn push_tenant(
     info: &Info,
 ) -> Result<(), AllocError>
     ensures { OnOk result
-        (string_bytes out.new ≡ string_bytes out.old ++ tenant_text program.now info.now) }
+        (string_bytes out.new ≡ string_bytes out.old ++ instr_info program.now info.now) }
 {
     push_info(out, info)?;
     push_instr(out, &indexed(program, info.index))

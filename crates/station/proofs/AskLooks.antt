@@ -15,7 +15,8 @@ use Rattle.inorder.specs.Legal.{Allowed}
 use Rattle.inorder.specs.Replies.{IsAskedInTime, IsDelivered}
 use Rattle.inorder.specs.Tenants.{IsThere, Tenant, operand}
 use Rattle.inorder.specs.Unit.{Sizes, older, value_of}
-use Rattle.inorder.proofs.Histories.{adds_on, starts_longer}
+use Rattle.inorder.proofs.Histories.{adds_on}
+use Rattle.instructions.proofs.Histories.{starts_longer}
 use Rattle.ruu_words.specs.declared.rule.Draft.TheVariants.{Nothing}
 use Rattle.ruu_words.specs.declared.rule.View.{View}
 use Rattle.ruu_words.specs.Fields.{state_of, word_value}

@@ -10,7 +10,7 @@ use Rattle.inorder.specs.Unit.{Sizes, next_station, recent}
 use Rattle.ruu_words.specs.declared.place.Place.{Place}
 use Rattle.ruu_words.specs.declared.rule.Draft.{Draft}
 use Rattle.ruu_words.specs.declared.rule.Draft.TheVariants.{Nothing}
-use Rattle.ruu_words.specs.declared.rule.Heirs.{Heirs}
+use Rattle.ruu_words.specs.declared.rule.SpareNumbers.{SpareNumbers}
 use Rattle.ruu_words.specs.declared.rule.Role.{Role}
 use Rattle.ruu_words.specs.declared.rule.Role.TheVariants.{Back, Front, Spent, Start, Worker}
 use Rattle.ruu_words.specs.declared.rule.Setup.{Setup}
@@ -23,7 +23,7 @@ use Rattle.ruu_words.specs.Rule.{Kept}
 use Rattle.ruu_words.specs.Telling.{Grows, Tells}
 use Rattle.ruu_words.proofs.General.{allowed_at}
 use Rattle.station.specs.Calls.{IsCall, IsSameCall, IsLegalCall, MayStepAt, StepKind, TakesStep, TheCall, call_of, let_place}
-use Rattle.station.specs.Seats.{Caller, HasHeirs, IsAtHead, IsNumbered, IsSeated, TheCore, core_of}
+use Rattle.station.specs.Seats.{Caller, HasSpare, IsAtHead, IsNumbered, IsSeated, TheCore, core_of}
 use Rattle.station.specs.declared.steps.retire.Access.{Access}
 use Rattle.station.specs.declared.steps.retire.Leaving.{Leaving}
 use Rattle.ruu_words.specs.declared.station.StationWord.{StationWord}
@@ -35,9 +35,9 @@ use Rattle.station.proofs.SameUnit.{Unit_of, of_seat, unit_at, unit_in}
 
 -- a seat with a number is not spent
 pub alive_role : (opening : List Entry) (role : Role) (v : View) → IsNumbered opening role v → IsAlive role
-alive_role opening role v n = go role n.heirs
+alive_role opening role v n = go role n.spare
   where
-    go : (r : Role) → HasHeirs opening r v → IsAlive r
+    go : (r : Role) → HasSpare opening r v → IsAlive r
     go Start h = absurd h
     go Front h = tt
     go Back h = tt
@@ -77,15 +77,15 @@ module _ (table : TableId) (key : Setup) (core : TheCore) (here : core_of table 
     role_is = g.role ∙ was.role_is;
     slots = slots ∙ was.slots;
     legal = subst (λ (c : TheCore). IsLegal c.program c.sizes w.0.seen) here g.legal;
-    numbered = numbered_on core.opening role me.0 w.0 g.by_is g.heirs_are (subst (λ (c : TheCore). Unborn c.opening w.0) here unborn) was.numbered;
+    numbered = numbered_on core.opening role me.0 w.0 g.by_is g.spare_is (subst (λ (c : TheCore). Unborn c.opening w.0) here unborn) was.numbered;
   }
 
   pub takes : (w : View) (K : StepKind) → Grows key.program (sizes_of key) me.0.by me.0 w (its K) → TakesStep v (call_of core w lent) K
-  takes w K g = subst (λ z. TakesStep z (call_of core w lent) K) same (record { same = record { core = sym here; role = g.role; by = g.by_is; heirs = g.heirs_are; lent = refl }; grows = g })
+  takes w K g = subst (λ z. TakesStep z (call_of core w lent) K) same (record { same = record { core = sym here; role = g.role; by = g.by_is; spare = g.spare_is; lent = refl }; grows = g })
 
 -- the steps of one call are of one core and one caller
 pub joined : {u v w : TheCall} → IsSameCall u v → IsSameCall v w → IsSameCall u w
-joined a b = record { core = b.core ∙ a.core; role = b.role ∙ a.role; by = b.by ∙ a.by; heirs = b.heirs ∙ a.heirs; lent = b.lent ∙ a.lent }
+joined a b = record { core = b.core ∙ a.core; role = b.role ∙ a.role; by = b.by ∙ a.by; spare = b.spare ∙ a.spare; lent = b.lent ∙ a.lent }
 
 -- what is said of its core and caller
 abbrev pub Of : Type 0
@@ -163,10 +163,10 @@ only_looked {v} {w} by_is took =
     record { is = is; legal = subst (IsLegal v.core.program v.core.sizes) is g.legal; none = subst (λ i. own i g.between ≡ []) by_is g.not_own }
 
 -- A seat when a call begins with it, and when the call gives it back
-module _ {woken : ℕ} (id : TableId) (value : Setup) (by : ℕ) (heirs : Heirs) (seen : List Entry) (seat : Caller) (core : TheCore)
-    (seen_as : record { core = core_of id value; by = by; heirs = heirs; seen = seen; woken = woken } ≡ seat) (here : seat.core ≡ core) where
+module _ {woken : ℕ} (id : TableId) (value : Setup) (by : ℕ) (spare : SpareNumbers) (seen : List Entry) (seat : Caller) (core : TheCore)
+    (seen_as : record { core = core_of id value; by = by; spare = spare; seen = seen; woken = woken } ≡ seat) (here : seat.core ≡ core) where
   same_unit : unit_at value ≡ unit_in core
-  same_unit = of_seat id value by heirs seen seat core seen_as here
+  same_unit = of_seat id value by spare seen seat core seen_as here
 
   same_opening : opening_of value ≡ core.opening
   same_opening = ap (λ (z : Caller). z.core.opening) seen_as ∙ ap (λ (z : TheCore). z.opening) here

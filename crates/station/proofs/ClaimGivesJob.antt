@@ -10,7 +10,8 @@ use Rattle.inorder.specs.declared.history.Event.TheVariants.{Does, Refuses}
 use Rattle.inorder.specs.declared.history.Refusal.TheVariants.{Moved as HasMoved, NotOpen as IsNotOpen, Waiting as Waits}
 use Rattle.inorder.specs.declared.history.Source.{Source}
 use Rattle.inorder.specs.declared.history.Step.TheVariants.{On}
-use Rattle.inorder.specs.History.{IsLegal, IsUnit, MayAdd, StartsWith, back, entry, own, unit_of, renewals}
+use Rattle.inorder.specs.History.{IsLegal, IsUnit, MayAdd, back, entry, own, unit_of, renewals}
+use Rattle.instructions.specs.Histories.{StartsWith}
 use Rattle.inorder.specs.Replies.{Has, HasMoved as Gone, IsOpen, IsWaiting, JobFields, job_of}
 use Rattle.inorder.specs.Tenants.{Tenant, missing}
 use Rattle.inorder.specs.Unit.{at, Sizes}

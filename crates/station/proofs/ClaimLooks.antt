@@ -13,7 +13,7 @@ use Rattle.inorder.specs.OneHistory.{Adds}
 use Rattle.inorder.specs.Replies.{IsOpen, needed}
 use Rattle.inorder.specs.Tenants.{Tenant, needs}
 use Rattle.inorder.specs.Unit.{Sizes, UpdateUnit, at}
-use Rattle.inorder.proofs.Histories.{starts_same}
+use Rattle.instructions.proofs.Histories.{starts_same}
 use Rattle.ruu_words.specs.declared.rule.View.{View}
 use Rattle.ruu_words.specs.Fields.{half_of, index_of, predicted_of, state_of, tag_of, word_value}
 use Rattle.ruu_words.specs.Kinds.{IsAny, IsClosed, IsNamed, IsTenant, Peeks, ReadsInfo, ReadsSource, Rechecks}

@@ -86,7 +86,7 @@ answers_on {v} {w} {x} {s} {g} {A} answer r end = record {
 
 pub claim_begins : {v : TheCall} {s g i x : ℕ} {d : Half} → IsLegalCall v → Saw v s g (IsOpenAs d i x) → IsOnWay v v s g (IsClaimable d i x)
 claim_begins {v} {s} {g} {i} {x} {d} legal seen = record {
-  same = record { core = refl; role = refl; by = refl; heirs = refl; lent = refl };
+  same = record { core = refl; role = refl; by = refl; spare = refl; lent = refl };
   ready = begins v.core.program v.core.sizes v.view.by s g v.view.seen d i x legal seen;
 }
 

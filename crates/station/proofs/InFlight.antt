@@ -10,7 +10,8 @@ use Rattle.inorder.specs.declared.history.Event.{Event}
 use Rattle.inorder.specs.declared.history.Event.TheVariants.{Does, Refuses}
 use Rattle.inorder.specs.declared.history.Refusal.TheVariants.{Stale as IsStaleNow}
 use Rattle.inorder.specs.declared.history.Step.TheVariants.{On}
-use Rattle.inorder.specs.History.{IsLegal, back, entry, front, own, unit_of, StartsWith}
+use Rattle.inorder.specs.History.{IsLegal, back, entry, front, own, unit_of}
+use Rattle.instructions.specs.Histories.{StartsWith}
 use Rattle.inorder.specs.OneHistory.{Adds}
 use Rattle.inorder.specs.Legal.{Allowed, applied, changed}
 use Rattle.inorder.specs.Replies.{Has, JobFields}

@@ -115,7 +115,7 @@ pub record IsReady (v : TheCall) (t : Tenant) (draft : Draft) (w : TheCall) : Ty
 
 pub begins : {v : TheCall} {t : Tenant} → IsLegalCall v → v.view.by ≡ front → v.view.draft ≡ Nothing → MayLetNow t v.core (caller v) → IsReady v t Nothing v
 begins {v} {t} legal by_is draft may = record {
-  same = record { core = refl; role = refl; by = refl; heirs = refl; lent = refl };
+  same = record { core = refl; role = refl; by = refl; spare = refl; lent = refl };
   ready = starts v.core.program v.core.sizes v.view.by t v.view.seen v.view refl legal by_is draft may;
 }
 

@@ -5,69 +5,69 @@ use native.Mathlib.Decide.{ℕ_discrete}
 use Rattle.inorder.specs.declared.history.Entry.{Entry}
 use Rattle.inorder.specs.History.{own}
 use Rattle.ruu_words.specs.declared.rule.Draft.TheVariants.{Nothing}
-use Rattle.ruu_words.specs.declared.rule.Heirs.{Heirs}
+use Rattle.ruu_words.specs.declared.rule.SpareNumbers.{SpareNumbers}
 use Rattle.ruu_words.specs.declared.rule.Role.{Role}
 use Rattle.ruu_words.specs.declared.rule.Role.TheVariants.{Back, Front, Spent, Start, Worker}
 use Rattle.ruu_words.specs.declared.rule.View.{View}
-use Rattle.ruu_words.specs.Views.{IsCaller, IsHeir, Unborn, half, other_half, view}
-use Rattle.ruu_words.proofs.Heirs.{half_of, other_half_of}
+use Rattle.ruu_words.specs.Views.{IsCaller, IsSpare, Unborn, half, other_half, view}
+use Rattle.ruu_words.proofs.SpareNumbers.{half_of, other_half_of}
 use Rattle.station.specs.Quiet.{SplitsShareNumbers, UnitsAreNumbered}
-use Rattle.station.specs.Seats.{HasHeirs, IsGiver, IsNumbered}
+use Rattle.station.specs.Seats.{HasSpare, IsGiver, IsNumbered}
 
 -- Behind a step, or behind a call of the front or of the back
 
-giver_on : (opening : List Entry) (v w : View) → w.by ≡ v.by → w.heirs ≡ v.heirs → Unborn opening w → IsGiver opening v → IsGiver opening w
-giver_on opening v w by heirs unborn g = record {
-  some = subst (λ (z : Heirs). 1 ≤ z.every) (sym heirs) g.some;
-  above = subst (λ (z : ℕ × Heirs). z.0 < z.1.first) (λ i. (sym by i, sym heirs i)) g.above;
+giver_on : (opening : List Entry) (v w : View) → w.by ≡ v.by → w.spare ≡ v.spare → Unborn opening w → IsGiver opening v → IsGiver opening w
+giver_on opening v w by spare unborn g = record {
+  some = subst (λ (z : SpareNumbers). 1 ≤ z.every) (sym spare) g.some;
+  above = subst (λ (z : ℕ × SpareNumbers). z.0 < z.1.first) (λ i. (sym by i, sym spare i)) g.above;
   unborn = unborn;
 }
 
-pub numbered_on : (opening : List Entry) (role : Role) (v w : View) → w.by ≡ v.by → w.heirs ≡ v.heirs → Unborn opening w → IsNumbered opening role v → IsNumbered opening role w
-numbered_on opening role v w by heirs unborn n = record { caller = subst (IsCaller role) (sym by) n.caller; heirs = go role n.heirs }
+pub numbered_on : (opening : List Entry) (role : Role) (v w : View) → w.by ≡ v.by → w.spare ≡ v.spare → Unborn opening w → IsNumbered opening role v → IsNumbered opening role w
+numbered_on opening role v w by spare unborn n = record { caller = subst (IsCaller role) (sym by) n.caller; spare = go role n.spare }
   where
-    go : (r : Role) → HasHeirs opening r v → HasHeirs opening r w
+    go : (r : Role) → HasSpare opening r v → HasSpare opening r w
     go Start h = absurd h
-    go Front h = heirs ∙ h
-    go Back h = heirs ∙ h
-    go Worker h = giver_on opening v w by heirs unborn h
+    go Front h = spare ∙ h
+    go Back h = spare ∙ h
+    go Worker h = giver_on opening v w by spare unborn h
     go Spent h = absurd h
 
 -- Cuts
 
-first_of : (heirs : Heirs) → 1 ≤ heirs.every → IsHeir heirs heirs.first
-first_of heirs some = record { some = some; k = 0; is = sym (none heirs.first heirs.every) }
+first_of : (spare : SpareNumbers) → 1 ≤ spare.every → IsSpare spare spare.first
+first_of spare some = record { some = some; k = 0; is = sym (none spare.first spare.every) }
   where
     none : (f e : ℕ) → f + 0 * e ≡ f
     none f e = omega arith
 
 module _ (opening : List Entry) (v w : View) where
   -- a seat that has given away a number, and every second of the rest
-  pub left_numbered : w ≡ view v.role v.by (half v.heirs) v.seen v.draft → IsNumbered opening Worker v → IsNumbered opening Worker w
+  pub left_numbered : w ≡ view v.role v.by (half v.spare) v.seen v.draft → IsNumbered opening Worker v → IsNumbered opening Worker w
   left_numbered e n =
-      let g = n.heirs in
+      let g = n.spare in
       let above = g.above in
       let some = g.some in
       subst (IsNumbered opening Worker) (sym e) (record {
         caller = n.caller;
-        heirs = record { some = omega arith; above = omega arith; unborn = λ m i. g.unborn m (half_of v.heirs m i) };
+        spare = record { some = omega arith; above = omega arith; unborn = λ m i. g.unborn m (half_of v.spare m i) };
       })
 
   -- and the seat that has got them
-  pub right_numbered : w ≡ view Worker v.heirs.first (other_half v.heirs) v.seen Nothing → IsNumbered opening Worker v → IsNumbered opening Worker w
+  pub right_numbered : w ≡ view Worker v.spare.first (other_half v.spare) v.seen Nothing → IsNumbered opening Worker v → IsNumbered opening Worker w
   right_numbered e n =
-      let g = n.heirs in
+      let g = n.spare in
       let above = g.above in
       let some = g.some in
       let unit : 2 ≤ v.by = n.caller in
       subst (IsNumbered opening Worker) (sym e) (record {
         caller = omega arith;
-        heirs = record { some = omega arith; above = omega arith; unborn = λ m i. g.unborn m (other_half_of v.heirs m i) };
+        spare = record { some = omega arith; above = omega arith; unborn = λ m i. g.unborn m (other_half_of v.spare m i) };
       })
 
 -- its caller has done nothing
-pub born_now : (opening : List Entry) (v : View) → IsNumbered opening Worker v → own v.heirs.first v.seen ≡ own v.heirs.first opening
-born_now opening v n = n.heirs.unborn v.heirs.first (first_of v.heirs n.heirs.some)
+pub born_now : (opening : List Entry) (v : View) → IsNumbered opening Worker v → own v.spare.first v.seen ≡ own v.spare.first opening
+born_now opening v n = n.spare.unborn v.spare.first (first_of v.spare n.spare.some)
 
 -- All units, and the numbers at a split
 
@@ -91,9 +91,9 @@ even_steps : (f e j : ℕ) → f + (2 * j + 2) * e ≡ f + 2 * e + j * (2 * e)
 even_steps f e j = grind arith
 
 pub splits_share : SplitsShareNumbers
-splits_share heirs n i =
-    let f : ℕ = heirs.first in
-    let e : ℕ = heirs.every in
+splits_share spare n i =
+    let f : ℕ = spare.first in
+    let e : ℕ = spare.every in
     let some = i.some in
     let is : n ≡ f + i.k * e = i.is in
     ⊎_elim

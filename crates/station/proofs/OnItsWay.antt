@@ -10,14 +10,16 @@ use Rattle.inorder.specs.declared.history.Event.TheVariants.{Does, Refuses}
 use Rattle.inorder.specs.declared.history.Refusal.{Refusal}
 use Rattle.inorder.specs.declared.history.Refusal.TheVariants.{Moved as HasMoved, NotOpen as IsNotOpen, Waiting as Waits}
 use Rattle.inorder.specs.declared.history.Step.TheVariants.{On}
-use Rattle.inorder.specs.History.{IsLegal, StartsWith, entry, unit_of, renewals}
+use Rattle.inorder.specs.History.{IsLegal, entry, unit_of, renewals}
+use Rattle.instructions.specs.Histories.{StartsWith}
 use Rattle.inorder.specs.OneHistory.{Adds}
 use Rattle.inorder.specs.Replies.{Has, IsOpen}
 use Rattle.inorder.specs.Tenants.{Tenant}
 use Rattle.inorder.specs.Unit.{Sizes, UpdateUnit, at, older, younger}
 use Rattle.inorder.proofs.Basics.{split_at}
 use Rattle.inorder.proofs.Grows.{sound_mid}
-use Rattle.inorder.proofs.Histories.{adds_on, starts_longer, unit_sound}
+use Rattle.inorder.proofs.Histories.{adds_on, unit_sound}
+use Rattle.instructions.proofs.Histories.{starts_longer}
 use Rattle.inorder.proofs.Sound.{IsSound}
 use Rattle.ruu_words.specs.declared.rule.Draft.{Draft}
 use Rattle.ruu_words.specs.declared.rule.View.{View}

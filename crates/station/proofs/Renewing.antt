@@ -1,5 +1,5 @@
 -- A core that is renewed: who may renew, the seats that meet before, and the first seats of the new core.
-use Rattle.std.proofs.Common.{◌≡◌, ℕ, ◌%◌, ◌<◌, false, List, [], ◌∷◌, ◌++◌, length, refl, sym, ap, ◌∙◌, subst, arith, append_assoc, length-append}
+use Rattle.std.proofs.Common.{◌≡◌, ℕ, ◌%◌, ◌<◌, false, List, [], ◌∷◌, ◌++◌, length, refl, sym, ap, ◌∙◌, subst, arith, length-append}
 use Rattle.std.proofs.Math.Nat.{zero-mod}
 use Rattle.atomic_table.specs.Seated.{TableId}
 use Rattle.instructions.specs.Programs.{Program}
@@ -8,12 +8,14 @@ use Rattle.inorder.specs.declared.history.Event.TheVariants.{Does}
 use Rattle.inorder.specs.declared.history.Step.{Step}
 use Rattle.inorder.specs.declared.history.Step.TheVariants.{Let, On, Renew}
 use Rattle.inorder.specs.Callers.{GoesOn, is_retired}
-use Rattle.inorder.specs.History.{IsLegal, MayAdd, StartsWith, back, front, own, unit_of}
+use Rattle.inorder.specs.History.{IsLegal, MayAdd, back, front, own, unit_of}
+use Rattle.instructions.specs.Histories.{StartsWith}
 use Rattle.inorder.specs.OneHistory.{Adds}
 use Rattle.inorder.specs.Legal.{Allowed, applied}
 use Rattle.inorder.specs.Steps.{IsNoRetiredStop}
 use Rattle.inorder.specs.Tenants.{IsNotLive}
 use Rattle.inorder.specs.Unit.{Sizes, UpdateUnit, how_many, newest_of, next_station, recent}
+use Rattle.instructions.proofs.Histories.{starts_on}
 use Rattle.inorder.proofs.Histories.{adds_on, legal_before, no_length, none_to, own-append}
 use Rattle.inorder.proofs.Letting.{IsBesides}
 use Rattle.inorder.proofs.Moves.{came}
@@ -85,9 +87,6 @@ adds_between P C by old mid new a s t = record {
       ap (own by) s.is ∙ (own-append by s.more old ∙ ap (λ z. z ++ own by old) none);
 }
 
-pub starts_on : (first mid last : List Entry) → StartsWith mid first → StartsWith last mid → StartsWith last first
-starts_on first mid last s t = record { more = t.more ++ s.more; is = t.is ∙ (ap (λ z. t.more ++ z) s.is ∙ sym (append_assoc t.more s.more first)) }
-
 -- The first seats of a core
 
 pub none_recent : (U : UpdateUnit) → U.fresh ≡ 0 → recent U ≡ []
@@ -111,7 +110,7 @@ first_back P C h may some = record { role_is = refl; slots = refl; legal = may.l
 later_on : (core : TheCore) (u v w : Caller) → HasLooked core u v → HasLooked core v w → HasLooked core u w
 later_on core u v w a b = record {
   same = record { core = b.same.core ∙ a.same.core; by = b.same.by ∙ a.same.by };
-  heirs = b.heirs ∙ a.heirs;
+  spare = b.spare ∙ a.spare;
   woken = b.woken ∙ a.woken;
   adds = adds_on core.program core.sizes u.by u.seen v.seen w.seen [] [] a.adds (subst (λ n. Adds core.program core.sizes n v.seen w.seen []) a.same.by b.adds);
 }

@@ -36,7 +36,7 @@ use Rattle.station.specs.declared.answers.Last.TheVariants.{Done as WasDone, Sto
 use Rattle.station.specs.declared.answers.Retire.{Retire as Answer}
 use Rattle.station.specs.declared.answers.Retire.TheVariants.{Empty as IsEmpty, NotDone as IsNotDoneYet, Over as IsOver, Retired as HasRetired}
 use Rattle.station.specs.declared.steps.retire.Leaving.{Leaving}
-use Rattle.station.specs.Retirement.{EndsAs, IsLast, IsRetired, Leaves, MayLeave, RetireAnswers, is_stop}
+use Rattle.station.specs.Retirement.{EndsAs, IsThisHalf, IsRetired, Leaves, MayLeave, RetireAnswers, is_stop}
 use Rattle.station.specs.Retirement.{kept_value}
 use Rattle.station.specs.Seats.{HasRetiredStop, IsAtHead}
 use Rattle.station.proofs.Adding.{adds_these}
@@ -102,7 +102,7 @@ module _ (P : Program) (C : Sizes) where
     pub retired_out : IsRetired P C by v.seen w.seen l.station l.tag l.index l.half l.last
     retired_out =
         let x = g.kind.may.head.fact in
-        let named : IsTenant V p l.station l.tag (IsLast P l.index l.half l.last) = record {
+        let named : IsTenant V p l.station l.tag (IsThisHalf P l.index l.half l.last) = record {
           tenant = gone;
           is = at_p;
           new = recent_p;
@@ -113,7 +113,7 @@ module _ (P : Program) (C : Sizes) where
         record {
           p = p;
           n = m;
-          tenant = subst (λ z. IsTenant (U z) p l.station l.tag (IsLast P l.index l.half l.last)) (sym seen) named;
+          tenant = subst (λ z. IsTenant (U z) p l.station l.tag (IsThisHalf P l.index l.half l.last)) (sym seen) named;
           adds = adds_these P C by v w (Leaves P C l) (Does (On p (Retire m)) ∷ []) g g.kind.added;
         }
 

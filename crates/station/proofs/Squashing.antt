@@ -223,10 +223,9 @@ module _ (P : Program) (C : Sizes) where
         at_s ∙ (ap (λ n. n % C.ring) (sym counted) ∙ ap (λ h. next_station C (recent (U h))) (sym seen2))
 
 -- The youngest live tenant, whose station is the one before the next, as a look at that station finds it
-module _ {v w : TheCall} {next ring station n : ℕ} (station_is : station ≡ (next + ring - 1) % ring) (legal : IsLegalCall v) (by_is : v.view.by ≡ front) (ring_is : ring ≡ v.core.sizes.ring) (small : next < v.core.sizes.ring) (next_is : next ≡
-    let_place v)
-    (may : SeesWrongPath v.core.program v.core.sizes v.view.seen) (took : TakesStep v w (λ P C. Sees P C v.view.by v.view (Station station) n)) (tag : ℕ) (read : tag ≡
-    tag_of n) where
+module _ {v w : TheCall} {next ring station n : ℕ} (station_is : station ≡ (next + ring - 1) % ring) (legal : IsLegalCall v) (by_is : v.view.by ≡ front)
+    (ring_is : ring ≡ v.core.sizes.ring) (small : next < v.core.sizes.ring) (next_is : next ≡ let_place v) (may : SeesWrongPath v.core.program v.core.sizes v.view.seen)
+    (took : TakesStep v w (λ P C. Sees P C v.view.by v.view (Station station) n)) (tag : ℕ) (read : tag ≡ tag_of n) where
   pub youngest_read : (tag < last_tag) × HasYoungest w.core.program w.core.sizes w.view.seen station tag
   youngest_read =
       let P = v.core.program in

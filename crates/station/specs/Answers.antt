@@ -1,8 +1,6 @@
 -- The answers of the calls of a core, of a seat before the call and behind it.
 use Rattle.std.specs.Prelude.{ℕ}
 use Rattle.inorder.specs.declared.history.Source.{Source}
-use Rattle.inorder.specs.History.{unit_of}
-use Rattle.inorder.specs.Unit.{UpdateUnit}
 use Rattle.station.specs.declared.answers.Ask.{Ask}
 use Rattle.station.specs.declared.answers.Claim.{Claim}
 use Rattle.station.specs.declared.answers.Finish.{Finish}
@@ -15,17 +13,13 @@ use Rattle.station.specs.Claiming.{ClaimAnswers}
 use Rattle.station.specs.Letting.{IsLetOut, MayLetOut}
 use Rattle.station.specs.Recovery.{IsMended, WasSquashed}
 use Rattle.station.specs.Retirement.{RetireAnswers}
-use Rattle.station.specs.Seats.{Caller, TheCore}
+use Rattle.station.specs.Seats.{Caller, TheCore, unit_seen}
 use Rattle.station.specs.Waking.{Wakes}
 use Rattle.station.specs.Writeback.{FinishAnswers, SettleAnswers}
 
 -- A statement on a seat before a call and behind it, at a core
 abbrev pub Reply : Type 1
 Reply = TheCore → Caller → Caller → Type 0
-
--- The unit that a seat's caller has seen
-abbrev pub unit_seen : TheCore → Caller → UpdateUnit
-unit_seen core v = unit_of core.program core.sizes v.seen
 
 -- The front may let this tenant out
 abbrev pub MayLetNow : Letting → TheCore → Caller → Type 0

@@ -44,7 +44,7 @@ call_of core view lent = record { core = core; view = view; lent = lent }
 
 -- The seat of a call as callers see one, with nobody woken yet
 abbrev pub caller : TheCall → Caller
-caller v = record { core = v.core; by = v.view.by; heirs = v.view.heirs; seen = v.view.seen; woken = 0 }
+caller v = record { core = v.core; by = v.view.by; spare = v.view.spare; seen = v.view.seen; woken = 0 }
 
 -- The facts of a call between two steps
 pub record IsCall (core : TheCore) (role : Role) (table : TableId) (me : Me ℕ View) : Type 0 where
@@ -59,7 +59,7 @@ pub record IsSameCall (v w : TheCall) : Type 0 where
   pub core : w.core ≡ v.core
   pub role : w.view.role ≡ v.view.role
   pub by : w.view.by ≡ v.view.by
-  pub heirs : w.view.heirs ≡ v.view.heirs
+  pub spare : w.view.spare ≡ v.view.spare
   pub lent : w.lent ≡ v.lent
 
 -- A kind of step, of a program and sizes

@@ -4,7 +4,8 @@ use Rattle.instructions.specs.Programs.{Program}
 use Rattle.instructions.specs.declared.stop.Outcome.{Outcome}
 use Rattle.instructions.specs.declared.stop.Outcome.TheVariants.{Value}
 use Rattle.inorder.specs.declared.history.Entry.{Entry}
-use Rattle.inorder.specs.History.{IsLegal, StartsWith, back, front, own}
+use Rattle.inorder.specs.History.{IsLegal, back, front, own}
+use Rattle.instructions.specs.Histories.{StartsWith}
 use Rattle.inorder.specs.Tenants.{Live, Tenant}
 use Rattle.inorder.specs.Unit.{Sizes}
 use Rattle.ruu_words.specs.Kinds.{fate_of}

@@ -6,7 +6,7 @@ use Rattle.instructions.specs.Programs.{Program}
 use Rattle.instructions.specs.Settings.{Settings}
 use Rattle.inorder.specs.History.{back, front}
 use Rattle.inorder.specs.Replies.{last_tag}
-use Rattle.ruu_words.specs.declared.rule.Heirs.{Heirs}
+use Rattle.ruu_words.specs.declared.rule.SpareNumbers.{SpareNumbers}
 use Rattle.ruu_words.specs.declared.rule.Setup.{Setup}
 use Rattle.ruu_words.specs.declared.rule.View.{View}
 use Rattle.ruu_words.specs.Places.{words_for}
@@ -38,12 +38,12 @@ abbrev pub first_unit : ℕ
 first_unit = 2
 
 -- All numbers from 3 on, which the first unit's seat may give away
-abbrev pub other_units : Heirs
+abbrev pub other_units : SpareNumbers
 other_units = record { first = 3; every = 1 }
 
 -- The first seat of a caller: it has seen what its core goes on from, and woken nobody
-abbrev pub first_seat : TheCore → ℕ → Heirs → Caller
-first_seat core by heirs = record { core = core; by = by; heirs = heirs; seen = core.opening; woken = 0 }
+abbrev pub first_seat : TheCore → ℕ → SpareNumbers → Caller
+first_seat core by spare = record { core = core; by = by; spare = spare; seen = core.opening; woken = 0 }
 
 -- The first seats of a core. Only the unit's may give numbers away, and all others are its
 pub record AreFirst (core : TheCore) (front_seat back_seat unit_seat : Caller) : Type 0 where
@@ -62,7 +62,7 @@ pub record IsNewCore (P : Program) (config : Settings) (core : TheCore) (front_s
   pub front_by : front_seat.by ≡ front
   pub back_by : back_seat.by ≡ back
   pub unit_by : unit_seat.by ≡ first_unit
-  pub unit_heirs : unit_seat.heirs ≡ other_units
+  pub unit_spare : unit_seat.spare ≡ other_units
 
 -- A table of this setup, by its name and key, with its first seat, by its table and what it knows
 pub record IsFirstTable (setup : Setup) (table : TableId) (key : Setup) (of : TableId) (me : Me ℕ View) :

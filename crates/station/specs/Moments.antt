@@ -2,14 +2,10 @@
 use Rattle.std.specs.Prelude.{ℕ, List}
 use Rattle.instructions.specs.Programs.{Program}
 use Rattle.inorder.specs.declared.history.Entry.{Entry}
-use Rattle.inorder.specs.History.{StartsWith, unit_of}
+use Rattle.inorder.specs.History.{unit_of}
+use Rattle.instructions.specs.Histories.{IsWithin}
 use Rattle.inorder.specs.Replies.{Has, IsOpen}
 use Rattle.inorder.specs.Unit.{Sizes, UpdateUnit}
-
--- A moment of a call whose caller had seen `old` when it began, and has seen `new` at its return
-pub record IsWithin (old new point : List Entry) : Type 0 where
-  pub before_return : StartsWith new point
-  pub behind_call : StartsWith point old
 
 -- This was true of the unit at a moment of the call
 pub record WasOnce (P : Program) (C : Sizes) (old new : List Entry) (Fact : UpdateUnit → Type 0) : Type 0 where

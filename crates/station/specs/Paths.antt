@@ -10,7 +10,7 @@ use Rattle.inorder.specs.Unit.{Sizes, UpdateUnit, creator, front_half, front_pc,
 use Rattle.station.specs.declared.answers.Tenant.{Tenant as NewTenant}
 use Rattle.station.specs.Letting.{MayLetOut, let_of}
 use Rattle.station.specs.Renewals.{IsRenewed, Seats}
-use Rattle.station.specs.Seats.{Caller, TheCore}
+use Rattle.station.specs.Seats.{TheCore, unit_seen}
 
 -- The path goes on at the same place, each register has the same creator, and what was made stays
 pub record IsSamePath (P : Program) (C : Sizes) (U V : UpdateUnit) : Type 0 where
@@ -53,12 +53,8 @@ pub record IsTakenOver (core now : TheCore) (U V : UpdateUnit) : Type 0 where
   pub creators : (r : ℕ) → creator now.program V.tenants r ≡ creator core.program U.tenants r
   pub values : (c : Option ℕ) (v : ℕ) → value_of U.tenants c ≡ Some v → value_of V.tenants c ≡ Some v
 
--- The unit of a core in what a seat has seen
-abbrev pub unit_in : TheCore → Caller → UpdateUnit
-unit_in core seat = unit_of core.program core.sizes seat.seen
-
 -- Each renewal takes the path over, as the front had seen it
 abbrev pub RenewalsGoOn : Type 0
 RenewalsGoOn =
     (core now : TheCore) (old new : Seats) → IsRenewed core old now new →
-    IsTakenOver core now (unit_in core old.front) (unit_in now new.front)
+    IsTakenOver core now (unit_seen core old.front) (unit_seen now new.front)

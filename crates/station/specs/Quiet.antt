@@ -3,14 +3,15 @@ use Rattle.std.specs.Prelude.{◌≡◌, ◌≢◌, ◌⊎◌, ℕ, List, [], �
 use Rattle.instructions.specs.Programs.{Program}
 use Rattle.inorder.specs.declared.history.Entry.{Entry}
 use Rattle.inorder.specs.Callers.{IsReady}
-use Rattle.inorder.specs.History.{IsLegal, IsUnit, StartsWith, back, front, own, unit_of}
+use Rattle.inorder.specs.History.{IsLegal, IsUnit, back, front, own, unit_of}
+use Rattle.instructions.specs.Histories.{StartsWith}
 use Rattle.inorder.specs.OneHistory.{Adds}
 use Rattle.inorder.specs.Replies.{IsOpen, job_of}
 use Rattle.inorder.specs.Tenants.{Tenant}
 use Rattle.inorder.specs.Unit.{Sizes, front_pc, next_station, next_tag, recent}
-use Rattle.ruu_words.specs.declared.rule.Heirs.{Heirs}
+use Rattle.ruu_words.specs.declared.rule.SpareNumbers.{SpareNumbers}
 use Rattle.ruu_words.specs.Kinds.{IsTenant}
-use Rattle.ruu_words.specs.Views.{IsHeir, half, other_half}
+use Rattle.ruu_words.specs.Views.{IsSpare, half, other_half}
 use Rattle.station.specs.declared.answers.Claim.{Claim}
 use Rattle.station.specs.declared.answers.Claim.TheVariants.{Job as Claimed}
 use Rattle.station.specs.declared.job.Job.{Job}
@@ -45,13 +46,13 @@ ClaimsGiveJobs =
 
 -- Each unit is the first, or one whose number the first may give away
 abbrev pub UnitsAreNumbered : Type 0
-UnitsAreNumbered = (n : ℕ) → IsUnit n → (n ≡ first_unit) ⊎ IsHeir other_units n
+UnitsAreNumbered = (n : ℕ) → IsUnit n → (n ≡ first_unit) ⊎ IsSpare other_units n
 
 -- At a split each number that could be given away is the new unit's, or stays with one of the two
 abbrev pub SplitsShareNumbers : Type 0
 SplitsShareNumbers =
-    (heirs : Heirs) (n : ℕ) → IsHeir heirs n →
-    (n ≡ heirs.first) ⊎ (IsHeir (half heirs) n ⊎ IsHeir (other_half heirs) n)
+    (spare : SpareNumbers) (n : ℕ) → IsSpare spare n →
+    (n ≡ spare.first) ⊎ (IsSpare (half spare) n ⊎ IsSpare (other_half spare) n)
 
 -- The tenant has the instruction with which it was let, and the values that were known then
 pub record IsLetAs (t : NewTenant) (pc : ℕ) (u : Tenant) : Type 0 where

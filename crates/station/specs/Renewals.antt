@@ -6,7 +6,8 @@ use Rattle.inorder.specs.declared.history.Entry.{Entry}
 use Rattle.inorder.specs.declared.history.Event.TheVariants.{Does}
 use Rattle.inorder.specs.declared.history.Step.TheVariants.{Renew}
 use Rattle.inorder.specs.Callers.{GoesOn}
-use Rattle.inorder.specs.History.{MayAdd, StartsWith, back, front, unit_of}
+use Rattle.inorder.specs.History.{MayAdd, back, front, unit_of}
+use Rattle.instructions.specs.Histories.{StartsWith}
 use Rattle.inorder.specs.OneHistory.{Adds}
 use Rattle.inorder.specs.Tenants.{IsNotLive}
 use Rattle.inorder.specs.Unit.{Sizes, UpdateUnit}
@@ -32,7 +33,7 @@ seats_of front_seat back_seat unit_seat =
 -- The seat `new` is the seat `old`, whose caller has looked and met
 pub record HasLooked (core : TheCore) (old new : Caller) : Type 0 where
   pub same : IsSameSeat old new
-  pub heirs : new.heirs ≡ old.heirs
+  pub spare : new.spare ≡ old.spare
   pub woken : new.woken ≡ old.woken
   pub adds : Adds core.program core.sizes old.by old.seen new.seen []
 

@@ -38,7 +38,7 @@ EndsAs P (Stored address word) t =
 EndsAs P (WasStop code) t = t.fate ≡ Stopped code
 
 -- The tenant is this half of this instruction, and ended so
-pub record IsLast (P : Program) (index : ℕ) (half : Half) (last : Last) (t : Tenant) : Type 0 where
+pub record IsThisHalf (P : Program) (index : ℕ) (half : Half) (last : Last) (t : Tenant) : Type 0 where
   pub index_is : t.index ≡ index
   pub half_is : t.half ≡ half
   pub ends : EndsAs P last t
@@ -48,7 +48,7 @@ pub record IsRetired (P : Program) (C : Sizes) (by : ℕ) (old new : List Entry)
     (half : Half) (last : Last) : Type 0 where
   pub p : ℕ
   pub n : ℕ
-  pub tenant : IsTenant (unit_of P C new) p station tag (IsLast P index half last)
+  pub tenant : IsTenant (unit_of P C new) p station tag (IsThisHalf P index half last)
   pub adds : Adds P C by old new (Does (On p (RetireIt n)) ∷ [])
 
 -- A retirement answers which tenant retired, or a refusal that was true at its point
@@ -111,7 +111,7 @@ pub record FindsData (P : Program) (C : Sizes) (a : Access) (n : ℕ) (h : List 
 pub record IsLeaving (P : Program) (l : Leaving) (t : Tenant) : Type 0 where
   pub station_is : t.station ≡ l.station
   pub tag_is : t.tag ≡ l.tag
-  pub last_is : IsLast P l.index l.half l.last t
+  pub last_is : IsThisHalf P l.index l.half l.last t
 
 -- In what was seen the oldest live tenant can retire like this
 pub record MayLeave (P : Program) (C : Sizes) (seen : List Entry) (l : Leaving) : Type 0 where

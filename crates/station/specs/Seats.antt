@@ -9,7 +9,7 @@ use Rattle.inorder.specs.History.{IsLegal, back, front, unit_of}
 use Rattle.inorder.specs.Replies.{IsOver}
 use Rattle.inorder.specs.Unit.{Sizes, UpdateUnit, next_station, recent}
 use Rattle.ruu_words.specs.declared.rule.Draft.TheVariants.{Nothing}
-use Rattle.ruu_words.specs.declared.rule.Heirs.{Heirs}
+use Rattle.ruu_words.specs.declared.rule.SpareNumbers.{SpareNumbers}
 use Rattle.ruu_words.specs.declared.rule.Role.{Role}
 use Rattle.ruu_words.specs.declared.rule.Role.TheVariants.{Back, Front, Spent, Start, Worker}
 use Rattle.ruu_words.specs.declared.rule.Setup.{Setup}
@@ -33,9 +33,13 @@ core_of id c = record { id = id; program = c.program; sizes = sizes_of c; openin
 pub record Caller : Type 0 where
   pub core : TheCore
   pub by : ℕ
-  pub heirs : Heirs
+  pub spare : SpareNumbers
   pub seen : List Entry
   pub woken : ℕ
+
+-- The unit of a core in what a seat's caller has seen
+abbrev pub unit_seen : TheCore → Caller → UpdateUnit
+unit_seen core v = unit_of core.program core.sizes v.seen
 
 -- The seat w is the seat v at the same core
 pub record IsSameSeat (v w : Caller) : Type 0 where
@@ -72,19 +76,19 @@ pub record IsSeated (P : Program) (C : Sizes) (role : Role) (by station : ℕ) (
 
 -- The seat may give numbers away, all above its own, whose callers have done nothing since the opening
 pub record IsGiver (opening : List Entry) (v : View) : Type 0 where
-  pub some : 1 ≤ v.heirs.every
-  pub above : v.by < v.heirs.first
+  pub some : 1 ≤ v.spare.every
+  pub above : v.by < v.spare.first
   pub unborn : Unborn opening v
 
 -- A unit's seat may give numbers away, and no other seat may
-abbrev pub HasHeirs : List Entry → Role → View → Type 0
-HasHeirs opening Worker v = IsGiver opening v
-HasHeirs opening Start v = ⊥
-HasHeirs opening Front v = v.heirs ≡ nobody
-HasHeirs opening Back v = v.heirs ≡ nobody
-HasHeirs opening Spent v = ⊥
+abbrev pub HasSpare : List Entry → Role → View → Type 0
+HasSpare opening Worker v = IsGiver opening v
+HasSpare opening Start v = ⊥
+HasSpare opening Front v = v.spare ≡ nobody
+HasSpare opening Back v = v.spare ≡ nobody
+HasSpare opening Spent v = ⊥
 
 -- The number of a seat's caller is one of its role, at a table with this opening
 pub record IsNumbered (opening : List Entry) (role : Role) (v : View) : Type 0 where
   pub caller : IsCaller role v.by
-  pub heirs : HasHeirs opening role v
+  pub spare : HasSpare opening role v

@@ -48,9 +48,9 @@ impl Split<View> for BackCut {
     ghost use Rattle.ruu_words.specs.declared.rule.Draft.TheVariants.{Nothing};
     ghost use Rattle.ruu_words.specs.declared.rule.Role.TheVariants.{Back, Front};
 
-    ghost left = { λ v. view Front v.by (without_first v.heirs) v.seen v.draft };
+    ghost left = { λ v. view Front v.by (without_first v.spare) v.seen v.draft };
 
-    ghost right = { λ v. view Back v.heirs.first nobody v.seen Nothing };
+    ghost right = { λ v. view Back v.spare.first nobody v.seen Nothing };
 }
 
 // The first unit's seat may give away all numbers behind its own.
@@ -63,7 +63,7 @@ impl Split<View> for FirstCut {
 
     ghost left = { λ v. view v.role v.by nobody v.seen v.draft };
 
-    ghost right = { λ v. view Worker v.heirs.first (without_first v.heirs) v.seen Nothing };
+    ghost right = { λ v. view Worker v.spare.first (without_first v.spare) v.seen Nothing };
 }
 
 fn setup_of(alloc: Global, program: &Program, config: &Config) -> Result<Setup, Memory>

@@ -1,7 +1,7 @@
 //! What stays true between calls. Each function is a law: it does nothing, and its contract is proved.
 ghost use Rattle.std.specs.Prelude.{◌≡◌, ℕ};
 ghost use Rattle.inorder.specs.History.{IsLegal, own};
-ghost use Rattle.ruu_words.specs.Views.{IsCaller, IsHeir};
+ghost use Rattle.ruu_words.specs.Views.{IsCaller, IsSpare};
 ghost use Rattle.station.specs.Finishing.{ClaimedAreInFlight, JobsAreFinished, JobsStayInFlight};
 ghost use Rattle.station.specs.Following.{LetsAreAsked, MissesAreRecovered, MissesStaySeen, MissesStaySquashing, QuestionsLeaveOthers};
 ghost use Rattle.station.specs.Infos.{InfosElsewhere};
@@ -80,7 +80,7 @@ pub fn a_number_is_of_its_part<P: Part>(seat: &SeatOf<P>)
 /// that a seat may still give away have no entry, behind that with which the core opened, in what its
 /// caller has seen.
 pub fn no_seat_no_entry(seat: &UnitSeat)
-    ensures { (n : ℕ) → IsHeir seat.now.heirs n → own n seat.now.seen ≡
+    ensures { (n : ℕ) → IsSpare seat.now.spare n → own n seat.now.seen ≡
         own n seat.now.core.opening }
 {
     let _over = seat.over;

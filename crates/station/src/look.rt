@@ -41,7 +41,7 @@ impl Core {
         requires station { station < self.now.sizes.ring }
         ensures kept { IsSameSeat seat.old seat.new }
         ensures woken { seat.new.woken ≡ seat.old.woken }
-        ensures heirs { seat.new.heirs ≡ seat.old.heirs }
+        ensures spare { seat.new.spare ≡ seat.old.spare }
         ensures caller { IsCaller P.role seat.old.by }
         ensures history { Adds self.now.program self.now.sizes seat.old.by seat.old.seen
             seat.new.seen [] }

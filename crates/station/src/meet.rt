@@ -1,6 +1,7 @@
 //! Meetings: the history that one caller has seen reaches another.
 ghost use Rattle.std.specs.Prelude.{◌≡◌, ◌≢◌, []};
-ghost use Rattle.inorder.specs.History.{StartsWith, own};
+ghost use Rattle.inorder.specs.History.{own};
+ghost use Rattle.instructions.specs.Histories.{StartsWith};
 ghost use Rattle.ruu_words.specs.Views.{half, other_half};
 ghost use Rattle.station.specs.Renewals.{HasLooked};
 ghost use Rattle.station.specs.Seats.{IsSameSeat};
@@ -37,7 +38,7 @@ impl Split<View> for NoteCut {
     ghost use Rattle.ruu_words.specs.declared.rule.Draft.TheVariants.{Nothing};
     ghost use Rattle.ruu_words.specs.declared.rule.Role.TheVariants.{Spent};
 
-    ghost left = { λ v. view v.role v.by v.heirs v.seen v.draft };
+    ghost left = { λ v. view v.role v.by v.spare v.seen v.draft };
 
     ghost right = { λ v. view Spent 0 nobody v.seen Nothing };
 }
@@ -51,9 +52,9 @@ impl Split<View> for UnitCut {
     ghost use Rattle.ruu_words.specs.declared.rule.Draft.TheVariants.{Nothing};
     ghost use Rattle.ruu_words.specs.declared.rule.Role.TheVariants.{Worker};
 
-    ghost left = { λ v. view v.role v.by (half v.heirs) v.seen v.draft };
+    ghost left = { λ v. view v.role v.by (half v.spare) v.seen v.draft };
 
-    ghost right = { λ v. view Worker v.heirs.first (other_half v.heirs) v.seen Nothing };
+    ghost right = { λ v. view Worker v.spare.first (other_half v.spare) v.seen Nothing };
 }
 
 impl Core {
@@ -61,11 +62,11 @@ impl Core {
     /// the second that of a caller who has done nothing at this core.
     pub fn split(&self, mut seat: UnitSeat) -> (UnitSeat, UnitSeat)
         requires core { seat.core ≡ self.now }
-        ensures first { result.0 ≡ record seat { heirs = half seat.heirs; woken = 0 } }
+        ensures first { result.0 ≡ record seat { spare = half seat.spare; woken = 0 } }
         ensures core { result.1.core ≡ self.now }
         ensures history { result.1.seen ≡ seat.seen }
-        ensures number { result.1.by ≡ seat.heirs.first }
-        ensures heirs { result.1.heirs ≡ other_half seat.heirs }
+        ensures number { result.1.by ≡ seat.spare.first }
+        ensures spare { result.1.spare ≡ other_half seat.spare }
         ensures other { result.1.by ≢ result.0.by }
         ensures fresh { own result.1.by result.1.seen ≡ own result.1.by self.now.opening }
         ensures woken { result.1.woken ≡ 0 }
@@ -104,13 +105,13 @@ impl Core {
         requires one { one.old.core ≡ self.now }
         requires other { other.old.core ≡ self.now }
         ensures one_kept { IsSameSeat one.old one.new }
-        ensures one_heirs { one.new.heirs ≡ one.old.heirs }
+        ensures one_spare { one.new.spare ≡ one.old.spare }
         ensures one_woken { one.new.woken ≡ one.old.woken }
         ensures one_history { Adds self.now.program self.now.sizes one.old.by one.old.seen
             one.new.seen [] }
         ensures one_told { StartsWith one.new.seen other.old.seen }
         ensures other_kept { IsSameSeat other.old other.new }
-        ensures other_heirs { other.new.heirs ≡ other.old.heirs }
+        ensures other_spare { other.new.spare ≡ other.old.spare }
         ensures other_woken { other.new.woken ≡ other.old.woken }
         ensures other_history { Adds self.now.program self.now.sizes other.old.by other.old.seen
             other.new.seen [] }

@@ -70,7 +70,7 @@ impl<P: Part> Model for SeatOf<P> {
         record {
           core = core_of s.seat.table_id s.words.value.key;
           by = s.seat.me.0.by;
-          heirs = s.seat.me.0.heirs;
+          spare = s.seat.me.0.spare;
           seen = s.seat.me.0.seen;
           woken = s.woken;
         } };
@@ -95,7 +95,7 @@ impl<P: Part> SeatOf<P> {
             record {
               core = core_of seat.table_id words.now.key;
               by = seat.me.0.by;
-              heirs = seat.me.0.heirs;
+              spare = seat.me.0.spare;
               seen = seat.me.0.seen;
               woken = 0;
             } }

@@ -82,7 +82,7 @@ impl Core {
         requires job { Holds self.now.program self.now.sizes seat.old.by seat.old.seen job }
         requires outcome { outcome ≡ job_outcome self.now.program job }
         ensures kept { IsSameSeat seat.old seat.new }
-        ensures heirs { seat.new.heirs ≡ seat.old.heirs }
+        ensures spare { seat.new.spare ≡ seat.old.spare }
         ensures reply { FinishAnswers self.now.program self.now.sizes seat.old.by seat.old.seen
             seat.new.seen job result }
         ensures woken { HasWoken self.now.program self.now.sizes seat.old.by seat.old.seen

@@ -17,6 +17,8 @@ mod failing;
 #[cfg(test)]
 mod lines;
 #[cfg(test)]
+mod meeting;
+#[cfg(test)]
 mod same;
 #[cfg(test)]
 mod snappers;

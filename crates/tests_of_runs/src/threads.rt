@@ -10,7 +10,7 @@ mod rows;
 mod together;
 mod turned;
 
-use instructions::{Config, NotTaken};
+use instructions::{Config, End, NotTaken};
 use isa::{parse, report_text};
 use pool::{Gate, Run, RunInTurns, run, run_in_turns};
 use std::alloc::Global;
@@ -64,6 +64,24 @@ fn run_listing<R: Threads + Wait + Sync, G: Gate + Sync>(
     let config = shape.config()?;
     let program = parse(alloc, listing)?;
     Ok(run(wait, alloc, &program, &config, NotTaken, gate))
+}
+
+// The end of a run of so many units, with turns enough for a gate that holds them.
+fn end_of_held<R: Threads + Wait + Sync, G: Gate + Sync>(
+    wait: &R,
+    alloc: Global,
+    listing: &[u8],
+    units: u64,
+    gate: &G,
+) -> Result<End, Fail> {
+    let shape = Shape {
+        turns: 50_000_000,
+        ..plain(units)
+    };
+    match run_listing(wait, alloc, listing, &shape, gate)? {
+        Run::Ended(end, _) => Ok(end),
+        _ => Err(Fail::from("ended")),
+    }
 }
 
 // Runs a listing on the threads, and gives the turns that the commit thread has left.

@@ -52,7 +52,8 @@ passed woken i old new clear h =
     }
 
 -- the next station found the queue full
-dropped : (woken i : ℕ) (old new then : TheHinter) → IsSet woken i → then.of ≡ new.of → then.hand ≡ new.hand → HasOffered new then → HasHinted woken i old new → HasHinted woken (i + 1) old then
+dropped : (woken i : ℕ) (old new then : TheHinter) → IsSet woken i → then.of ≡ new.of → then.hand ≡ new.hand → HasOffered new then →
+    HasHinted woken i old new → HasHinted woken (i + 1) old then
 dropped woken i old new then set of kept once h =
     record {
       of = of ∙ h.of;
@@ -66,7 +67,8 @@ dropped woken i old new then set of kept once h =
     }
 
 -- the next station was hinted
-hinted : (woken i : ℕ) (old new then : TheHinter) → IsSet woken i → then.of ≡ new.of → then.hand ≡ putting i new.hand → HasOffered new then → HasHinted woken i old new → HasHinted woken (i + 1) old then
+hinted : (woken i : ℕ) (old new then : TheHinter) → IsSet woken i → then.of ≡ new.of → then.hand ≡ putting i new.hand → HasOffered new then →
+    HasHinted woken i old new → HasHinted woken (i + 1) old then
 hinted woken i old new then set of put once h =
     record {
       of = of ∙ h.of;

@@ -47,10 +47,10 @@ abbrev pub IsAllAddedBy : Gathered → Counter → Type 0
 IsAllAddedBy g seat = (t : Total) → (share_of t seat.shares).added % 2 ^ 64 ≡ counted_of g t
 
 -- The amount that the claim of a job adds to a total, by how the job was found
-abbrev pub claim_of : Candidate → Total → ℕ
-claim_of (Hinted station) t = only_of Claims 1 t + only_of Hints 1 t
-claim_of (Next station) t = only_of Claims 1 t
+abbrev pub claim_amount : Candidate → Total → ℕ
+claim_amount (Hinted station) t = only_of Claims 1 t + only_of Hints 1 t
+claim_amount (Next station) t = only_of Claims 1 t
 
 -- The claim of a job was counted, and the hint where its station came as one
 abbrev pub CountsClaim : Candidate → Gathered → Gathered → Type 0
-CountsClaim candidate old new = (t : Total) → counted_of new t ≡ (counted_of old t + claim_of candidate t) % 2 ^ 64
+CountsClaim candidate old new = (t : Total) → counted_of new t ≡ (counted_of old t + claim_amount candidate t) % 2 ^ 64

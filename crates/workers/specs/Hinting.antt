@@ -48,10 +48,10 @@ candidate_station (Hinted station) = station
 candidate_station (Next station) = station
 
 -- The search found a hint; or there was none, and it found the next station in ring order
-abbrev pub LooksAt : (ring : ℕ) → Search → Search → Candidate → Type 0
-LooksAt ring old new (Hinted station) =
+abbrev pub FindsStation : (ring : ℕ) → Search → Search → Candidate → Type 0
+FindsStation ring old new (Hinted station) =
     (new.hinter.hand ≡ taking station old.hinter.hand) × (new.next ≡ old.next)
-LooksAt ring old new (Next station) =
+FindsStation ring old new (Next station) =
     (station ≡ old.next) × (new.next ≡ (old.next + 1) % ring) × (new.hinter.hand ≡ old.hinter.hand)
 
 -- One hint was asked for, whether there was one or not

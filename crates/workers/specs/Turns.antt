@@ -11,7 +11,7 @@ abbrev pub untaken : ℕ → TheTurns
 untaken all = record { all = all; left = all }
 
 -- Some turns were taken, or none, and none was given back
-pub record AreTaken (old new : TheTurns) : Type 0 where
+pub record TurnsAreTaken (old new : TheTurns) : Type 0 where
   pub all : new.all ≡ old.all
   pub left : new.left ≤ old.left
 

@@ -17,9 +17,9 @@ pub record Works (core : TheCore) (counts : TableId) (hints : TheHints) (unit : 
   pub searches : Searches hints unit.search
 
 -- The term is over, or no turn is left
-abbrev pub HasStopped : TheTurns → Stopped → Type 0
-HasStopped turns (Over over) = ⊤
-HasStopped turns (Spent none other) = turns.left ≡ 0
+abbrev pub UnitStops : TheTurns → Stopped → Type 0
+UnitStops turns (Over over) = ⊤
+UnitStops turns (Spent none other) = turns.left ≡ 0
 
 -- Between two moments the unit has counted just its deeds, with those that are gathered and not added yet
 pub record HasCountedDeeds (old new : Unit) : Type 0 where

@@ -5,8 +5,8 @@ ghost use Rattle.station.specs.Claiming.{ClaimAnswers, Holds};
 ghost use Rattle.station.specs.Seats.{IsSameSeat};
 ghost use Rattle.workers.specs.Deeds.{HasAddedDeeds, HasDone, HasFinishedAll, total_of_claim, total_of_finish};
 ghost use Rattle.workers.specs.Hinting.{AsksOnce, HintsWoken, candidate_station};
-ghost use Rattle.workers.specs.Turns.{AreTaken};
-ghost use Rattle.workers.specs.Units.{HasCountedDeeds, HasStopped, Works};
+ghost use Rattle.workers.specs.Turns.{TurnsAreTaken};
+ghost use Rattle.workers.specs.Units.{HasCountedDeeds, UnitStops, Works};
 
 use crate::bounds::Bounds;
 use crate::gate::Gate;
@@ -64,7 +64,7 @@ fn wait_at<K: Bounds + Ring, G: Gate, R>(
     turns: &mut UnitTurns<K>,
 ) -> Option<Activated>
     requires { job.now.station < 2 ^ 32 }
-    ensures turns { AreTaken turns.old turns.new }
+    ensures turns { TurnsAreTaken turns.old turns.new }
     ensures other { IfNone result (turns.new.left ≡ turns.old.left) }
 {
     let (gate, state) = (shared.gate, shared.state);
@@ -133,7 +133,7 @@ fn claim_and_finish<K: Bounds + Ring, G: Gate, R: Wait>(
     ensures counted { HasCountedDeeds unit.old unit.new }
     ensures finished { HasFinishedAll unit.old.seat.by unit.old.seat.seen unit.new.seat.seen }
     ensures asks { AsksOnce unit.old.search unit.new.search }
-    ensures turns { AreTaken turns.old turns.new }
+    ensures turns { TurnsAreTaken turns.old turns.new }
     ensures held { IfNone result (turns.new.left ≡ turns.old.left) }
 {
     let candidate = unit
@@ -173,8 +173,8 @@ fn take_turns<K: Bounds + Ring, G: Gate, R: Wait>(
         shared.now.state.now.hints unit.new }
     ensures counted { HasCountedDeeds unit.old unit.new }
     ensures finished { HasFinishedAll unit.old.seat.by unit.old.seat.seen unit.new.seat.seen }
-    ensures turns { AreTaken turns.old turns.new }
-    ensures stopped { HasStopped turns.new result }
+    ensures turns { TurnsAreTaken turns.old turns.new }
+    ensures stopped { UnitStops turns.new result }
 {
     'turns: loop {
         if let Some(over) = shared.state.over() {
@@ -197,8 +197,8 @@ fn work_with<K: Bounds + Ring, G: Gate, R: Wait>(
     requires count { worker.count.of ≡ shared.now.state.now.counts }
     ensures added { HasAddedDeeds worker result.0 }
     ensures finished { HasFinishedAll worker.seat.by worker.seat.seen result.0.seat.seen }
-    ensures turns { AreTaken turns.old turns.new }
-    ensures stopped { HasStopped turns.new result.1 }
+    ensures turns { TurnsAreTaken turns.old turns.new }
+    ensures stopped { UnitStops turns.new result.1 }
 {
     let mut unit = Unit::enter(shared, worker);
     let stopped = take_turns(shared, &mut unit, turns);

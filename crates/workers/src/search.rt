@@ -1,6 +1,6 @@
 //! Where a unit looks for work.
 ghost use Rattle.std.specs.Prelude.{◌≡◌, ◌<◌, ◌≤◌};
-ghost use Rattle.workers.specs.Hinting.{AsksOnce, LooksAt, Searches, candidate_station};
+ghost use Rattle.workers.specs.Hinting.{AsksOnce, FindsStation, Searches, candidate_station};
 
 use hints::{Hinter, Hints, Ring};
 use inorder::wrapped;
@@ -58,7 +58,7 @@ impl Search {
         requires most { ring ≤ 32 }
         ensures of { Searches hints.now self.new }
         ensures station { candidate_station result < ring }
-        ensures looks { LooksAt ring self.old self.new result }
+        ensures looks { FindsStation ring self.old self.new result }
         ensures asks { AsksOnce self.old self.new }
     {
         if let Some(station) = hints.pop(wait, &mut self.hinter) {

@@ -3,7 +3,7 @@ use Rattle.std.proofs.Common.{◌≡◌, ℕ, suc, Bool, true, false, cond, eqb,
 use Rattle.std.specs.List.{AllByRecursion}
 use Rattle.inorder.specs.Steps.{IsNoRetiredStop}
 use Rattle.inorder.specs.Tenants.{Operand, Tenant}
-use Rattle.inorder.specs.Unit.{at, made_by, value_of}
+use Rattle.inorder.specs.Unit.{at, value_made, value_of}
 use Rattle.inorder.specs.Still.{AreStill, IsNotBusy, SourceIsStill}
 
 pub record IsAlike (t u : Tenant) : Type 0 where
@@ -47,13 +47,13 @@ alike_length [] (u ∷ us) a = absurd a
 alike_length (t ∷ ts) [] a = absurd a
 alike_length (t ∷ ts) (u ∷ us) a = ap suc (alike_length ts us a.1)
 
-alike_made : (ts us : List Tenant) → AreAlike ts us → (p : ℕ) → made_by (at us p) ≡ made_by (at ts p)
+alike_made : (ts us : List Tenant) → AreAlike ts us → (p : ℕ) → value_made (at us p) ≡ value_made (at ts p)
 alike_made [] [] a p = refl
 alike_made [] (u ∷ us) a p = absurd a
 alike_made (t ∷ ts) [] a p = absurd a
 alike_made (t ∷ ts) (u ∷ us) a p = go (eqb p (length us)) (eqb p (length ts)) (ap (eqb p) (alike_length ts us a.1)) (alike_made ts us a.1 p)
   where
-    go : (b c : Bool) → b ≡ c → made_by (at us p) ≡ made_by (at ts p) → made_by (cond b (Some u) (at us p)) ≡ made_by (cond c (Some t) (at ts p))
+    go : (b c : Bool) → b ≡ c → value_made (at us p) ≡ value_made (at ts p) → value_made (cond b (Some u) (at us p)) ≡ value_made (cond c (Some t) (at ts p))
     go true true q m = a.0.made
     go false false q m = m
     go true false q m = absurd (cc)
@@ -74,10 +74,10 @@ stops_alike (t ∷ ts) (u ∷ us) a h = ((λ e c q. h.0 (sym a.0.standing ∙ e)
 
 -- One tenant changes and has made what it had
 
-made_put : (ys : List Tenant) (t u : Tenant) (ts : List Tenant) → u.made ≡ t.made → (p : ℕ) → made_by (at (ys ++ u ∷ ts) p) ≡ made_by (at (ys ++ t ∷ ts) p)
+made_put : (ys : List Tenant) (t u : Tenant) (ts : List Tenant) → u.made ≡ t.made → (p : ℕ) → value_made (at (ys ++ u ∷ ts) p) ≡ value_made (at (ys ++ t ∷ ts) p)
 made_put [] t u ts e p = go (eqb p (length ts))
   where
-    go : (b : Bool) → made_by (cond b (Some u) (at ts p)) ≡ made_by (cond b (Some t) (at ts p))
+    go : (b : Bool) → value_made (cond b (Some u) (at ts p)) ≡ value_made (cond b (Some t) (at ts p))
     go true = e
     go false = refl
 made_put (y ∷ ys) t u ts e p = go (eqb p (length (ys ++ u ∷ ts))) (eqb p (length (ys ++ t ∷ ts))) (ap (eqb p) same) (made_put ys t u ts e p)
@@ -85,7 +85,8 @@ made_put (y ∷ ys) t u ts e p = go (eqb p (length (ys ++ u ∷ ts))) (eqb p (le
     same : length (ys ++ u ∷ ts) ≡ length (ys ++ t ∷ ts)
     same = omega (arith, length-append ys (u ∷ ts), length-append ys (t ∷ ts))
 
-    go : (a b : Bool) → a ≡ b → made_by (at (ys ++ u ∷ ts) p) ≡ made_by (at (ys ++ t ∷ ts) p) → made_by (cond a (Some y) (at (ys ++ u ∷ ts) p)) ≡ made_by (cond b (Some y) (at (ys ++ t ∷ ts) p))
+    go : (a b : Bool) → a ≡ b → value_made (at (ys ++ u ∷ ts) p) ≡ value_made (at (ys ++ t ∷ ts) p) →
+        value_made (cond a (Some y) (at (ys ++ u ∷ ts) p)) ≡ value_made (cond b (Some y) (at (ys ++ t ∷ ts) p))
     go true true q m = refl
     go false false q m = m
     go true false q m = absurd (cc)

@@ -14,7 +14,7 @@ use Rattle.instructions.specs.declared.stop.Outcome.TheVariants.{Address, Next, 
 use Rattle.inorder.specs.Steps.{IsNoRetiredStop, MayComeFrom}
 use Rattle.inorder.specs.Tenants.{Addr, Busy, Done, Fate, Live, Miss, Open, Retired, Squashed, Standing, Stopped, Tenant, computed, destination_of, instr, is_live, kind_of, on_path, operand_value}
 use Rattle.inorder.specs.Tenants.{stands_on_path}
-use Rattle.inorder.specs.Unit.{Sizes, UpdateUnit, at, creator, how_many, last_writer, made_by, newest_of, next_station, older, recent, value_of, younger}
+use Rattle.inorder.specs.Unit.{Sizes, UpdateUnit, at, creator, how_many, last_writer, value_made, newest_of, next_station, older, recent, value_of, younger}
 use Rattle.inorder.proofs.Basics.{Below, eqb_less, eqb_self, last_writer_below, split_at}
 use Rattle.inorder.proofs.SettledRegisters.{made_leaves, retired_leaves, writer_if}
 use Rattle.inorder.proofs.Grows.{all_mid}
@@ -134,7 +134,7 @@ pending_may P C V n (suc r) s st never ns room at none = go (ltb (suc r) 34) ref
     from (Some p) e g =
         let w = last_is P U (suc r) p e in
         let split = split_at U p w.t w.is in
-        let made : w.t.made ≡ None = sym (ap made_by w.is) ∙ g in
+        let made : w.t.made ≡ None = sym (ap value_made w.is) ∙ g in
         let sound' = sound_from P (younger U p) (w.t ∷ older U p) (subst (IsSound P) split s) in
         let stop' = all_mid IsNoRetiredStop w.t (older U p) (younger U p) (subst (AllByRecursion IsNoRetiredStop) split ns) in
         let live = writer_live P (older U p) w.t r sound' stop' w.on w.writes made in

@@ -25,7 +25,8 @@ use Rattle.inorder.proofs.Runs.Examples.{less}
 use Rattle.inorder.proofs.Theorem.Forbidden.{same_tenant, stop_ends}
 use Rattle.inorder.proofs.Grows.{sound_mid}
 use Rattle.inorder.proofs.Heads.{Oldest, find_oldest}
-use Rattle.inorder.proofs.Histories.{allowed_steps, starts_same, unit_sound}
+use Rattle.inorder.proofs.Histories.{allowed_steps, unit_sound}
+use Rattle.instructions.proofs.Histories.{starts_same}
 use Rattle.inorder.proofs.Positions.{all_at, at_below, at_more, at_new, older_at, older_from}
 use Rattle.inorder.proofs.Sound.{IsSound, IsSoundAt}
 

@@ -24,7 +24,7 @@ use Rattle.inorder.specs.Memory.{Stored, byte_after, byte_at, covers, load_value
 use Rattle.inorder.specs.Numbers.{AreWords, FateIsWord, HasWords, ValuesAreWords}
 use Rattle.inorder.specs.Steps.{MayLet, MaySupply, finished, let_operand, made_at_end, mended_as, new_tenant}
 use Rattle.inorder.specs.Tenants.{Addr, Busy, Done, Fate, Miss, Open, Stopped, Tenant, computed, instr, kind_of, made_at_let}
-use Rattle.inorder.specs.Unit.{Sizes, UpdateUnit, at, creator, front_pc, made_by, next_station, older, recent, value_of, younger}
+use Rattle.inorder.specs.Unit.{Sizes, UpdateUnit, at, creator, front_pc, value_made, next_station, older, recent, value_of, younger}
 use Rattle.lsq.specs.Bytes.{byte_of, joined, little_endian_if_there}
 use Rattle.inorder.proofs.Basics.{split_at}
 use Rattle.inorder.proofs.Grows.{all_grows, all_mid}
@@ -108,11 +108,11 @@ load_word P w ts t =
 some_word : (o : Option ℕ) (v : ℕ) → o ≡ Some v → IfSome o IsWord → IsWord v
 some_word o v e h = subst (λ q. IfSome q IsWord) e h
 
-made_words : (ts : List Tenant) → AllByRecursion AreWords ts → (p : ℕ) → IfSome (made_by (at ts p)) IsWord
+made_words : (ts : List Tenant) → AllByRecursion AreWords ts → (p : ℕ) → IfSome (value_made (at ts p)) IsWord
 made_words [] h p = tt
 made_words (t ∷ ts) h p = go (eqb p (length ts)) (made_words ts h.1 p)
   where
-    go : (b : Bool) → IfSome (made_by (at ts p)) IsWord → IfSome (made_by (cond b (Some t) (at ts p))) IsWord
+    go : (b : Bool) → IfSome (value_made (at ts p)) IsWord → IfSome (value_made (cond b (Some t) (at ts p))) IsWord
     go true more = h.0.made
     go false more = more
 

@@ -1,7 +1,7 @@
 //! Renewal of the core: the back leaves the old one and enters another.
 ghost use Rattle.std.specs.Prelude.{◌≡◌, Err, IfNone, IfSome};
 ghost use Rattle.inorder.specs.History.{unit_of};
-ghost use Rattle.pool.specs.Committing.{MayRenew};
+ghost use Rattle.pool.specs.Committing.{IsUnderWay};
 ghost use Rattle.pool.specs.Terms.{AreRenewed, IsReturned, MayBegin};
 ghost use Rattle.station.specs.Renewals.{HasNobody};
 ghost use Rattle.workers.specs.Configured.{configured_sizes};
@@ -28,7 +28,7 @@ impl<J: Naming, K: Bounds + Ring> Committer<J, K> {
         parts: (Global, &RunState<K>, Core, FrontSeat, UnitSeat),
     ) -> (Self, Option<(Core, FrontSeat, UnitSeat)>)
         requires core { self.back.core ≡ parts.2 }
-        requires may { MayRenew self }
+        requires may { IsUnderWay self }
         requires front { parts.3.core ≡ parts.2 }
         requires nobody { HasNobody (unit_of parts.2.program parts.2.sizes parts.3.seen) }
         requires unit { parts.4.core ≡ parts.2 }

@@ -4,7 +4,7 @@ ghost use Rattle.back.specs.Backs.{IsSameBack, back_state};
 ghost use Rattle.counts.specs.Reads.{WasTotal};
 ghost use Rattle.counts.specs.Totals.{tallied};
 ghost use Rattle.hints.specs.Hinted.{IsEndOf};
-ghost use Rattle.pool.specs.Committing.{Because, HintsLoaded, IsReason, MayRenew};
+ghost use Rattle.pool.specs.Committing.{Because, HintsLoaded, IsReason, IsUnderWay};
 ghost use Rattle.pool.specs.declared.commit.turning.Turned.TheVariants.{Over};
 ghost use Rattle.pool.specs.declared.commit.Why.{Why};
 
@@ -179,7 +179,7 @@ impl<J: Naming, K: Bounds + Ring> Committer<J, K> {
         requires places { places.now ≡ (K.config).places }
         ensures core { self.new.back.core ≡ shared.now.core.now }
         ensures has_run { self.new.over ≢ Err Refusal.Thread }
-        ensures goes_on { result ≡ true → MayRenew self.new }
+        ensures goes_on { result ≡ true → IsUnderWay self.new }
     {
         self.over = Err(Refusal::Memory);
         let Ok(reason) = self.take_turns(shared) else {

@@ -10,7 +10,7 @@ use std::alloc::{AllocError, Global};
 
 impl<'a, P: Predictor + Drop, J: Naming> Session<'a, P, J> {
     ghost use Rattle.std.specs.Prelude.{◌<◌, IfSome, OnOk};
-    ghost use Rattle.session.specs.Plays.{HasLooked, MayHaveLooked};
+    ghost use Rattle.session.specs.Plays.{OnlyLooked, MayHaveLooked};
 
     // The first of the units that holds no job, if one does not.
     fn idle(&self) -> Option<usize>
@@ -40,7 +40,7 @@ impl<'a, P: Predictor + Drop, J: Naming> Session<'a, P, J> {
         choices: &mut Vec<Command>,
         station: u32,
     ) -> Result<(), AllocError>
-        ensures { OnOk result (HasLooked self.old self.new) }
+        ensures { OnOk result (OnlyLooked self.old self.new) }
     {
         let idle = self.idle();
         let program = self.program;
@@ -63,7 +63,7 @@ impl<'a, P: Predictor + Drop, J: Naming> Session<'a, P, J> {
 
     // A turn, where a station is free and an instruction stands at the next pc.
     fn push_turn(&mut self, choices: &mut Vec<Command>) -> Result<(), AllocError>
-        ensures { OnOk result (HasLooked self.old self.new) }
+        ensures { OnOk result (OnlyLooked self.old self.new) }
     {
         let (core, all, back) = (&self.core, &mut self.all, &mut self.back);
         let (head, ahead) = rows::ring(core, all, &mut self.front, back);
@@ -75,7 +75,7 @@ impl<'a, P: Predictor + Drop, J: Naming> Session<'a, P, J> {
 
     // A commit, where the oldest tenant may have its value, or nobody is live.
     fn push_commit(&mut self, choices: &mut Vec<Command>) -> Result<(), AllocError>
-        ensures { OnOk result (HasLooked self.old self.new) }
+        ensures { OnOk result (OnlyLooked self.old self.new) }
     {
         let (core, all, back) = (&self.core, &mut self.all, &mut self.back);
         let oldest = rows::oldest(core, all, &mut self.front, back, &self.units);

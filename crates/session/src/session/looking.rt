@@ -6,7 +6,7 @@ use super::Session;
 use crate::names::register_of;
 use crate::operands::Which;
 use crate::replies::{Refusal, Reply};
-use crate::{accounts, front_calls, reads, rows};
+use crate::{accounts, front_calls, producers, reads, rows};
 use back::Naming;
 use instructions::Predictor;
 use station::Source;
@@ -102,7 +102,7 @@ impl<'a, P: Predictor + Drop, J: Naming> Session<'a, P, J> {
         }
         let (core, all, back) = (&self.core, &mut self.all, &mut self.back);
         let k = source(which);
-        Reply::Link(accounts::link(core, all, back, station as usize, k))
+        Reply::Link(producers::linked_producer(core, all, back, station as usize, k))
     }
 
     pub(super) fn station(&mut self, station: u32) -> Reply

@@ -12,7 +12,7 @@ use std::alloc::Global;
 impl<'a, P: Predictor + Drop, J: Naming> Session<'a, P, J> {
     ghost use Rattle.std.specs.Prelude.{◌≡◌, None, false, true, vec_len};
     ghost use Rattle.session.specs.Moments.{GrowsLegally};
-    ghost use Rattle.session.specs.Renewals.{AreAt};
+    ghost use Rattle.session.specs.Renewals.{SeatsAreAt};
     ghost use Rattle.session.specs.Sessions.{Answers, after_command};
     ghost use Rattle.session.specs.Units.{unit_count};
     ghost use Rattle.session.specs.Workers.{AreWorkers};
@@ -29,7 +29,7 @@ impl<'a, P: Predictor + Drop, J: Naming> Session<'a, P, J> {
     ) -> Self
         requires named { stage.0.program ≡ J.program }
         requires program { program.now ≡ stage.0.program }
-        requires at { AreAt stage.0 stage.1 stage.2.core stage.3 }
+        requires at { SeatsAreAt stage.0 stage.1 stage.2.core stage.3 }
         requires workers { AreWorkers stage.0 units.items }
         requires places { vec_len units ≡ unit_count }
         ensures session { result ≡ record {

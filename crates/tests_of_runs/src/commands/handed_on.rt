@@ -1,4 +1,5 @@
 //! Runs have the ring, queue, units, turns, predictor and gate that the command line and the caller name.
+use crate::meeting::meeting;
 use crate::same::{same, same_in};
 use command::{Line, Went, asked, go};
 use counted_io::Counted;
@@ -28,11 +29,6 @@ fn watched<R: Threads + Wait + Sync, S: AsStr, G: Gate + Sync>(
     Ok(go(wait, alloc, &asked, Some(reader), &mut writer, gate))
 }
 
-// A bit for each number below 64.
-fn bit(number: u32) -> u64 {
-    1u64 << (number % 64)
-}
-
 /// Ten instructions that wait for nothing.
 const PLAIN: &[u8] = b"nop\nnop\nnop\nnop\nnop\nnop\nnop\nnop\nnop\nnop\nbreak\n";
 
@@ -45,7 +41,7 @@ struct Stations {
 
 impl Gate for Stations {
     fn held(&self, _unit: u32, station: u32) -> bool {
-        self.asked.fetch_or(bit(station), SeqCst);
+        self.asked.fetch_or(1u64 << (station % 64), SeqCst);
         false
     }
 
@@ -75,32 +71,11 @@ fn a_run_has_as_many_stations_as_is_said(rt: HostRuntime) -> Result<(), Fail> {
     Ok(())
 }
 
-/// Holds each unit until all of them have asked.
-#[derive(Drop)]
-struct Meeting {
-    all: u64,
-    asked: AtomicU64,
-}
-
-impl Gate for Meeting {
-    fn held(&self, unit: u32, _station: u32) -> bool {
-        let before = self.asked.fetch_or(bit(unit), SeqCst);
-        before | bit(unit) != self.all
-    }
-
-    fn seen(&self, _place: u32, _snap: &Snap) {}
-
-    fn counted(&self, _tally: &Tally) {}
-}
-
 #[test]
 fn a_run_has_as_many_units_as_is_said(rt: HostRuntime) -> Result<(), Fail> {
     let cases: [(&str, u64); 3] = [("1", 0b10), ("2", 0b110), ("5", 0b11_1110)];
     for (units, all) in cases {
-        let gate = Meeting {
-            all,
-            asked: AtomicU64::new(0),
-        };
+        let gate = meeting(all);
         let words = [
             "ruu", "run", "plain.s", "--turns", "50000000", "--units", units,
         ];

@@ -1,5 +1,6 @@
 //! What a gate sees, and what the tally counts.
-use super::{Shape, plain, run_listing};
+use super::{Shape, end_of_held, plain, run_listing};
+use crate::meeting::meeting;
 use crate::same::same;
 use pool::{Gate, Open, Run, Tally};
 use snapshots::Snap;
@@ -47,55 +48,20 @@ fn two_units_work_at_once(rt: HostRuntime) -> Result<(), Fail> {
         other: AtomicU64::new(0),
         told: AtomicU64::new(0),
     };
-    let shape = Shape {
-        turns: 50_000_000,
-        ..plain(2)
-    };
     let listing = b"addiu $1,$0,1\naddiu $2,$0,2\nbreak\n";
-    let run = run_listing(&rt, rt.alloc(), listing, &shape, &gate)?;
-    let Run::Ended(end, _) = run else {
-        return Err(Fail::from("ended"));
-    };
+    let end = end_of_held(&rt, rt.alloc(), listing, 2, &gate)?;
     same(&rt, &end.n, &2);
     assert!(rt; gate.other.load(SeqCst) != 0);
     same(&rt, &gate.told.load(SeqCst), &1);
     Ok(())
 }
 
-// Holds each unit until all have asked.
-#[derive(Drop)]
-struct Meeting {
-    all: u64,
-    asked: AtomicU64,
-}
-
-impl Gate for Meeting {
-    fn held(&self, unit: u32, _station: u32) -> bool {
-        let own = 1u64 << (unit % 64);
-        self.asked.fetch_or(own, SeqCst) | own != self.all
-    }
-
-    fn seen(&self, _place: u32, _snap: &Snap) {}
-
-    fn counted(&self, _tally: &Tally) {}
-}
-
 // However many of them the machine runs at once.
 #[test]
 fn a_unit_that_rests_works_where_another_is_held(rt: HostRuntime) -> Result<(), Fail> {
     let listing = b"nop\nnop\nnop\nnop\nnop\nnop\nnop\nnop\nnop\nbreak\n";
-    let gate = Meeting {
-        all: 0b1_1111_1110,
-        asked: AtomicU64::new(0),
-    };
-    let shape = Shape {
-        turns: 50_000_000,
-        ..plain(8)
-    };
-    let run = run_listing(&rt, rt.alloc(), listing, &shape, &gate)?;
-    let Run::Ended(end, _) = run else {
-        return Err(Fail::from("ended"));
-    };
+    let gate = meeting(0b1_1111_1110);
+    let end = end_of_held(&rt, rt.alloc(), listing, 8, &gate)?;
     same(&rt, &end.n, &9);
     same(&rt, &gate.asked.load(SeqCst), &gate.all);
     Ok(())

@@ -1,5 +1,5 @@
 //! More than one unit at work: a gate holds one until another works.
-use super::{Shape, plain, report, run_listing};
+use super::{Shape, end_of_held, plain, report, run_listing};
 use crate::same::same;
 use pool::{Gate, Run, Tally};
 use snapshots::Snap;
@@ -47,15 +47,8 @@ fn a_held_unit_is_let_go_once_another_works(rt: HostRuntime) -> Result<(), Fail>
         other: AtomicU64::new(0),
         released: AtomicU64::new(0),
     };
-    let shape = Shape {
-        turns: 50_000_000,
-        ..plain(2)
-    };
     let listing = b"addiu $1,$0,1\naddiu $2,$0,2\nbreak\n";
-    let run = run_listing(&rt, rt.alloc(), listing, &shape, &gate)?;
-    let Run::Ended(end, _) = run else {
-        return Err(Fail::from("ended"));
-    };
+    let end = end_of_held(&rt, rt.alloc(), listing, 2, &gate)?;
     same(&rt, &end.n, &2);
     same(&rt, &gate.released.load(SeqCst), &1);
     Ok(())

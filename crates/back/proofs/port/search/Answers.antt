@@ -1,14 +1,22 @@
-use Rattle.std.proofs.Common.{◌≡◌, ◌+◌, ◌-◌, ◌%◌, [], length, sym, ap, ◌∙◌, subst, arith}
+use Rattle.std.proofs.Common.{◌≡◌, ◌-◌, length, sym, ap, ◌∙◌, subst, arith}
 use Rattle.instructions.specs.Instruction.{width}
-use Rattle.inorder.specs.OneHistory.{Adds}
 use Rattle.inorder.proofs.QueueBytes.{same_width}
 use Rattle.lsq.specs.Entries.{bytes}
 use Rattle.lsq.specs.LoadRule.{overlaps}
 use Rattle.back.specs.Backs.{unit_in}
-use Rattle.back.specs.Port.{AtStation, HasFound, IsEntryOf}
+use Rattle.back.specs.Port.{HasFound}
+use Rattle.back.proofs.SearchFacts.{SearchFacts, facts_of}
 use Rattle.back.proofs.Searching.{step_memory, step_met, step_unknown}
-use Rattle.back.proofs.Seeing.{same_on, two_looks}
+use Rattle.back.proofs.Seeing.{two_looks}
+use Rattle.back.proofs.port.search.Goals.{After-look-store}
 use Rattle.back.proofs.port.search.Goals as goal
+
+-- The looks up to this one, and what it has found
+facts : (c : After-look-store) → SearchFacts c.args.core.now c.args.seat.now c.loop-k.seat c.look-store.new.seat c.args.head c.loop-k.k c.args.at c.look-store.result
+facts c =
+    let k = c.loop-k in
+    facts_of c.args.core.now c.args.head c.look-store.result c.requires.by k.invariant.kept k.invariant.history c.loop-k-test.true k.invariant.bound c.look-store.ensures.kept
+    c.look-store.ensures.history c.wrapped.ensures.value c.ring-ring.ensures.value c.look-store.ensures.shows
 
 pub returns-then-lacks_address-clause-history : goal.returns-then-lacks_address-clause-history
 returns-then-lacks_address-clause-history c =
@@ -19,75 +27,48 @@ returns-then-lacks_address-clause-history c =
 pub returns-then-lacks_address-clause-err : goal.returns-then-lacks_address-clause-err
 returns-then-lacks_address-clause-err c =
     let d = c.args.core.now in
-    let old = c.args.seat.now in
     let k = c.loop-k in
-    let mid = k.seat in
-    let new = c.look-store.new.seat in
     let e = c.look-store.result in
-    let l = c.args.load.now in
-    let a = subst (λ x. Adds d.program d.sizes x old.seen mid.seen []) c.requires.by k.invariant.history in
-    let b = subst (λ x. Adds d.program d.sizes x mid.seen new.seen []) (k.invariant.kept.by ∙ c.requires.by) c.look-store.ensures.history in
-    let station : c.wrapped.result ≡ (c.args.head + (k.k - 1)) % d.sizes.ring = c.wrapped.ensures.value ∙ ap (λ r. (c.args.head + (k.k - 1)) % r) c.ring-ring.ensures.value in
-    let shows = subst (λ s. AtStation (unit_in d new.seen) (length (unit_in d mid.seen).tenants) s (IsEntryOf d.program e)) station c.look-store.ensures.shows in
-    let some = c.loop-k-test.true in
-    let next : k.k ≡ (k.k - 1) + 1 = omega (arith, some) in
-    let bound = k.invariant.bound in
-    step_unknown d.program d.sizes old.seen mid.seen new.seen a b c.args.head d.sizes.ring (k.k - 1) k.k c.args.at l next bound e shows k.found k.invariant.found
+    let f = facts (goal.at.returns-then-lacks_address-clause-err c).After-look-store in
+    step_unknown d.program d.sizes _ _ _ f.before f.added c.args.head d.sizes.ring (k.k - 1) k.k c.args.at c.args.load.now f.next f.small e f.shows k.found k.invariant.found
     (sym c.lacks_address.ensures ∙ c.if-lacks_address.true)
 
 pub loop-k-preserved-then-overlaps : goal.loop-k-preserved-then-overlaps
 loop-k-preserved-then-overlaps c =
     let d = c.args.core.now in
-    let old = c.args.seat.now in
     let k = c.loop-k in
-    let mid = k.seat in
-    let new = c.look-store.new.seat in
     let e = c.look-store.result in
     let l = c.args.load.now in
-    let a = subst (λ x. Adds d.program d.sizes x old.seen mid.seen []) c.requires.by k.invariant.history in
-    let b = subst (λ x. Adds d.program d.sizes x mid.seen new.seen []) (k.invariant.kept.by ∙ c.requires.by) c.look-store.ensures.history in
-    let station : c.wrapped.result ≡ (c.args.head + (k.k - 1)) % d.sizes.ring = c.wrapped.ensures.value ∙ ap (λ r. (c.args.head + (k.k - 1)) % r) c.ring-ring.ensures.value in
-    let shows = subst (λ s. AtStation (unit_in d new.seen) (length (unit_in d mid.seen).tenants) s (IsEntryOf d.program e)) station c.look-store.ensures.shows in
-    let some = c.loop-k-test.true in
-    let next : k.k ≡ (k.k - 1) + 1 = omega (arith, some) in
-    let bound = k.invariant.bound in
+    let f = facts (goal.at.loop-k-preserved-then-overlaps c).After-look-store in
     let no = sym c.lacks_address.ensures ∙ c.if-lacks_address.false in
     let wide : bytes c.access_width-width.result ≡ width l.op = ap bytes c.access_width-width.ensures ∙ same_width l.op in
     let over = sym (ap (λ w. overlaps l.address w e) wide) ∙ (sym c.overlaps.ensures ∙ c.if-overlaps.true) in
-    let goes_on = step_met d.program d.sizes old.seen mid.seen new.seen a b c.args.head d.sizes.ring (k.k - 1) k.k c.args.at l next bound e shows k.found k.invariant.found no over in
+    let there = length (unit_in d c.args.seat.now.seen).tenants in
     record {
-      kept = same_on old mid new k.invariant.kept c.look-store.ensures.kept;
+      kept = f.kept;
       woken = c.look-store.ensures.woken ∙ k.invariant.woken;
-      history = two_looks d.program d.sizes old.by mid.by old.seen mid.seen new.seen k.invariant.kept.by k.invariant.history c.look-store.ensures.history;
-      bound = omega (arith, bound, some);
-      found = subst (λ o. HasFound d.program (unit_in d new.seen) (length (unit_in d old.seen).tenants) c.args.head d.sizes.ring (k.k - 1) c.args.at l.address (width l.op) o) (sym c.or-found.ensures) goes_on;
+      history = f.history;
+      bound = f.bound;
+      found = subst (HasFound d.program (unit_in d c.look-store.new.seat.seen) there c.args.head d.sizes.ring (k.k - 1) c.args.at l.address (width l.op)) (sym c.or-found.ensures)
+          (step_met d.program d.sizes _ _ _ f.before f.added c.args.head d.sizes.ring (k.k - 1) k.k c.args.at l f.next f.small e f.shows k.found k.invariant.found no over);
     }
 
 pub loop-k-preserved : goal.loop-k-preserved
 loop-k-preserved c =
     let d = c.args.core.now in
-    let old = c.args.seat.now in
     let k = c.loop-k in
-    let mid = k.seat in
-    let new = c.look-store.new.seat in
     let e = c.look-store.result in
     let l = c.args.load.now in
-    let a = subst (λ x. Adds d.program d.sizes x old.seen mid.seen []) c.requires.by k.invariant.history in
-    let b = subst (λ x. Adds d.program d.sizes x mid.seen new.seen []) (k.invariant.kept.by ∙ c.requires.by) c.look-store.ensures.history in
-    let station : c.wrapped.result ≡ (c.args.head + (k.k - 1)) % d.sizes.ring = c.wrapped.ensures.value ∙ ap (λ r. (c.args.head + (k.k - 1)) % r) c.ring-ring.ensures.value in
-    let shows = subst (λ s. AtStation (unit_in d new.seen) (length (unit_in d mid.seen).tenants) s (IsEntryOf d.program e)) station c.look-store.ensures.shows in
-    let some = c.loop-k-test.true in
-    let next : k.k ≡ (k.k - 1) + 1 = omega (arith, some) in
-    let bound = k.invariant.bound in
+    let f = facts (goal.at.loop-k-preserved c).After-look-store in
     let no = sym c.lacks_address.ensures ∙ c.if-lacks_address.false in
     let wide : bytes c.access_width-width.result ≡ width l.op = ap bytes c.access_width-width.ensures ∙ same_width l.op in
     let over = sym (ap (λ w. overlaps l.address w e) wide) ∙ (sym c.overlaps.ensures ∙ c.if-overlaps.false) in
     record {
-      kept = same_on old mid new k.invariant.kept c.look-store.ensures.kept;
+      kept = f.kept;
       woken = c.look-store.ensures.woken ∙ k.invariant.woken;
-      history = two_looks d.program d.sizes old.by mid.by old.seen mid.seen new.seen k.invariant.kept.by k.invariant.history c.look-store.ensures.history;
-      bound = omega (arith, bound, some);
-      found = step_memory d.program d.sizes old.seen mid.seen new.seen a b c.args.head d.sizes.ring (k.k - 1) k.k c.args.at l next bound e shows k.found k.invariant.found no over;
+      history = f.history;
+      bound = f.bound;
+      found = step_memory d.program d.sizes _ _ _ f.before f.added c.args.head d.sizes.ring (k.k - 1) k.k c.args.at l f.next f.small e f.shows k.found k.invariant.found no over;
     }
 
 pub returns-clause-ok : goal.returns-clause-ok

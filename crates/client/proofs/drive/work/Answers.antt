@@ -19,7 +19,7 @@ outcome-outcome-requires c =
 pub unreachable-requires : goal.unreachable-requires
 unreachable-requires c =
     let l = was_let c.requires.all c.requires.knows c.requires.values c.requires.may c.let_out-tag.ensures.kept c.let_out-tag.ensures.history c.gather.ensures.all c.gather.ensures.met in
-    let d = was_claimed c.claim-answer.result l c.claim-answer.ensures.kept c.claim-answer.ensures.heirs c.requires.station c.claim-answer.ensures.reply c.gather-2.ensures.met in
+    let d = was_claimed c.claim-answer.result l c.claim-answer.ensures.kept c.claim-answer.ensures.spare c.requires.station c.claim-answer.ensures.reply c.gather-2.ensures.met in
     let j = its_job l d c.a_let_is_out.ensures c.a_ready_tenant_is_claimed.ensures in
     let both : Claimed j.job ≡ NotOpen = sym j.is ∙ c.in-NotOpen.is in
     cc both
@@ -27,7 +27,7 @@ unreachable-requires c =
 pub unreachable-requires-in-Waiting : goal.unreachable-requires-in-Waiting
 unreachable-requires-in-Waiting c =
     let l = was_let c.requires.all c.requires.knows c.requires.values c.requires.may c.let_out-tag.ensures.kept c.let_out-tag.ensures.history c.gather.ensures.all c.gather.ensures.met in
-    let d = was_claimed c.claim-answer.result l c.claim-answer.ensures.kept c.claim-answer.ensures.heirs c.requires.station c.claim-answer.ensures.reply c.gather-2.ensures.met in
+    let d = was_claimed c.claim-answer.result l c.claim-answer.ensures.kept c.claim-answer.ensures.spare c.requires.station c.claim-answer.ensures.reply c.gather-2.ensures.met in
     let j = its_job l d c.a_let_is_out.ensures c.a_ready_tenant_is_claimed.ensures in
     let both = sym j.is ∙ c.in-Waiting.is in
     cc both
@@ -35,7 +35,7 @@ unreachable-requires-in-Waiting c =
 pub unreachable-requires-in-Moved : goal.unreachable-requires-in-Moved
 unreachable-requires-in-Moved c =
     let l = was_let c.requires.all c.requires.knows c.requires.values c.requires.may c.let_out-tag.ensures.kept c.let_out-tag.ensures.history c.gather.ensures.all c.gather.ensures.met in
-    let d = was_claimed c.claim-answer.result l c.claim-answer.ensures.kept c.claim-answer.ensures.heirs c.requires.station c.claim-answer.ensures.reply c.gather-2.ensures.met in
+    let d = was_claimed c.claim-answer.result l c.claim-answer.ensures.kept c.claim-answer.ensures.spare c.requires.station c.claim-answer.ensures.reply c.gather-2.ensures.met in
     let j = its_job l d c.a_let_is_out.ensures c.a_ready_tenant_is_claimed.ensures in
     let both = sym j.is ∙ c.in-Moved.is in
     cc both
@@ -43,12 +43,12 @@ unreachable-requires-in-Moved c =
 pub returns-clause-worked : goal.returns-clause-worked
 returns-clause-worked c =
     let l = was_let c.requires.all c.requires.knows c.requires.values c.requires.may c.let_out-tag.ensures.kept c.let_out-tag.ensures.history c.gather.ensures.all c.gather.ensures.met in
-    let d = was_claimed c.claim-answer.result l c.claim-answer.ensures.kept c.claim-answer.ensures.heirs c.requires.station c.claim-answer.ensures.reply c.gather-2.ensures.met in
+    let d = was_claimed c.claim-answer.result l c.claim-answer.ensures.kept c.claim-answer.ensures.spare c.requires.station c.claim-answer.ensures.reply c.gather-2.ensures.met in
     let j = its_job l d c.a_let_is_out.ensures c.a_ready_tenant_is_claimed.ensures in
     let its = has_its_fields j c.in-Job.is in
     let claimed = as_job d c.in-Job.is in
     let finished : WasFinished c.args.core.now c.gather-2.new.seats c.finish.new.seat c.in-Job.job c.finish.result c.gather-in-Job.new.seats =
-    record { same = c.finish.ensures.kept; heirs = c.finish.ensures.heirs; reply = c.finish.ensures.reply; last = c.gather-in-Job.ensures.met } in
+    record { same = c.finish.ensures.kept; spare = c.finish.ensures.spare; reply = c.finish.ensures.reply; last = c.gather-in-Job.ensures.met } in
     let outcome : c.outcome-outcome.result ≡ job_outcome c.args.core.now.program c.in-Job.job =
     c.outcome-outcome.ensures ∙ ap (λ (p : Program). job_outcome p c.in-Job.job) c.requires.program in
     let law = c.a_job_is_finished.ensures in
@@ -75,7 +75,7 @@ gather-requires-2 c =
     same_all core s (record s { one = r.new.seat }) c.gather.ensures.all
     (stays s.front) (stays s.back)
     (on s.one r.new.seat r.ensures.kept (claim_begins core.program core.sizes s.one.by s.one.seen r.new.seat.seen c.args.station r.result r.ensures.reply))
-    (stays s.other) r.ensures.heirs refl
+    (stays s.other) r.ensures.spare refl
 
 pub gather-requires-in-Job : goal.gather-requires-in-Job
 gather-requires-in-Job c =
@@ -85,4 +85,4 @@ gather-requires-in-Job c =
     same_all core s (record s { one = r.new.seat }) c.gather-2.ensures.all
     (stays s.front) (stays s.back)
     (on s.one r.new.seat r.ensures.kept (finish_begins core.program core.sizes s.one.by s.one.seen r.new.seat.seen c.in-Job.job r.result r.ensures.reply))
-    (stays s.other) r.ensures.heirs refl
+    (stays s.other) r.ensures.spare refl

@@ -12,7 +12,7 @@ returns-clause-done c =
     let claim = c.claim-answer.ensures in
     let o = c.claim-answer.new.seat in
     let begins = claim_begins core.program core.sizes s.one.by s.one.seen o.seen c.args.station c.claim-answer.result claim.reply in
-    unit_goes_on core s c.gather_twice.new.seats c.requires.all o claim.kept.by claim.heirs begins c.gather_twice.ensures.met
+    unit_goes_on core s c.gather_twice.new.seats c.requires.all o claim.kept.by claim.spare begins c.gather_twice.ensures.met
     (IsClaimedNext core s.one.by c.args.station c.claim-answer.result) claim.reply
 
 pub gather_twice-requires : goal.gather_twice-requires
@@ -22,4 +22,4 @@ gather_twice-requires c =
     let r = c.claim-answer in
     same_all core s (record s { one = r.new.seat }) c.requires.all (stays s.front) (stays s.back)
     (on s.one r.new.seat r.ensures.kept (claim_begins core.program core.sizes s.one.by s.one.seen r.new.seat.seen c.args.station r.result r.ensures.reply))
-    (stays s.other) r.ensures.heirs refl
+    (stays s.other) r.ensures.spare refl

@@ -12,7 +12,7 @@ returns-clause-done c =
     let finish = c.finish-answer.ensures in
     let o = c.finish-answer.new.seat in
     let begins = finish_begins core.program core.sizes s.one.by s.one.seen o.seen c.args.job c.finish-answer.result finish.reply in
-    unit_goes_on core s c.gather_twice.new.seats c.requires.all o finish.kept.by finish.heirs begins c.gather_twice.ensures.met
+    unit_goes_on core s c.gather_twice.new.seats c.requires.all o finish.kept.by finish.spare begins c.gather_twice.ensures.met
     (IsFinishedNext core s.one.by c.args.job c.finish-answer.result) finish.reply
 
 pub gather_twice-requires : goal.gather_twice-requires
@@ -22,4 +22,4 @@ gather_twice-requires c =
     let r = c.finish-answer in
     same_all core s (record s { one = r.new.seat }) c.requires.all (stays s.front) (stays s.back)
     (on s.one r.new.seat r.ensures.kept (finish_begins core.program core.sizes s.one.by s.one.seen r.new.seat.seen c.args.job r.result r.ensures.reply))
-    (stays s.other) r.ensures.heirs refl
+    (stays s.other) r.ensures.spare refl

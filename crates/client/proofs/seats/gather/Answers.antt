@@ -2,7 +2,7 @@ use Rattle.std.proofs.Common.{ap, ◌∙◌}
 use Rattle.inorder.specs.History.{own}
 use Rattle.station.specs.Seats.{TheCore}
 use Rattle.client.proofs.Gathered.{later, later_on}
-use Rattle.client.proofs.Histories.{starts_on}
+use Rattle.instructions.proofs.Histories.{starts_on}
 use Rattle.client.proofs.Same.{on, same_all, then}
 use Rattle.client.proofs.seats.gather.Goals as goal
 
@@ -20,11 +20,11 @@ returns-clause-met c =
     let other_core = d.one_kept.core ∙ c.requires.other_core in
     let begins = starts_on one.seen two.seen three.seen b.other_history.begins d.other_history.begins in
     record {
-      front = later core s.front c.meet.new.one a.one_kept a.one_heirs a.one_history;
-      back = later core s.back c.meet-2.new.one b.one_kept b.one_heirs b.one_history;
-      one = later_on core s.one one three (later core s.one one a.other_kept a.other_heirs a.other_history)
-          (later_on core one two three (later core one two b.other_kept b.other_heirs b.other_history) (later core two three d.other_kept d.other_heirs d.other_history));
-      other = later core s.other c.meet-3.new.one d.one_kept d.one_heirs d.one_history;
+      front = later core s.front c.meet.new.one a.one_kept a.one_spare a.one_history;
+      back = later core s.back c.meet-2.new.one b.one_kept b.one_spare b.one_history;
+      one = later_on core s.one one three (later core s.one one a.other_kept a.other_spare a.other_history)
+          (later_on core one two three (later core one two b.other_kept b.other_spare b.other_history) (later core two three d.other_kept d.other_spare d.other_history));
+      other = later core s.other c.meet-3.new.one d.one_kept d.one_spare d.one_history;
       of_front = starts_on c.meet.new.one.seen one.seen three.seen a.other_told begins;
       of_back = starts_on c.meet-2.new.one.seen two.seen three.seen b.other_told d.other_history.begins;
       of_other = d.other_told;
@@ -50,5 +50,5 @@ returns-clause-all c =
     (on s.back c.meet-2.new.one b.one_kept b.one_history.begins)
     (then s.one one three (on s.one one a.other_kept a.other_history.begins) (then one two three (on one two b.other_kept b.other_history.begins) (on two three d.other_kept d.other_history.begins)))
     (on s.other c.meet-3.new.one d.one_kept d.one_history.begins)
-    (d.other_heirs ∙ (b.other_heirs ∙ a.other_heirs))
-    d.one_heirs
+    (d.other_spare ∙ (b.other_spare ∙ a.other_spare))
+    d.one_spare

@@ -1,7 +1,8 @@
 use Rattle.std.proofs.Common.{◌≡◌, List, [], sym, ap, ◌∙◌, subst, arith}
 use Rattle.inorder.specs.declared.history.Entry.{Entry}
-use Rattle.inorder.specs.History.{IsUnit, StartsWith, own}
-use Rattle.ruu_words.specs.declared.rule.Heirs.{Heirs}
+use Rattle.inorder.specs.History.{IsUnit, own}
+use Rattle.instructions.specs.Histories.{StartsWith}
+use Rattle.ruu_words.specs.declared.rule.SpareNumbers.{SpareNumbers}
 use Rattle.ruu_words.specs.Views.{half, other_half}
 use Rattle.station.specs.Making.{first_unit, other_units}
 use Rattle.station.specs.Seats.{Caller}
@@ -18,9 +19,9 @@ returns c =
     let s = c.split-one.ensures in
     let seats : Seats = record { front = c.in_ok-core.front; back = c.in_ok-core.back; one = c.split-one.result.0; other = c.split-one.result.1 } in
     let one_by : seats.one.by ≡ first_unit = ap (λ (v : Caller). v.by) s.first ∙ m.unit_by in
-    let one_heirs : seats.one.heirs ≡ half other_units = ap (λ (v : Caller). v.heirs) s.first ∙ ap half m.unit_heirs in
-    let other_by : seats.other.by ≡ other_units.first = s.number ∙ ap (λ (h : Heirs). h.first) m.unit_heirs in
-    let other_heirs : seats.other.heirs ≡ other_half other_units = s.heirs ∙ ap other_half m.unit_heirs in
+    let one_spare : seats.one.spare ≡ half other_units = ap (λ (v : Caller). v.spare) s.first ∙ ap half m.unit_spare in
+    let other_by : seats.other.by ≡ other_units.first = s.number ∙ ap (λ (h : SpareNumbers). h.first) m.unit_spare in
+    let other_spare : seats.other.spare ≡ other_half other_units = s.spare ∙ ap other_half m.unit_spare in
     let unit : IsUnit first_unit = omega arith in
     let next : IsUnit other_units.first = omega arith in
     record {
@@ -38,7 +39,7 @@ returns c =
         one_by = subst IsUnit (sym one_by) unit;
         other_by = subst IsUnit (sym other_by) next;
         two = s.other;
-        no_third = no_third c.numbers_are_given_once.ensures.all c.numbers_are_given_once.ensures.split seats one_by one_heirs other_by other_heirs;
+        no_third = no_third c.numbers_are_given_once.ensures.all c.numbers_are_given_once.ensures.split seats one_by one_spare other_by other_spare;
       };
       front_seen = m.front_is.seen;
       back_seen = m.back_is.seen;

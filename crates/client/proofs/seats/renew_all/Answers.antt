@@ -1,6 +1,7 @@
 use Rattle.std.proofs.Common.{◌≡◌, List, [], sym, ap, ◌∙◌, subst, arith}
 use Rattle.inorder.specs.declared.history.Entry.{Entry}
-use Rattle.inorder.specs.History.{IsUnit, StartsWith}
+use Rattle.inorder.specs.History.{IsUnit}
+use Rattle.instructions.specs.Histories.{StartsWith}
 use Rattle.ruu_words.specs.Views.{half, other_half}
 use Rattle.station.specs.Making.{first_unit, other_units}
 use Rattle.station.specs.Renewals.{seats_of}
@@ -20,9 +21,9 @@ returns-in-Ok c =
     let s = c.split-one.ensures in
     let seats : Seats = record { front = c.in-Ok.front; back = c.in-Ok.back; one = c.split-one.result.0; other = c.split-one.result.1 } in
     let one_by : seats.one.by ≡ first_unit = ap (λ (v : Caller). v.by) (s.first) ∙ ap (λ (v : Caller). v.by) m.unit_is in
-    let one_heirs : seats.one.heirs ≡ half other_units = ap (λ (v : Caller). v.heirs) s.first ∙ ap (λ (v : Caller). half v.heirs) m.unit_is in
-    let other_by : seats.other.by ≡ other_units.first = s.number ∙ ap (λ (v : Caller). v.heirs.first) m.unit_is in
-    let other_heirs : seats.other.heirs ≡ other_half other_units = s.heirs ∙ ap (λ (v : Caller). other_half v.heirs) m.unit_is in
+    let one_spare : seats.one.spare ≡ half other_units = ap (λ (v : Caller). v.spare) s.first ∙ ap (λ (v : Caller). half v.spare) m.unit_is in
+    let other_by : seats.other.by ≡ other_units.first = s.number ∙ ap (λ (v : Caller). v.spare.first) m.unit_is in
+    let other_spare : seats.other.spare ≡ other_half other_units = s.spare ∙ ap (λ (v : Caller). other_half v.spare) m.unit_is in
     let unit : IsUnit first_unit = omega arith in
     let next : IsUnit other_units.first = omega arith in
     let front_seen : seats.front.seen ≡ now.opening = ap (λ (v : Caller). v.seen) m.front_is in
@@ -43,7 +44,7 @@ returns-in-Ok c =
         one_by = subst IsUnit (sym one_by) unit;
         other_by = subst IsUnit (sym other_by) next;
         two = s.other;
-        no_third = no_third c.numbers_are_given_once.ensures.all c.numbers_are_given_once.ensures.split seats one_by one_heirs other_by other_heirs;
+        no_third = no_third c.numbers_are_given_once.ensures.all c.numbers_are_given_once.ensures.split seats one_by one_spare other_by other_spare;
       };
       knows = record { one = from (front_seen ∙ sym one_seen); other = from (front_seen ∙ sym other_seen) };
       path = c.a_renewal_goes_on.ensures c.args.core now (seats_of c.args.seats.front c.args.seats.back c.args.seats.one) (seats_of c.in-Ok.front c.in-Ok.back c.in-Ok.unit) r;

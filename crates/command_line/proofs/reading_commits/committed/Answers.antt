@@ -3,7 +3,7 @@ use Rattle.std.proofs.lemmas.Result.{IfErr-weaker, IfOk-weaker, err_from_is_err_
 use Rattle.clap.specs.Words.{Row, Text, app_of, found_of, rows_of}
 use Rattle.command_line.specs.Watched.{HasWatchedRun, IsWatchedBy}
 use Rattle.command_line.specs.Rings.{HasOddRing}
-use Rattle.command_line.specs.Tool.{commits}
+use Rattle.command_line.specs.Tool.{commits_word}
 use Rattle.command_line.proofs.Refusing.{holds_in, refused_read, refused_unread}
 use Rattle.command_line.proofs.reading_commits.committed.Goals as goal
 
@@ -14,7 +14,7 @@ returns-in_err-matches-clause-err g c =
     let e = c.in_err-matches in
     let left = c.from_residual-in_err-matches in
     let p = err_from_is_err_and left.result left.ensures.1 in
-    rw (p.1, p.2) (refused_unread app commits words HasWatchedRun (HasOddRing HasWatchedRun) e.field-0.0 c.in_ok-command.ensures.is e.ensures.err)
+    rw (p.1, p.2) (refused_unread app commits_word words HasWatchedRun (HasOddRing HasWatchedRun) e.field-0.0 c.in_ok-command.ensures.is e.ensures.err)
 
 pub returns-clause-ok : goal.returns-clause-ok
 returns-clause-ok g c =
@@ -22,7 +22,7 @@ returns-clause-ok g c =
     let app = app_of c.in_ok-command.command in
     let rows : List Row = rows_of (found_of c.in_ok-matches.matches) in
     IfOk-weaker c.read.result _ _
-    (λ asked held. holds_in app commits words rows (λ rows. IsWatchedBy rows asked) c.in_ok-command.ensures.is c.in_ok-matches.ensures.ok held) c.read.ensures.ok
+    (λ asked held. holds_in app commits_word words rows (λ rows. IsWatchedBy rows asked) c.in_ok-command.ensures.is c.in_ok-matches.ensures.ok held) c.read.ensures.ok
 
 pub returns-clause-err : goal.returns-clause-err
 returns-clause-err g c =
@@ -30,4 +30,4 @@ returns-clause-err g c =
     let app = app_of c.in_ok-command.command in
     let rows : List Row = rows_of (found_of c.in_ok-matches.matches) in
     IfErr-weaker c.read.result _ _
-    (λ e refused. refused_read app commits words rows HasWatchedRun (HasOddRing HasWatchedRun) e c.in_ok-command.ensures.is c.in_ok-matches.ensures.ok refused) c.read.ensures.err
+    (λ e refused. refused_read app commits_word words rows HasWatchedRun (HasOddRing HasWatchedRun) e c.in_ok-command.ensures.is c.in_ok-matches.ensures.ok refused) c.read.ensures.err

@@ -16,7 +16,8 @@ use Rattle.front.proofs.Resting.{somebody}
 use Rattle.front.proofs.Splitting.{stays}
 use Rattle.front.proofs.Stays.{knows_stable}
 use Rattle.front.proofs.TableStays.{table_stable}
-use Rattle.front.proofs.rest.rest_on.Goals.{in-Some+in-Free, in_default}
+use Rattle.front.proofs.rest.rest_on.Given.{Over}
+use Rattle.front.proofs.rest.rest_on.Goals.{After-keep_front, in-Some+in-Free, in_default}
 use Rattle.front.proofs.rest.rest_on.Goals as goal
 
 pub look-seen-requires-clause-station : goal.look-seen-requires-clause-station
@@ -53,32 +54,28 @@ returns-in_default-state g c =
       touched = refl;
     }
 
+-- The front has seen that nobody is in flight, by the look at its last tenant, or since there is none
+has_seen : (g : Over) (c : After-keep_front g) → HasSeen c.args.core.now c.args.path.now c.args.seat.now c.match-last.seat
+has_seen g c = elim c.match-last.branch [
+  | in-Some+in-Free w ↦ rests_free c.requires.by c.requires.knows c.last.ensures w.look-seen.ensures.kept w.look-seen.ensures.history w.in-Some.is w.look-seen.result
+      w.look-seen.ensures.reply w.in-Free.is w.seat-is
+  | in_default w ↦ rests_empty c.requires.by c.requires.knows c.last.ensures c.requires.legal w.in_default.is w.seat-is
+]
+
 pub fold_all-requires-clause-folding : goal.fold_all-requires-clause-folding
 fold_all-requires-clause-folding g c =
-    let seen : HasSeen c.args.core.now c.args.path.now c.args.seat.now c.match-last.seat = elim c.match-last.branch [
-      | in-Some+in-Free w ↦ rests_free c.requires.by c.requires.knows c.last.ensures w.look-seen.ensures.kept w.look-seen.ensures.history w.in-Some.is w.look-seen.result
-          w.look-seen.ensures.reply w.in-Free.is w.seat-is
-      | in_default w ↦ rests_empty c.requires.by c.requires.knows c.last.ensures c.requires.legal w.in_default.is w.seat-is
-    ] in
+    let seen = has_seen g (goal.at.fold_all-requires-clause-folding g c).After-keep_front in
     folding_begins c.args.core.now c.match-last.seat.seen seen.adds.legal c.args.path.now seen.knows c.ring-ring.result c.ring-ring.ensures.value
     (omega (arith, c.ring-ring.ensures.value, c.ring-ring.ensures.least)) c.keep_front.new.self c.keep_front.ensures.records c.keep_front.ensures.base
 
 pub fold_all-requires-clause-nobody : goal.fold_all-requires-clause-nobody
 fold_all-requires-clause-nobody g c =
-    let seen : HasSeen c.args.core.now c.args.path.now c.args.seat.now c.match-last.seat = elim c.match-last.branch [
-      | in-Some+in-Free w ↦ rests_free c.requires.by c.requires.knows c.last.ensures w.look-seen.ensures.kept w.look-seen.ensures.history w.in-Some.is w.look-seen.result
-          w.look-seen.ensures.reply w.in-Free.is w.seat-is
-      | in_default w ↦ rests_empty c.requires.by c.requires.knows c.last.ensures c.requires.legal w.in_default.is w.seat-is
-    ] in
+    let seen = has_seen g (goal.at.fold_all-requires-clause-nobody g c).After-keep_front in
     seen.nobody
 
 pub returns-clause-reply : goal.returns-clause-reply
 returns-clause-reply g c =
-    let seen : HasSeen c.args.core.now c.args.path.now c.args.seat.now c.match-last.seat = elim c.match-last.branch [
-      | in-Some+in-Free w ↦ rests_free c.requires.by c.requires.knows c.last.ensures w.look-seen.ensures.kept w.look-seen.ensures.history w.in-Some.is w.look-seen.result
-          w.look-seen.ensures.reply w.in-Free.is w.seat-is
-      | in_default w ↦ rests_empty c.requires.by c.requires.knows c.last.ensures c.requires.legal w.in_default.is w.seat-is
-    ] in
+    let seen = has_seen g (goal.at.returns-clause-reply g c).After-keep_front in
     record {
       adds = rested_adds seen c.fold_all.new.seat c.fold_all.ensures.history;
       nobody = rested_nobody seen c.fold_all.new.seat c.fold_all.ensures.history;
@@ -88,22 +85,14 @@ returns-clause-reply g c =
 
 pub returns-clause-knows : goal.returns-clause-knows
 returns-clause-knows g c =
-    let seen : HasSeen c.args.core.now c.args.path.now c.args.seat.now c.match-last.seat = elim c.match-last.branch [
-      | in-Some+in-Free w ↦ rests_free c.requires.by c.requires.knows c.last.ensures w.look-seen.ensures.kept w.look-seen.ensures.history w.in-Some.is w.look-seen.result
-          w.look-seen.ensures.reply w.in-Free.is w.seat-is
-      | in_default w ↦ rests_empty c.requires.by c.requires.knows c.last.ensures c.requires.legal w.in_default.is w.seat-is
-    ] in
+    let seen = has_seen g (goal.at.returns-clause-knows g c).After-keep_front in
     let new : Path = record { records = c.fold_all.new.path.records; base = record c.fold_all.new.path.base { rested = c.of.result } } in
     let told = rested_told seen c.fold_all.new.seat c.fold_all.ensures.history c.of.ensures c.requires.core c.fold_all.ensures.kept.core in
     knows_rested c.args.core.now c.fold_all.new.seat.seen c.fold_all.new.path new c.fold_all.ensures.folding c.fold_all.ensures.none refl told refl refl refl refl
 
 pub returns-clause-table : goal.returns-clause-table
 returns-clause-table g c =
-    let seen : HasSeen c.args.core.now c.args.path.now c.args.seat.now c.match-last.seat = elim c.match-last.branch [
-      | in-Some+in-Free w ↦ rests_free c.requires.by c.requires.knows c.last.ensures w.look-seen.ensures.kept w.look-seen.ensures.history w.in-Some.is w.look-seen.result
-          w.look-seen.ensures.reply w.in-Free.is w.seat-is
-      | in_default w ↦ rests_empty c.requires.by c.requires.knows c.last.ensures c.requires.legal w.in_default.is w.seat-is
-    ] in
+    let seen = has_seen g (goal.at.returns-clause-table g c).After-keep_front in
     let d = c.args.core.now in
     let told = rested_told seen c.fold_all.new.seat c.fold_all.ensures.history c.of.ensures c.requires.core c.fold_all.ensures.kept.core in
     forgotten d.program (unit_of d.program d.sizes c.fold_all.new.seat.seen) _ c.forget.new.self.counted.table told c.forget.ensures.entries

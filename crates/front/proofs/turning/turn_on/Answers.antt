@@ -40,11 +40,15 @@ pub returns-clause-reply : goal.returns-clause-reply
 returns-clause-reply g c =
     let P = c.args.core.now.program in
     let C = c.args.core.now.sizes in
-    is_let (given_or c.args.given g.P.Predictor.Predicts) g.P.Predictor.Learns P C c.args.seat.now.seen c.fetch.new.seat.seen c.dispatch-tag.new.seat.seen c.args.path.now.records c.args.path.now.base c.requires.knows
-    c.fetch.ensures.history c.in-Ok.next c.in-Ok.ensures.ok.oldest c.ring.result c.ring.ensures.value c.args.path.now c.release-departed.new.self refl c.predict-predicted.result c.dispatch-tag.result
-    c.dispatch-tag.ensures.reply c.release-departed.result c.release-departed.ensures.reply c.args.predictor.now c.predict-predicted.new.predictor
-    (subst (λ l. Guesses (given_or c.args.given g.P.Predictor.Predicts) g.P.Predictor.Learns l c.in-Ok.next.instr c.in-Ok.next.half c.in-Ok.next.pc c.predict-predicted.result c.args.predictor.now
-    c.predict-predicted.new.predictor) c.leaver-leaver.ensures c.predict-predicted.ensures)
+    let path = c.args.path.now in
+    let next = c.in-Ok.next in
+    let Predicts = given_or c.args.given g.P.Predictor.Predicts in
+    let Learns = g.P.Predictor.Learns in
+    let told = c.predict-predicted.new.predictor in
+    is_let Predicts Learns P C c.args.seat.now.seen c.fetch.new.seat.seen c.dispatch-tag.new.seat.seen path.records path.base c.requires.knows
+    c.fetch.ensures.history next c.in-Ok.ensures.ok.oldest c.ring.result c.ring.ensures.value path c.release-departed.new.self refl c.predict-predicted.result c.dispatch-tag.result
+    c.dispatch-tag.ensures.reply c.release-departed.result c.release-departed.ensures.reply c.args.predictor.now told
+    (subst (λ l. Guesses Predicts Learns l next.instr next.half next.pc c.predict-predicted.result c.args.predictor.now told) c.leaver-leaver.ensures c.predict-predicted.ensures)
 
 pub returns-in-Err-clause-table : goal.returns-in-Err-clause-table
 returns-in-Err-clause-table g c =

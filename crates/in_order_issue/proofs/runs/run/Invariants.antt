@@ -1,12 +1,12 @@
 use Rattle.std.proofs.Common.{◌≡◌, ◌-◌, ◌*◌, ◌≤◌}
 use Rattle.in_order_issue.specs.Moves.{halves}
-use Rattle.in_order_issue.specs.StandsFor.{StandsForSome}
+use Rattle.in_order_issue.specs.StandsFor.{ModelStandsForSome}
 use Rattle.in_order_issue.proofs.runs.run.Given as goal
 
 abbrev pub invariant-loop-unit : goal.invariant-loop-unit
 invariant-loop-unit l =
     record {
-      stands : StandsForSome l.unit;
+      stands : ModelStandsForSome l.unit;
       program : l.unit.program.now ≡ l.program;
       count : l.unit.state.count ≤ l.limit;
     }

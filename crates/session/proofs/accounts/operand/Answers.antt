@@ -1,4 +1,5 @@
-use Rattle.session.proofs.Histories.{grows_on, starts_same}
+use Rattle.session.proofs.Histories.{grows_on}
+use Rattle.instructions.proofs.Histories.{starts_same}
 use Rattle.session.proofs.WordsRead.{later_awaited, later_info, later_operand}
 use Rattle.session.proofs.accounts.operand.Goals as goal
 
@@ -22,8 +23,9 @@ returns-clause-reply g c =
     let third = c.from-from.ensures.grows in
     let until = grows_on core old one two first second in
     let behind = grows_on core one two new second third in
+    let seen = c.operand-seen.result in
     record {
       info = later_info core old old one new (starts_same old) behind.begins c.args.station c.info-info.result c.info-info.ensures.reply;
-      seen = later_operand core old one two new first.begins third.begins c.args.station c.args.k c.operand-seen.result c.operand-seen.ensures.reply;
-      from = later_awaited core old two new new until.begins (starts_same new) c.args.station c.operand-seen.result.tag c.args.k c.operand-seen.result.state c.from-from.result c.from-from.ensures.reply;
+      seen = later_operand core old one two new first.begins third.begins c.args.station c.args.k seen c.operand-seen.ensures.reply;
+      from = later_awaited core old two new new until.begins (starts_same new) c.args.station seen.tag c.args.k seen.state c.from-from.result c.from-from.ensures.reply;
     }

@@ -1,9 +1,9 @@
 use Rattle.std.proofs.Common.{◌<◌, List, Option, length, subst, sym, arith}
 use Rattle.inorder.specs.declared.history.Entry.{Entry}
-use Rattle.inorder.specs.History.{StartsWith}
+use Rattle.instructions.specs.Histories.{StartsWith}
 use Rattle.session.specs.declared.units.Worker.{Worker}
 use Rattle.session.specs.Workers.{AreWorkers, UnitHasSeen, seen_at}
-use Rattle.session.proofs.Histories.{starts_on}
+use Rattle.instructions.proofs.Histories.{starts_on}
 use Rattle.session.proofs.Workers.{free_now, has_told, put_back, stay_seen, still_works, taken_seen}
 use Rattle.session.proofs.meeting.tell_all.Goals as goal
 

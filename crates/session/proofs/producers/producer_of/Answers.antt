@@ -1,5 +1,6 @@
 use Rattle.std.proofs.Common.{rules}
-use Rattle.session.proofs.Histories.{grows_on, starts_same}
+use Rattle.session.proofs.Histories.{grows_on}
+use Rattle.instructions.proofs.Histories.{starts_same}
 use Rattle.session.proofs.WordsRead.{later_link, one_more_none}
 use Rattle.session.proofs.producers.producer_of.Goals as goal
 

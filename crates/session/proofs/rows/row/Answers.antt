@@ -1,5 +1,6 @@
 use Rattle.inorder.specs.declared.history.Source.TheVariants.{First, Second}
-use Rattle.session.proofs.Histories.{grows_on, starts_same}
+use Rattle.session.proofs.Histories.{grows_on}
+use Rattle.instructions.proofs.Histories.{starts_same}
 use Rattle.session.proofs.WordsRead.{later_look, later_told}
 use Rattle.session.proofs.rows.row.Goals as goal
 

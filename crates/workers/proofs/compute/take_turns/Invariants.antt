@@ -1,5 +1,5 @@
 use Rattle.workers.specs.Deeds.{HasFinishedAll}
-use Rattle.workers.specs.Turns.{AreTaken}
+use Rattle.workers.specs.Turns.{TurnsAreTaken}
 use Rattle.workers.specs.Units.{HasCountedDeeds, Works}
 use Rattle.workers.proofs.compute.take_turns.Given as goal
 
@@ -8,7 +8,7 @@ invariant-turns g l =
     Works l.shared.core.now l.shared.state.now.counts l.shared.state.now.hints l.unit
     × HasCountedDeeds l.initial.unit l.unit
     × HasFinishedAll l.initial.unit.seat.by l.initial.unit.seat.seen l.unit.seat.seen
-    × AreTaken l.initial.turns l.turns
+    × TurnsAreTaken l.initial.turns l.turns
 
 abbrev pub decreases-turns : goal.decreases-turns
 decreases-turns g l = l.turns.left

@@ -2,7 +2,7 @@ use Rattle.std.proofs.Common.{◌≡◌, ◌<◌, sym, ap, ◌∙◌, subst, ari
 use Rattle.std.specs.List.{AllByRecursion}
 use Rattle.inorder.specs.Unit.{next_station, recent}
 use Rattle.station.specs.Seats.{TheCore}
-use Rattle.front.specs.Fronts.{TheFront, unit_seen}
+use Rattle.front.specs.Fronts.{TheFront, front_unit}
 use Rattle.front.specs.Path.{station_of_next}
 use Rattle.front.proofs.GoingOn.{station_ahead, stations_ahead}
 use Rattle.front.proofs.dispatcher.Front.next_station.Goals as goal
@@ -24,4 +24,4 @@ returns g c =
     let ring : c.ring.result ≡ f.seat.core.sizes.ring = c.ring.ensures.value ∙ ap (λ (k : TheCore). k.sizes.ring) (sym (core ∙ c.requires)) in
     let its : c.next_station.result ≡ station_of_next f.seat.core.sizes.ring f.path.base f.path.records = c.next_station.ensures.value ∙ ap (λ n. station_of_next n f.path.base f.path.records) ring in
     station_ahead f.program.now f.seat f.path f.creators.counted f.rested c.args.self.now c.self.invariant (sym core) (sym seen) c.next_station.result its
-    ∙ ap (λ (k : TheCore). next_station k.sizes (recent (unit_seen c.args.self.now))) c.requires
+    ∙ ap (λ (k : TheCore). next_station k.sizes (recent (front_unit c.args.self.now))) c.requires

@@ -6,7 +6,7 @@ use Rattle.back.specs.Backs.{TheBack, committed_in}
 use Rattle.back.specs.Stills.{GoesOnForBack, TheStillBack, head_at}
 use Rattle.station.specs.Renewals.{seats_of}
 use Rattle.station.specs.Seats.{Caller, TheCore}
-use Rattle.pool.specs.Committing.{MayRenew, TheCommitter}
+use Rattle.pool.specs.Committing.{IsUnderWay, TheCommitter}
 use Rattle.pool.proofs.CommitDeeds.{HasKept, looked_on}
 use Rattle.pool.proofs.Committers.{counted_kept, counted_renewal, renews, stays}
 use Rattle.pool.proofs.Renewed.{HasOneRenewal, renews_once}
@@ -62,7 +62,7 @@ pub invariant_of-committer : goal.invariant_of-committer
 invariant_of-committer g c =
     let i = c.self.inside in
     let departed = c.leave-seat in
-    let may = subst (λ (k : TheCommitter). MayRenew k) (sym c.self.view_is) c.requires.may in
+    let may = subst (λ (k : TheCommitter). IsUnderWay k) (sym c.self.view_is) c.requires.may in
     let seats = seats_of c.args.parts.3 departed.result.0 c.args.parts.4 in
     let was_by : i.back.by ≡ back = sym departed.ensures.by ∙ departed.ensures.goes_on.by_is in
     let at_core = ap (λ (k : TheCommitter). k.back.core) c.self.view_is ∙ c.requires.core in

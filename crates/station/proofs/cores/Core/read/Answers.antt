@@ -23,7 +23,7 @@ returns-clause-looked g c =
     let adds = adds_these core.program core.sizes s.by s t (Sees core.program core.sizes s.by s c.args.place c.look-word.result) [] saw saw.kind.none in
     record {
       same = search rules;
-      heirs = search rules;
+      spare = search rules;
       woken = search rules;
       adds = subst (λ (h : List Entry). Adds core.program core.sizes c.args.seat.now.by c.args.seat.now.seen h []) (search rules)
           (subst (λ (z : Caller). Adds core.program core.sizes z.by z.seen t.seen []) c.seat.view_is adds);

@@ -15,7 +15,7 @@ split_seat-other-requires c =
     let s = c.seat.inside.seat in (
       search rules,
       not_empty c.self.inside.ring c.self.inside.table.shared.table_id.words c.self.invariant.wide c.self.invariant.least,
-      splits_unit key.program (sizes_of key) (opening_of key) s.id s.me.0 c.seat.invariant.0.role_is c.seat.invariant.1.heirs.some,
+      splits_unit key.program (sizes_of key) (opening_of key) s.id s.me.0 c.seat.invariant.0.role_is c.seat.invariant.1.spare.some,
     )
 
 pub invariant_of-seat : goal.invariant_of-seat

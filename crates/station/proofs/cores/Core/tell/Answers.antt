@@ -60,7 +60,7 @@ returns-clause-looked g c =
     let seen : mid.seen ≡ c.args.to.now.seen = ap (λ m. m.0.seen) c.join_seat.ensures.2 ∙ ap (λ z. z.seen) c.to.view_is in
     record {
       same = search rules;
-      heirs = search rules;
+      spare = search rules;
       woken = search rules;
       adds = subst (λ (h : List Entry). Adds core.program core.sizes c.args.to.now.by c.args.to.now.seen h []) (search rules)
           (subst (λ (z : ℕ × List Entry). Adds core.program core.sizes z.0 z.1 t.seen []) (λ i. (by i, seen i)) adds);

@@ -16,7 +16,9 @@ wrapped-station-requires c =
 pub left_word-free-requires : goal.left_word-free-requires
 left_word-free-requires c =
     let ring_is = ring_at c.core.inside.table.shared.key c.core.invariant.ring_is c.core.view_is c.self.view_is in
-    (youngest_read c.wrapped-station.ensures.value (legal_at c.self.invariant c.self.view_is) (caller_at c.self.invariant c.self.view_is) ring_is c.requires.place c.requires.next c.requires.may c.look-found.ensures
+    let legal = legal_at c.self.invariant c.self.view_is in
+    let by_is = caller_at c.self.invariant c.self.view_is in
+    (youngest_read c.wrapped-station.ensures.value legal by_is ring_is c.requires.place c.requires.next c.requires.may c.look-found.ensures
     c.unpack-tag.result.tag c.unpack-tag.ensures.tag).0
 
 pub squash_tenant-requires-clause-draft : goal.squash_tenant-requires-clause-draft
@@ -26,7 +28,9 @@ squash_tenant-requires-clause-draft c =
 pub squash_tenant-requires-clause-youngest : goal.squash_tenant-requires-clause-youngest
 squash_tenant-requires-clause-youngest c =
     let ring_is = ring_at c.core.inside.table.shared.key c.core.invariant.ring_is c.core.view_is c.self.view_is in
-    (youngest_read c.wrapped-station.ensures.value (legal_at c.self.invariant c.self.view_is) (caller_at c.self.invariant c.self.view_is) ring_is c.requires.place c.requires.next c.requires.may c.look-found.ensures
+    let legal = legal_at c.self.invariant c.self.view_is in
+    let by_is = caller_at c.self.invariant c.self.view_is in
+    (youngest_read c.wrapped-station.ensures.value legal by_is ring_is c.requires.place c.requires.next c.requires.may c.look-found.ensures
     c.unpack-tag.result.tag c.unpack-tag.ensures.tag).1
 
 pub returns-clause-squashed : goal.returns-clause-squashed

@@ -1,5 +1,5 @@
 use Rattle.session.proofs.Histories.{grows_on}
-use Rattle.session.proofs.accounts.link.Goals as goal
+use Rattle.session.proofs.producers.linked_producer.Goals as goal
 
 pub returns-clause-grows : goal.returns-clause-grows
 returns-clause-grows g c =
