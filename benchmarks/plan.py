@@ -17,7 +17,7 @@ BEGINNING, FURTHER = 20, 0.17
 
 # What a proof takes at most with one job, and each further job.
 MEMORY, MORE = 1_600_000_000, 900_000_000
-MOST_JOBS = 3
+MOST_JOBS = 4
 
 
 @functools.lru_cache(maxsize=None)
@@ -117,8 +117,8 @@ class Plan:
 
     def start(self):
         """Begins what can begin, and returns it. The crate that most waits for has about that share of the processors which what waits
-        for it has of all that is left. Each other crate has one job, since each further job at a check costs more in all; so has a
-        program, since most of its check is to read. There is one job more than there are processors."""
+        for it has of all that is left. Each other library has two jobs: one costs less in all, but then what is last waits for it. A
+        program has one, since most of its check is to read. There is one job more than there are processors, or two."""
         chain, begun = self.chains(), []
         left = sum(self.cost[it] for it in self.waiting) + sum(it.left() for it in self.running.values())
         while ready := [it for it in self.waiting if not any(one in self.waiting or one in self.running for one in self.uses[it])]:
@@ -127,7 +127,8 @@ class Plan:
             if self.running and (room < MEMORY or sum(it.jobs for it in self.running.values()) > self.lanes):
                 break
             leads = name not in self.programs and chain[name] >= max((chain[it] for it in self.running), default=0)
-            share = math.ceil(self.lanes * chain[name] / left - 0.2) if leads else 1
+            others = 1 if name in self.programs else 2
+            share = math.ceil(self.lanes * chain[name] / left - 0.2) if leads else others
             jobs = max(min(share, MOST_JOBS, 1 + int((room - MEMORY) / MORE)), 1)
             self.waiting.remove(name)
             self.running[name] = Share(self.cost[name], jobs)
