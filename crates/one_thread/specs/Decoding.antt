@@ -1,16 +1,14 @@
 -- What is kept of a decoded instruction.
-use Rattle.std.specs.Prelude.{◌≡◌, ◌≤◌, ℕ, Bool, false, not, List, length, Some, if◌then◌else◌}
+use Rattle.std.specs.Prelude.{◌≡◌, ◌≤◌, ℕ, List, length, Some, if◌then◌else◌}
 use Rattle.instructions.specs.Instruction.{destination, first_of, is_access, is_branch, is_pair, kind, second_of}
 use Rattle.instructions.specs.Programs.{Program, instr_at}
 use Rattle.instructions.specs.declared.instr.Instr.{Instr}
 use Rattle.instructions.specs.declared.op.Half.TheVariants.{Low, High}
-use Rattle.instructions.specs.declared.op.Kind.{Kind}
-use Rattle.instructions.specs.declared.op.Kind.TheVariants.{Computes}
 use Rattle.instructions.specs.declared.op.Op.{Op}
 use Rattle.instructions.specs.declared.op.Op.TheVariants.{J, Jal, Jr, Jalr}
 use Rattle.one_thread.specs.declared.decoded.Decoded.TheInside.{Inside}
 use Rattle.one_thread.specs.declared.decoded.Goes.{Goes}
-use Rattle.one_thread.specs.declared.decoded.Goes.TheVariants.{Behind, To, Varies}
+use Rattle.one_thread.specs.declared.decoded.Goes.TheVariants.{Behind, Plain, To, Varies}
 
 -- Where an operation goes on, as far as it tells
 abbrev pub goes_of : Op → Goes
@@ -18,23 +16,13 @@ goes_of J = To
 goes_of Jal = To
 goes_of Jr = Varies
 goes_of Jalr = Varies
-goes_of op = if is_branch op then Varies else (if is_pair op then Varies else Behind)
-
--- An operation of a kind computes one value
-abbrev pub plain_by : Kind → Op → Bool
-plain_by Computes op = not (is_pair op)
-plain_by k op = false
-
--- An operation computes one value
-abbrev pub plain_of : Op → Bool
-plain_of op = plain_by (kind op) op
+goes_of op = if is_branch op then Varies else (if is_pair op then Varies else (if is_access (kind op) then Behind else Plain))
 
 -- An instruction, and what is asked of it
 abbrev pub decode : Instr → Inside
 decode i =
     record {
       instr = i;
-      plain = plain_of i.op;
       kind = kind i.op;
       access = is_access (kind i.op);
       pair = is_pair i.op;

@@ -4,7 +4,7 @@ ghost use Rattle.instructions.specs.declared.op.Half.{Half};
 ghost use Rattle.instructions.specs.declared.op.Kind.TheVariants.{Computes};
 ghost use Rattle.instructions.specs.Instruction.{destination as destination_of, first_of, fixed_next as fixed_next_of, fixed_next_by, is_access as is_access_of, is_first_half as first_half, is_pair as is_pair_of, kind as kind_of, pc_plus_4 as pc_plus_4_of, second_of};
 ghost use Rattle.inorder.specs.Unit.{half_after};
-ghost use Rattle.one_thread.specs.Decoding.{goes_of as goes_in, plain_of};
+ghost use Rattle.one_thread.specs.Decoding.{goes_of as goes_in};
 ghost use Rattle.one_thread.specs.Window.{access_of};
 
 use instructions::{Half, Instr, Kind, Op, Reg, pc_plus_4};
@@ -13,6 +13,9 @@ use std::marker::Model;
 /// Where an operation goes on.
 #[derive(Clone, Copy)]
 pub enum Goes {
+    /// It computes one value, and the path goes on behind it: nothing else is to be looked at.
+    Plain,
+    /// A load or store, behind which the path goes on.
     Behind,
     To,
     /// A predictor is asked, or the half tells.
@@ -23,7 +26,6 @@ pub enum Goes {
 #[derive(Clone, Copy)]
 pub struct Decoded {
     instr: Instr,
-    plain: bool,
     kind: Kind,
     access: bool,
     pair: bool,
@@ -60,15 +62,9 @@ fn goes_of(op: Op) -> Goes
         Op::J | Op::Jal => Goes::To,
         Op::Jr | Op::Jalr => Goes::Varies,
         op if op.is_branch() || op.is_pair() => Goes::Varies,
-        _ => Goes::Behind,
+        op if op.is_access() => Goes::Behind,
+        _ => Goes::Plain,
     }
-}
-
-// Whether an operation computes one value, behind which the path goes on.
-fn is_plain(op: Op) -> bool
-    ensures { result ≡ plain_of op }
-{
-    matches!(op.kind(), Kind::Computes) && !op.is_pair()
 }
 
 /// 1 for an instruction that reaches memory, else 0.
@@ -86,7 +82,6 @@ impl Decoded {
         let op = instr.op();
         Decoded {
             instr,
-            plain: is_plain(op),
             kind: op.kind(),
             access: op.is_access(),
             pair: op.is_pair(),
@@ -127,7 +122,7 @@ impl Decoded {
         ensures fixed { IsTrue result → (half : Half) (pc : ℕ) →
             fixed_next_of self.now half pc ≡ Some (pc_plus_4_of pc) }
     {
-        self.plain
+        matches!(self.goes, Goes::Plain)
     }
 
     /// The operation is a load or store.
@@ -191,7 +186,7 @@ impl Decoded {
         ensures { result ≡ fixed_next_of self.now half pc }
     {
         match self.goes {
-            Goes::Behind => Some(pc_plus_4(pc)),
+            Goes::Plain | Goes::Behind => Some(pc_plus_4(pc)),
             Goes::To => Some(self.instr.number),
             Goes::Varies if self.is_first_half(half) => Some(pc),
             Goes::Varies if self.pair => Some(pc_plus_4(pc)),
