@@ -26,7 +26,8 @@ use Rattle.one_thread.proofs.Turns.{FoundIn, stand_on}
 use Rattle.one_thread.proofs.Known.{IsSplit}
 
 -- One tenant is changed in place, and all that is due delivered
-pub changed_stands : (b later : Pipeline) (U : UpdateUnit) (ys : List Tenant) (t u : Tenant) (ts : List Tenant) (steps : List Step) (w : Station) → b.over ≡ None → IsReached b.program.now (sizes b) U →
+pub changed_stands : (b later : Pipeline) (U : UpdateUnit) (ys : List Tenant) (t u : Tenant) (ts : List Tenant) (steps : List Step) (w : Station) → b.over ≡ None →
+    IsReached b.program.now (sizes b) U →
     StandsFor b U → U.tenants ≡ ys ++ t ∷ ts → t.standing ≡ Live → u.standing ≡ Live → u.station ≡ t.station → AllByRecursion IsNoRetire steps →
     (k : ActRun b.program.now (sizes b) 0 U ys t u ts steps) → Leads b.program.now (sizes b) 0 U (k.delivers ++ steps) (with_tenants U k.later) → station_of b.program.now u ≡ w →
     later.window ≡ window b.program.now ts ++ w ∷ window b.program.now ys → StandsFor (record b { window = later.window; missed = later.missed; settled = later.settled }) (with_tenants U k.later)

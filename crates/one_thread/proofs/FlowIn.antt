@@ -46,7 +46,8 @@ pub record Enters (x later : Pipeline) (flow : Flow) (i : Instr) (predicted : �
   pub rest : later ≡ record x { leavers = later.leavers }
 
 -- by what the predictor answers, and what the next instruction reads
-pub enters : {S : Type 0} {Predicts : S → ℕ → Instr → ℕ → S → Type 0} {Learns : S → ℕ → ℕ → S → Type 0} (later : Pipeline) (flow : Flow) (i : Instr) (predicted : ℕ) (o : Operands) (left : Option Leaver) (old new : S) →
+pub enters : {S : Type 0} {Predicts : S → ℕ → Instr → ℕ → S → Type 0} {Learns : S → ℕ → ℕ → S →
+    Type 0} (later : Pipeline) (flow : Flow) (i : Instr) (predicted : ℕ) (o : Operands) (left : Option Leaver) (old new : S) →
     (p : HasPlace later flow) → instr_at p.before.program.now flow.future.pc ≡ Some i → predicted < 2 ^ 32 → Guesses Predicts Learns left i flow.half flow.future.pc predicted old new →
     (first_of i < 34) × (second_of i < 34) → o.a ≡ slice_index flow.future.values (first_of i) → o.b ≡ slice_index flow.future.values (second_of i) → Enters p.before later flow i predicted o
 enters {S} {Predicts} {Learns} later flow i predicted o left old new p is small guess registers first second =
@@ -125,8 +126,10 @@ module _ (x later : Pipeline) (flow : Flow) (i : Instr) (predicted : ℕ) (o : O
   -- so many can be as they were let, with it
   open_with : (y : Station) → as_let y ≡ enters_as flow i predicted → StandsForSome (with_reopened flow.from (filled later (all ++ y ∷ [])))
   open_with y same =
-      reopened_let b (filled later (all ++ y ∷ [])) next predicted flow.from y h.flows.from h.flows.reopens h.flows.flowing.goes_on (completed_no_miss all h.flows.flowing.completed) can h.small h.fixed refl same
-      (ap (λ (p : Pipeline). p.leavers) (sym (as_later (all ++ y ∷ [])))) (sym (as_later (all ++ y ∷ [])) ∙ ap (λ l. record b { window = all ++ y ∷ []; leavers = l }) (ap (λ (p : Pipeline). p.leavers) (as_later (all ++ y ∷ []))))
+      reopened_let b (filled later (all ++ y ∷ [])) next predicted flow.from y h.flows.from h.flows.reopens h.flows.flowing.goes_on
+      (completed_no_miss all h.flows.flowing.completed) can h.small h.fixed refl same
+      (ap (λ (p : Pipeline). p.leavers) (sym (as_later (all ++ y ∷ [])))) (sym (as_later (all ++ y ∷ []))
+      ∙ ap (λ l. record b { window = all ++ y ∷ []; leavers = l }) (ap (λ (p : Pipeline). p.leavers) (as_later (all ++ y ∷ []))))
 
   -- there is room for it
   pub entered_room : (length flow.ring.completed < 32) × (length flow.ring.stores < 32) × (flow.accesses ≤ 32)

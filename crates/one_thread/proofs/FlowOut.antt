@@ -11,7 +11,7 @@ use Rattle.inorder.specs.Committed.{with_low}
 use Rattle.inorder.specs.Machine.{write}
 use Rattle.one_thread.specs.Changes.{registers_of, run_from}
 use Rattle.one_thread.specs.Decoding.{IsDecoded}
-use Rattle.one_thread.specs.Flow.{AreThere, CanEnter, HasDeparted, HasPlace, HaveCompleted, IsFlow, IsFlowing, IsStuck, committed_by, filled, low_by, to_do, window_of, with_leaver}
+use Rattle.one_thread.specs.Flow.{AreThere, CanEnter, OldestRetired, HasPlace, HaveCompleted, IsFlow, IsFlowing, IsStuck, committed_by, filled, low_by, to_do, window_of, with_leaver}
 use Rattle.one_thread.specs.CompletedRing.{stage_by, station_by, stations, stores, stores_behind}
 use Rattle.one_thread.specs.Leaves.{HasEnded, leavers_with}
 use Rattle.one_thread.specs.Futures.{Foresees}
@@ -166,7 +166,8 @@ module _ (x y : Pipeline) (flow after : Flow) (i : Instr) (c : Completed) (l : H
           let past = foresees_left flow.future (registers_of x) x.committed.pc w (a ∷ V) long p.0.made seen in
           record {
             goes_on = ap (λ (z : Pipeline). z.over) l.rest ∙ h.goes_on;
-            there = subst (λ (z : Pipeline). AreThere z.program.now after.ring.completed) (sym l.rest) (subst (AreThere x.program.now) (sym l.completed) (there_less x.program.now flow.ring.completed h.there));
+            there = subst (λ (z : Pipeline). AreThere z.program.now after.ring.completed) (sym l.rest) (subst (AreThere x.program.now) (sym l.completed)
+                (there_less x.program.now flow.ring.completed h.there));
             completed = subst HaveCompleted (sym behind) (completed_less w (a ∷ V) (subst HaveCompleted there h.completed));
             foresees = subst (Foresees after.future (registers_of y) y.committed.pc) (sym behind)
                 (subst (λ g. Foresees g (registers_of y) y.committed.pc (a ∷ V)) (sym l.future)
@@ -210,13 +211,13 @@ module _ (x y : Pipeline) (flow after : Flow) (i : Instr) (c : Completed) (l : H
   left_less = passed_less b later w whole first later_is
 
 -- there is room for another
-pub has_room : (x y : Pipeline) (flow after : Flow) (left : Option Leaver) → IsFlow x flow → HasDeparted x flow left y after → length after.ring.completed < y.ring
+pub has_room : (x y : Pipeline) (flow after : Flow) (left : Option Leaver) → IsFlow x flow → OldestRetired x flow left y after → length after.ring.completed < y.ring
 has_room x y flow after left h d =
     let long = stations_long x.program.now flow.ring.completed in
     omega (arith, long, h.most, d.shorter, d.ring)
 
 -- the next enters the station that was left
-pub has_place : (x y : Pipeline) (flow after : Flow) (left : Option Leaver) → HasDeparted x flow left y after → length flow.ring.completed ≡ x.ring → CanEnter y after → HasPlace y after
+pub has_place : (x y : Pipeline) (flow after : Flow) (left : Option Leaver) → OldestRetired x flow left y after → length flow.ring.completed ≡ x.ring → CanEnter y after → HasPlace y after
 has_place x y flow after left d full can =
     let long = stations_long y.program.now after.ring.completed in
     let there : (y.oldest + length (window_of y after)) % y.ring ≡ x.oldest =

@@ -52,7 +52,8 @@ put_back n i W w z there older younger =
 
 -- All are
 
-pub begun : (b : Pipeline) (flow : Flow) (n : ℕ) → StandsForSome b → 2 ≤ b.ring → length b.window ≤ b.ring → IsFlowing b flow → window_of b flow ≡ b.window → flow.last ≡ None → n ≡ length flow.ring.completed →
+pub begun : (b : Pipeline) (flow : Flow) (n : ℕ) → StandsForSome b → 2 ≤ b.ring → length b.window ≤ b.ring → IsFlowing b flow → window_of b flow ≡ b.window → flow.last ≡ None →
+    n ≡ length flow.ring.completed →
     IsFlow b (record flow { from = n })
 begun b flow n h two most flows is last all =
     let W = window_of b flow in
@@ -98,7 +99,8 @@ can_restore b flow h =
     let W = window_of b flow in
     record {
       unit = subst StandsForSome (sym (ap (λ o. record b { window = with_last (reopened flow.from W) o; missed = false; settled = flow.from }) h.last))
-          (noted_unit (with_reopened flow.from (filled b W)) false flow.from h.reopens (record { no_miss = h.reopens.noted.no_miss; are_settled = older_settled flow.from W h.from h.flowing.completed }));
+          (noted_unit (with_reopened flow.from (filled b W)) false flow.from h.reopens
+          (record { no_miss = h.reopens.noted.no_miss; are_settled = older_settled flow.from W h.from h.flowing.completed }));
       there = h.flowing.there;
       room = λ w e. absurd (cc (e, h.last));
     }

@@ -134,7 +134,8 @@ pub made_value : (o : Option ℕ) → is_some o ≡ true → o ≡ Some (unwrap_
 made_value (Some v) e = refl
 made_value None e = absurd (true≢false (sym e))
 
-pub foresees_left : (f : Future) (registers : List ℕ) (pc : ℕ) (w : Station) (W : List Station) → length registers ≡ 34 → (w.destination ≢ 0 → is_some w.made ≡ true) → Foresees f registers pc (w ∷ W) →
+pub foresees_left : (f : Future) (registers : List ℕ) (pc : ℕ) (w : Station) (W : List Station) → length registers ≡ 34 → (w.destination ≢ 0 → is_some w.made ≡ true) →
+    Foresees f registers pc (w ∷ W) →
     Foresees f (write registers w.destination (unwrap_or w.made 0)) w.next W
 foresees_left f registers pc w W s p h =
     record {

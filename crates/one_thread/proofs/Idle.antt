@@ -108,7 +108,12 @@ ran_shows b later h none miss lets to rest noted =
     let same = same_rest b later later.window later.missed later.settled rest in
     record {
       turn = turn;
-      falls = (ap (λ x. x.committed) rest, ap (λ x. x.low) rest, run_falls (registers_of b) (length b.program.now.bytes) b.window later.window to.i to.w to.o (window_room b h) to.first.here to.is to.new);
+      falls = (
+        ap (λ x. x.committed) rest,
+        ap (λ x. x.low) rest,
+        run_falls (registers_of b) (length b.program.now.bytes) b.window later.window to.i to.w to.o
+            (window_room b h) to.first.here to.is to.new,
+      );
       unit = unit_next b later Ran h (moves_first b later Ran turn) same (ap (λ x. length x.leavers) rest ∙ h.leavers) noted;
       same = same;
     }

@@ -61,7 +61,8 @@ no_get : (xs : List Station) → slice_get xs 0 ≡ None → xs ≡ []
 no_get [] h = refl
 no_get (x ∷ xs) h = absurd (cc)
 
-pub nowhere_turn : (b : Pipeline) → b.over ≡ None → 0 < b.ring → CannotLet b.program.now b.ring b.queue b.committed.pc b.window → 2 ≤ b.queue → slice_get b.window 0 ≡ None → MovesAs b None (Over BadPc) b
+pub nowhere_turn : (b : Pipeline) → b.over ≡ None → 0 < b.ring → CannotLet b.program.now b.ring b.queue b.committed.pc b.window → 2 ≤ b.queue → slice_get b.window 0 ≡ None →
+    MovesAs b None (Over BadPc) b
 nowhere_turn b going room nl two e U r s =
     record {
       unit = U;

@@ -93,7 +93,8 @@ module _ {X : Type 0} (give : List Station → Station → Option X) (step : ℕ
 -- All that are listed are permitted
 
 pub all_permitted : (b : Pipeline) (steps : List Step) → ArePossible b steps → AllByRecursion (Permits b) steps
-all_permitted b steps h = subst (AllByRecursion Q) (sym h.list) (four (recovery h.miss) (next_let h.next) runs loads retires (misses h.miss h.is_miss) (lets h.next h.is_next) run load (retire (settled_at (slice_get b.window 0)) refl))
+all_permitted b steps h = subst (AllByRecursion Q) (sym h.list) (four (recovery h.miss) (next_let h.next) runs loads retires (misses h.miss h.is_miss) (lets h.next h.is_next) run load
+    (retire (settled_at (slice_get b.window 0)) refl))
   where
     Q : Step → Type 0
     Q = Permits b

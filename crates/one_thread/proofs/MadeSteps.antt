@@ -81,7 +81,12 @@ run_comes b later r h none can runs less noted =
     let w = giver (operands_in (registers_of b)) b.window r.at r.operands can in
     let new = runs w.station w.is in
     record {
-      falls = (ap (λ x. x.committed) rest, ap (λ x. x.low) rest, run_falls (registers_of b) (length b.program.now.bytes) b.window later.window r.at w.station r.operands (window_room b h) can w.is new);
+      falls = (
+        ap (λ x. x.committed) rest,
+        ap (λ x. x.low) rest,
+        run_falls (registers_of b) (length b.program.now.bytes) b.window later.window r.at w.station r.operands
+            (window_room b h) can w.is new,
+      );
       unit = ran_unit b later r.at w.station r.operands h none can w.is new rest noted;
       same = same_rest b later later.window later.missed later.settled rest;
     }

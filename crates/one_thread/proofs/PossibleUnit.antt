@@ -23,7 +23,8 @@ use Rattle.one_thread.specs.declared.station.Station.{Station}
 use Rattle.one_thread.specs.Changes.{NextOf, registers_of}
 use Rattle.one_thread.specs.Loads.{load_in}
 use Rattle.one_thread.specs.Notes.{miss_in, settled_by}
-use Rattle.one_thread.specs.Possible.{Possible, ToLet, ToLoad, ToRecover, ToRetire, ToRun, can_be_claimed, can_be_let, can_be_loaded, can_recover, each_that, first_some, fits_in, has_ended, has_stopped, oldest_live, possible, retirement, steps_of, stopped_by}
+use Rattle.one_thread.specs.Possible.{Possible, ToLet, ToLoad, ToRecover, ToRetire, ToRun, can_be_claimed, can_be_let, can_be_loaded, can_recover, each_that}
+use Rattle.one_thread.specs.Possible.{first_some, fits_in, has_ended, has_stopped, oldest_live, possible, retirement, steps_of, stopped_by}
 use Rattle.one_thread.specs.Stages.{CannotLet, FirstMiss, NoInstr, NoRoom, QueueFull}
 use Rattle.one_thread.specs.StandsFor.{HasStopped, StandsFor, sizes}
 use Rattle.one_thread.specs.Steps.{ArePossible, given_steps, load_at, loads_of, named, next_let, recovery, retirement_of, run_at, runs_of}

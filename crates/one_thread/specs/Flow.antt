@@ -202,7 +202,7 @@ abbrev pub ahead_to : ℕ → Pipeline → Flow → ℕ
 ahead_to limit b flow = to_do limit b * 64 + (32 - length flow.ring.completed)
 
 -- The oldest instruction of a flow has retired, and this is to be told of who has left its station
-pub record HasDeparted (b : Pipeline) (flow : Flow) (left : Option Leaver) (later : Pipeline) (after : Flow) : Type 0 where
+pub record OldestRetired (b : Pipeline) (flow : Flow) (left : Option Leaver) (later : Pipeline) (after : Flow) : Type 0 where
   pub flows : IsFlow (with_leaver b.oldest left later) after
   pub shorter : length flow.ring.completed ≡ suc (length after.ring.completed)
   pub untold : slice_get later.leavers b.oldest ≡ Some None

@@ -5,7 +5,7 @@ ghost use Rattle.inorder.specs.Machine.{store_bytes};
 ghost use Rattle.instructions.specs.Instruction.{fixed_next, is_first_half, is_pair, kind as kind_of, second_of, width as width_of};
 ghost use Rattle.instructions.specs.declared.op.Kind.TheVariants.{Stores as StoreKind};
 ghost use Rattle.one_thread.specs.Changes.{run_from};
-ghost use Rattle.one_thread.specs.Flow.{HasDeparted, IsFlow, IsStuck, committed_by, low_by, to_do};
+ghost use Rattle.one_thread.specs.Flow.{OldestRetired, IsFlow, IsStuck, committed_by, low_by, to_do};
 ghost use Rattle.one_thread.specs.CompletedRing.{station_by, stores_behind};
 ghost use Rattle.one_thread.specs.Leavers.{leaver_by};
 ghost use Rattle.one_thread.specs.Window.{access_of, source_in};
@@ -154,8 +154,8 @@ fn retire(
     requires counted { access_of instr.now ≤ flow.old.accesses }
     requires inside { kind_of instr.now.op ≡ StoreKind →
         oldest.now.value + width_of instr.now.op ≤ length committed.old.memory }
-    ensures told { result ≡
-        leaver_by (fixed_next instr.now oldest.now.half oldest.now.pc) oldest.now.pc oldest.now.next }
+    ensures told { let fixed = fixed_next instr.now oldest.now.half oldest.now.pc in
+        result ≡ leaver_by fixed oldest.now.pc oldest.now.next }
     ensures completed { flow.new.ring.completed ≡ drop 1 flow.old.ring.completed }
     ensures stores { flow.new.ring.stores ≡
         stores_behind (station_by instr.now oldest.now) flow.old.ring.stores }
@@ -190,7 +190,7 @@ impl<'a> Pipeline<'a> {
         requires flow { IsFlow self.old flow.old }
         requires stuck { IsStuck self.old flow.old }
         requires count { self.old.committed.count < 2 ^ 64 - 1 }
-        ensures departed { HasDeparted self.old flow.old result self.new flow.new }
+        ensures departed { OldestRetired self.old flow.old result self.new flow.new }
         ensures more { self.old.committed.count ≤ self.new.committed.count }
     {
         let oldest = flow.ring.oldest();

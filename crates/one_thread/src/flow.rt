@@ -51,7 +51,8 @@ impl Flow {
     /// A completed instruction joins, with its content, if it is a store. One that is `plain` computes one value.
     #[inline(always)]
     pub fn joins(&mut self, instr: &Decoded, completed: Completed, content: u32, plain: bool)
-        requires plain { IsTrue plain → (kind_of instr.now.op ≡ Computes) × (is_pair instr.now.op ≡ false) }
+        requires plain { IsTrue plain →
+            (kind_of instr.now.op ≡ Computes) × (is_pair instr.now.op ≡ false) }
         requires room { length self.old.ring.completed < 32 }
         requires few { length self.old.ring.stores < 32 }
         requires all { length self.old.future.values ≡ 34 }

@@ -7,13 +7,12 @@
 //! not complete then, all of these are again as they were let. So what stands in the stations behind each retirement
 //! is meant to be the same as if all turns were made one by one, in their order; the contracts promise a unit that
 //! legal steps reach, and the end of the run.
-ghost use Rattle.std.specs.Prelude.{⊤, ◌≡◌, ◌<◌, ◌≤◌, length, slice_get, is_some, true, IfSome, None, Some};
+ghost use Rattle.std.specs.Prelude.{◌≡◌, ◌<◌, ◌≤◌, length, slice_get, is_some, true, IfSome, None, Some};
 ghost use Rattle.instructions.specs.Instruction.{kind as kind_of};
 ghost use Rattle.instructions.specs.Programs.{instr_at};
 ghost use Rattle.one_thread.specs.Changes.{run_from};
 ghost use Rattle.one_thread.specs.Decoding.{IsDecoded};
-ghost use Rattle.one_thread.specs.Flow.{AreThere, CanRestore, HasEntered, IsFlow, ahead_to, restored, window_of};
-ghost use Rattle.one_thread.specs.Givers.{Chosen};
+ghost use Rattle.one_thread.specs.Flow.{AreThere, CanRestore, IsFlow, restored, window_of};
 ghost use Rattle.one_thread.specs.CompletedRing.{made_by, stage_by, station_in};
 ghost use Rattle.one_thread.specs.Reopened.{reopened};
 ghost use Rattle.one_thread.specs.StandsFor.{StandsForSome};
@@ -24,7 +23,6 @@ use crate::fetch::{fetch, fetch_known};
 use crate::flow::Flow;
 use crate::future::Future;
 use crate::pipeline::Pipeline;
-use crate::retire::leave_untold;
 use crate::station::{Stage, Station, made_at_let};
 use crate::window::Window;
 use instructions::{Kind, Predictor};
@@ -156,63 +154,6 @@ impl<'a> Pipeline<'a> {
         }
         self.missed = false;
         self.settled = flow.from;
-    }
-
-    // As long as the ring is full and the count has not reached a limit, the oldest leaves and the next enters its
-    // station. Answers whether each has completed.
-    #[inline(always)]
-    fn rounds<P: Predictor>(&mut self, predictor: &mut P, flow: &mut Flow, limit: u64) -> bool
-        requires flow { IsFlow self.old flow.old }
-        requires below { self.old.committed.count < limit }
-        ensures entered { HasEntered self.new flow.new result }
-        ensures room { Chosen result (length flow.new.ring.completed < self.new.ring) ⊤ }
-        ensures code { self.new.code ≡ self.old.code }
-        ensures program { self.new.program ≡ self.old.program }
-        ensures more { self.old.committed.count ≤ self.new.committed.count }
-        ensures ends { run_from self.new limit ≡ run_from self.old limit }
-        ensures less { ahead_to limit self.new flow.new ≤ ahead_to limit self.old flow.old }
-    {
-        while flow.ring.len() == self.ring {
-            let station = self.oldest;
-            let left = self.departs(flow);
-            if limit <= self.committed.count() || !self.can_enter(flow) {
-                leave_untold(&mut self.leavers, station, left);
-                return true;
-            }
-            if !self.enters_behind(predictor, flow, left) {
-                return false;
-            }
-        }
-        true
-    }
-
-    // Lets instructions enter a flow, and the oldest leave it, as long as each completes and the count has not
-    // reached a limit.
-    #[inline(always)]
-    fn flows<P: Predictor>(&mut self, predictor: &mut P, flow: &mut Flow, limit: u64)
-        requires flow { IsFlow self.old flow.old }
-        requires room { length flow.old.ring.completed < self.old.ring }
-        ensures flow { CanRestore self.new flow.new }
-        ensures code { self.new.code ≡ self.old.code }
-        ensures program { self.new.program ≡ self.old.program }
-        ensures more { self.old.committed.count ≤ self.new.committed.count }
-        ensures ends { run_from self.new limit ≡ run_from self.old limit }
-    {
-        while self.committed.count() < limit {
-            let Some(fits) = self.upcoming(flow) else {
-                return;
-            };
-            if !fits {
-                self.leaves_flow(flow);
-                continue;
-            }
-            if !self.enters_flow(predictor, flow) {
-                return;
-            }
-            if !self.rounds(predictor, flow, limit) {
-                return;
-            }
-        }
     }
 
     /// Turns as long as all live tenants have completed and the count has not reached a limit. Answers at which count

@@ -99,15 +99,6 @@ impl Window {
         Some(&self.stations[slot])
     }
 
-    /// The oldest tenant, where there is one.
-    #[inline(always)]
-    pub fn oldest(&self) -> Station
-        requires { 0 < length self.now }
-        ensures { slice_get self.now 0 ≡ Some result }
-    {
-        self.stations[self.start]
-    }
-
     /// The youngest tenant.
     #[inline(always)]
     pub fn last(&self) -> Option<&Station>
@@ -168,8 +159,8 @@ impl Window {
         requires { i < length self.old }
         ensures { HasReached self.old i stage self.new }
     {
-        let slot = slot_of(self.start, i);
-        self.stations[slot].stage = stage;
+        let made = self.get(i).made;
+        self.advance(i, stage, made);
     }
 
     /// A tenant joins behind the youngest as it stands.

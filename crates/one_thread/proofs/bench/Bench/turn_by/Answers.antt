@@ -19,7 +19,8 @@ pub returns-then-is_empty-clause-turn : goal.returns-then-is_empty-clause-turn
 returns-then-is_empty-clause-turn g c =
     let b = fields c.self.inside.pipeline c.self.inside.predictor in
     let q = c.args.chooser.now in
-    let none : ArePossible b.pipeline [] = subst (ArePossible b.pipeline) (none_listed c.possible_steps-steps.result.items c.is_empty.result c.is_empty.ensures c.if-is_empty.true) c.possible_steps-steps.ensures in
+    let none : ArePossible b.pipeline [] = subst (ArePossible b.pipeline)
+    (none_listed c.possible_steps-steps.result.items c.is_empty.result c.is_empty.ensures c.if-is_empty.true) c.possible_steps-steps.ensures in
     seen_by g.P.Predictor.Predicts g.P.Predictor.Learns g.C.Chooser.Chooses b c.args.self.now b q q _ c.self.view_is
     (nothing_by g.P.Predictor.Predicts g.P.Predictor.Learns g.C.Chooser.Chooses b q c.self.invariant.0 c.in_default.is none)
 

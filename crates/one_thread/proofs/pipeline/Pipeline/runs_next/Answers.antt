@@ -6,150 +6,89 @@ use Rattle.one_thread.specs.Flow.{CanRestore, Completes, completed_as, outcome_i
 use Rattle.one_thread.specs.declared.pipeline.Pipeline.{Pipeline}
 use Rattle.one_thread.proofs.FlowJoins.{HasJoined}
 use Rattle.one_thread.proofs.FlowIn.{Enters, entered_hit, entered_inside, entered_miss, entered_room, entered_stays, enters, place_decoded}
+use Rattle.one_thread.proofs.pipeline.Pipeline.runs_next.Given.{Over}
+use Rattle.one_thread.proofs.pipeline.Pipeline.runs_next.Goals.{After-joins, After-operands-operands}
 use Rattle.one_thread.proofs.pipeline.Pipeline.runs_next.Goals as goal
+
+-- What enters, as it was fetched, predicted and read
+
+entering : (g : Over) (c : After-operands-operands g) → Enters c.requires.place.before c.args.self.now c.args.flow.now c.fetch_known-instr.result.now
+    c.guess_behind-predicted.result c.operands-operands.result
+entering g c =
+    let x = c.args.self.now in
+    let flow = c.args.flow.now in
+    let i = c.fetch_known-instr.result.now in
+    let p = c.guess_behind-predicted.result in
+    let place = c.requires.place in
+    let decoded = place_decoded x flow c.as_slice.result.now place c.as_slice.ensures.value in
+    let is = c.fetch_known-instr.ensures place.before.program.now decoded in
+    let old = c.args.predictor.now in
+    let new = c.guess_behind-predicted.new.predictor in
+    let guess : Guesses g.P.Predictor.Predicts g.P.Predictor.Learns c.args.left i flow.half flow.future.pc p old new =
+    subst (λ k. Guesses g.P.Predictor.Predicts g.P.Predictor.Learns c.args.left i k flow.future.pc p old new) c.requires.half
+    c.guess_behind-predicted.ensures in
+    let read = c.operands-operands.ensures in
+    enters x flow i p c.operands-operands.result c.args.left old new place is c.guess_behind-predicted.type_inv guess read.registers read.first read.second
+
+-- It has joined
+
+joined : (g : Over) (c : After-joins g) → HasJoined c.args.flow.now c.joins.new.self c.fetch_known-instr.result.now
+    (completed_as c.args.flow.now c.guess_behind-predicted.result c.in-Some.done) c.operands-operands.result.b
+joined g c =
+    let on = c.joins.ensures in
+    subst (λ y. HasJoined c.args.flow.now c.joins.new.self c.fetch_known-instr.result.now y c.operands-operands.result.b) c.completed.ensures
+    (record {
+      completed = on.completed;
+      from = on.from;
+      last = on.last;
+      stores = on.stores;
+      future = on.future;
+      half = on.half;
+      accesses = on.accesses;
+    })
+
+done : (g : Over) (c : After-joins g) → Completes c.requires.place.before c.args.flow.now c.fetch_known-instr.result.now
+    c.guess_behind-predicted.result c.operands-operands.result (Some c.in-Some.done)
+done g c =
+    let i = c.fetch_known-instr.result.now in
+    subst (λ (q : Pipeline). Completes q c.args.flow.now i c.guess_behind-predicted.result c.operands-operands.result (Some c.in-Some.done))
+    c.requires.place.rest c.in-Some.ensures
 
 pub completes-requires-clause-inside : goal.completes-requires-clause-inside
 completes-requires-clause-inside g c =
-    let x = c.args.self.now in
-    let b = c.requires.place.before in
     let flow = c.args.flow.now in
     let i = c.fetch_known-instr.result.now in
-    let p = c.guess_behind-predicted.result in
     let o = c.operands-operands.result in
-    let is = c.fetch_known-instr.ensures b.program.now (place_decoded x flow c.as_slice.result.now c.requires.place c.as_slice.ensures.value) in
-    let guess : Guesses g.P.Predictor.Predicts g.P.Predictor.Learns c.args.left i flow.half flow.future.pc p c.args.predictor.now c.guess_behind-predicted.new.predictor =
-    subst (λ k. Guesses g.P.Predictor.Predicts g.P.Predictor.Learns c.args.left i k flow.future.pc p c.args.predictor.now c.guess_behind-predicted.new.predictor) c.requires.half c.guess_behind-predicted.ensures in
-    let h : Enters b x flow i p o =
-    enters x flow i p o c.args.left _ _ c.requires.place is c.guess_behind-predicted.type_inv guess c.operands-operands.ensures.registers c.operands-operands.ensures.first c.operands-operands.ensures.second in
-    subst (λ (q : Pipeline). (a : ℕ) → outcome_in q flow i o ≡ Address a → a + width i.op ≤ length q.committed.memory) (sym c.requires.place.rest) (entered_inside b x flow i p o h)
+    subst (λ (q : Pipeline). (a : ℕ) → outcome_in q flow i o ≡ Address a → a + width i.op ≤ length q.committed.memory) (sym c.requires.place.rest)
+    (entered_inside _ _ flow i _ o (entering g (goal.at.completes-requires-clause-inside g c).After-operands-operands))
 
 pub returns-in_default-clause-entered : goal.returns-in_default-clause-entered
 returns-in_default-clause-entered g c =
-    let x = c.args.self.now in
-    let b = c.requires.place.before in
-    let flow = c.args.flow.now in
-    let i = c.fetch_known-instr.result.now in
-    let p = c.guess_behind-predicted.result in
-    let o = c.operands-operands.result in
-    let is = c.fetch_known-instr.ensures b.program.now (place_decoded x flow c.as_slice.result.now c.requires.place c.as_slice.ensures.value) in
-    let guess : Guesses g.P.Predictor.Predicts g.P.Predictor.Learns c.args.left i flow.half flow.future.pc p c.args.predictor.now c.guess_behind-predicted.new.predictor =
-    subst (λ k. Guesses g.P.Predictor.Predicts g.P.Predictor.Learns c.args.left i k flow.future.pc p c.args.predictor.now c.guess_behind-predicted.new.predictor) c.requires.half c.guess_behind-predicted.ensures in
-    let h : Enters b x flow i p o =
-    enters x flow i p o c.args.left _ _ c.requires.place is c.guess_behind-predicted.type_inv guess c.operands-operands.ensures.registers c.operands-operands.ensures.first c.operands-operands.ensures.second in
-    subst (CanRestore x) (sym c.stays.ensures) (entered_stays b x flow i p o h)
+    subst (CanRestore c.args.self.now) (sym c.stays.ensures)
+    (entered_stays _ _ _ _ _ _ (entering g (goal.at.returns-in_default-clause-entered g c).After-operands-operands))
 
 pub returns-then-not-is_alone-clause-entered : goal.returns-then-not-is_alone-clause-entered
 returns-then-not-is_alone-clause-entered g c =
-    let x = c.args.self.now in
-    let b = c.requires.place.before in
-    let flow = c.args.flow.now in
-    let i = c.fetch_known-instr.result.now in
-    let p = c.guess_behind-predicted.result in
-    let o = c.operands-operands.result in
-    let is = c.fetch_known-instr.ensures b.program.now (place_decoded x flow c.as_slice.result.now c.requires.place c.as_slice.ensures.value) in
-    let guess : Guesses g.P.Predictor.Predicts g.P.Predictor.Learns c.args.left i flow.half flow.future.pc p c.args.predictor.now c.guess_behind-predicted.new.predictor =
-    subst (λ k. Guesses g.P.Predictor.Predicts g.P.Predictor.Learns c.args.left i k flow.future.pc p c.args.predictor.now c.guess_behind-predicted.new.predictor) c.requires.half c.guess_behind-predicted.ensures in
-    let h : Enters b x flow i p o =
-    enters x flow i p o c.args.left _ _ c.requires.place is c.guess_behind-predicted.type_inv guess c.operands-operands.ensures.registers c.operands-operands.ensures.first c.operands-operands.ensures.second in
-    subst (CanRestore x) (sym c.stays-then-not-is_alone.ensures) (entered_stays b x flow i p o h)
+    subst (CanRestore c.args.self.now) (sym c.stays-then-not-is_alone.ensures)
+    (entered_stays _ _ _ _ _ _ (entering g (goal.at.returns-then-not-is_alone-clause-entered g c).After-operands-operands))
 
 pub joins-requires-clause-room : goal.joins-requires-clause-room
-joins-requires-clause-room g c =
-    let x = c.args.self.now in
-    let b = c.requires.place.before in
-    let flow = c.args.flow.now in
-    let i = c.fetch_known-instr.result.now in
-    let p = c.guess_behind-predicted.result in
-    let o = c.operands-operands.result in
-    let is = c.fetch_known-instr.ensures b.program.now (place_decoded x flow c.as_slice.result.now c.requires.place c.as_slice.ensures.value) in
-    let guess : Guesses g.P.Predictor.Predicts g.P.Predictor.Learns c.args.left i flow.half flow.future.pc p c.args.predictor.now c.guess_behind-predicted.new.predictor =
-    subst (λ k. Guesses g.P.Predictor.Predicts g.P.Predictor.Learns c.args.left i k flow.future.pc p c.args.predictor.now c.guess_behind-predicted.new.predictor) c.requires.half c.guess_behind-predicted.ensures in
-    let h : Enters b x flow i p o =
-    enters x flow i p o c.args.left _ _ c.requires.place is c.guess_behind-predicted.type_inv guess c.operands-operands.ensures.registers c.operands-operands.ensures.first c.operands-operands.ensures.second in
-    (entered_room b x flow i p o h).0
+joins-requires-clause-room g c = (entered_room _ _ _ _ _ _ (entering g (goal.at.joins-requires-clause-room g c).After-operands-operands)).0
 
 pub joins-requires-clause-few : goal.joins-requires-clause-few
-joins-requires-clause-few g c =
-    let x = c.args.self.now in
-    let b = c.requires.place.before in
-    let flow = c.args.flow.now in
-    let i = c.fetch_known-instr.result.now in
-    let p = c.guess_behind-predicted.result in
-    let o = c.operands-operands.result in
-    let is = c.fetch_known-instr.ensures b.program.now (place_decoded x flow c.as_slice.result.now c.requires.place c.as_slice.ensures.value) in
-    let guess : Guesses g.P.Predictor.Predicts g.P.Predictor.Learns c.args.left i flow.half flow.future.pc p c.args.predictor.now c.guess_behind-predicted.new.predictor =
-    subst (λ k. Guesses g.P.Predictor.Predicts g.P.Predictor.Learns c.args.left i k flow.future.pc p c.args.predictor.now c.guess_behind-predicted.new.predictor) c.requires.half c.guess_behind-predicted.ensures in
-    let h : Enters b x flow i p o =
-    enters x flow i p o c.args.left _ _ c.requires.place is c.guess_behind-predicted.type_inv guess c.operands-operands.ensures.registers c.operands-operands.ensures.first c.operands-operands.ensures.second in
-    (entered_room b x flow i p o h).1
+joins-requires-clause-few g c = (entered_room _ _ _ _ _ _ (entering g (goal.at.joins-requires-clause-few g c).After-operands-operands)).1
 
 pub joins-requires-clause-accesses : goal.joins-requires-clause-accesses
-joins-requires-clause-accesses g c =
-    let x = c.args.self.now in
-    let b = c.requires.place.before in
-    let flow = c.args.flow.now in
-    let i = c.fetch_known-instr.result.now in
-    let p = c.guess_behind-predicted.result in
-    let o = c.operands-operands.result in
-    let is = c.fetch_known-instr.ensures b.program.now (place_decoded x flow c.as_slice.result.now c.requires.place c.as_slice.ensures.value) in
-    let guess : Guesses g.P.Predictor.Predicts g.P.Predictor.Learns c.args.left i flow.half flow.future.pc p c.args.predictor.now c.guess_behind-predicted.new.predictor =
-    subst (λ k. Guesses g.P.Predictor.Predicts g.P.Predictor.Learns c.args.left i k flow.future.pc p c.args.predictor.now c.guess_behind-predicted.new.predictor) c.requires.half c.guess_behind-predicted.ensures in
-    let h : Enters b x flow i p o =
-    enters x flow i p o c.args.left _ _ c.requires.place is c.guess_behind-predicted.type_inv guess c.operands-operands.ensures.registers c.operands-operands.ensures.first c.operands-operands.ensures.second in
-    (entered_room b x flow i p o h).2
+joins-requires-clause-accesses g c = (entered_room _ _ _ _ _ _ (entering g (goal.at.joins-requires-clause-accesses g c).After-operands-operands)).2
 
 pub returns-then-is_miss-2-clause-entered : goal.returns-then-is_miss-2-clause-entered
 returns-then-is_miss-2-clause-entered g c =
-    let x = c.args.self.now in
-    let b = c.requires.place.before in
-    let flow = c.args.flow.now in
-    let i = c.fetch_known-instr.result.now in
-    let p = c.guess_behind-predicted.result in
-    let o = c.operands-operands.result in
-    let is = c.fetch_known-instr.ensures b.program.now (place_decoded x flow c.as_slice.result.now c.requires.place c.as_slice.ensures.value) in
-    let guess : Guesses g.P.Predictor.Predicts g.P.Predictor.Learns c.args.left i flow.half flow.future.pc p c.args.predictor.now c.guess_behind-predicted.new.predictor =
-    subst (λ k. Guesses g.P.Predictor.Predicts g.P.Predictor.Learns c.args.left i k flow.future.pc p c.args.predictor.now c.guess_behind-predicted.new.predictor) c.requires.half c.guess_behind-predicted.ensures in
-    let h : Enters b x flow i p o =
-    enters x flow i p o c.args.left _ _ c.requires.place is c.guess_behind-predicted.type_inv guess c.operands-operands.ensures.registers c.operands-operands.ensures.first c.operands-operands.ensures.second in
-    let d = c.in-Some.done in
-    let done : Completes b flow i p o (Some d) = subst (λ (q : Pipeline). Completes q flow i p o (Some d)) c.requires.place.rest c.in-Some.ensures in
-    let j : HasJoined flow c.joins.new.self i (completed_as flow p d) o.b =
-    subst (λ y. HasJoined flow c.joins.new.self i y o.b) c.completed.ensures
-    (record {
-      completed = c.joins.ensures.completed;
-      from = c.joins.ensures.from;
-      last = c.joins.ensures.last;
-      stores = c.joins.ensures.stores;
-      future = c.joins.ensures.future;
-      half = c.joins.ensures.half;
-      accesses = c.joins.ensures.accesses;
-    }) in
-    entered_miss b x flow i p o h d c.joins.new.self done j c.len-flow.result c.len-flow.ensures.value
+    let at = goal.at.returns-then-is_miss-2-clause-entered g c in
+    entered_miss _ _ _ _ _ _ (entering g at.After-operands-operands) c.in-Some.done c.joins.new.self (done g at.After-joins) (joined g at.After-joins)
+    c.len-flow.result c.len-flow.ensures.value
 
 pub returns-else-is_miss-2-clause-entered : goal.returns-else-is_miss-2-clause-entered
 returns-else-is_miss-2-clause-entered g c =
-    let x = c.args.self.now in
-    let b = c.requires.place.before in
-    let flow = c.args.flow.now in
-    let i = c.fetch_known-instr.result.now in
-    let p = c.guess_behind-predicted.result in
-    let o = c.operands-operands.result in
-    let is = c.fetch_known-instr.ensures b.program.now (place_decoded x flow c.as_slice.result.now c.requires.place c.as_slice.ensures.value) in
-    let guess : Guesses g.P.Predictor.Predicts g.P.Predictor.Learns c.args.left i flow.half flow.future.pc p c.args.predictor.now c.guess_behind-predicted.new.predictor =
-    subst (λ k. Guesses g.P.Predictor.Predicts g.P.Predictor.Learns c.args.left i k flow.future.pc p c.args.predictor.now c.guess_behind-predicted.new.predictor) c.requires.half c.guess_behind-predicted.ensures in
-    let h : Enters b x flow i p o =
-    enters x flow i p o c.args.left _ _ c.requires.place is c.guess_behind-predicted.type_inv guess c.operands-operands.ensures.registers c.operands-operands.ensures.first c.operands-operands.ensures.second in
-    let d = c.in-Some.done in
-    let done : Completes b flow i p o (Some d) = subst (λ (q : Pipeline). Completes q flow i p o (Some d)) c.requires.place.rest c.in-Some.ensures in
-    let j : HasJoined flow c.joins.new.self i (completed_as flow p d) o.b =
-    subst (λ y. HasJoined flow c.joins.new.self i y o.b) c.completed.ensures
-    (record {
-      completed = c.joins.ensures.completed;
-      from = c.joins.ensures.from;
-      last = c.joins.ensures.last;
-      stores = c.joins.ensures.stores;
-      future = c.joins.ensures.future;
-      half = c.joins.ensures.half;
-      accesses = c.joins.ensures.accesses;
-    }) in
-    entered_hit b x flow i p o h d c.joins.new.self done j c.if-is_miss-2.false
+    let at = goal.at.returns-else-is_miss-2-clause-entered g c in
+    entered_hit _ _ _ _ _ _ (entering g at.After-operands-operands) c.in-Some.done c.joins.new.self (done g at.After-joins) (joined g at.After-joins)
+    c.if-is_miss-2.false
