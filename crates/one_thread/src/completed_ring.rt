@@ -60,21 +60,17 @@ fn unused() -> Completed {
     }
 }
 
-// The entries without the first.
-fn forget_first(stores: &mut ArrayVec<Entry, 32>)
-    ensures { stores.new.items ≡ drop 1 stores.old.items }
-{
-    stores.pop_at(0);
-}
-
-// The entries without the first `past`: an item that leaves moves those behind it, so many leave at once.
+// The entries without the first `past`: one that leaves would move those behind it, so many leave at once.
 #[cold]
 #[inline(never)]
 fn forget(stores: &mut ArrayVec<Entry, 32>, past: usize)
+    requires { past ≤ length stores.old.items }
     ensures { stores.new.items ≡ drop past stores.old.items }
 {
-    for _i in 0..past {
-        forget_first(stores);
+    let mut live = ArrayVec::new();
+    match live.try_extend_from_slice(&stores.as_slice()[past..]) {
+        Ok(()) => *stores = live,
+        Err(_) => {}
     }
 }
 
