@@ -11,10 +11,12 @@ pub(crate) struct Meeting {
     pub asked: AtomicU64,
 }
 
-pub(crate) fn meeting(all: u64) -> Meeting {
-    Meeting {
-        all,
-        asked: AtomicU64::new(0),
+impl Meeting {
+    pub(crate) fn new(all: u64) -> Meeting {
+        Meeting {
+            all,
+            asked: AtomicU64::new(0),
+        }
     }
 }
 

@@ -1,5 +1,5 @@
 //! Runs have the ring, queue, units, turns, predictor and gate that the command line and the caller name.
-use crate::meeting::meeting;
+use crate::meeting::Meeting;
 use crate::same::{same, same_in};
 use command::{Line, Went, asked, go};
 use counted_io::Counted;
@@ -75,7 +75,7 @@ fn a_run_has_as_many_stations_as_is_said(rt: HostRuntime) -> Result<(), Fail> {
 fn a_run_has_as_many_units_as_is_said(rt: HostRuntime) -> Result<(), Fail> {
     let cases: [(&str, u64); 3] = [("1", 0b10), ("2", 0b110), ("5", 0b11_1110)];
     for (units, all) in cases {
-        let gate = meeting(all);
+        let gate = Meeting::new(all);
         let words = [
             "ruu", "run", "plain.s", "--turns", "50000000", "--units", units,
         ];

@@ -1,6 +1,6 @@
 //! What a gate sees, and what the tally counts.
 use super::{Shape, end_of_held, plain, run_listing};
-use crate::meeting::meeting;
+use crate::meeting::Meeting;
 use crate::same::same;
 use pool::{Gate, Open, Run, Tally};
 use snapshots::Snap;
@@ -60,7 +60,7 @@ fn two_units_work_at_once(rt: HostRuntime) -> Result<(), Fail> {
 #[test]
 fn a_unit_that_rests_works_where_another_is_held(rt: HostRuntime) -> Result<(), Fail> {
     let listing = b"nop\nnop\nnop\nnop\nnop\nnop\nnop\nnop\nnop\nbreak\n";
-    let gate = meeting(0b1_1111_1110);
+    let gate = Meeting::new(0b1_1111_1110);
     let end = end_of_held(&rt, rt.alloc(), listing, 8, &gate)?;
     same(&rt, &end.n, &9);
     same(&rt, &gate.asked.load(SeqCst), &gate.all);
