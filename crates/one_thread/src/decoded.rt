@@ -13,7 +13,7 @@ use std::marker::Model;
 /// Where an operation goes on.
 #[derive(Clone, Copy)]
 pub enum Goes {
-    /// It computes one value, and the path goes on behind it: nothing else is to be looked at.
+    /// One value is computed, and the path goes on behind: nothing else is to be looked at.
     Plain,
     /// A load or store, behind which the path goes on.
     Behind,
@@ -114,7 +114,7 @@ impl Decoded {
         self.kind
     }
 
-    /// Its operation computes one value, behind which the path goes on: nothing else is to be looked at.
+    /// The operation computes one value, and the path goes on behind it.
     #[inline(always)]
     pub(crate) fn is_plain(&self) -> bool
         ensures computes { IsTrue result → kind_of self.now.op ≡ Computes }
