@@ -9,6 +9,7 @@ use Rattle.front.proofs.Misses.{all_one_more, is_miss, no_jump_misses, was_none}
 use Rattle.front.proofs.Named.{all_get, small_stations}
 use Rattle.front.proofs.Splitting.{stays}
 use Rattle.front.proofs.Stays.{knows_stable}
+use Rattle.front.proofs.recovery.find_miss.Goals.{After-look-seen}
 use Rattle.front.proofs.recovery.find_miss.Goals as goal
 
 pub look-seen-requires-clause-station : goal.look-seen-requires-clause-station
@@ -19,56 +20,67 @@ look-seen-requires-clause-station c =
     all_get (λ x. x.station < C.ring) c.args.path.now.records (small_stations P C c.loop-at.seat.seen inv.adds.legal c.args.path.now.records c.args.path.now.base _ inv.knows
     (omega (arith, c.requires.least))) c.loop-at.at c.in-Some.record (sym c.at.ensures ∙ c.in-Some.is)
 
-pub returns-in-Miss-clause-history : goal.returns-in-Miss-clause-history
-returns-in-Miss-clause-history c =
+-- The miss bit of a record was looked at
+
+looked : (c : After-look-seen) → Adds c.args.core.now.program c.args.core.now.sizes front c.loop-at.seat.seen c.look-seen.new.seat.seen []
+looked c =
+    let inv = c.loop-at.invariant in
+    subst (λ i. Adds c.args.core.now.program c.args.core.now.sizes i c.loop-at.seat.seen c.look-seen.new.seat.seen []) (inv.same.by ∙ c.requires.by)
+    c.look-seen.ensures.history
+
+whole : (c : After-look-seen) → Adds c.args.core.now.program c.args.core.now.sizes front c.args.seat.now.seen c.look-seen.new.seat.seen []
+whole c =
+    let old = c.args.seat.now.seen in
+    let new = c.look-seen.new.seat.seen in
+    adds_on c.args.core.now.program c.args.core.now.sizes front old c.loop-at.seat.seen new [] [] c.loop-at.invariant.adds (looked c)
+
+knows_on : (c : After-look-seen) → FrontKnows c.args.core.now.program c.args.core.now.sizes (unit_of c.args.core.now.program c.args.core.now.sizes c.look-seen.new.seat.seen)
+    c.args.path.now.records c.args.path.now.base
+knows_on c =
     let P = c.args.core.now.program in
     let C = c.args.core.now.sizes in
-    let inv = c.loop-at.invariant in
-    let mine : Adds P C front c.loop-at.seat.seen c.look-seen.new.seat.seen [] = subst (λ i. Adds P C i c.loop-at.seat.seen c.look-seen.new.seat.seen []) (inv.same.by ∙ c.requires.by)
-    c.look-seen.ensures.history in
-    adds_on P C front c.args.seat.now.seen c.loop-at.seat.seen c.look-seen.new.seat.seen [] [] inv.adds mine
+    let records = c.args.path.now.records in
+    let base = c.args.path.now.base in
+    stays P C (λ U. FrontKnows P C U records base) (knows_stable P C records base) c.loop-at.seat.seen c.look-seen.new.seat.seen (looked c) c.loop-at.invariant.knows
+
+pub returns-in-Miss-clause-history : goal.returns-in-Miss-clause-history
+returns-in-Miss-clause-history c = whole (goal.at.returns-in-Miss-clause-history c).After-look-seen
 
 pub returns-in-Miss-clause-reply : goal.returns-in-Miss-clause-reply
 returns-in-Miss-clause-reply c =
     let P = c.args.core.now.program in
     let C = c.args.core.now.sizes in
-    let inv = c.loop-at.invariant in
     let records = c.args.path.now.records in
     let base = c.args.path.now.base in
     let new = c.look-seen.new.seat.seen in
-    let mine : Adds P C front c.loop-at.seat.seen new [] = subst (λ i. Adds P C i c.loop-at.seat.seen new []) (inv.same.by ∙ c.requires.by) c.look-seen.ensures.history in
-    let knows : FrontKnows P C (unit_of P C new) records base = stays P C (λ U. FrontKnows P C U records base) (knows_stable P C records base) c.loop-at.seat.seen new mine inv.knows in
+    let place = (goal.at.returns-in-Miss-clause-reply c).After-look-seen in
+    let legal = (looked place).legal in
+    let knows = knows_on place in
     let here = sym c.at.ensures ∙ c.in-Some.is in
     record {
       miss = record {
         one = c.in-Some.record;
         here = here;
         station = refl;
-        small = all_get (λ x. x.station < C.ring) records (small_stations P C new mine.legal records base _ knows (omega (arith, c.requires.least))) c.loop-at.at c.in-Some.record here;
-        miss = is_miss P C new mine.legal records base knows c.loop-at.at c.in-Some.record c.look-seen.result here c.look-seen.ensures.reply c.in-Miss.is;
+        small = all_get (λ x. x.station < C.ring) records (small_stations P C new legal records base _ knows (omega (arith, c.requires.least))) c.loop-at.at c.in-Some.record here;
+        miss = is_miss P C new legal records base knows c.loop-at.at c.in-Some.record c.look-seen.result here c.look-seen.ensures.reply c.in-Miss.is;
       };
-      first = inv.none;
+      first = c.loop-at.invariant.none;
     }
 
 pub loop-at-preserved : goal.loop-at-preserved
 loop-at-preserved c =
-    let P = c.args.core.now.program in
-    let C = c.args.core.now.sizes in
     let inv = c.loop-at.invariant in
-    let records = c.args.path.now.records in
-    let base = c.args.path.now.base in
-    let old = c.args.seat.now.seen in
-    let new = c.look-seen.new.seat.seen in
-    let mine : Adds P C front c.loop-at.seat.seen new [] = subst (λ i. Adds P C i c.loop-at.seat.seen new []) (inv.same.by ∙ c.requires.by) c.look-seen.ensures.history in
-    let both : Adds P C front old new [] = adds_on P C front old c.loop-at.seat.seen new [] [] inv.adds mine in
     let kept = c.look-seen.ensures.kept in
+    let place = (goal.at.loop-at-preserved c).After-look-seen in
     record {
       core = kept.core ∙ inv.core;
       same = record { core = kept.core ∙ inv.same.core; by = kept.by ∙ inv.same.by };
-      adds = both;
-      knows = stays P C (λ U. FrontKnows P C U records base) (knows_stable P C records base) c.loop-at.seat.seen new mine inv.knows;
-      none = all_one_more _ records c.loop-at.at c.in-Some.record inv.none (sym c.at.ensures ∙ c.in-Some.is)
-          (was_none P C old new c.in-Some.record c.look-seen.result both c.look-seen.ensures.reply c.in_default-state.not-Miss);
+      adds = whole place;
+      knows = knows_on place;
+      none = all_one_more _ c.args.path.now.records c.loop-at.at c.in-Some.record inv.none (sym c.at.ensures ∙ c.in-Some.is)
+          (was_none c.args.core.now.program c.args.core.now.sizes c.args.seat.now.seen c.look-seen.new.seat.seen c.in-Some.record c.look-seen.result (whole place) c.look-seen.ensures.reply
+          c.in_default-state.not-Miss);
     }
 
 pub loop-at-preserved-then-not-may_miss : goal.loop-at-preserved-then-not-may_miss
