@@ -35,7 +35,7 @@ use Rattle.front.specs.Trail.{is_link, record_of}
 use Rattle.front.proofs.LetKnown.{let_known}
 use Rattle.front.proofs.Named.{stands_right}
 use Rattle.front.proofs.TableLet.{table_let}
-use Rattle.front.proofs.TableStays.{table_stable}
+use Rattle.front.proofs.TableStays.{table_stable, still_has_table}
 use Rattle.front.specs.CreateTable.{HasTable, IsEntered}
 use Rattle.front.specs.declared.path.counted.Table.{Table}
 use Rattle.front.proofs.Pending.{IsPending, pending_stable}
@@ -124,7 +124,7 @@ module _ {P : Program} {C : Sizes} {old : List Entry} {records : List Record} {b
   module _ (T T' : Table) (table : HasTable P U (rested_at base) T) (inside : f.station < 32) (entered : IsEntered T T' (record_for f tag predicted)) where
     pub table_behind : HasTable P (unit_of P C new) (rested_at base) T'
     table_behind =
-        let there : HasTable P M (rested_at base) T = stays P C (λ V. HasTable P V (rested_at base) T) (table_stable P C (rested_at base) T) old point l.before table in
+        let there : HasTable P M (rested_at base) T = still_has_table l.before table in
         let after = table_let P C M front index predicted (supply_of first) (supply_of second) (rested_at base) T T' there ready.stands.past (subst (λ z. z < 32) place inside)
         (λ p q t u a b is is'. one_tag P C (entry front (let_of tenant) ∷ point) legal_let p q t u is is' (new_behind p a) (new_behind q b)) (subst (IsEntered T T') (sym kept_of) entered)
         in

@@ -22,8 +22,8 @@ use Rattle.front.specs.Trail.{Note, trail}
 use Rattle.front.proofs.Lists.{all_front, all_map, all_rest}
 use Rattle.front.proofs.Resting.{told_stable}
 use Rattle.front.proofs.Splitting.{stays}
-use Rattle.front.proofs.Stays.{knows_stable}
-use Rattle.front.proofs.TableStays.{table_stable}
+use Rattle.front.proofs.Stays.{still_knows}
+use Rattle.front.proofs.TableStays.{still_has_table}
 use Rattle.front.proofs.Trails.{IsNoted, trail_noted}
 
 no_notes : (ns : List Note) → [] ≡ whats ns → ns ≡ []
@@ -103,8 +103,8 @@ entered v w base new creators path P s g program legal none is station told regi
     let Pv = v.core.program in
     let Cv = v.core.sizes in
     let U = unit_of Pv Cv g.last in
-    let knows = stays Pv Cv (λ z. FrontKnows Pv Cv z [] base) (knows_stable Pv Cv [] base) v.seen g.last g.adds s.knows in
-    let table = stays Pv Cv (λ z. HasTable Pv z (rested_at base) creators.table) (table_stable Pv Cv (rested_at base) creators.table) v.seen g.last g.adds s.table in
+    let knows = still_knows g.adds s.knows in
+    let table = still_has_table g.adds s.table in
     let all = stays Pv Cv (λ z. rested_at base ≡ length z.tenants) (told_stable Pv Cv (rested_at base)) v.seen g.last g.adds s.told in
     let V = unit_of w.core.program w.core.sizes w.seen in
     let station_there : next_station Cv (recent V) ≡ new.station % Cv.ring = subst (λ (z : Sizes). next_station z (recent V) ≡ new.station % z.ring) g.sizes station in

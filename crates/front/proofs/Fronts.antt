@@ -34,11 +34,11 @@ use Rattle.front.specs.CreateTable.{HasTable, table_entry_in, table_entry, maker
 use Rattle.front.specs.declared.path.counted.Counted.{Counted}
 use Rattle.front.specs.declared.path.counted.Table.{Table}
 use Rattle.front.specs.declared.path.counted.Maker.{Maker}
-use Rattle.front.proofs.TableStays.{table_stable}
+use Rattle.front.proofs.TableStays.{still_has_table}
 use Rattle.front.specs.Trail.{Note, trail}
 use Rattle.station.specs.Renewals.{HasNobody}
 use Rattle.front.proofs.Splitting.{stays}
-use Rattle.front.proofs.Stays.{knows_stable}
+use Rattle.front.proofs.Stays.{still_knows}
 
 -- a call that added nothing
 pub still_front : (core : TheCore) (P : Program) (v w : Caller) (path : Path) (creators : Counted) (rested : Bool) → v.core ≡ core → IsFront P v path creators rested → IsSameSeat v w
@@ -47,10 +47,8 @@ still_front core P v w path creators rested e f same adds =
     let Fact : TheCore → Type 0 = λ c. Adds c.program c.sizes front v.seen w.seen [] in
     let mine : Fact core = subst (λ i. Adds core.program core.sizes i v.seen w.seen []) f.by_is adds in
     let here : Fact v.core = subst Fact (sym e) mine in
-    let knows : FrontKnows v.core.program v.core.sizes (unit_of v.core.program v.core.sizes w.seen) path.records path.base = stays v.core.program v.core.sizes
-    (λ U. FrontKnows v.core.program v.core.sizes U path.records path.base) (knows_stable v.core.program v.core.sizes path.records path.base) v.seen w.seen here f.knows in
-    let table : HasTable v.core.program (unit_of v.core.program v.core.sizes w.seen) (rested_at path.base) creators.table = stays v.core.program v.core.sizes
-    (λ U. HasTable v.core.program U (rested_at path.base) creators.table) (table_stable v.core.program v.core.sizes (rested_at path.base) creators.table) v.seen w.seen here f.table in
+    let knows : FrontKnows v.core.program v.core.sizes (unit_of v.core.program v.core.sizes w.seen) path.records path.base = still_knows here f.knows in
+    let table : HasTable v.core.program (unit_of v.core.program v.core.sizes w.seen) (rested_at path.base) creators.table = still_has_table here f.table in
     record {
       table = subst (λ (z : TheCore). HasTable z.program (unit_of z.program z.sizes w.seen) (rested_at path.base) creators.table) (sym same.core) table;
       rests = λ r.

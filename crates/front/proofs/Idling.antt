@@ -21,7 +21,7 @@ use Rattle.front.proofs.Places.{kept_new, last_record}
 use Rattle.front.proofs.Lefts.{all_told}
 use Rattle.front.proofs.Resting.{nobody_stable, none_kept, note_left, youngest_left}
 use Rattle.front.proofs.Splitting.{stays}
-use Rattle.front.proofs.Stays.{knows_stable}
+use Rattle.front.proofs.Stays.{still_knows}
 use Rattle.front.proofs.Trails.{IsNoted}
 
 -- A seat has seen that nobody is live, has added nothing, and knows its path as before
@@ -34,7 +34,7 @@ pub record HasSeen (core : TheCore) (path : Path) (v w : Caller) : Type 0 where
 module _ (core : TheCore) (v w : Caller) (same : IsSameSeat v w) (path : Path) (k : FrontKnows core.program core.sizes (unit_of core.program core.sizes v.seen) path.records path.base)
     (adds : Adds core.program core.sizes front v.seen w.seen []) where
   knows_now : FrontKnows core.program core.sizes (unit_of core.program core.sizes w.seen) path.records path.base
-  knows_now = stays core.program core.sizes (λ U. FrontKnows core.program core.sizes U path.records path.base) (knows_stable core.program core.sizes path.records path.base) v.seen w.seen adds k
+  knows_now = still_knows adds k
 
   -- no tenant is kept
   seen_none : youngest_record path.records ≡ None → HasSeen core path v w
@@ -97,7 +97,7 @@ module _ {core : TheCore} {path : Path} {v w : Caller} (s : HasSeen core path v 
       TellsEach Learns core.program (all_untold (rested_at path.base) [] (unit_of core.program core.sizes x.seen).tenants) a b
   rested_tells Learns {records} a b are tells =
       all_told Learns core.program core.sizes (unit_of core.program core.sizes x.seen) (unit_sound core.program core.sizes x.seen more.legal) rested_nobody path.records path.base
-      (stays core.program core.sizes (λ U. FrontKnows core.program core.sizes U path.records path.base) (knows_stable core.program core.sizes path.records path.base) w.seen x.seen more s.knows)
+      (still_knows more s.knows)
       a b (subst (λ z. TellsRecords Learns z a b) are tells)
 
   -- The length of what the seat has seen by then

@@ -37,7 +37,7 @@ use Rattle.front.proofs.Named.{stands_right}
 use Rattle.front.proofs.Places.{known_half, known_pc, known_place, notes_length}
 use Rattle.front.proofs.Splitting.{IsStable, stays}
 use Rattle.front.proofs.Stations.{next_tag_is, oldest_left}
-use Rattle.front.proofs.Stays.{knows_stable, place_stays, quiet_of}
+use Rattle.front.proofs.Stays.{place_stays, quiet_of, still_knows}
 use Rattle.front.proofs.Cuts.{head_of}
 use Rattle.inorder.proofs.Recent.{counts_same, old_kept}
 use Rattle.inorder.proofs.Letting.{IsBesides}
@@ -104,7 +104,7 @@ at_pc {P} {Q} pc program fetch is = ap (λ z. instr_at z pc) (sym program) ∙ (
 
 module _ {P : Program} {C : Sizes} {old h : List Entry} {records : List Record} {base : Base} {station : ℕ} {seen : Seen StationState} (a : LookedAhead P C old h records base station seen) where
   pub knows_now : FrontKnows P C (unit_of P C h) records base
-  knows_now = stays P C (λ U. FrontKnows P C U records base) (knows_stable P C records base) old h a.adds a.knows
+  knows_now = still_knows a.adds a.knows
 
   place : station ≡ next_station C (recent (unit_of P C h))
   place = a.station_is ∙ sym (known_place P C (unit_of P C h) records base (IsFolded (unit_of P C h) (rested_at base)) knows_now (stands_right P C h a.adds.legal))
@@ -131,7 +131,7 @@ module _ {P : Program} {C : Sizes} {old h : List Entry} {records : List Record} 
 
       module _ {i : Instr} (there : instr_at P pc ≡ Some i) {new : List Entry} (more : Adds P C front h new []) where
         knows_new : FrontKnows P C (unit_of P C new) records base
-        knows_new = stays P C (λ U. FrontKnows P C U records base) (knows_stable P C records base) h new more knows_now
+        knows_new = still_knows more knows_now
 
         not_full_once : WasNotFull P C old new
         not_full_once = before_end P C (λ U. ¬ IsFull C U) old h new [] [] a.adds more is_free

@@ -21,7 +21,7 @@ use Rattle.front.specs.declared.path.record.Record.{Record}
 use Rattle.front.specs.Knows.{IsNewest, FrontKnows}
 use Rattle.front.specs.CreateTable.{HasTable, IsRestored}
 use Rattle.front.specs.declared.path.counted.Table.{Table}
-use Rattle.front.proofs.TableStays.{table_cut, table_mended, table_stable}
+use Rattle.front.proofs.TableStays.{table_cut, table_mended, table_stable, still_has_table}
 use Rattle.front.specs.Trail.{Note, trail}
 use Rattle.front.proofs.CutKnown.{acted, at_last, mend_trail, mended_note, squash_trail}
 use Rattle.front.proofs.Lists.{all_rest}
@@ -65,7 +65,7 @@ module _ (P : Program) (C : Sizes) (old new : List Entry) (rest : List Record) (
       let at_p = acts_at P C l.point s.legal.0 rest one base s.knows p a.tenant a.is a.may.live a.may.youngest in
       let cut = squash_trail P C (unit_of P C l.point) ok path last.one o front p a this in
       let same = its_station p l station tag named last.one noted at_p in
-      let before = stays P C (λ U. HasTable P U (rested_at base) T) (table_stable P C (rested_at base) T) old l.point l.before table in
+      let before = still_has_table l.before table in
       let behind = table_cut P C (unit_of P C l.point) front p Squash a ok (rested_at base) T T' before path last.one untold whole cut newest noted (subst (IsRestored T T') same restored) in
       stays_behind P C (λ U. HasTable P U (rested_at base) T') (table_stable P C (rested_at base) T') old new (Does (On p Squash)) [] l behind
 
@@ -87,6 +87,6 @@ module _ (P : Program) (C : Sizes) (old new : List Entry) (rest : List Record) (
       let fate : o.tenant.fate ≡ Miss next = ap (λ (z : Tenant). z.fate) (same_Some o.tenant its.tenant (sym (at_last P C (unit_of P C l.point) ok path last.one o) ∙ its.is)) ∙ its.fact.fate in
       let y : Note = mended_note P C (unit_of P C l.point) ok path last.one o next in
       let on = mend_trail P C (unit_of P C l.point) ok path last.one o front p next a this fate in
-      let before = stays P C (λ U. HasTable P U (rested_at base) T) (table_stable P C (rested_at base) T) old l.point l.before table in
+      let before = still_has_table l.before table in
       let behind = table_mended P C (unit_of P C l.point) front p Mend a ok (rested_at base) T before path last.one y whole on refl refl refl refl in
       stays_behind P C (λ U. HasTable P U (rested_at base) T) (table_stable P C (rested_at base) T) old new (Does (On p Mend)) [] l behind

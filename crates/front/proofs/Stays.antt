@@ -1,12 +1,15 @@
 -- What the front knows stays true under the steps of others, and under links and deliveries of its own.
-use Rattle.std.proofs.Common.{◌≡◌, ℕ, ◌+◌, ◌%◌, List, refl, sym, ap, ◌∙◌, subst, inl, inr, ⊎_elim, length, ◌≤◌}
+use Rattle.std.proofs.Common.{◌≡◌, ℕ, ◌+◌, ◌%◌, List, [], refl, sym, ap, ◌∙◌, subst, inl, inr, ⊎_elim, length, ◌≤◌}
 use Rattle.std.specs.Prelude.{slice_index, is_none}
 use Rattle.instructions.specs.Instruction.{destination, fixed_next, is_access, is_first_half, kind}
 use Rattle.instructions.specs.Programs.{Program, instr_of}
 use Rattle.inorder.specs.declared.history.Act.{Act}
 use Rattle.inorder.specs.declared.history.Act.TheVariants.{Claim, Deliver, Finish, Link, Load, Mend, Retire, Squash}
+use Rattle.inorder.specs.declared.history.Entry.{Entry}
 use Rattle.inorder.specs.declared.history.Step.{Step}
 use Rattle.inorder.specs.declared.history.Step.TheVariants.{Let, On, Renew}
+use Rattle.inorder.specs.History.{front, unit_of}
+use Rattle.inorder.specs.OneHistory.{Adds}
 use Rattle.inorder.specs.Legal.{Allowed, May, applied, changed}
 use Rattle.inorder.specs.Tenants.{on_path, Tenant}
 use Rattle.inorder.specs.Unit.{Sizes, UpdateUnit, next_station, older, recent, younger}
@@ -24,7 +27,7 @@ use Rattle.front.specs.Knows.{GoesOnAt, IsFolded, IsGone, IsNewest, RecordsAreRe
 use Rattle.front.specs.Trail.{Note, is_link, record_of, trail}
 use Rattle.front.proofs.Acts.{still_folded, still_gone, still_newest, still_value}
 use Rattle.front.proofs.Lists.{all_map}
-use Rattle.front.proofs.Splitting.{IsStable}
+use Rattle.front.proofs.Splitting.{IsStable, stays}
 use Rattle.front.proofs.Trails.{same_front, trail_same}
 use Rattle.inorder.proofs.Recent.{counts_same}
 
@@ -176,3 +179,8 @@ module _ (P : Program) (C : Sizes) (records : List Record) (base : Base) where
 
   pub ready_stable : IsStable P C (λ U. RecordsAreReady P C U records base)
   ready_stable U by s b a ok k = ready_stays P C U by records base s (quiet_of s b) a ok k
+
+-- where the front has added nothing
+pub still_knows : {P : Program} {C : Sizes} {old new : List Entry} {records : List Record} {base : Base} → Adds P C front old new [] → FrontKnows P C (unit_of P C old) records base →
+    FrontKnows P C (unit_of P C new) records base
+still_knows {P} {C} {old} {new} {records} {base} a k = stays P C (λ U. FrontKnows P C U records base) (knows_stable P C records base) old new a k

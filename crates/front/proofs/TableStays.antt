@@ -10,6 +10,7 @@ use Rattle.instructions.specs.Instruction.{destination, kind, pc_plus_4}
 use Rattle.instructions.specs.Programs.{Program, instr_of}
 use Rattle.inorder.specs.declared.history.Act.{Act}
 use Rattle.inorder.specs.declared.history.Act.TheVariants.{Deliver, Link}
+use Rattle.inorder.specs.declared.history.Entry.{Entry}
 use Rattle.inorder.specs.declared.history.Event.{Event}
 use Rattle.inorder.specs.declared.history.Event.TheVariants.{Does, Marks}
 use Rattle.inorder.specs.declared.history.Mark.TheVariants.{Asked}
@@ -17,7 +18,8 @@ use Rattle.inorder.specs.declared.history.Source.{Source}
 use Rattle.inorder.specs.declared.history.Step.{Step}
 use Rattle.inorder.specs.declared.history.Step.TheVariants.{Let, On, Renew}
 use Rattle.inorder.specs.Callers.{IsLastAt}
-use Rattle.inorder.specs.History.{front}
+use Rattle.inorder.specs.History.{front, unit_of}
+use Rattle.inorder.specs.OneHistory.{Adds}
 use Rattle.inorder.specs.Legal.{Allowed, applied}
 use Rattle.inorder.specs.Tenants.{Tenant}
 use Rattle.inorder.specs.Unit.{Sizes, UpdateUnit, at}
@@ -32,7 +34,7 @@ use Rattle.front.specs.Creators.{newest_note}
 use Rattle.front.specs.Knows.{IsNewest}
 use Rattle.front.specs.Trail.{Note, is_link, record_of, trail}
 use Rattle.front.proofs.Lists.{Last, last_cases, last_same}
-use Rattle.front.proofs.Splitting.{IsStable, KeepsEvent}
+use Rattle.front.proofs.Splitting.{IsStable, KeepsEvent, stays}
 use Rattle.front.proofs.Stays.{IsQuiet, quiet_of, trail_stays}
 use Rattle.front.proofs.Trails.{IsNoted}
 use Rattle.front.proofs.TableEntries.{entry_else, entry_more, set_length, set_other, set_same}
@@ -197,3 +199,7 @@ module _ (P : Program) (C : Sizes) (told : ℕ) (T : Table) where
 
       link : KeepsEvent P C (λ U. HasTable P U told T) (Does (On p (Link k)))
       link U a ok i = table_quiet U front (On p (Link k)) tt a ok i
+
+-- where the front has added nothing
+pub still_has_table : {P : Program} {C : Sizes} {old new : List Entry} {told : ℕ} {T : Table} → Adds P C front old new [] → HasTable P (unit_of P C old) told T → HasTable P (unit_of P C new) told T
+still_has_table {P} {C} {old} {new} {told} {T} a k = stays P C (λ U. HasTable P U told T) (table_stable P C told T) old new a k

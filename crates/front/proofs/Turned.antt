@@ -29,7 +29,7 @@ use Rattle.front.specs.Turns.{IsLet, LetsOut}
 use Rattle.front.proofs.Looked.{left_stable}
 use Rattle.front.proofs.Releasing.{next_is}
 use Rattle.front.proofs.Splitting.{stays}
-use Rattle.front.proofs.Stays.{knows_stable}
+use Rattle.front.proofs.Stays.{still_knows}
 use Rattle.front.proofs.Trained.{nobody_told, oldest_told}
 use Rattle.front.proofs.Cuts.{head_of}
 
@@ -64,8 +64,8 @@ module _ {S : Type 0} (Predicts : S → ℕ → Instr → ℕ → S → Type 0) 
   point = d.lets.point
 
   knows_there : FrontKnows P C (unit_of P C point) records base
-  knows_there = stays P C (λ U. FrontKnows P C U records base) (knows_stable P C records base) old point d.lets.before
-      (stays P C (λ U. FrontKnows P C U records base) (knows_stable P C records base) begin old adds k)
+  knows_there = still_knows d.lets.before
+      (still_knows adds k)
 
   told_there : (left : Option Record) → Releases ring f.left path left path' → (s s' : S) →
       IsTold Learns (leaver_of left) s s' →

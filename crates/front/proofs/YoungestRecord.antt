@@ -29,8 +29,8 @@ use Rattle.front.proofs.Cuts.{both_same, not_none}
 use Rattle.front.proofs.Lists.{Last, all_front, all_rest, all_two, last_cases, whats_append}
 use Rattle.front.proofs.Named.{all_get, all_whats, at_past}
 use Rattle.front.proofs.Places.{kept_new}
-use Rattle.front.proofs.Splitting.{IsStable, event_legal, stays}
-use Rattle.front.proofs.Stays.{knows_stable}
+use Rattle.front.proofs.Splitting.{IsStable, event_legal}
+use Rattle.front.proofs.Stays.{still_knows}
 use Rattle.front.proofs.Trails.{IsLastOn, IsNoted, last_on, trail_noted}
 use Rattle.inorder.proofs.Letting.{IsBesides}
 use Rattle.inorder.proofs.Recent.{old_kept}
@@ -141,5 +141,5 @@ module _ (P : Program) (C : Sizes) (old new : List Entry) (records : List Record
       record {
         last = l;
         legal = event_legal P C old new event [] l;
-        knows = stays P C (λ U. FrontKnows P C U records base) (knows_stable P C records base) old l.point l.before k;
+        knows = still_knows l.before k;
       }

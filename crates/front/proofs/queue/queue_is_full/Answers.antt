@@ -7,8 +7,7 @@ use Rattle.front.specs.Knows.{FrontKnows}
 use Rattle.front.proofs.Crowded.{all_in, full_there, room_there}
 use Rattle.front.proofs.InQueue.{few_live}
 use Rattle.front.proofs.Named.{small_stations}
-use Rattle.front.proofs.Splitting.{stays}
-use Rattle.front.proofs.Stays.{knows_stable}
+use Rattle.front.proofs.Stays.{still_knows}
 use Rattle.front.proofs.queue.queue_is_full.Goals as goal
 
 pub returns-in_default-clause-reply : goal.returns-in_default-clause-reply
@@ -33,7 +32,7 @@ returns-in-Free-clause-reply c =
     let records = c.args.path.now.records in
     let base = c.args.path.now.base in
     let adds : Adds P C front old h [] = subst (λ i. Adds P C i old h []) c.requires.by c.look-seen.ensures.history in
-    let knows : FrontKnows P C (unit_of P C h) records base = stays P C (λ U. FrontKnows P C U records base) (knows_stable P C records base) old h adds c.requires.knows in
+    let knows : FrontKnows P C (unit_of P C h) records base = still_knows adds c.requires.knows in
     let few = room_there P C h adds.legal records base knows _ c.in-Some.record c.in-Some.ensures c.look-seen.result c.look-seen.ensures.reply c.in-Free.is in
     λ a. omega (arith, few, c.queue-queue.ensures.value, c.queue-queue.ensures.least)
 
@@ -46,7 +45,7 @@ returns-clause-reply c =
     let records = c.args.path.now.records in
     let base = c.args.path.now.base in
     let adds : Adds P C front old h [] = subst (λ i. Adds P C i old h []) c.requires.by c.look-seen.ensures.history in
-    let knows : FrontKnows P C (unit_of P C h) records base = stays P C (λ U. FrontKnows P C U records base) (knows_stable P C records base) old h adds c.requires.knows in
+    let knows : FrontKnows P C (unit_of P C h) records base = still_knows adds c.requires.knows in
     let access = ap (λ o. is_access (kind o)) (sym c.op.ensures) ∙ (sym c.is_access.ensures ∙ c.if-not-is_access.false) in
     let whole : suc (c.queue-queue.result - 1) ≡ C.queue = omega (arith, c.queue-queue.ensures.value, c.queue-queue.ensures.least) in (
       access,

@@ -7,8 +7,7 @@ use Rattle.front.specs.Knows.{FrontKnows}
 use Rattle.front.specs.Recoveries.{may_miss}
 use Rattle.front.proofs.Misses.{all_one_more, is_miss, no_jump_misses, was_none}
 use Rattle.front.proofs.Named.{all_get, small_stations}
-use Rattle.front.proofs.Splitting.{stays}
-use Rattle.front.proofs.Stays.{knows_stable}
+use Rattle.front.proofs.Stays.{still_knows}
 use Rattle.front.proofs.recovery.find_miss.Goals.{After-look-seen}
 use Rattle.front.proofs.recovery.find_miss.Goals as goal
 
@@ -41,7 +40,7 @@ knows_on c =
     let C = c.args.core.now.sizes in
     let records = c.args.path.now.records in
     let base = c.args.path.now.base in
-    stays P C (λ U. FrontKnows P C U records base) (knows_stable P C records base) c.loop-at.seat.seen c.look-seen.new.seat.seen (looked c) c.loop-at.invariant.knows
+    still_knows (looked c) c.loop-at.invariant.knows
 
 pub returns-in-Miss-clause-history : goal.returns-in-Miss-clause-history
 returns-in-Miss-clause-history c = whole (goal.at.returns-in-Miss-clause-history c).After-look-seen

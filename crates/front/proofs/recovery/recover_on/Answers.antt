@@ -2,16 +2,12 @@
 use Rattle.std.proofs.Common.{◌∙◌, refl, subst, arith}
 use Rattle.inorder.specs.History.{front}
 use Rattle.station.specs.Recovery.{IsMended}
-use Rattle.front.specs.Path.{rested_at}
-use Rattle.front.specs.Knows.{FrontKnows}
 use Rattle.front.proofs.FirstMiss.{recovered}
 use Rattle.front.proofs.Misses.{no_miss}
-use Rattle.front.proofs.Splitting.{stays}
-use Rattle.front.proofs.Stays.{knows_stable}
+use Rattle.front.proofs.Stays.{still_knows}
 use Rattle.front.proofs.Recovered.{Mended, mend_allowed, mend_table_done}
-use Rattle.front.proofs.TableStays.{table_stable}
+use Rattle.front.proofs.TableStays.{still_has_table}
 use Rattle.front.proofs.Touches.{touched_none, touched_within}
-use Rattle.front.specs.CreateTable.{HasTable}
 use Rattle.front.proofs.recovery.recover_on.Goals.{After-redirect}
 use Rattle.front.proofs.recovery.recover_on.Goals as goal
 
@@ -23,18 +19,10 @@ returns-in_default-clause-reply c = (
 )
 
 pub returns-in_default-clause-knows : goal.returns-in_default-clause-knows
-returns-in_default-clause-knows c =
-    let P = c.args.core.now.program in
-    let C = c.args.core.now.sizes in
-    stays P C (λ U. FrontKnows P C U c.args.path.now.records c.args.path.now.base) (knows_stable P C c.args.path.now.records c.args.path.now.base) c.args.seat.now.seen c.find_miss.new.seat.seen
-    c.find_miss.ensures.history c.requires.knows
+returns-in_default-clause-knows c = still_knows c.find_miss.ensures.history c.requires.knows
 
 pub squash_behind-squashed-requires-clause-knows : goal.squash_behind-squashed-requires-clause-knows
-squash_behind-squashed-requires-clause-knows c =
-    let P = c.args.core.now.program in
-    let C = c.args.core.now.sizes in
-    stays P C (λ U. FrontKnows P C U c.args.path.now.records c.args.path.now.base) (knows_stable P C c.args.path.now.records c.args.path.now.base) c.args.seat.now.seen c.find_miss.new.seat.seen
-    c.find_miss.ensures.history c.requires.knows
+squash_behind-squashed-requires-clause-knows c = still_knows c.find_miss.ensures.history c.requires.knows
 
 pub mend-requires-clause-miss : goal.mend-requires-clause-miss
 mend-requires-clause-miss c =
@@ -64,21 +52,13 @@ pub returns-clause-knows : goal.returns-clause-knows
 returns-clause-knows c = (whole c).knows c.redirect.new.self c.redirect.ensures
 
 pub returns-in_default-clause-table : goal.returns-in_default-clause-table
-returns-in_default-clause-table c =
-    let P = c.args.core.now.program in
-    let C = c.args.core.now.sizes in
-    stays P C (λ U. HasTable P U (rested_at c.args.path.now.base) c.args.creators.now.table) (table_stable P C (rested_at c.args.path.now.base) c.args.creators.now.table) c.args.seat.now.seen
-    c.find_miss.new.seat.seen c.find_miss.ensures.history c.requires.table
+returns-in_default-clause-table c = still_has_table c.find_miss.ensures.history c.requires.table
 
 pub returns-in_default-clause-touched : goal.returns-in_default-clause-touched
 returns-in_default-clause-touched c = touched_none _ _ _ refl
 
 pub squash_behind-squashed-requires-clause-table : goal.squash_behind-squashed-requires-clause-table
-squash_behind-squashed-requires-clause-table c =
-    let P = c.args.core.now.program in
-    let C = c.args.core.now.sizes in
-    stays P C (λ U. HasTable P U (rested_at c.args.path.now.base) c.args.creators.now.table) (table_stable P C (rested_at c.args.path.now.base) c.args.creators.now.table) c.args.seat.now.seen
-    c.find_miss.new.seat.seen c.find_miss.ensures.history c.requires.table
+squash_behind-squashed-requires-clause-table c = still_has_table c.find_miss.ensures.history c.requires.table
 
 pub returns-clause-table : goal.returns-clause-table
 returns-clause-table c =

@@ -2,9 +2,6 @@
 use Rattle.std.proofs.Common.{◌<◌, ◌-◌, [], length, refl, sym, ap, ◌∙◌, subst, arith}
 use Rattle.inorder.specs.History.{front, unit_of}
 use Rattle.inorder.specs.OneHistory.{Adds}
-use Rattle.front.specs.CreateTable.{HasTable}
-use Rattle.front.specs.Knows.{FrontKnows}
-use Rattle.front.specs.Path.{rested_at}
 use Rattle.front.specs.declared.path.Path.{Path}
 use Rattle.station.specs.Renewals.{HasNobody}
 use Rattle.front.proofs.Folding.{folding_begins, knows_rested}
@@ -13,9 +10,8 @@ use Rattle.front.proofs.Idling.{HasSeen, rested_adds, rested_nobody, rested_tell
 use Rattle.front.proofs.Moments.{at_end}
 use Rattle.front.proofs.Named.{all_get, stations_inside}
 use Rattle.front.proofs.Resting.{somebody}
-use Rattle.front.proofs.Splitting.{stays}
-use Rattle.front.proofs.Stays.{knows_stable}
-use Rattle.front.proofs.TableStays.{table_stable}
+use Rattle.front.proofs.Stays.{still_knows}
+use Rattle.front.proofs.TableStays.{still_has_table}
 use Rattle.front.proofs.rest.rest_on.Given.{Over}
 use Rattle.front.proofs.rest.rest_on.Goals.{After-keep_front, in-Some+in-Free, in_default}
 use Rattle.front.proofs.rest.rest_on.Goals as goal
@@ -49,8 +45,8 @@ returns-in_default-state g c =
       };
       told = refl;
       records = refl;
-      knows = stays P C (λ U. FrontKnows P C U records base) (knows_stable P C records base) old new mine c.requires.knows;
-      table = stays P C (λ U. HasTable P U (rested_at base) T) (table_stable P C (rested_at base) T) old new mine c.requires.table;
+      knows = still_knows mine c.requires.knows;
+      table = still_has_table mine c.requires.table;
       touched = refl;
     }
 

@@ -1,11 +1,9 @@
 use Rattle.std.proofs.Common.{◌≤◌, ℕ, refl, sym, ap, ◌∙◌, subst}
 use Rattle.instructions.specs.Guesses.{Guesses}
-use Rattle.front.specs.Knows.{FrontKnows}
 use Rattle.inorder.specs.History.{unit_of}
 use Rattle.front.proofs.Releasing.{ready_now, released_told}
-use Rattle.front.proofs.Splitting.{stays}
-use Rattle.front.proofs.Stays.{knows_stable}
-use Rattle.front.proofs.TableStays.{table_stable}
+use Rattle.front.proofs.Stays.{still_knows}
+use Rattle.front.proofs.TableStays.{still_has_table}
 use Rattle.front.proofs.Touches.{touched_more, touched_none}
 use Rattle.front.proofs.Turned.{is_let}
 use Rattle.front.specs.CreateTable.{HasTable}
@@ -15,26 +13,17 @@ use Rattle.front.specs.declared.path.counted.Table.{Table}
 use Rattle.front.proofs.turning.turn_on.Goals as goal
 
 pub returns-in-Err-clause-knows : goal.returns-in-Err-clause-knows
-returns-in-Err-clause-knows g c =
-    let P = c.args.core.now.program in
-    let C = c.args.core.now.sizes in
-    stays P C (λ U. FrontKnows P C U c.args.path.now.records c.args.path.now.base) (knows_stable P C c.args.path.now.records c.args.path.now.base) c.args.seat.now.seen c.fetch.new.seat.seen
-    c.fetch.ensures.history c.requires.knows
+returns-in-Err-clause-knows g c = still_knows c.fetch.ensures.history c.requires.knows
 
 pub dispatch-tag-requires-clause-ready : goal.dispatch-tag-requires-clause-ready
 dispatch-tag-requires-clause-ready g c =
     let P = c.args.core.now.program in
     let C = c.args.core.now.sizes in
-    let h = c.fetch.new.seat.seen in
-    let records = c.args.path.now.records in
-    let base = c.args.path.now.base in
-    let knows : FrontKnows P C (unit_of P C h) records base = stays P C (λ U. FrontKnows P C U records base) (knows_stable P C records base) c.args.seat.now.seen h c.fetch.ensures.history
-    c.requires.knows in
+    let path = c.args.path.now in
     let least : 2 ≤ C.ring = subst (λ z. 2 ≤ z) c.ring.ensures.value c.ring.ensures.least in
-    let released : Releases C.ring c.in-Ok.next.left c.args.path.now c.release-departed.result c.release-departed.new.self = subst
-    (λ z. Releases z c.in-Ok.next.left c.args.path.now c.release-departed.result c.release-departed.new.self) c.ring.ensures.value c.release-departed.ensures.reply in
-    ready_now P C h c.fetch.ensures.history.legal records base knows least c.in-Ok.next.left c.in-Ok.ensures.ok.oldest c.args.path.now refl refl
-    c.release-departed.result c.release-departed.new.self released
+    let released = subst (λ z. Releases z c.in-Ok.next.left path c.release-departed.result c.release-departed.new.self) c.ring.ensures.value c.release-departed.ensures.reply in
+    ready_now P C c.fetch.new.seat.seen c.fetch.ensures.history.legal path.records path.base (still_knows c.fetch.ensures.history c.requires.knows) least c.in-Ok.next.left
+    c.in-Ok.ensures.ok.oldest path refl refl c.release-departed.result c.release-departed.new.self released
 
 pub returns-clause-reply : goal.returns-clause-reply
 returns-clause-reply g c =
@@ -51,24 +40,14 @@ returns-clause-reply g c =
     (subst (λ l. Guesses Predicts Learns l next.instr next.half next.pc c.predict-predicted.result c.args.predictor.now told) c.leaver-leaver.ensures c.predict-predicted.ensures)
 
 pub returns-in-Err-clause-table : goal.returns-in-Err-clause-table
-returns-in-Err-clause-table g c =
-    let P = c.args.core.now.program in
-    let C = c.args.core.now.sizes in
-    stays P C (λ U. HasTable P U (rested_at c.args.path.now.base) c.args.creators.now.table) (table_stable P C (rested_at c.args.path.now.base) c.args.creators.now.table) c.args.seat.now.seen
-    c.fetch.new.seat.seen c.fetch.ensures.history c.requires.table
+returns-in-Err-clause-table g c = still_has_table c.fetch.ensures.history c.requires.table
 
 pub dispatch-tag-requires-clause-table : goal.dispatch-tag-requires-clause-table
 dispatch-tag-requires-clause-table g c =
-    let P = c.args.core.now.program in
-    let C = c.args.core.now.sizes in
-    let h = c.fetch.new.seat.seen in
-    subst (λ (z : ℕ × Table). HasTable P (unit_of P C h) z.0 z.1) (λ i. (
-      sym (released_told c.ring.result c.in-Ok.next.left c.args.path.now c.release-departed.result c.release-departed.new.self
-          c.release-departed.ensures.reply) i,
-      sym c.release-departed.ensures.table i,
-    ))
-    (stays P C (λ U. HasTable P U (rested_at c.args.path.now.base) c.args.creators.now.table) (table_stable P C (rested_at c.args.path.now.base) c.args.creators.now.table) c.args.seat.now.seen h
-    c.fetch.ensures.history c.requires.table)
+    let d = c.args.core.now in
+    let told = released_told c.ring.result c.in-Ok.next.left c.args.path.now c.release-departed.result c.release-departed.new.self c.release-departed.ensures.reply in
+    subst (λ (z : ℕ × Table). HasTable d.program (unit_of d.program d.sizes c.fetch.new.seat.seen) z.0 z.1) (λ i. (sym told i, sym c.release-departed.ensures.table i))
+    (still_has_table c.fetch.ensures.history c.requires.table)
 
 pub returns-clause-touched : goal.returns-clause-touched
 returns-clause-touched g c =
