@@ -1,11 +1,12 @@
 -- The commit thread goes on: its back has seen more, committed, loaded, or come to another core.
-use Rattle.std.proofs.Common.{◌≡◌, ◌≢◌, ℕ, ◌+◌, ◌<◌, ◌≤◌, None, Option, Some, Ok, Err, Result, IfOk, sym, ap, subst, ◌∙◌, arith}
+use Rattle.std.proofs.Common.{◌≡◌, ◌≢◌, ℕ, ◌+◌, ◌<◌, ◌≤◌, List, None, Option, Some, Ok, Err, Result, IfOk, sym, ap, subst, ◌∙◌, arith}
 use Rattle.atomic_table.specs.Seated.{TableId}
 use Rattle.back.specs.Backs.{TheBack, back_state}
 use Rattle.counts.specs.declared.tally.Total.TheVariants.{Loads, Renewals, Retires}
 use Rattle.counts.specs.Reads.{HoldsAll}
 use Rattle.counts.specs.Seats.{Counter}
 use Rattle.counts.specs.Shares.{added_to, share_of}
+use Rattle.inorder.specs.declared.history.Entry.{Entry}
 use Rattle.inorder.specs.History.{back as the_back, renewals}
 use Rattle.inorder.specs.Machine.{State}
 use Rattle.instructions.specs.Settings.{Settings}
@@ -15,10 +16,12 @@ use Rattle.workers.specs.Deeds.{deeds}
 use Rattle.workers.specs.Turns.{TheTurns}
 use Rattle.pool.specs.declared.commit.Why.{Why}
 use Rattle.pool.specs.declared.commit.Why.TheVariants.{AtEnd, AtLimit, Spent}
-use Rattle.pool.specs.Committing.{Because, HasCounted, IsCommitter, KeepsLimit, committer_of}
+use Rattle.pool.specs.Committing.{Because, HasCounted, IsCommitter, IsUnderWay, KeepsLimit, committer_of}
 use Rattle.pool.specs.Records.{TheTerm, configured_term}
-use Rattle.pool.proofs.CommitDeeds.{HasKept, HasOneLoad}
-use Rattle.pool.proofs.Renewed.{HasOneRenewal}
+use Rattle.station.specs.Renewals.{HasLooked}
+use Rattle.station.specs.Seats.{Caller, TheCore}
+use Rattle.pool.proofs.CommitDeeds.{HasKept, HasOneLoad, looked_on}
+use Rattle.pool.proofs.Renewed.{HasEntered, HasOneRenewal}
 
 module _ (counts : TableId) (old new : TheBack) (state : back_state new ≡ back_state old) (by : new.by ≡ old.by) where
   same_count : (back_state new).count ≡ (back_state old).count
@@ -133,3 +136,21 @@ module _ (counts : TableId) (config : Settings) (old new : TheBack) (turns : The
         recorded = tt;
         first = λ thread none. absurd (ended none);
       }
+
+-- a commit thread under way whose back has left its core and entered one
+module _ {counts : TableId} {config : Settings} {old new : TheBack} {turns : TheTurns} {times : ℕ} {over : Result Why Refusal} {last : Option TheTerm} {count : Counter} {limit : ℕ} {seat : Caller}
+    (c : IsCommitter counts config (committer_of old turns times over last) count limit) (u : IsUnderWay (committer_of old turns times over last)) (e : HasEntered old new seat) where
+  -- a renewed core
+  pub renewed : (then : Counter) → old.by ≡ the_back → seat.by ≡ the_back → HasOneRenewal old.seen seat.seen → then.of ≡ counts → then.shares ≡ added_to Renewals 1 count.shares →
+      IsCommitter counts config (committer_of new turns (times + 1) (Err Thread) last) then limit
+  renewed then was_by is_by one of shares =
+      let once : HasOneRenewal old.seen new.seen = subst (HasOneRenewal old.seen) (sym e.seen) one in
+      renews counts config old new turns times last count then limit over c e.state e.ended
+      (counted_renewal counts old new count then e.state was_by (e.by ∙ is_by) c.counted once of shares) once.times u.worked u.ended
+
+  -- the one that it left
+  pub refused : {core : TheCore} {left : Caller} → left.by ≡ old.by → left.seen ≡ old.seen → HasLooked core left seat → IsCommitter counts config (committer_of new turns times over last) count limit
+  refused by_is seen_is met =
+      let kept : HasKept old.by old.seen new.seen = subst (λ (z : ℕ × List Entry × List Entry). HasKept z.0 z.1 z.2) (λ j. (by_is j, seen_is j, sym e.seen j)) (looked_on met.adds) in
+      let counted = counted_kept counts old new e.state (e.by ∙ (met.same.by ∙ by_is)) count c.counted kept in
+      stays counts config old new turns times last count count limit over c e.state (e.ended ∙ sym u.going) counted kept.times
