@@ -1,6 +1,6 @@
 //! Holds units back by a seed.
 ghost use Rattle.std.specs.Prelude.{◌≡◌};
-ghost use Rattle.ruu.specs.Holds.{questions_of, word_of};
+ghost use Rattle.ruu.specs.Holds.{questions_of, random_word};
 
 use rand_core::utils::NextWord;
 use rand_pcg::Pcg32;
@@ -57,7 +57,7 @@ impl Shaker {
 
 // The nth word of a unit's stream.
 fn word(seed: u64, unit: u32, n: u64) -> u32
-    ensures { result ≡ word_of seed unit n }
+    ensures { result ≡ random_word seed unit n }
 {
     let mut words = Pcg32::new(seed, u64::from(unit));
     words.advance(n);
