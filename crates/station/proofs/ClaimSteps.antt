@@ -1,5 +1,5 @@
 -- A claim at its points: the call that began as v has come to w, and this is known of the tenant on its way.
-use Rattle.std.proofs.Common.{◌≡◌, ◌≢◌, ℕ, Bool, true, Result, Ok, Err, refl, sym, ap, ◌∙◌, subst}
+use Rattle.std.proofs.Common.{◌≡◌, ◌≢◌, ℕ, ◌<◌, Bool, true, length, Result, Ok, Err, refl, sym, ap, ◌∙◌, subst}
 use Rattle.instructions.specs.declared.instr.Instr.{Instr}
 use Rattle.instructions.specs.declared.op.Half.{Half}
 use Rattle.instructions.specs.declared.op.Kind.{Kind}
@@ -9,10 +9,12 @@ use Rattle.instructions.specs.Programs.{Program, address, instr_of}
 use Rattle.inorder.specs.declared.history.Source.{Source}
 use Rattle.inorder.specs.declared.history.Source.TheVariants.{First, Second}
 use Rattle.inorder.specs.Callers.{IsReady}
+use Rattle.inorder.specs.Replies.{last_tag}
 use Rattle.inorder.specs.Tenants.{Tenant, needs}
 use Rattle.ruu_words.specs.Fields.{half_of, index_of, predicted_of, state_of, tag_of}
 use Rattle.ruu_words.specs.Kinds.{Claims, IsAny, Peeks, ReadsInfo, Rechecks}
 use Rattle.ruu_words.specs.Telling.{Grows}
+use Rattle.ruu_words.proofs.Stays.{named_of, tag_small}
 use Rattle.station.specs.declared.answers.Claim.{Claim}
 use Rattle.station.specs.declared.answers.Claim.TheVariants.{Job as Claimed, Moved}
 use Rattle.station.specs.Answers.{AnswersClaim}
@@ -20,19 +22,13 @@ use Rattle.station.specs.Calls.{AnswersSource, ComesTo, IsLegalCall, IsSameCall,
 use Rattle.station.specs.Claiming.{ClaimAnswers, HasSeen, IsNext, IsOpenAs, SourceAnswers}
 use Rattle.station.proofs.Calls.{after, before, joined, taken}
 use Rattle.station.proofs.ClaimFacts.{HasBoth, HasFirst, HasInfo, IsClaimable}
-use Rattle.station.proofs.OnItsWay.{Ready, claim_answers_on, has_seen}
+use Rattle.station.proofs.OnItsWay.{Ready, claim_answers_on, has_seen, index_inside}
 use Rattle.station.proofs.ClaimLooks.{begins, informs, peeked, recheck_moved, rechecked, second_next, source_refused, takes_first, takes_second}
 use Rattle.station.proofs.ClaimExchange.{claim_moved, claimed, ready_seen}
 
 pub record IsOnWay (v w : TheCall) (s g : ℕ) (Fact : Tenant → Type 0) : Type 0 where
   pub same : IsSameCall v w
   pub ready : Ready v.core.program v.core.sizes v.view.by s g v.view.seen Fact w.view.seen
-
--- The instruction at the index needs its second source, if it does
-pub needs_at : {P Q : Program} (i : ℕ) {t : Instr} {o : Op} {k : Kind} {both : Bool} → Q ≡ P → t ≡ instr_of Q i → o ≡ t.op → k ≡ kind o → both ≡ needs k Second →
-    needs (kind (instr_of P i).op) Second ≡ both
-needs_at i program instr op is_kind is =
-    sym (is ∙ ap (λ k. needs k Second) (is_kind ∙ ap kind (op ∙ (ap (λ (z : Instr). z.op) instr ∙ ap (λ (z : Program). (instr_of z i).op) program))))
 
 -- The looks
 
@@ -84,10 +80,22 @@ answers_on {v} {w} {x} {s} {g} {A} answer r end = record {
 
 -- The sources
 
-pub claim_begins : {v : TheCall} {s g i x : ℕ} {d : Half} → IsLegalCall v → Saw v s g (IsOpenAs d i x) → IsOnWay v v s g (IsClaimable d i x)
-claim_begins {v} {s} {g} {i} {x} {d} legal seen = record {
-  same = record { core = refl; role = refl; by = refl; spare = refl; lent = refl };
-  ready = begins v.core.program v.core.sizes v.view.by s g v.view.seen d i x legal seen;
+-- the claim of a tenant that was seen open, as one of the program's instructions
+pub record IsBegun (v : TheCall) (s g : ℕ) (d : Half) (i x : ℕ) (P : Program) : Type 0 where
+  pub way : IsOnWay v v s g (IsClaimable d i x)
+  pub program : P ≡ v.core.program
+  pub index : i < length P.code
+  pub tag : g < last_tag
+
+pub claim_begins : {v : TheCall} {s g i x : ℕ} {d : Half} {P : Program} → IsLegalCall v → P ≡ v.core.program → Saw v s g (IsOpenAs d i x) → IsBegun v s g d i x P
+claim_begins {v} {s} {g} {i} {x} {d} legal program seen = record {
+  way = record {
+    same = record { core = refl; role = refl; by = refl; spare = refl; lent = refl };
+    ready = begins v.core.program v.core.sizes v.view.by s g v.view.seen d i x legal seen;
+  };
+  program = program;
+  index = subst (λ (z : Program). i < length z.code) (sym program) (index_inside v.core.program v.core.sizes v.view.seen legal seen.p s g d i x seen.named);
+  tag = tag_small v.core.program v.core.sizes v.view.seen legal seen.p s g (named_of seen.named);
 }
 
 -- what a reading behind this point is answered, of the core and the caller at first
@@ -102,47 +110,57 @@ refused_source {v} {w} {x} {s} {g} {A} {k} needed {refusal} r same answer = reco
   reply = source_refused v.core.program v.core.sizes v.view.by s g v.view.seen A w.view.seen x.view.seen k needed refusal r.ready (source_at x s g k needed (Err refusal) r.same answer);
 }
 
-pub has_first : {v w x : TheCall} {s g i p a : ℕ} {d : Half} → IsOnWay v w s g (IsClaimable d i p) → IsSameCall w x → AnswersSource w x s g First true (Ok a) →
-    IsOnWay v x s g (HasFirst d i p a)
-has_first {v} {w} {x} {s} {g} {i} {p} {a} {d} r same answer = record {
-  same = joined r.same same;
-  ready = takes_first v.core.program v.core.sizes v.view.by s g v.view.seen d i p a w.view.seen x.view.seen r.ready (source_at x s g First true (Ok a) r.same answer);
+-- a tenant on its way with the first source or both, and whether its instruction needs the second
+pub record IsReading (v w : TheCall) (s g i : ℕ) (both : Bool) (Fact : Tenant → Type 0) : Type 0 where
+  pub way : IsOnWay v w s g Fact
+  pub needs_it : needs (kind (instr_of v.core.program i).op) Second ≡ both
+
+pub has_first : {v w : TheCall} {s g i p a : ℕ} {d : Half} {P : Program} {t : Instr} {o : Op} {k : Kind} {both : Bool} → IsBegun v s g d i p P → t ≡ instr_of P i → o ≡ t.op → k ≡ kind o →
+    both ≡ needs k Second → IsSameCall v w → AnswersSource v w s g First true (Ok a) → IsReading v w s g i both (HasFirst d i p a)
+has_first {v} {w} {s} {g} {i} {p} {a} {d} r instr op kind_is is same answer = record {
+  way = record {
+    same = same;
+    ready = takes_first v.core.program v.core.sizes v.view.by s g v.view.seen d i p a v.view.seen w.view.seen r.way.ready answer;
+  };
+  needs_it = sym (is ∙ ap (λ k. needs k Second) (kind_is ∙ ap kind (op ∙ (ap (λ (z : Instr). z.op) instr ∙ ap (λ (z : Program). (instr_of z i).op) r.program))));
 }
 
-pub has_both : {v w x : TheCall} {s g i p a b : ℕ} {d : Half} {both : Bool} → IsOnWay v w s g (HasFirst d i p a) → IsSameCall w x → AnswersSource w x s g Second both (Ok b) →
-    IsOnWay v x s g (HasBoth d i p a both b)
+pub has_both : {v w x : TheCall} {s g i p a b : ℕ} {d : Half} {both : Bool} → IsReading v w s g i both (HasFirst d i p a) → IsSameCall w x → AnswersSource w x s g Second both (Ok b) →
+    IsReading v x s g i both (HasBoth d i p a both b)
 has_both {v} {w} {x} {s} {g} {i} {p} {a} {b} {d} {both} r same answer = record {
-  same = joined r.same same;
-  ready = takes_second v.core.program v.core.sizes v.view.by s g v.view.seen d i p a both b w.view.seen x.view.seen r.ready (source_at x s g Second both (Ok b) r.same answer);
+  way = record {
+    same = joined r.way.same same;
+    ready = takes_second v.core.program v.core.sizes v.view.by s g v.view.seen d i p a both b w.view.seen x.view.seen r.way.ready (source_at x s g Second both (Ok b) r.way.same answer);
+  };
+  needs_it = r.needs_it;
 }
 
 -- The second source is the next that the claim reads
-pub next_is_second : {v w : TheCall} {s g i p a : ℕ} {d : Half} {both : Bool} → needs (kind (instr_of v.core.program i).op) Second ≡ both → IsOnWay v w s g (HasFirst d i p a) →
-    Saw w s g (λ t. both ≡ true → IsNext w.core.program Second t)
-next_is_second {v} {w} {s} {g} {i} {p} {a} {d} {both} is r =
-    after (λ z. HasSeen z.0.program z.0.sizes w.view.seen s g (λ t. both ≡ true → IsNext z.0.program Second t)) r.same
-    (second_next v.core.program v.core.sizes v.view.by s g v.view.seen d i p a both w.view.seen is r.ready)
+pub next_is_second : {v w : TheCall} {s g i p a : ℕ} {d : Half} {both : Bool} → IsReading v w s g i both (HasFirst d i p a) → Saw w s g (λ t. both ≡ true → IsNext w.core.program Second t)
+next_is_second {v} {w} {s} {g} {i} {p} {a} {d} {both} r =
+    after (λ z. HasSeen z.0.program z.0.sizes w.view.seen s g (λ t. both ≡ true → IsNext z.0.program Second t)) r.way.same
+    (second_next v.core.program v.core.sizes v.view.by s g v.view.seen d i p a both w.view.seen r.needs_it r.way.ready)
 
 -- The exchange
 
-module _ {v w : TheCall} {s g i p a b : ℕ} {d : Half} {both : Bool} (is : needs (kind (instr_of v.core.program i).op) Second ≡ both) (r : IsOnWay v w s g (HasBoth d i p a both b)) where
+module _ {v w : TheCall} {s g i p a b : ℕ} {d : Half} {both : Bool} (r : IsReading v w s g i both (HasBoth d i p a both b)) where
   pub is_ready : {h : ℕ} → h ≡ g → Saw w s h (IsReady w.core.program)
-  is_ready tag = subst (λ t. Saw w s t (IsReady w.core.program)) (sym tag) (after (λ z. HasSeen z.0.program z.0.sizes w.view.seen s g (IsReady z.0.program)) r.same
-      (ready_seen v.core.program v.core.sizes v.view.by s g v.view.seen d i p a both b is w.view.seen r.ready))
+  is_ready tag = subst (λ t. Saw w s t (IsReady w.core.program)) (sym tag) (after (λ z. HasSeen z.0.program z.0.sizes w.view.seen s g (IsReady z.0.program)) r.way.same
+      (ready_seen v.core.program v.core.sizes v.view.by s g v.view.seen d i p a both b r.needs_it w.view.seen r.way.ready))
 
   module _ {x : TheCall} {word n : ℕ} (tag : tag_of word ≡ g) (step : TakesStep w x (λ P C. Claims P C s (tag_of word) word n)) where
     claims : Grows v.core.program v.core.sizes v.view.by w.view x.view (Claims v.core.program v.core.sizes s g word n)
-    claims = subst (λ t. Grows v.core.program v.core.sizes v.view.by w.view x.view (Claims v.core.program v.core.sizes s t word n)) tag (taken r.same step)
+    claims = subst (λ t. Grows v.core.program v.core.sizes v.view.by w.view x.view (Claims v.core.program v.core.sizes s t word n)) tag (taken r.way.same step)
 
     pub moved_at_exchange : n ≢ word → ComesTo v x (AnswersClaim s (Moved g))
     moved_at_exchange miss = record {
-      same = joined r.same step.same;
-      reply = claim_moved v.core.program v.core.sizes v.view.by s g v.view.seen d i p a both b is w.view x.view word n claims r.ready miss;
+      same = joined r.way.same step.same;
+      reply = claim_moved v.core.program v.core.sizes v.view.by s g v.view.seen d i p a both b r.needs_it w.view x.view word n claims r.way.ready miss;
     }
 
     pub has_claimed : n ≡ word → (pc : ℕ) → pc ≡ address i →
         ComesTo v x (AnswersClaim s (Claimed (record { station = s; tag = g; index = i; half = d; pc = pc; predicted = p; first = a; second = b })))
     has_claimed hit pc pc_is = record {
-      same = joined r.same step.same;
-      reply = claimed v.core.program v.core.sizes v.view.by s g v.view.seen d i p a both b is w.view x.view word n claims r.ready hit _ refl refl refl refl pc_is refl refl refl;
+      same = joined r.way.same step.same;
+      reply = claimed v.core.program v.core.sizes v.view.by s g v.view.seen d i p a both b r.needs_it w.view x.view word n claims r.way.ready hit _ refl refl refl refl pc_is refl refl refl;
     }

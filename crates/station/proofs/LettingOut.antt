@@ -1,5 +1,5 @@
 -- The steps of a let, one after another: what the front knew stays true up to the last.
-use Rattle.std.proofs.Common.{◌≡◌, ℕ, suc, ◌+◌, ◌%◌, ◌<◌, List, [], ◌∷◌, ◌++◌, map, refl, sym, ap, ◌∙◌, subst, arith}
+use Rattle.std.proofs.Common.{◌≡◌, ℕ, suc, ◌+◌, ◌%◌, ◌^◌, ◌<◌, List, [], ◌∷◌, ◌++◌, map, Option, refl, sym, ap, ◌∙◌, subst, arith}
 use Rattle.std.proofs.Math.Nat.{mod-add-mod}
 use Rattle.instructions.specs.Programs.{Program}
 use Rattle.inorder.specs.declared.history.Entry.{Entry}
@@ -16,18 +16,19 @@ use Rattle.ruu_words.specs.declared.place.Place.TheVariants.{Station}
 use Rattle.ruu_words.specs.declared.rule.Draft.{Draft}
 use Rattle.ruu_words.specs.declared.rule.Draft.TheVariants.{Nothing}
 use Rattle.ruu_words.specs.declared.rule.View.{View}
-use Rattle.ruu_words.specs.Content.{IsStation}
-use Rattle.ruu_words.specs.Fields.{tag_of}
+use Rattle.ruu_words.specs.Content.{IsOperandOf, IsStation}
+use Rattle.ruu_words.specs.Fields.{half_of, index_of, pack_info, predicted_of, tag_of}
 use Rattle.ruu_words.specs.Kinds.{Drafts, Lets}
 use Rattle.ruu_words.specs.Telling.{Grows}
 use Rattle.ruu_words.proofs.Drafting.{still_let}
+use Rattle.ruu_words.proofs.Packing.{infos_read_back}
 use Rattle.station.specs.declared.answers.Tenant.{Tenant}
-use Rattle.station.specs.Letting.{IsLetOut, MayLetOut, let_of, supply_of}
+use Rattle.station.specs.Letting.{IsLetOut, MayLetOut, ShowsTenant, let_of, supply_of}
 use Rattle.station.specs.Steps.{Sees}
 use Rattle.station.specs.Answers.{IsLetNow, MayLetNow}
-use Rattle.station.specs.Calls.{IsAbout, IsLegalCall, IsSameCall, LetsTenant, StepKind, TakesStep, TheCall, caller, let_place, new_tag}
+use Rattle.station.specs.Calls.{IsAbout, IsLegalCall, IsSameCall, LetsTenant, TakesStep, TheCall, caller, let_place, new_operand, new_tag}
 use Rattle.station.proofs.Adding.{adds_these}
-use Rattle.station.proofs.Calls.{after, before, joined, taken}
+use Rattle.station.proofs.Calls.{after, joined, taken}
 
 -- a caller that has added nothing
 pub adds_none : (P : Program) (C : Sizes) (by : ℕ) (h : List Entry) → IsLegal P C h → Adds P C by h h []
@@ -108,63 +109,66 @@ module _ (P : Program) (C : Sizes) (by : ℕ) (t : Tenant) (old : List Entry) wh
         station = station_same ∙ r.station_is;
       }
 
--- The same of a call of the front, which began as v
-pub record IsReady (v : TheCall) (t : Tenant) (draft : Draft) (w : TheCall) : Type 0 where
+-- A call of the front that lets a tenant, begun as v and now at w, for the station and the tag that it has read
+pub record IsReady (v : TheCall) (t : Tenant) (station tag : ℕ) (draft : Draft) (w : TheCall) : Type 0 where
   pub same : IsSameCall v w
   pub ready : Ready v.core.program v.core.sizes v.view.by t v.view.seen draft (let_place v) (new_tag v) w.view
+  pub station_is : let_place v ≡ station
+  pub tag_is : tag ≡ new_tag v
 
-pub begins : {v : TheCall} {t : Tenant} → IsLegalCall v → v.view.by ≡ front → v.view.draft ≡ Nothing → MayLetNow t v.core (caller v) → IsReady v t Nothing v
-begins {v} {t} legal by_is draft may = record {
-  same = record { core = refl; role = refl; by = refl; spare = refl; lent = refl };
-  ready = starts v.core.program v.core.sizes v.view.by t v.view.seen v.view refl legal by_is draft may;
-}
-
-pub goes : {v : TheCall} {t : Tenant} {draft next : Draft} {w x : TheCall} {K : StepKind} → IsReady v t draft w → (s : TakesStep w x K) → s.grows.events ≡ [] → x.view.draft ≡ next →
-    IsReady v t next x
-goes {v} {t} {draft} {next} {w} {x} {K} r s none is =
-    let g = before (λ z. (y : Grows z.0.program z.0.sizes z.1 w.view x.view (K z.0.program z.0.sizes)) × (y.events ≡ [])) r.same (s.grows, none) in
-    record {
-      same = joined r.same s.same;
-      ready = goes_on v.core.program v.core.sizes v.view.by t v.view.seen draft next (let_place v) (new_tag v) w.view x.view (K v.core.program v.core.sizes) r.ready g.0 g.1 is;
-    }
-
-module _ {v : TheCall} {t : Tenant} {draft : Draft} {w : TheCall} (r : IsReady v t draft w) where
-  pub may_at : MayLetNow t w.core (caller w)
+module _ {v : TheCall} {t : Tenant} {station tag : ℕ} {draft : Draft} {w : TheCall} (r : IsReady v t station tag draft w) where
+  may_at : MayLetNow t w.core (caller w)
   may_at = after (λ z. MayLetOut z.0.program z.0.sizes (unit_of z.0.program z.0.sizes w.view.seen) t) r.same r.ready.may
 
-  pub place_at : let_place w ≡ let_place v
+  place_at : let_place w ≡ let_place v
   place_at = after (λ z. next_station z.0.sizes (recent (unit_of z.0.program z.0.sizes w.view.seen)) ≡ let_place v) r.same r.ready.station_is
 
-  pub tag_at : new_tag w ≡ new_tag v
-  tag_at = after (λ z. next_tag z.0.sizes (recent (unit_of z.0.program z.0.sizes w.view.seen)) ≡ new_tag v) r.same r.ready.tag_is
+  pub tag_at : tag ≡ new_tag w
+  tag_at = r.tag_is ∙ sym (after (λ z. next_tag z.0.sizes (recent (unit_of z.0.program z.0.sizes w.view.seen)) ≡ new_tag v) r.same r.ready.tag_is)
+
+  -- the call is about to let the tenant at that station
+  pub about_at : IsAbout w station draft t
+  about_at = record { draft_is = r.ready.draft_is; may = may_at; station_is = place_at ∙ r.station_is }
+
+  -- an operand's word with that tag is one of the tenant's
+  pub operand_at : {value : Option ℕ} {word : ℕ} → IsOperandOf (record { tag = tag; value = value }) word → IsOperandOf (new_operand w value) word
+  operand_at {value} {word} = subst (λ z. IsOperandOf (record { tag = z; value = value }) word) tag_at
+
+  -- a store of one of the tenant's words
+  pub stored : {next : Draft} {x : TheCall} → TakesStep w x (λ P C. Drafts P C next) → IsReady v t station tag next x
+  stored {next} {x} s =
+      let g = taken r.same s in
+      record {
+        same = joined r.same s.same;
+        ready = goes_on v.core.program v.core.sizes v.view.by t v.view.seen draft next (let_place v) (new_tag v) w.view x.view (Drafts v.core.program v.core.sizes next) r.ready g g.kind.none
+            g.kind.draft;
+        station_is = r.station_is;
+        tag_is = r.tag_is;
+      }
 
   pub let_now : {x : TheCall} → TakesStep w x (LetsTenant t) → IsLetNow t v.core (caller v) (caller x)
   let_now {x} s = lets_out v.core.program v.core.sizes v.view.by t v.view.seen draft (new_tag v) w.view x.view r.ready (taken r.same s)
 
--- it is about to let the tenant at that station
-pub about_at : {v : TheCall} {t : Tenant} {draft : Draft} {w : TheCall} {station : ℕ} → IsReady v t draft w → let_place v ≡ station → IsAbout w station draft t
-about_at r is = record { draft_is = r.ready.draft_is; may = may_at r; station_is = place_at r ∙ is }
+-- a packed info word shows its tenant
+pub shows_tenant : (t : Tenant) {n : ℕ} → n ≡ pack_info t.half t.index t.predicted → t.index < 2 ^ 31 → t.predicted < 2 ^ 32 → ShowsTenant t n
+shows_tenant t is small word =
+    let back = infos_read_back t.half t.index t.predicted small word in
+    record { half = ap half_of is ∙ back.half_is; index = ap index_of is ∙ back.index_is; predicted = ap predicted_of is ∙ back.predicted_is }
 
--- a store of its words
-pub stored : {v : TheCall} {t : Tenant} {draft next : Draft} {w x : TheCall} → IsReady v t draft w → TakesStep w x (λ P C. Drafts P C next) → IsReady v t next x
-stored r s = goes r s s.grows.kind.none s.grows.kind.draft
-
--- The first step: a look at the station where it goes
-module _ {v w : TheCall} {t : Tenant} {station n : ℕ} (legal : IsLegalCall v) (by_is : v.view.by ≡ front) (about : IsAbout v station Nothing t)
-    (took : TakesStep v w (λ P C. Sees P C v.view.by v.view (Station station) n)) where
-  pub looked : IsReady v t Nothing w
-  looked = goes (begins legal by_is about.draft_is about.may) took took.grows.kind.none (took.grows.kind.mine by_is ∙ about.draft_is)
-
-  -- the tag that it finds
-  pub tag_read : (tag : ℕ) → tag ≡ tag_of n → tag ≡ new_tag v
-  tag_read tag is =
-      let P = v.core.program in
-      let C = v.core.sizes in
-      let h = took.grows.between ++ v.view.seen in
-      let seen : w.view.seen ≡ h = took.grows.is ∙ ap (λ es. map (entry v.view.by) es ++ h) took.grows.kind.none in
-      let word : IsStation (station_word C (recent (unit_of P C w.view.seen)) (let_place v)) n = subst (λ (z : List Entry × ℕ). IsStation (station_word C (recent (unit_of P C z.0)) z.1) n)
-      (λ i. (sym seen i, sym about.station_is i)) took.grows.kind.content in
-      is ∙ tag_found P C v.view.by t v.view.seen Nothing (let_place v) (new_tag v) n w.view looked.ready word
+-- The first step: a look at the station where it goes, and the tag that it finds
+pub looked : {v w : TheCall} {t : Tenant} {station n tag : ℕ} → IsLegalCall v → v.view.by ≡ front → IsAbout v station Nothing t →
+    TakesStep v w (λ P C. Sees P C v.view.by v.view (Station station) n) → tag ≡ tag_of n → IsReady v t station tag Nothing w
+looked {v} {w} {t} {station} {n} {tag} legal by_is about took is =
+    let P = v.core.program in
+    let C = v.core.sizes in
+    let h : List Entry = took.grows.between ++ v.view.seen in
+    let seen : w.view.seen ≡ h = took.grows.is ∙ ap (λ es. map (entry v.view.by) es ++ h) took.grows.kind.none in
+    let word : IsStation (station_word C (recent (unit_of P C w.view.seen)) (let_place v)) n = subst (λ (z : List Entry × ℕ). IsStation (station_word C (recent (unit_of P C z.0)) z.1) n)
+    (λ i. (sym seen i, sym about.station_is i)) took.grows.kind.content in
+    let begun = starts P C v.view.by t v.view.seen v.view refl legal by_is about.draft_is about.may in
+    let ready = goes_on P C v.view.by t v.view.seen Nothing Nothing (let_place v) (new_tag v) v.view w.view (Sees P C v.view.by v.view (Station station) n) begun took.grows took.grows.kind.none
+    (took.grows.kind.mine by_is ∙ about.draft_is) in
+    record { same = took.same; ready = ready; station_is = about.station_is; tag_is = is ∙ tag_found P C v.view.by t v.view.seen Nothing (let_place v) (new_tag v) n w.view ready word }
 
 -- the station behind a let
 pub next_out : {v w : TheCall} {t : Tenant} → IsSameCall v w → IsLetNow t v.core (caller v) (caller w) → let_place w ≡ (let_place v + 1) % v.core.sizes.ring

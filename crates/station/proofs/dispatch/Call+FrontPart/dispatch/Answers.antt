@@ -1,13 +1,15 @@
-use Rattle.std.proofs.Common.{sym, ap, ◌∙◌, subst, arith}
+-- A let, step by step: what was found, and what is known with each word in its place.
+use Rattle.std.proofs.Common.{subst, arith}
 use Rattle.inorder.specs.StationWords.{live_word}
 use Rattle.inorder.specs.Tenants.{Open}
-use Rattle.ruu_words.specs.Content.{IsOperandOf, IsStation}
-use Rattle.ruu_words.specs.Fields.{half_of, index_of, predicted_of}
-use Rattle.ruu_words.proofs.Packing.{infos_read_back}
-use Rattle.station.specs.Letting.{given_value}
+use Rattle.ruu_words.specs.declared.rule.Draft.TheVariants.{Nothing}
+use Rattle.ruu_words.specs.declared.rule.Stage.TheVariants.{BothOperands, FirstOperand, Info}
+use Rattle.ruu_words.specs.Content.{IsStation}
+use Rattle.station.specs.Letting.{draft_of}
 use Rattle.station.proofs.Calls.{caller_at, joined, legal_at}
-use Rattle.station.proofs.LettingOut.{about_at, let_now, looked, stored, tag_at, tag_read}
+use Rattle.station.proofs.LettingOut.{IsReady, about_at, let_now, looked, operand_at, shows_tenant, stored, tag_at}
 use Rattle.station.proofs.Places.{about_inside}
+use Rattle.station.proofs.dispatch.Call+FrontPart.dispatch.Goals.{After-store_first, After-store_info, After-store_second, After-unpack-tag}
 use Rattle.station.proofs.dispatch.Call+FrontPart.dispatch.Goals as goal
 
 pub look-found-requires : goal.look-found-requires
@@ -16,68 +18,41 @@ look-found-requires c = about_inside c.requires.letting
 pub pack-info_word-requires : goal.pack-info_word-requires
 pack-info_word-requires c = c.requires.small
 
-pub store_info-requires-clause-word : goal.store_info-requires-clause-word
-store_info-requires-clause-word c =
-    let t = c.args.tenant in
-    let back = infos_read_back t.half t.index t.predicted c.requires.small (omega arith) in
-    let is = c.pack-info_word.ensures in
-    record { half = ap half_of is ∙ back.half_is; index = ap index_of is ∙ back.index_is; predicted = ap predicted_of is ∙ back.predicted_is }
+found : (c : After-unpack-tag) → IsReady c.args.self.now c.args.tenant c.args.station c.unpack-tag.result.tag Nothing c.look-found.new.self
+found c = looked (legal_at c.self.invariant c.self.view_is) (caller_at c.self.invariant c.self.view_is) c.requires.letting c.look-found.ensures c.unpack-tag.ensures.tag
 
-pub store_info-requires-clause-letting : goal.store_info-requires-clause-letting
-store_info-requires-clause-letting c =
-    let r1 = looked (legal_at c.self.invariant c.self.view_is) (caller_at c.self.invariant c.self.view_is) c.requires.letting c.look-found.ensures in
-    about_at r1 c.requires.letting.station_is
+pub store_info-requires : goal.store_info-requires
+store_info-requires c = record {
+  letting = about_at (found (goal.at.store_info-requires c).After-unpack-tag);
+  word = shows_tenant c.args.tenant c.pack-info_word.ensures c.requires.small (omega arith);
+}
 
-pub store_first-requires-clause-letting : goal.store_first-requires-clause-letting
-store_first-requires-clause-letting c =
-    let r1 = looked (legal_at c.self.invariant c.self.view_is) (caller_at c.self.invariant c.self.view_is) c.requires.letting c.look-found.ensures in
-    let r2 = stored r1 c.store_info.ensures in
-    about_at r2 c.requires.letting.station_is
+with_info : (c : After-store_info) → IsReady c.args.self.now c.args.tenant c.args.station c.unpack-tag.result.tag (draft_of Info c.args.tenant) c.store_info.new.self
+with_info c = stored (found (goal.at.After-store_info c).After-unpack-tag) c.store_info.ensures
 
-pub store_second-requires-clause-letting : goal.store_second-requires-clause-letting
-store_second-requires-clause-letting c =
-    let r1 = looked (legal_at c.self.invariant c.self.view_is) (caller_at c.self.invariant c.self.view_is) c.requires.letting c.look-found.ensures in
-    let r3 = stored (stored r1 c.store_info.ensures) c.store_first.ensures in
-    about_at r3 c.requires.letting.station_is
+pub store_first-requires : goal.store_first-requires
+store_first-requires c =
+    let r = with_info (goal.at.store_first-requires c).After-store_info in
+    record { letting = about_at r; word = operand_at r c.operand_word-first.ensures }
 
-pub let_tenant-requires-clause-letting : goal.let_tenant-requires-clause-letting
-let_tenant-requires-clause-letting c =
-    let r1 = looked (legal_at c.self.invariant c.self.view_is) (caller_at c.self.invariant c.self.view_is) c.requires.letting c.look-found.ensures in
-    let r4 = stored (stored (stored r1 c.store_info.ensures) c.store_first.ensures) c.store_second.ensures in
-    about_at r4 c.requires.letting.station_is
+with_first : (c : After-store_first) → IsReady c.args.self.now c.args.tenant c.args.station c.unpack-tag.result.tag (draft_of FirstOperand c.args.tenant) c.store_first.new.self
+with_first c = stored (with_info (goal.at.After-store_first c).After-store_info) c.store_first.ensures
 
-pub store_first-requires-clause-word : goal.store_first-requires-clause-word
-store_first-requires-clause-word c =
-    let r1 = looked (legal_at c.self.invariant c.self.view_is) (caller_at c.self.invariant c.self.view_is) c.requires.letting c.look-found.ensures in
-    let r2 = stored r1 c.store_info.ensures in
-    let tag_is = tag_read (legal_at c.self.invariant c.self.view_is) (caller_at c.self.invariant c.self.view_is) c.requires.letting c.look-found.ensures
-    c.unpack-tag.result.tag c.unpack-tag.ensures.tag in
-    subst (λ z. IsOperandOf (record { tag = z; value = given_value c.args.tenant.sources.0 }) c.operand_word-first.result) (tag_is ∙ sym (tag_at r2)) c.operand_word-first.ensures
+pub store_second-requires : goal.store_second-requires
+store_second-requires c =
+    let r = with_first (goal.at.store_second-requires c).After-store_first in
+    record { letting = about_at r; word = operand_at r c.operand_word-second.ensures }
 
-pub store_second-requires-clause-word : goal.store_second-requires-clause-word
-store_second-requires-clause-word c =
-    let r1 = looked (legal_at c.self.invariant c.self.view_is) (caller_at c.self.invariant c.self.view_is) c.requires.letting c.look-found.ensures in
-    let r3 = stored (stored r1 c.store_info.ensures) c.store_first.ensures in
-    let tag_is = tag_read (legal_at c.self.invariant c.self.view_is) (caller_at c.self.invariant c.self.view_is) c.requires.letting c.look-found.ensures
-    c.unpack-tag.result.tag c.unpack-tag.ensures.tag in
-    subst (λ z. IsOperandOf (record { tag = z; value = given_value c.args.tenant.sources.1 }) c.operand_word-second.result) (tag_is ∙ sym (tag_at r3)) c.operand_word-second.ensures
+with_both : (c : After-store_second) → IsReady c.args.self.now c.args.tenant c.args.station c.unpack-tag.result.tag (draft_of BothOperands c.args.tenant) c.store_second.new.self
+with_both c = stored (with_first (goal.at.After-store_second c).After-store_first) c.store_second.ensures
 
-pub let_tenant-requires-clause-word : goal.let_tenant-requires-clause-word
-let_tenant-requires-clause-word c =
-    let r1 = looked (legal_at c.self.invariant c.self.view_is) (caller_at c.self.invariant c.self.view_is) c.requires.letting c.look-found.ensures in
-    let r4 = stored (stored (stored r1 c.store_info.ensures) c.store_first.ensures) c.store_second.ensures in
-    let tag_is = tag_read (legal_at c.self.invariant c.self.view_is) (caller_at c.self.invariant c.self.view_is) c.requires.letting c.look-found.ensures
-    c.unpack-tag.result.tag c.unpack-tag.ensures.tag in
-    subst (λ z. IsStation (live_word z Open) c.open_word-open.result) (tag_is ∙ sym (tag_at r4)) c.open_word-open.ensures
+pub let_tenant-requires : goal.let_tenant-requires
+let_tenant-requires c =
+    let r = with_both (goal.at.let_tenant-requires c).After-store_second in
+    record { letting = about_at r; word = subst (λ z. IsStation (live_word z Open) c.open_word-open.result) (tag_at r) c.open_word-open.ensures }
 
 pub returns : goal.returns
 returns c =
-    let r1 = looked (legal_at c.self.invariant c.self.view_is) (caller_at c.self.invariant c.self.view_is) c.requires.letting c.look-found.ensures in
-    let r4 = stored (stored (stored r1 c.store_info.ensures) c.store_first.ensures) c.store_second.ensures in
+    let r = with_both (goal.at.returns c).After-store_second in
     let last = c.let_tenant.ensures in
-    record {
-      same = joined r4.same last.same;
-      draft = last.grows.kind.draft;
-      tag_is = tag_read (legal_at c.self.invariant c.self.view_is) (caller_at c.self.invariant c.self.view_is) c.requires.letting c.look-found.ensures c.unpack-tag.result.tag c.unpack-tag.ensures.tag;
-      out = let_now r4 last;
-    }
+    record { same = joined r.same last.same; draft = last.grows.kind.draft; tag_is = r.tag_is; out = let_now r last }
