@@ -5,7 +5,7 @@ use Rattle.std.proofs.lemmas.Option.{same_Some}
 use Rattle.instructions.specs.Programs.{Program}
 use Rattle.inorder.specs.declared.history.Entry.{Entry}
 use Rattle.inorder.specs.History.{IsLegal, unit_of}
-use Rattle.inorder.specs.StationWords.{last_of, station_word, word_by, word_of}
+use Rattle.inorder.specs.StationWords.{last_of, station_word, station_word_of, word_by}
 use Rattle.inorder.specs.Tenants.{Live, Tenant}
 use Rattle.inorder.specs.Unit.{Sizes, UpdateUnit, at, recent, tag_after, is_old}
 use Rattle.ruu_words.specs.declared.station.StationState.{StationState}
@@ -60,7 +60,7 @@ module _ (P : Program) (C : Sizes) (h : List Entry) (legal : IsLegal P C h) (rec
   room_there free =
       let last : last_of (recent U) x.station ≡ Some its.tenant = last_now U split.one.at x.station its.tenant its.is new place (λ q u lt is same. newest q u lt is (same ∙ sym at_place)) in
       let word : station_word C (recent U) x.station ≡ word_by (tag_after C (recent U) x.station) its.tenant.standing its.tenant.tag its.tenant.fate its.tenant.made = ap
-      (word_of (tag_after C (recent U) x.station)) last in
+      (station_word_of (tag_after C (recent U) x.station)) last in
       let left = left_there its.tenant (tag_after C (recent U) x.station) (station_word C (recent U) x.station) word (free_is _ (sym sees.state_is ∙ ap state_code free)) its.on seen.value
       sees.value_is in
       let few = behind_left P C h legal records base k b.older x b.younger b.are left.retired in

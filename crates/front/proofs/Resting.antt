@@ -7,7 +7,7 @@ use Rattle.inorder.specs.declared.history.Entry.{Entry}
 use Rattle.inorder.specs.declared.history.Step.TheVariants.{Let, On, Renew}
 use Rattle.inorder.specs.History.{IsLegal, unit_of}
 use Rattle.inorder.specs.Legal.{applied}
-use Rattle.inorder.specs.StationWords.{station_word, word_by, word_of}
+use Rattle.inorder.specs.StationWords.{station_word, station_word_of, word_by}
 use Rattle.inorder.specs.Tenants.{IsNotLive, Live, Retired, Squashed, Standing, Tenant, on_path, stands_on_path}
 use Rattle.inorder.specs.Unit.{Sizes, UpdateUnit, at, is_old, recent, tag_after}
 use Rattle.inorder.proofs.Histories.{unit_sound}
@@ -75,7 +75,7 @@ module _ (P : Program) (C : Sizes) (h : List Entry) (legal : IsLegal P C h) wher
     place = ap (λ (z : Record). z.station) noted.what
 
     word : station_word C (recent U) n.what.station ≡ word_by (tag_after C (recent U) n.what.station) noted.tenant.standing noted.tenant.tag noted.tenant.fate noted.tenant.made
-    word = ap (word_of (tag_after C (recent U) n.what.station)) (last_now U n.at n.what.station noted.tenant noted.is new place newest)
+    word = ap (station_word_of (tag_after C (recent U) n.what.station)) (last_now U n.at n.what.station noted.tenant noted.is new place newest)
 
     -- a free word: the last tenant of the station has left this value
     pub note_left : seen.state ≡ Free → HasLeft seen.value noted.tenant

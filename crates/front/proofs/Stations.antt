@@ -10,7 +10,7 @@ use Rattle.inorder.specs.declared.history.Supply.TheVariants.{Known}
 use Rattle.inorder.specs.History.{IsLegal, unit_of}
 use Rattle.inorder.specs.Callers.{IsLastAt}
 use Rattle.inorder.specs.Replies.{IsFull}
-use Rattle.inorder.specs.StationWords.{IsFree, StationWord, last_of, left_value, station_word, word_by, word_of}
+use Rattle.inorder.specs.StationWords.{IsFree, StationWord, last_of, left_value, station_word, station_word_of, word_by}
 use Rattle.inorder.specs.Steps.{new_tenant}
 use Rattle.inorder.specs.Tenants.{Live, Retired, Squashed, Standing, Tenant, is_live, on_path, stands_live, stands_on_path}
 use Rattle.inorder.specs.Unit.{Sizes, UpdateUnit, at, how_many, is_old, next_station, next_tag, recent}
@@ -129,7 +129,7 @@ module _ (P : Program) (C : Sizes) (h : List Entry) (legal : IsLegal P C h) wher
       by k t Retired e = refl
       by k t Squashed e = refl
 
-      go : (o : Option Tenant) → (word_of (next_tag C (recent U)) o).state ≡ IsFree → (word_of (next_tag C (recent U)) o).tag ≡ next_tag C (recent U)
+      go : (o : Option Tenant) → (station_word_of (next_tag C (recent U)) o).state ≡ IsFree → (station_word_of (next_tag C (recent U)) o).tag ≡ next_tag C (recent U)
       go None e = refl
       go (Some t) e = by (next_tag C (recent U)) t t.standing e
 
@@ -153,7 +153,7 @@ module _ (P : Program) (C : Sizes) (h : List Entry) (legal : IsLegal P C h) wher
         let last : last_of (recent U) (next_station C (recent U)) ≡ Some noted.tenant = last_now U n.at (next_station C (recent U)) noted.tenant noted.is new place
         (λ q u lt is same. newest q u lt is (same ∙ sym next)) in
         let word : station_word C (recent U) (next_station C (recent U)) ≡ word_by (next_tag C (recent U)) noted.tenant.standing noted.tenant.tag noted.tenant.fate noted.tenant.made = ap
-        (word_of (next_tag C (recent U))) last in
+        (station_word_of (next_tag C (recent U))) last in
         record {
           tenant = noted.tenant;
           is = noted.is;

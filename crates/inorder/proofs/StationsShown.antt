@@ -9,7 +9,7 @@ use Rattle.inorder.specs.declared.history.Source.TheVariants.{First, Second}
 use Rattle.inorder.specs.declared.history.Step.TheVariants.{Let, On}
 use Rattle.inorder.specs.declared.history.Supply.{Supply}
 use Rattle.inorder.specs.Legal.{Allowed, May, Taken, applied, changed, reached}
-use Rattle.inorder.specs.StationWords.{ChangesStation, HasFate, IsFree, KeepsStations, WordsMove, NamedBy, StationsFollow, last_of, live_word, station_word, word_by, word_of}
+use Rattle.inorder.specs.StationWords.{ChangesStation, HasFate, IsFree, KeepsStations, WordsMove, NamedBy, StationsFollow, last_of, live_word, station_word, station_word_of, word_by}
 use Rattle.inorder.specs.Steps.{new_tenant}
 use Rattle.inorder.specs.Tenants.{Addr, Busy, Done, Fate, Live, Miss, Open, Retired, Squashed, Standing, Stopped, Tenant, IsNotLive, is_live}
 use Rattle.inorder.specs.Unit.{newest_of, Sizes, UpdateUnit, at, how_many, next_station, next_tag, older, recent, tag_after, younger}
@@ -59,44 +59,44 @@ tag_live C t u ts (y ∷ ys) live e a h =
 -- What a station shows where a live tenant changes
 shown_live : (C : Sizes) (t u : Tenant) (ts ys : List Tenant) (s : ℕ) → t.standing ≡ Live →
     u.station ≡ t.station → AreApart (ys ++ t ∷ ts) → AreTagged C (ys ++ t ∷ ts) →
-    station_word C (ys ++ u ∷ ts) s ≡ cond (eqb t.station s) (word_of (suc t.tag) (Some u)) (station_word C
+    station_word C (ys ++ u ∷ ts) s ≡ cond (eqb t.station s) (station_word_of (suc t.tag) (Some u)) (station_word C
     (ys ++ t ∷ ts) s)
 shown_live C t u ts ys s live e a h = go (eqb t.station s) refl
   where
     go : (b : Bool) → eqb t.station s ≡ b →
-        station_word C (ys ++ u ∷ ts) s ≡ cond b (word_of (suc t.tag) (Some u)) (station_word C
+        station_word C (ys ++ u ∷ ts) s ≡ cond b (station_word_of (suc t.tag) (Some u)) (station_word C
         (ys ++ t ∷ ts) s)
     go true q =
         let same : t.station ≡ s = eqb-true t.station s q in
         ap (station_word C (ys ++ u ∷ ts)) (sym same)
-        ∙ ap (λ n. word_of n (last_of (ys ++ u ∷ ts) t.station)) (tag_live C t u ts ys live e a h)
-        ∙ ap (word_of (suc t.tag)) (last_live t u ts ys live e a)
+        ∙ ap (λ n. station_word_of n (last_of (ys ++ u ∷ ts) t.station)) (tag_live C t u ts ys live e a h)
+        ∙ ap (station_word_of (suc t.tag)) (last_live t u ts ys live e a)
     go false q =
         let ne : t.station ≢ s = λ same. true≢false (sym (ap (eqb t.station) (sym same) ∙ eqb_self t.station)
         ∙ q) in
-        ap (λ n. word_of (C.first_tag + n) (last_of (ys ++ u ∷ ts) s)) (count_same t u ts ys s e)
-        ∙ ap (word_of (tag_after C (ys ++ t ∷ ts) s)) (last_other t u ts ys s ne e)
+        ap (λ n. station_word_of (C.first_tag + n) (last_of (ys ++ u ∷ ts) s)) (count_same t u ts ys s e)
+        ∙ ap (station_word_of (tag_after C (ys ++ t ∷ ts) s)) (last_other t u ts ys s ne e)
 
 shown_same : (C : Sizes) (t u : Tenant) (ts ys : List Tenant) (s : ℕ) → u.station ≡ t.station →
-    ((n : ℕ) → word_of n (Some u) ≡ word_of n (Some t)) →
+    ((n : ℕ) → station_word_of n (Some u) ≡ station_word_of n (Some t)) →
     station_word C (ys ++ u ∷ ts) s ≡ station_word C (ys ++ t ∷ ts) s
 shown_same C t u ts ys s e f =
-    ap (λ n. word_of (C.first_tag + n) (last_of (ys ++ u ∷ ts) s)) (count_same t u ts ys s e)
+    ap (λ n. station_word_of (C.first_tag + n) (last_of (ys ++ u ∷ ts) s)) (count_same t u ts ys s e)
     ∙ last ys (tag_after C (ys ++ t ∷ ts) s)
   where
     here : (b : Bool) (n : ℕ) →
-        word_of n (cond b (Some u) (last_of ts s)) ≡ word_of n (cond b (Some t) (last_of ts s))
+        station_word_of n (cond b (Some u) (last_of ts s)) ≡ station_word_of n (cond b (Some t) (last_of ts s))
     here true n = f n
     here false n = refl
 
-    one : (b : Bool) (y : Tenant) (n : ℕ) (q r : Option Tenant) → word_of n q ≡ word_of n r →
-        word_of n (cond b (Some y) q) ≡ word_of n (cond b (Some y) r)
+    one : (b : Bool) (y : Tenant) (n : ℕ) (q r : Option Tenant) → station_word_of n q ≡ station_word_of n r →
+        station_word_of n (cond b (Some y) q) ≡ station_word_of n (cond b (Some y) r)
     one true y n q r g = refl
     one false y n q r g = g
 
     last : (ys : List Tenant) (n : ℕ) →
-        word_of n (last_of (ys ++ u ∷ ts) s) ≡ word_of n (last_of (ys ++ t ∷ ts) s)
-    last [] n = ap (λ q. word_of n (cond (eqb q s) (Some u) (last_of ts s))) e ∙ here (eqb t.station s) n
+        station_word_of n (last_of (ys ++ u ∷ ts) s) ≡ station_word_of n (last_of (ys ++ t ∷ ts) s)
+    last [] n = ap (λ q. station_word_of n (cond (eqb q s) (Some u) (last_of ts s))) e ∙ here (eqb t.station s) n
     last (y ∷ ys) n =
         one (eqb y.station s) y n (last_of (ys ++ u ∷ ts) s) (last_of (ys ++ t ∷ ts) s) (last ys n)
 
@@ -108,8 +108,8 @@ is_shown : (C : Sizes) (ts : List Tenant) → Stands C ts → (p : ℕ) (t : Ten
 is_shown C ts s p t e live =
     let split = split_at ts p t e in
     let last = last_live t t (older ts p) (younger ts p) live refl (subst AreApart split s.apart) in
-    ap (λ W. word_of (tag_after C ts t.station) (last_of W t.station)) split
-    ∙ ap (word_of (tag_after C ts t.station)) last
+    ap (λ W. station_word_of (tag_after C ts t.station) (last_of W t.station)) split
+    ∙ ap (station_word_of (tag_after C ts t.station)) last
     ∙ ap (λ st. word_by (tag_after C ts t.station) st t.tag t.fate t.made) live
 
 -- the last tenant of a station is at a position, and nobody after it has its station
@@ -184,8 +184,8 @@ named C ts st s busy = go (last_of ts s) refl
     Goal : Type 0
     Goal = NamedBy C ts s
 
-    shows : (o : Option Tenant) → last_of ts s ≡ o → (word_of (tag_after C ts s) o).state ≢ IsFree
-    shows o e free = busy (ap (λ q. (word_of (tag_after C ts s) q).state) e ∙ free)
+    shows : (o : Option Tenant) → last_of ts s ≡ o → (station_word_of (tag_after C ts s) o).state ≢ IsFree
+    shows o e free = busy (ap (λ q. (station_word_of (tag_after C ts s) q).state) e ∙ free)
 
     is_live : (t : Tenant) (x : Standing) → t.standing ≡ x →
         (word_by (tag_after C ts s) x t.tag t.fate t.made).state ≢ IsFree → t.standing ≡ Live
@@ -214,7 +214,7 @@ named C ts st s busy = go (last_of ts s) refl
 
 -- nobody alive has the station, so that it is free
 free_of : (n : Tenant) (ts : List Tenant) (k : ℕ) → AllByRecursion (IsElsewhere n) ts →
-    ((word_of k (last_of ts n.station)).state ≡ IsFree) × ((word_of k (last_of ts n.station)).tag ≡ k)
+    ((station_word_of k (last_of ts n.station)).state ≡ IsFree) × ((station_word_of k (last_of ts n.station)).tag ≡ k)
 free_of n [] k h = (refl, refl)
 free_of n (t ∷ ts) k h = go (eqb t.station n.station) refl (free_of n ts k h.1)
   where
@@ -233,11 +233,11 @@ free_of n (t ∷ ts) k h = go (eqb t.station n.station) refl (free_of n ts k h.1
 
     Goal : Bool → Type 0
     Goal b =
-        ((word_of k (cond b (Some t) (last_of ts n.station))).state ≡ IsFree) ×
-        ((word_of k (cond b (Some t) (last_of ts n.station))).tag ≡ k)
+        ((station_word_of k (cond b (Some t) (last_of ts n.station))).state ≡ IsFree) ×
+        ((station_word_of k (cond b (Some t) (last_of ts n.station))).tag ≡ k)
 
     go : (b : Bool) → eqb t.station n.station ≡ b →
-        ((word_of k (last_of ts n.station)).state ≡ IsFree) × ((word_of k (last_of ts n.station)).tag ≡ k) →
+        ((station_word_of k (last_of ts n.station)).state ≡ IsFree) × ((station_word_of k (last_of ts n.station)).tag ≡ k) →
         Goal (eqb t.station n.station)
     go true q more = subst Goal (sym q) (gone t.standing refl (eqb-true t.station n.station q))
     go false q more = subst Goal (sym q) more
@@ -275,7 +275,7 @@ module _ (P : Program) (C : Sizes) (U : UpdateUnit) (by : ℕ) (sound_U : IsSoun
       vs = recent U
 
       go : (b : Bool) → eqb (next_station C vs) s ≡ b →
-          word_of (C.first_tag + cond b (suc (how_many (λ u. eqb u.station s) vs))
+          station_word_of (C.first_tag + cond b (suc (how_many (λ u. eqb u.station s) vs))
           (how_many (λ u. eqb u.station s) vs)) (cond b (Some (new_tenant P C U index predicted first second))
           (last_of vs s)) ≡ cond b (live_word (next_tag C vs) Open) (station_word C vs s)
       go true e = refl
@@ -283,7 +283,7 @@ module _ (P : Program) (C : Sizes) (U : UpdateUnit) (by : ℕ) (sound_U : IsSoun
 
   -- an act on a live tenant
   at_station : (p : ℕ) (act : Act) (t : Tenant) (s : ℕ) → t.standing ≡ Live → at U.tenants p ≡ Some t →
-      station_word C (recent (applied P C U by (On p act))) s ≡ cond (eqb t.station s) (word_of (suc t.tag)
+      station_word C (recent (applied P C U by (On p act))) s ≡ cond (eqb t.station s) (station_word_of (suc t.tag)
       (Some (changed P by act t (older U.tenants p)))) (station_word C (recent U) s)
   at_station p act t s live e =
       let ts = U.tenants in
@@ -295,11 +295,11 @@ module _ (P : Program) (C : Sizes) (U : UpdateUnit) (by : ℕ) (sound_U : IsSoun
       ∙ ap (λ W. station_word C W s) (new.is u)
       ∙ shown_live C t u new.zs (younger ts p) s live (same_place P by act t (older ts p)).0
       (subst AreApart now st.apart) (subst (AreTagged C) now tags)
-      ∙ ap (λ W. cond (eqb t.station s) (word_of (suc t.tag) (Some u)) (station_word C W s)) (sym now)
+      ∙ ap (λ W. cond (eqb t.station s) (station_word_of (suc t.tag) (Some u)) (station_word C W s)) (sym now)
 
   after_act : (p : ℕ) (act : Act) (t : Tenant) (s : ℕ) → ChangesStation act → Allowed P C U by (On p act) →
       at U.tenants p ≡ Some t →
-      station_word C (recent (applied P C U by (On p act))) s ≡ cond (eqb t.station s) (word_of (suc t.tag)
+      station_word C (recent (applied P C U by (On p act))) s ≡ cond (eqb t.station s) (station_word_of (suc t.tag)
       (Some (changed P by act t (older U.tenants p)))) (station_word C (recent U) s)
   after_act p act t s c a e =
       let same : a.tenant ≡ t = let f = a.is in cc (sym f ∙ e) in
@@ -308,7 +308,7 @@ module _ (P : Program) (C : Sizes) (U : UpdateUnit) (by : ℕ) (sound_U : IsSoun
       at_station p act t s live e
 
   same_word : (act : Act) (t : Tenant) (ts : List Tenant) (n : ℕ) → KeepsStations act →
-      word_of n (Some (changed P by act t ts)) ≡ word_of n (Some t)
+      station_word_of n (Some (changed P by act t ts)) ≡ station_word_of n (Some t)
   same_word (Link First) t ts n k = refl
   same_word (Link Second) t ts n k = refl
   same_word (Deliver First) t ts n k = refl

@@ -51,9 +51,9 @@ word_by next Retired tag fate made =
 word_by next Squashed tag fate made = record { tag = next; state = IsFree; value = None }
 
 -- The word of a station, by its last tenant, if it had one
-abbrev pub word_of : ℕ → Option Tenant → StationWord
-word_of next None = record { tag = next; state = IsFree; value = Some 0 }
-word_of next (Some t) = word_by next t.standing t.tag t.fate t.made
+abbrev pub station_word_of : ℕ → Option Tenant → StationWord
+station_word_of next None = record { tag = next; state = IsFree; value = Some 0 }
+station_word_of next (Some t) = word_by next t.standing t.tag t.fate t.made
 
 -- The last tenant of station s
 abbrev pub last_of : List Tenant → ℕ → Option Tenant
@@ -63,7 +63,7 @@ last_of (t ∷ ts) s = if t.station == s then Some t else last_of ts s
 -- A station shows its last tenant while that one is live, and else that it is free, with its next
 -- tag
 abbrev pub station_word : Sizes → List Tenant → ℕ → StationWord
-station_word C ts s = word_of (tag_after C ts s) (last_of ts s)
+station_word C ts s = station_word_of (tag_after C ts s) (last_of ts s)
 
 -- An act that changes what a station shows; a link and a delivery change none
 abbrev pub ChangesStation : Act → Type 0
@@ -124,7 +124,7 @@ pub record WordsMove (P : Program) (C : Sizes) (U : UpdateUnit) (by : ℕ) : Typ
       Allowed P C U by (On p act) → at U.tenants p ≡ Some t →
       station_word C (recent (applied P C U by (On p act))) s ≡
       (if t.station == s
-      then word_of (suc t.tag) (Some (changed P by act t (older U.tenants p)))
+      then station_word_of (suc t.tag) (Some (changed P by act t (older U.tenants p)))
       else station_word C (recent U) s)
   -- a link and a delivery change none
   pub kept : (p : ℕ) (act : Act) (s : ℕ) → KeepsStations act → Allowed P C U by (On p act) →

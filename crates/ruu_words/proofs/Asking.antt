@@ -21,7 +21,7 @@ use Rattle.inorder.specs.History.{IsLegal, MayMark, entry, front, own, taken_of,
 use Rattle.inorder.specs.Legal.{Allowed, May, applied, changed}
 use Rattle.inorder.specs.OperandWords.{operand_word, operand_word_of}
 use Rattle.inorder.specs.Replies.{Has, IsDelivered}
-use Rattle.inorder.specs.StationWords.{last_of, live_word, station_word, word_by, word_of}
+use Rattle.inorder.specs.StationWords.{last_of, live_word, station_word, station_word_of, word_by}
 use Rattle.inorder.specs.Steps.{delivered}
 use Rattle.inorder.specs.Tenants.{Addr, Busy, Done, Fate, Linked, Live, Miss, Open, Retired, Squashed, Standing, Stopped, Tenant, computed, kind_of, on_path, operand, stands_on_path}
 use Rattle.inorder.specs.Unit.{Sizes, UpdateUnit, at, is_old, older, recent, tag_after, value_of, younger}
@@ -175,7 +175,7 @@ module _ (P : Program) (C : Sizes) where
         go Retired gone =
             let m = left_when_retired P us (unit_sound P C h legal) q u is_q maker_waits writer (λ c f. stops_made P C (taken_of h) (allowed_steps P C h legal) q u c is_q gone f) gone in
             let here : last_of (recent U) p ≡ Some u = ap (last_of (recent U)) (sym at_p) ∙ last_of_recent U q u is_q new (λ x y lt e f. last x y lt e (f ∙ at_p)) in
-            let word : IsStation (word_of (tag_after C (recent U) p) (Some u)) n = subst (λ o. IsStation (word_of (tag_after C (recent U) p) o) n) here w in
+            let word : IsStation (station_word_of (tag_after C (recent U) p) (Some u)) n = subst (λ o. IsStation (station_word_of (tag_after C (recent U) p) o) n) here w in
             let free : IsStation (word_by (tag_after C (recent U) p) Retired u.tag u.fate u.made) n = subst (λ st. IsStation (word_by (tag_after C (recent U) p) st u.tag u.fate u.made) n) gone word in
             let value : word_value n ≡ m.0 = subst (λ o. HasValue o (word_value n)) m.1 free.value in
             inr (inl free.state, made m.0 m.2 value)

@@ -12,7 +12,7 @@ use Rattle.inorder.specs.declared.history.Step.TheVariants.{On}
 use Rattle.inorder.specs.History.{IsLegal, IsTheirAct, MayMark, MayRefuse, taken_of, unit_of}
 use Rattle.inorder.specs.Legal.{Allowed, applied, changed}
 use Rattle.inorder.specs.OperandWords.{KeepsOperands}
-use Rattle.inorder.specs.StationWords.{ChangesStation, station_word, word_of}
+use Rattle.inorder.specs.StationWords.{ChangesStation, station_word, station_word_of}
 use Rattle.inorder.specs.Tenants.{Tenant}
 use Rattle.inorder.specs.Unit.{Sizes, UpdateUnit, at, older, recent}
 use Rattle.inorder.proofs.Basics.{eqb_self}
@@ -117,20 +117,20 @@ module _ (P : Program) (C : Sizes) (id : ℕ) (h : List Entry) (d : Draft) (lega
     abbrev V : UpdateUnit
     V = applied P C U id (On p act)
 
-    moved : (x : ℕ) → station_word C (recent V) x ≡ cond (eqb t.station x) (word_of (suc t.tag) (Some (changed P id act t (older U.tenants p)))) (station_word C (recent U) x)
+    moved : (x : ℕ) → station_word C (recent V) x ≡ cond (eqb t.station x) (station_word_of (suc t.tag) (Some (changed P id act t (older U.tenants p)))) (station_word C (recent U) x)
     moved x = ((stations_follow P C (taken_of h) id).moves (allowed_steps P C h legal)).after_act p act t x of may is
 
     others : (y : Place) (n : ℕ) → y ≢ Station t.station → Content P C U d y n → Content P C V d y n
     others (Station x) n other c =
         let off : eqb t.station x ≡ false = ne_eqb t.station x (place_apart x t.station other) in
-        subst (λ z. IsStation z n) (sym (moved x ∙ ap (λ b. cond b (word_of (suc t.tag) (Some (changed P id act t (older U.tenants p)))) (station_word C (recent U) x)) off)) c
+        subst (λ z. IsStation z n) (sym (moved x ∙ ap (λ b. cond b (station_word_of (suc t.tag) (Some (changed P id act t (older U.tenants p)))) (station_word C (recent U) x)) off)) c
     others (Info x) n other c = info_stays P C U id p act may (unit_sound P C h legal) d (draft_stays P C U id (On p act) d who may (unit_sound P C h legal) draft).1 x n c
     others (Operand x k) n other c =
         operand_drafted P C U V x k n ((operands_follow P C (taken_of h) id (allowed_steps P C h legal)).kept p act x k (keeps_operands act of) may) d
         (draft_stays P C U id (On p act) d who may (unit_sound P C h legal) draft).1 c
     others (LinkPlace x c k) n other l = link_other P C U id p act (no_link act of) may (unit_sound P C h legal) x c k n l
 
-    pub changes : (new : ℕ) → IsStation (word_of (suc t.tag) (Some (changed P id act t (older U.tenants p)))) new → (Kind : List Entry → Draft → List Event → Type 0) →
+    pub changes : (new : ℕ) → IsStation (station_word_of (suc t.tag) (Some (changed P id act t (older U.tenants p)))) new → (Kind : List Entry → Draft → List Event → Type 0) →
         Kind h d (Does (On p act) ∷ []) → Plan P C id h d (Station t.station) new Kind
     changes new word Kind kind = record {
       events = Does (On p act) ∷ [];
@@ -141,7 +141,8 @@ module _ (P : Program) (C : Sizes) (id : ℕ) (h : List Entry) (d : Draft) (lega
       proper = (draft_stays P C U id (On p act) d who may (unit_sound P C h legal) draft).0;
       here =
           let on : eqb t.station t.station ≡ true = eqb_self t.station in
-          subst (λ z. IsStation z new) (sym (moved t.station ∙ ap (λ b. cond b (word_of (suc t.tag) (Some (changed P id act t (older U.tenants p)))) (station_word C (recent U) t.station)) on)) word;
+          subst (λ z. IsStation z new)
+          (sym (moved t.station ∙ ap (λ b. cond b (station_word_of (suc t.tag) (Some (changed P id act t (older U.tenants p)))) (station_word C (recent U) t.station)) on)) word;
       else = λ y n _ other c. others y n other c;
       kind = kind;
     }

@@ -12,7 +12,7 @@ use Rattle.inorder.specs.Callers.{GoesOn, IsHead, head_station}
 use Rattle.inorder.specs.History.{IsLegal, back, own, taken_of, unit_of}
 use Rattle.inorder.specs.OperandWords.{operand_word}
 use Rattle.inorder.specs.Replies.{IsNotDone, IsOver}
-use Rattle.inorder.specs.StationWords.{last_of, live_word, station_word, word_by, word_of}
+use Rattle.inorder.specs.StationWords.{last_of, live_word, station_word, station_word_of, word_by}
 use Rattle.inorder.specs.Steps.{CanRetire, IsNoRetiredStop}
 use Rattle.inorder.specs.Tenants.{Addr, Busy, Done, Fate, IsNotLive, IsThere, Live, Miss, Open, Retired, Squashed, Standing, Stopped, Tenant, kind_of}
 use Rattle.inorder.specs.Unit.{Sizes, UpdateUnit, at, recent, tag_after}
@@ -54,7 +54,7 @@ free_word C ts s n none w = go (last_of ts s) refl w
     gone t not Retired e w = w.state
     gone t not Squashed e w = w.state
 
-    go : (o : Option Tenant) → last_of ts s ≡ o → IsStation (word_of (tag_after C ts s) o) n → state_of n ≡ 0
+    go : (o : Option Tenant) → last_of ts s ≡ o → IsStation (station_word_of (tag_after C ts s) o) n → state_of n ≡ 0
     go None e w = w.state
     go (Some t) e w = let f = find_last ts s t e in gone t (all_at IsNotLive ts none f.0 t f.1) t.standing refl w
 

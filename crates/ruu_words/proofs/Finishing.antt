@@ -11,7 +11,7 @@ use Rattle.inorder.specs.declared.history.Refusal.TheVariants.{Stale}
 use Rattle.inorder.specs.declared.history.Step.{Step}
 use Rattle.inorder.specs.Callers.{HasJob}
 use Rattle.inorder.specs.History.{IsUnit, IsUnitOrBack, unit_of}
-use Rattle.inorder.specs.StationWords.{live_word, station_word, word_of}
+use Rattle.inorder.specs.StationWords.{live_word, station_word, station_word_of}
 use Rattle.inorder.specs.Steps.{finished}
 use Rattle.inorder.specs.Tenants.{Addr, Busy, Done, Fate, Live, Squashed, Stopped, Tenant}
 use Rattle.inorder.specs.Unit.{Sizes, recent}
@@ -28,7 +28,7 @@ use Rattle.ruu_words.specs.Plans.{Plan, Plans}
 use Rattle.ruu_words.proofs.StationWords.{its_word, one_live, still_live, the_tenant}
 use Rattle.ruu_words.proofs.Stays.{computed_stays, ready_stays, tenant_stays_apart, with_fact}
 
-finished_word : (t : Tenant) (o : Outcome) (k n : ℕ) → t.standing ≡ Live → IsStation (live_word t.tag (fate_of t.predicted o)) n → IsStation (word_of k (Some (finished t o))) n
+finished_word : (t : Tenant) (o : Outcome) (k n : ℕ) → t.standing ≡ Live → IsStation (live_word t.tag (fate_of t.predicted o)) n → IsStation (station_word_of k (Some (finished t o))) n
 finished_word t (Value v) k n live w = still_live t.standing k t.tag (Done v) (Some v) n live w
 finished_word t (Next x) k n live w = still_live t.standing k t.tag (fate_of t.predicted (Next x)) t.made n live w
 finished_word t (Address a) k n live w = still_live t.standing k t.tag (Addr a) t.made n live w
@@ -64,7 +64,7 @@ module _ (P : Program) (C : Sizes) where
       (λ i. (sym now.tag_is i, sym now.fact.predicted_is i)) new_is in
       subst (λ x. Plan P C id h d (Station x) new (Finishes P C s g outcome old n)) now.station_is
       (changes P C id h d legal draft p Finish t tt (inr tt) worker (record { tenant = t; is = now.is; may = record { live = here.0; fate = now.fact.held.fate } }) now.is new
-      (subst (λ o. IsStation (word_of (suc t.tag) (Some (finished t o))) new) (sym now.fact.computes) (finished_word t outcome (suc t.tag) new here.0 fits))
+      (subst (λ o. IsStation (station_word_of (suc t.tag) (Some (finished t o))) new) (sym now.fact.computes) (finished_word t outcome (suc t.tag) new here.0 fits))
       (Finishes P C s g outcome old n) (inl (
         hit,
         record {

@@ -8,7 +8,7 @@ use Rattle.inorder.specs.declared.history.Step.TheVariants.{On}
 use Rattle.inorder.specs.Callers.{CanLeave}
 use Rattle.inorder.proofs.Recent.{live_is_recent}
 use Rattle.inorder.specs.History.{IsLegal, back, own, unit_of}
-use Rattle.inorder.specs.StationWords.{IsFree, left_value, live_word, station_word, word_of}
+use Rattle.inorder.specs.StationWords.{IsFree, left_value, live_word, station_word, station_word_of}
 use Rattle.inorder.specs.Steps.{made_at_end, mended_as}
 use Rattle.inorder.specs.Tenants.{Addr, Busy, Done, Fate, Live, Miss, Open, Stopped, Tenant}
 use Rattle.inorder.specs.Unit.{Sizes, UpdateUnit, at, recent}
@@ -25,8 +25,8 @@ use Rattle.ruu_words.specs.Plans.{Plan, Plans}
 use Rattle.ruu_words.proofs.StationWords.{its_word, live_state, one_at, still_live}
 use Rattle.ruu_words.proofs.Stays.{back_stays, named_stays}
 
-pub mended_word : (t : Tenant) (k x n : ℕ) (f : Fate) → f ≡ Miss x → t.standing ≡ Live → IsStation (live_word t.tag (Done x)) n → IsStation (word_of k (Some (mended_as t f))) n
-mended_word t k x n f e live w = subst (λ f. IsStation (word_of k (Some (mended_as t f))) n) (sym e) (still_live t.standing k t.tag (Done x) t.made n live w)
+pub mended_word : (t : Tenant) (k x n : ℕ) (f : Fate) → f ≡ Miss x → t.standing ≡ Live → IsStation (live_word t.tag (Done x)) n → IsStation (station_word_of k (Some (mended_as t f))) n
+mended_word t k x n f e live w = subst (λ f. IsStation (station_word_of k (Some (mended_as t f))) n) (sym e) (still_live t.standing k t.tag (Done x) t.made n live w)
 
 left_same : (f : Fate) (made : Option ℕ) (m : ℕ) → left_value f (made_at_end f made m) ≡ left_value f (Some m)
 left_same Open made m = refl

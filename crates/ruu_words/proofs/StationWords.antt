@@ -4,7 +4,7 @@ use Rattle.instructions.specs.Programs.{Program}
 use Rattle.inorder.specs.declared.history.Entry.{Entry}
 use Rattle.inorder.specs.History.{IsLegal, taken_of, unit_of}
 use Rattle.inorder.specs.Replies.{HasNoOpen}
-use Rattle.inorder.specs.StationWords.{last_of, live_word, station_word, word_by, word_of}
+use Rattle.inorder.specs.StationWords.{last_of, live_word, station_word, station_word_of, word_by}
 use Rattle.inorder.specs.Tenants.{Addr, Busy, Done, Fate, Live, Miss, Open, Retired, Squashed, Standing, Stopped, Tenant}
 use Rattle.inorder.specs.Unit.{Sizes, UpdateUnit, at, is_old, recent, tag_after}
 use Rattle.inorder.proofs.Positions.{at_more, at_new}
@@ -47,7 +47,7 @@ by_standing t k n Squashed e w ne = absurd (ne w.state)
 pub live_last : (C : Sizes) (U : UpdateUnit) (s n : ℕ) → IsStation (station_word C (recent U) s) n → state_of n ≢ 0 → LastLive U s n
 live_last C U s n w ne = go (last_of (recent U) s) refl w
   where
-    go : (o : Option Tenant) → last_of (recent U) s ≡ o → IsStation (word_of (tag_after C (recent U) s) o) n → LastLive U s n
+    go : (o : Option Tenant) → last_of (recent U) s ≡ o → IsStation (station_word_of (tag_after C (recent U) s) o) n → LastLive U s n
     go None e w = absurd (ne w.state)
     go (Some t) e w =
         let b = by_standing t (tag_after C (recent U) s) n t.standing refl w ne in
