@@ -6,7 +6,7 @@ use std::marker::Model;
 use thiserror::Error;
 
 /// The first argument of `Config::new` that is out of its range.
-#[derive(Clone, Copy, Debug, Drop, PartialEq, Eq, Error)]
+#[derive(Clone, Copy, Debug, Drop, PartialEq, Error)]
 pub enum BadConfig {
     #[error("the ring size is 2, 4, 8, 16 or 32")]
     Ring,

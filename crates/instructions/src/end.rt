@@ -6,7 +6,7 @@ use crate::Stop;
 use std::fmt;
 
 /// How a run ends: by a stop, or because its count has reached the limit.
-#[derive(Clone, Copy, Debug, PartialEq, Eq)]
+#[derive(Clone, Copy, Debug, PartialEq)]
 pub enum Ending {
     Stop(Stop),
     Limit,

@@ -6,7 +6,7 @@ use crate::{Half, Kind, Op, Reg, pc_plus_4};
 
 /// An instruction: its operation, and the registers and the number that it names. Register 0 stands
 /// where the operation has no register.
-#[derive(Clone, Copy, Debug, PartialEq, Eq)]
+#[derive(Clone, Copy)]
 pub struct Instr {
     pub op: Op,
     /// The register of its value.

@@ -61,14 +61,14 @@ pub enum Op {
 
 /// A half of a multiplication or division: the first writes LO, the second HI. Any other
 /// instruction has the low half alone.
-#[derive(Clone, Copy, Debug, PartialEq, Eq)]
+#[derive(Clone, Copy, PartialEq)]
 pub enum Half {
     Low,
     High,
 }
 
 /// The kind of an operation.
-#[derive(Clone, Copy, Debug, PartialEq, Eq)]
+#[derive(Clone, Copy, PartialEq)]
 pub enum Kind {
     /// Computes a value from its sources, or stops.
     Computes,

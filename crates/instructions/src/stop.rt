@@ -65,7 +65,7 @@ impl fmt::Display for Stop {
 }
 
 /// The outcome of an instruction.
-#[derive(Clone, Copy, Debug, PartialEq, Eq)]
+#[derive(Clone, Copy, Debug, PartialEq)]
 pub enum Outcome {
     /// The value for its register.
     Value(u32),

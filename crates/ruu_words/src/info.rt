@@ -5,7 +5,7 @@ ghost use Rattle.ruu_words.specs.Fields.{pack_info, half_bit, half_by, half_of, 
 use instructions::Half;
 
 /// The content of a station's info word.
-#[derive(Clone, Copy, Debug, PartialEq, Eq)]
+#[derive(Clone, Copy)]
 pub struct InfoWord {
     /// The half of its instruction that the tenant is.
     pub half: Half,

@@ -3,7 +3,7 @@ ghost use Rattle.std.specs.Prelude.{◌≡◌, ◌<◌, ◌↔◌, IsNone, IfSom
 ghost use Rattle.ruu_words.specs.Fields.{tag_count, pack_link, producer_of, consumer_of};
 
 /// The content of a link word: which consumer waits for the value of which producer.
-#[derive(Clone, Copy, Debug, PartialEq, Eq)]
+#[derive(Clone, Copy)]
 pub struct LinkWord {
     /// The tag of the tenant that makes the value.
     pub producer: u32,

@@ -5,14 +5,14 @@ ghost use Rattle.ruu_words.specs.States.{IsOperandCode, operand_state_code};
 ghost use Rattle.ruu_words.specs.declared.operand.OperandState.TheVariants.{Val};
 
 /// Whether a source has its value.
-#[derive(Clone, Copy, Debug, PartialEq, Eq)]
+#[derive(Clone, Copy)]
 pub enum OperandState {
     Wait,
     Val,
 }
 
 /// The content of an operand word.
-#[derive(Clone, Copy, Debug, PartialEq, Eq)]
+#[derive(Clone, Copy)]
 pub struct OperandWord {
     /// The tag of the tenant whose source this is.
     pub tag: u32,

@@ -6,7 +6,7 @@ ghost use Rattle.ruu_words.specs.States.{state_count, state_code};
 ghost use Rattle.ruu_words.specs.declared.station.StationState.TheVariants.{Stop};
 
 /// The state of a station: how far its last tenant has come.
-#[derive(Clone, Copy, Debug, PartialEq, Eq)]
+#[derive(Clone, Copy, PartialEq)]
 pub enum StationState {
     /// No tenant is live here. The tag is the next tenant's.
     Free,
@@ -55,7 +55,7 @@ impl StationState {
 }
 
 /// The content of a station's word.
-#[derive(Clone, Copy, Debug, PartialEq, Eq)]
+#[derive(Clone, Copy)]
 pub struct StationWord {
     pub tag: u32,
     pub state: StationState,

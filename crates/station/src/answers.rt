@@ -12,7 +12,7 @@ pub struct Seen<S> {
 }
 
 /// Whether a source has its value.
-#[derive(Clone, Copy, Debug, PartialEq, Eq)]
+#[derive(Clone, Copy)]
 pub enum SourceState {
     /// No tenant was let at the station yet.
     Unset,
@@ -52,7 +52,7 @@ pub enum Claim {
 }
 
 /// Whether a result reached its tenant.
-#[derive(Clone, Copy, Debug, PartialEq, Eq)]
+#[derive(Clone, Copy, Debug, PartialEq)]
 pub enum Finish {
     Finished,
     /// The tenant was squashed.
@@ -60,7 +60,7 @@ pub enum Finish {
 }
 
 /// Whether a load got its value.
-#[derive(Clone, Copy, Debug, PartialEq, Eq)]
+#[derive(Clone, Copy)]
 pub enum Settle {
     Settled,
     /// The load was squashed.
@@ -68,7 +68,7 @@ pub enum Settle {
 }
 
 /// The answer of a question for a source.
-#[derive(Clone, Copy, Debug, PartialEq, Eq)]
+#[derive(Clone, Copy)]
 pub enum Ask {
     /// The source has its value.
     Delivered,

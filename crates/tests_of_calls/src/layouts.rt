@@ -16,7 +16,12 @@ fn words_are_those_of_the_layout(rt: HostRuntime) {
     for (tag, state, value, word) in words {
         let fields = StationWord { tag, state, value };
         same(&rt, &fields.pack(), &word);
-        same(&rt, &StationWord::unpack(word), &fields);
+        let read = StationWord::unpack(word);
+        same(
+            &rt,
+            &(read.tag, read.state.code(), read.value),
+            &(tag, state.code(), value),
+        );
     }
 }
 
@@ -27,8 +32,9 @@ fn other_words_are_those_of_the_layout(rt: HostRuntime) {
         consumer: 1,
     };
     same(&rt, &link.pack(), &0x0000_0010_0000_0100);
-    same(&rt, &LinkWord::unpack(0x0000_0010_0000_0100), &Some(link));
-    same(&rt, &LinkWord::unpack(0), &None);
+    let read = LinkWord::unpack(0x0000_0010_0000_0100).map(|it| (it.producer, it.consumer));
+    same(&rt, &read, &Some((1, 1)));
+    assert!(rt; LinkWord::unpack(0).is_none());
     let infos = [
         (Half::Low, 1, 0x0040_0008, 0x0000_0001_0040_0008),
         (Half::High, 1, 0x0040_0008, 0x8000_0001_0040_0008),
@@ -41,7 +47,12 @@ fn other_words_are_those_of_the_layout(rt: HostRuntime) {
             predicted,
         };
         same(&rt, &info.pack(), &word);
-        same(&rt, &InfoWord::unpack(word), &info);
+        let read = InfoWord::unpack(word);
+        same(
+            &rt,
+            &(read.half == half, read.index, read.predicted),
+            &(true, index, predicted),
+        );
     }
     let operand = OperandWord {
         tag: 2,
@@ -49,7 +60,9 @@ fn other_words_are_those_of_the_layout(rt: HostRuntime) {
         value: 7,
     };
     same(&rt, &operand.pack(), &0x0000_0022_0000_0007);
-    same(&rt, &OperandWord::unpack(0x0000_0022_0000_0007), &operand);
+    let read = OperandWord::unpack(0x0000_0022_0000_0007);
+    same(&rt, &(read.tag, read.value), &(2, 7));
+    assert!(rt; matches!(read.state, OperandState::Val));
 }
 
 #[test]

@@ -147,7 +147,7 @@ fn sorts_operations(rt: HostRuntime) {
         (Op::Jalr, Kind::Links, 4, false),
     ];
     for (op, kind, width, branch) in cases {
-        same(&rt, &op.kind(), &kind);
+        assert!(rt; op.kind() == kind);
         same(&rt, &op.width(), &width);
         same(&rt, &op.is_branch(), &branch);
     }

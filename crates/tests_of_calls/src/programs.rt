@@ -223,7 +223,7 @@ fn two_instructions_differ_in_one_part(rt: HostRuntime) {
         Instr::new(Op::Addu, Reg::LINK, Reg::LO, Reg::LO, 7),
         Instr::new(Op::Addu, Reg::LINK, Reg::LO, Reg::HI, 8),
     ];
-    for other in others {
-        assert!(rt; !one.is_same(&other), "{other:?}");
+    for (at, other) in others.iter().enumerate() {
+        assert!(rt; !one.is_same(other), "{at}");
     }
 }

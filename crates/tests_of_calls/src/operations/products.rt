@@ -64,7 +64,7 @@ fn halves_write_lo_and_hi(rt: HostRuntime) {
     for op in [Op::Mult, Op::Multu, Op::Div, Op::Divu] {
         let pair = instr(op, 0, 31, 0, 0);
         assert!(rt; op.is_pair());
-        same(&rt, &op.kind(), &Kind::Computes);
+        assert!(rt; op.kind() == Kind::Computes);
         same(&rt, &pair.source(1), &Some(Reg::LINK));
         same(&rt, &pair.source(2), &Some(Reg::ZERO));
         same(&rt, &pair.written(Half::Low), &Some(Reg::LO));
