@@ -122,6 +122,14 @@ impl Committed {
         }
     }
 
+    /// Puts back what all registers held.
+    pub fn restore(&mut self, registers: &[u32; 34])
+        requires { length registers.now ≡ 34 }
+        ensures { self.new ≡ record self.old { registers = registers.now } }
+    {
+        self.registers = *registers;
+    }
+
     /// Writes LO, if a value waits for it.
     pub fn settle(&mut self, low: Option<u32>)
         ensures { self.new ≡ ahead_by low self.old }

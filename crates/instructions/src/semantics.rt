@@ -78,14 +78,14 @@ fn pair_values(op: Op, a: u32, b: u32) -> (u32, u32)
 fn computed(op: Op, half: Half, a: u32, b: u32, i: u32) -> Result<u32, Stop>
     ensures { result ≡ computed_by op half a b i }
 {
-    if op.is_pair() {
-        let (low, high) = pair_values(op, a, b);
-        return Ok(match half {
-            Half::Low => low,
-            Half::High => high,
-        });
-    }
     match op {
+        Op::Mult | Op::Multu | Op::Div | Op::Divu => {
+            let (low, high) = pair_values(op, a, b);
+            Ok(match half {
+                Half::Low => low,
+                Half::High => high,
+            })
+        }
         Op::Addu => Ok(a.wrapping_add(b)),
         Op::Subu => Ok(a.wrapping_sub(b)),
         Op::Add => checked_sum(a, b),

@@ -50,7 +50,7 @@ low_target Low target e = refl
 low_target High target e = absurd (cc)
 
 -- a first half writes LO
-low_destination : (i : Instr) (half : Half) → is_first_half i.op half ≡ true → destination i half ≡ lo
+pub low_destination : (i : Instr) (half : Half) → is_first_half i.op half ≡ true → destination i half ≡ lo
 low_destination i half e =
     let pair = and_left (is_pair i.op) (is_low half) e in
     ap (λ k. destination_by k (target_of i half)) (pair_computes i.op pair)
@@ -98,7 +98,7 @@ pub there_less : (P : Program) (cs : List Completed) → AreThere P cs → AreTh
 there_less P [] h k d g = absurd (cc g)
 there_less P (c ∷ cs) h k d g = h (suc k) d g
 
-some_there : (o : Option Instr) → is_some o ≡ true → (i : Instr) × (o ≡ Some i)
+pub some_there : (o : Option Instr) → is_some o ≡ true → (i : Instr) × (o ≡ Some i)
 some_there None e = absurd (cc e)
 some_there (Some i) e = (i, refl)
 

@@ -1,5 +1,5 @@
 -- The next instruction enters a flow.
-use Rattle.std.proofs.Common.{◌≡◌, ◌<◌, ◌≤◌, ◌^◌, ℕ, ◌+◌, ◌%◌, true, false, List, [], ◌∷◌, ◌++◌, length, Option, Some, None, refl, sym, ap, ◌∙◌, subst, suc, arith, length-append}
+use Rattle.std.proofs.Common.{◌≡◌, ◌<◌, ◌≤◌, ◌^◌, ℕ, ◌+◌, ◌%◌, Bool, true, false, List, [], ◌∷◌, ◌++◌, length, Option, Some, None, refl, sym, ap, ◌∙◌, subst, suc, arith, length-append}
 use Rattle.std.specs.Prelude.{IfSome, slice_index, slice_set}
 use Rattle.instructions.specs.Instruction.{first_of, fixed_next, second_of, width}
 use Rattle.instructions.specs.Guesses.{Guesses}
@@ -9,7 +9,7 @@ use Rattle.instructions.specs.declared.instr.Instr.{Instr}
 use Rattle.instructions.specs.declared.stop.Outcome.TheVariants.{Address}
 use Rattle.one_thread.specs.Changes.{registers_of}
 use Rattle.one_thread.specs.Decoding.{IsDecoded}
-use Rattle.one_thread.specs.Flow.{AreThere, CanRestore, Completes, HasPlace, IsFlow, IsFlowing, comes_to, completed_as, enters_as, filled, outcome_in, window_of}
+use Rattle.one_thread.specs.Flow.{AreThere, CanRestore, Completes, HasPlace, IsFlow, IsFlowing, comes_to, completed_as, enters_as, filled, in_order, outcome_in, window_of}
 use Rattle.one_thread.specs.CompletedRing.{station_by, stations}
 use Rattle.one_thread.specs.Stages.{CanLet}
 use Rattle.one_thread.specs.StandsFor.{StandsForSome}
@@ -49,11 +49,11 @@ pub record Enters (x later : Pipeline) (flow : Flow) (i : Instr) (predicted : �
 pub enters : {S : Type 0} {Predicts : S → ℕ → Instr → ℕ → S → Type 0} {Learns : S → ℕ → ℕ → S →
     Type 0} (later : Pipeline) (flow : Flow) (i : Instr) (predicted : ℕ) (o : Operands) (left : Option Leaver) (old new : S) →
     (p : HasPlace later flow) → instr_at p.before.program.now flow.future.pc ≡ Some i → predicted < 2 ^ 32 → Guesses Predicts Learns left i flow.half flow.future.pc predicted old new →
-    (first_of i < 34) × (second_of i < 34) → o.a ≡ slice_index flow.future.values (first_of i) → o.b ≡ slice_index flow.future.values (second_of i) → Enters p.before later flow i predicted o
+    (first_of i < 34) × (second_of i < 34) → o.a ≡ slice_index flow.future.values (first_of i) → o.b ≡ slice_index flow.future.values (second_of i) → Enters (in_order p.before flow) (in_order later flow) flow i predicted o
 enters {S} {Predicts} {Learns} later flow i predicted o left old new p is small guess registers first second =
     let same : p.can.instr ≡ i = cc (sym p.can.is ∙ is) in
     record {
-      flows = p.flows;
+      flows = p.flows.flows;
       is = is;
       free = λ e. p.can.free (ap (λ (j : Instr). reaches_memory j.op) same ∙ e);
       room = p.can.room;
@@ -64,12 +64,12 @@ enters {S} {Predicts} {Learns} later flow i predicted o left old new p is small 
       first = first;
       second = second;
       leavers = p.leavers;
-      rest = p.rest;
+      rest = ap (λ (q : Pipeline). in_order q flow) p.rest;
     }
 
 pub place_decoded : (later : Pipeline) (flow : Flow) (code : List Instr) (p : HasPlace later flow) → code ≡ later.code.items → IsDecoded code p.before.program.now
 place_decoded later flow code p e =
-    subst (λ l. IsDecoded l p.before.program.now) (sym (e ∙ ap (λ (b : Pipeline). b.code.items) p.rest)) p.flows.unit.code
+    subst (λ l. IsDecoded l p.before.program.now) (sym (e ∙ ap (λ (b : Pipeline). b.code.items) p.rest)) p.flows.flows.unit.code
 
 module _ (x later : Pipeline) (flow : Flow) (i : Instr) (predicted : ℕ) (o : Operands) (h : Enters x later flow i predicted o) where
   abbrev all : List Station
@@ -143,12 +143,12 @@ module _ (x later : Pipeline) (flow : Flow) (i : Instr) (predicted : ℕ) (o : O
       )
 
   -- it has completed
-  module _ (d : DoneBy) (after : Flow) (completes : Completes x flow i predicted o (Some d)) (j : HasJoined flow after i (completed_as flow predicted d) o.b) where
+  module _ (d : DoneBy) (plain : Bool) (kept : ℕ) (after : Flow) (completes : Completes x flow i predicted o (Some d)) (j : HasJoined flow after i (completed_as flow predicted d plain kept) o.b) where
     abbrev y : Station
-    y = station_by i (completed_as flow predicted d)
+    y = station_by i (completed_as flow predicted d plain kept)
 
     window_is : window_of later after ≡ all ++ y ∷ []
-    window_is = ap (λ (p : Pipeline). stations p.program.now after.ring.completed) h.rest ∙ joined_window x flow after i (completed_as flow predicted d) o.b j h.is
+    window_is = ap (λ (p : Pipeline). stations p.program.now after.ring.completed) h.rest ∙ joined_window x flow after i (completed_as flow predicted d plain kept) o.b j h.is
 
     unit_is : StandsForSome (filled later (window_of later after))
     unit_is = subst StandsForSome (ap (λ w. filled later (all ++ w ∷ [])) completes ∙ sym (ap (filled later) window_is)) comes_unit
@@ -160,7 +160,7 @@ module _ (x later : Pipeline) (flow : Flow) (i : Instr) (predicted : ℕ) (o : O
     ring_is = ap (λ (p : Pipeline). p.ring) h.rest
 
     flows_on : IsFlowing later after
-    flows_on = flowing_later x later after h.rest (joined x flow after i (completed_as flow predicted d) o.b j h.is h.flows.flowing h.second_small h.second)
+    flows_on = flowing_later x later after h.rest (joined x flow after i (completed_as flow predicted d plain kept) o.b j h.is h.flows.flowing h.second_small h.second)
 
     -- as predicted
     pub entered_hit : d.next ≡ predicted → IsFlow later after
@@ -191,20 +191,21 @@ module _ (x later : Pipeline) (flow : Flow) (i : Instr) (predicted : ℕ) (o : O
         }
 
   -- or it is left as it was let
-  abbrev kept : Flow
-  kept = record flow { last = Some (enters_as flow i predicted) }
+  abbrev stays : Flow
+  stays = record flow { last = Some (enters_as flow i predicted) }
 
-  pub entered_stays : CanRestore later kept
+  pub entered_stays : CanRestore later stays
   entered_stays =
       let y = enters_as flow i predicted in
       let unit = open_with y refl in
       let end : reopened flow.from (all ++ y ∷ []) ≡ reopened flow.from all ++ y ∷ [] = reopened_end flow.from all y h.flows.from in
-      let same : reopened flow.from all ≡ reopened flow.from (window_of later kept) = ap (λ (p : Pipeline). reopened flow.from (stations p.program.now flow.ring.completed)) (sym h.rest) in
+      let same : reopened flow.from all ≡ reopened flow.from (window_of later stays) = ap (λ (p : Pipeline). reopened flow.from (stations p.program.now flow.ring.completed)) (sym h.rest) in
       let long = stations_long x.program.now flow.ring.completed in
       record {
         unit = subst StandsForSome (ap (λ V. record later { window = V; missed = false; settled = flow.from }) (end ∙ ap (λ V. V ++ y ∷ []) same))
             (noted_unit (with_reopened flow.from (filled later (all ++ y ∷ []))) false flow.from unit
             (record { no_miss = unit.noted.no_miss; are_settled = open_settled flow.from all y h.flows.from h.flows.flowing.completed }));
         there = subst (λ (p : Pipeline). AreThere p.program.now flow.ring.completed) (sym h.rest) h.flows.flowing.there;
+        all = h.flows.flowing.foresees.all;
         room = λ w e. omega (arith, long, h.room, h.flows.unit.ring);
       }

@@ -4,6 +4,7 @@ use Rattle.std.specs.Prelude.{slice_index}
 use Rattle.instructions.specs.Instruction.{destination, is_first_half, kind, second_of}
 use Rattle.instructions.specs.Programs.{instr_at}
 use Rattle.instructions.specs.declared.instr.Instr.{Instr}
+use Rattle.inorder.specs.Machine.{write}
 use Rattle.inorder.specs.Unit.{half_after}
 use Rattle.one_thread.specs.Changes.{registers_of}
 use Rattle.one_thread.specs.Flow.{AreThere, HaveCompleted, IsFlowing, window_of}
@@ -25,6 +26,8 @@ pub record HasJoined (flow after : Flow) (i : Instr) (c : Completed) (content : 
   pub from : after.from ≡ flow.from
   pub last : after.last ≡ flow.last
   pub stores : after.ring.stores ≡ with_entry flow.ring.stores (store_with (station_by i c) content)
+  pub held : after.held ≡ flow.held
+  pub values : after.future.values ≡ write flow.future.values (destination i c.half) c.value
   pub future : GoesOnBehind flow.future (destination i c.half) (made_by (kind i.op) c.value) c.next after.future
   pub half : after.half ≡ half_after (is_first_half i.op c.half)
   pub accesses : after.accesses ≡ flow.accesses + access_of i

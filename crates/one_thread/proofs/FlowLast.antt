@@ -3,7 +3,7 @@ use Rattle.std.proofs.Common.{◌≡◌, ◌≤◌, ◌+◌, ℕ, suc, true, Lis
 use Rattle.instructions.specs.Programs.{instr_at}
 use Rattle.instructions.specs.declared.instr.Instr.{Instr}
 use Rattle.one_thread.specs.Decoding.{IsDecoded}
-use Rattle.one_thread.specs.Flow.{HasPlace, IsFlowing, IsLast, enters_as, window_of}
+use Rattle.one_thread.specs.Flow.{HasPlace, IsFlowing, IsLast, enters_as, in_order, window_of}
 use Rattle.one_thread.specs.Stages.{NoInstr, NoRoom, QueueFull}
 use Rattle.one_thread.specs.Window.{access_of, accesses, reaches_memory}
 use Rattle.one_thread.specs.declared.flow.Flow.{Flow}
@@ -21,8 +21,8 @@ module _ (b : Pipeline) (flow : Flow) (i : Instr) (predicted : ℕ) (p : HasPlac
   abbrev w : Station
   w = enters_as flow i predicted
 
-  flows : IsFlowing b flow
-  flows = flowing_later p.before b flow p.rest p.flows.flowing
+  flows : IsFlowing (in_order b flow) flow
+  flows = flowing_later (in_order p.before flow) (in_order b flow) flow (ap (λ (q : Pipeline). in_order q flow) p.rest) p.flows.flows.flowing
 
   long : length (W ++ w ∷ []) ≡ suc (length W)
   long = omega (arith, length-append W (w ∷ []))
@@ -42,9 +42,9 @@ module _ (b : Pipeline) (flow : Flow) (i : Instr) (predicted : ℕ) (p : HasPlac
   few_accesses =
       let most = accesses_most W (length W) in
       let same = ap (λ (q : Pipeline). length (window_of q flow)) p.rest in
-      omega (arith, most, flows.accesses, same, p.flows.most, p.flows.unit.ring)
+      omega (arith, most, flows.accesses, same, p.flows.flows.most, p.flows.flows.unit.ring)
 
   pub last_decoded : (code : List Instr) → code ≡ b.code.items → IsDecoded code b.program.now
   last_decoded code e =
       subst (λ l. IsDecoded l b.program.now) (sym e)
-      (subst (λ (q : Pipeline). IsDecoded q.code.items q.program.now) (sym p.rest) p.flows.unit.code)
+      (subst (λ (q : Pipeline). IsDecoded q.code.items q.program.now) (sym p.rest) p.flows.flows.unit.code)

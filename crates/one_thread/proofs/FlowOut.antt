@@ -11,7 +11,7 @@ use Rattle.inorder.specs.Committed.{with_low}
 use Rattle.inorder.specs.Machine.{write}
 use Rattle.one_thread.specs.Changes.{registers_of, run_from}
 use Rattle.one_thread.specs.Decoding.{IsDecoded}
-use Rattle.one_thread.specs.Flow.{AreThere, CanEnter, OldestRetired, HasPlace, HaveCompleted, IsFlow, IsFlowing, IsStuck, committed_by, filled, low_by, to_do, window_of, with_leaver}
+use Rattle.one_thread.specs.Flow.{AreThere, CanEnter, OldestRetired, Flows, HasPlace, HaveCompleted, IsFlow, IsFlowing, IsStuck, committed_by, filled, in_order, low_by, to_do, window_of, with_leaver}
 use Rattle.one_thread.specs.CompletedRing.{stage_by, station_by, stations, stores, stores_behind}
 use Rattle.one_thread.specs.Leaves.{HasEnded, leavers_with}
 use Rattle.one_thread.specs.Futures.{Foresees}
@@ -52,16 +52,19 @@ pub record IsOldest (x : Pipeline) (flow : Flow) (i : Instr) (c : Completed) : T
   pub is : slice_get flow.ring.completed 0 ≡ Some c
   pub instr : instr_at x.program.now c.pc ≡ Some i
 
-pub oldest_of : (x : Pipeline) (flow : Flow) (i : Instr) (c : Completed) (code : List Instr) → IsFlow x flow → IsStuck x flow → slice_get flow.ring.completed 0 ≡ Some c →
-    code ≡ x.code.items → ((P : Program) → IsDecoded code P → instr_at P c.pc ≡ Some i) → IsOldest x flow i c
-oldest_of x flow i c code flows stuck is same found =
-    record { flows = flows; stuck = stuck; is = is; instr = found x.program.now (subst (λ l. IsDecoded l x.program.now) (sym same) flows.unit.code) }
+pub stuck_in : (b : Pipeline) (flow : Flow) → IsStuck b flow → IsStuck (in_order b flow) flow
+stuck_in b flow h = record { stuck = h.stuck; some = h.some }
+
+pub oldest_of : (b : Pipeline) (flow : Flow) (i : Instr) (c : Completed) (code : List Instr) → Flows b flow → IsStuck b flow → slice_get flow.ring.completed 0 ≡ Some c →
+    code ≡ b.code.items → ((P : Program) → IsDecoded code P → instr_at P c.pc ≡ Some i) → IsOldest (in_order b flow) flow i c
+oldest_of b flow i c code h stuck is same found =
+    record { flows = h.flows; stuck = stuck_in b flow stuck; is = is; instr = found b.program.now (subst (λ l. IsDecoded l b.program.now) (sym same) h.flows.unit.code) }
 
 module _ (x : Pipeline) (flow : Flow) (i : Instr) (c : Completed) (here : IsOldest x flow i c) where
   pub oldest_is : slice_get (window_of x flow) 0 ≡ Some (station_by i c)
   oldest_is = stations_get x.program.now flow.ring.completed 0 c here.is ∙ ap Some (station_is x.program.now c i here.instr)
 
-  fills : IsFilled (filled x (window_of x flow))
+  pub fills : IsFilled (filled x (window_of x flow))
   fills =
       record {
         unit = here.flows.unit;
@@ -145,6 +148,9 @@ module _ (x y : Pipeline) (flow after : Flow) (i : Instr) (c : Completed) (l : H
       ∙ ap (λ v. record x { committed = committed_by f w x.low x.committed; low = v; oldest = y.oldest; leavers = leavers_with x w; window = drop 1 W; missed = false; settled = 0 }) l.low
       ∙ ap (λ n. record x { committed = committed_by f w x.low x.committed; low = low_by f w; oldest = n; leavers = leavers_with x w; window = drop 1 W; missed = false; settled = 0 }) l.oldest
 
+  pub left_registers : write (registers_of x) w.destination (unwrap_or w.made 0) ≡ registers_of y
+  left_registers = registers_by f b later w (flows.flowing.completed 0 w first).1 (passed_shows b later w whole first later_is) later_is
+
   flows_on : IsFlowing y after
   flows_on = go W refl
     where
@@ -160,7 +166,6 @@ module _ (x y : Pipeline) (flow after : Flow) (i : Instr) (c : Completed) (l : H
           let behind : window_of y after ≡ a ∷ V = rest_is ∙ ap (λ V. drop 1 V) there in
           let h = flows.flowing in
           let p = h.completed 0 w first in
-          let regs : write (registers_of x) w.destination v ≡ registers_of y = registers_by f b later w p.1 (passed_shows b later w whole first later_is) later_is in
           let seen : Foresees flow.future (registers_of x) x.committed.pc (w ∷ a ∷ V) = subst (Foresees flow.future (registers_of x) x.committed.pc) there h.foresees in
           let long = registers_all b flows.unit in
           let past = foresees_left flow.future (registers_of x) x.committed.pc w (a ∷ V) long p.0.made seen in
@@ -171,13 +176,13 @@ module _ (x y : Pipeline) (flow after : Flow) (i : Instr) (c : Completed) (l : H
             completed = subst HaveCompleted (sym behind) (completed_less w (a ∷ V) (subst HaveCompleted there h.completed));
             foresees = subst (Foresees after.future (registers_of y) y.committed.pc) (sym behind)
                 (subst (λ g. Foresees g (registers_of y) y.committed.pc (a ∷ V)) (sym l.future)
-                (subst (λ r. Foresees flow.future r y.committed.pc (a ∷ V)) regs
+                (subst (λ r. Foresees flow.future r y.committed.pc (a ∷ V)) left_registers
                 (record { all = past.all; values = past.values; path = past.path ∙ path_any w.next y.committed.pc a V })));
             half = l.half ∙ h.half ∙ ap (half_in x.low) there ∙ half_less x.low y.low w a V ∙ sym (ap (half_in y.low) behind);
             stores = l.stores
                 ∙ ap (stores_behind w) (h.stores ∙ ap (λ V. stores (registers_of x) V (length V)) there)
                 ∙ stores_passed (registers_of x) w (a ∷ V) v long (λ n. made_value w.made (p.0.made n))
-                ∙ ap (λ r. stores r (a ∷ V) (length (a ∷ V))) regs
+                ∙ ap (λ r. stores r (a ∷ V) (length (a ∷ V))) left_registers
                 ∙ sym (ap (λ V. stores (registers_of y) V (length V)) behind);
             accesses = left_accesses flow.accesses after.accesses (access_of i) (accesses (a ∷ V) (length (a ∷ V))) (accesses (window_of y after) (length (window_of y after))) l.accesses
                 (h.accesses ∙ ap (λ V. accesses V (length V)) there ∙ accesses_drop (w ∷ a ∷ V) w (length (a ∷ V)) refl) (ap (λ V. accesses V (length V)) behind);
@@ -211,10 +216,10 @@ module _ (x y : Pipeline) (flow after : Flow) (i : Instr) (c : Completed) (l : H
   left_less = passed_less b later w whole first later_is
 
 -- there is room for another
-pub has_room : (x y : Pipeline) (flow after : Flow) (left : Option Leaver) → IsFlow x flow → OldestRetired x flow left y after → length after.ring.completed < y.ring
+pub has_room : (x y : Pipeline) (flow after : Flow) (left : Option Leaver) → Flows x flow → OldestRetired x flow left y after → length after.ring.completed < y.ring
 has_room x y flow after left h d =
     let long = stations_long x.program.now flow.ring.completed in
-    omega (arith, long, h.most, d.shorter, d.ring)
+    omega (arith, long, h.flows.most, d.shorter, d.ring)
 
 -- the next enters the station that was left
 pub has_place : (x y : Pipeline) (flow after : Flow) (left : Option Leaver) → OldestRetired x flow left y after → length flow.ring.completed ≡ x.ring → CanEnter y after → HasPlace y after

@@ -5,7 +5,7 @@ use Rattle.std.specs.Prelude.{slice_get}
 use Rattle.instructions.specs.declared.instr.Instr.{Instr}
 use Rattle.instructions.specs.Programs.{instr_at}
 use Rattle.one_thread.specs.Changes.{registers_of}
-use Rattle.one_thread.specs.Flow.{CanRestore, IsFlow, IsFlowing, IsStuck, filled, window_of, with_last}
+use Rattle.one_thread.specs.Flow.{CanRestore, Flows, IsFlow, IsFlowing, IsStuck, filled, window_of, with_last}
 use Rattle.one_thread.specs.Notes.{AreNoted}
 use Rattle.one_thread.specs.Reopened.{as_let, reopened, with_reopened}
 use Rattle.one_thread.specs.Stages.{NoRoom, QueueFull}
@@ -78,18 +78,18 @@ begun b flow n h two most flows is last all =
 
 -- Nothing can enter
 
-pub no_room : (b : Pipeline) (flow : Flow) → IsFlow b flow → length flow.ring.completed ≡ b.ring → IsStuck b flow
+pub no_room : (b : Pipeline) (flow : Flow) → Flows b flow → length flow.ring.completed ≡ b.ring → IsStuck b flow
 no_room b flow h full =
     let long = stations_long b.program.now flow.ring.completed in
-    record { stuck = NoRoom (omega (arith, long, full)); some = omega (arith, long, full, h.two) }
+    record { stuck = NoRoom (omega (arith, long, full)); some = omega (arith, long, full, h.flows.two) }
 
-pub no_place : (b : Pipeline) (flow : Flow) (i : Instr) → IsFlow b flow → instr_at b.program.now flow.future.pc ≡ Some i → reaches_memory i.op ≡ true → b.queue ≤ flow.accesses → IsStuck b flow
+pub no_place : (b : Pipeline) (flow : Flow) (i : Instr) → Flows b flow → instr_at b.program.now flow.future.pc ≡ Some i → reaches_memory i.op ≡ true → b.queue ≤ flow.accesses → IsStuck b flow
 no_place b flow i h is reaches full =
     let W = window_of b flow in
     let few = accesses_most W (length W) in
     record {
-      stuck = QueueFull (record { instr = i; is = ap (instr_at b.program.now) (sym h.flowing.foresees.path) ∙ is; reaches = reaches; full = omega (arith, full, h.flowing.accesses) });
-      some = omega (arith, few, full, h.flowing.accesses, h.unit.least);
+      stuck = QueueFull (record { instr = i; is = ap (instr_at b.program.now) (sym h.flows.flowing.foresees.path) ∙ is; reaches = reaches; full = omega (arith, full, h.flows.flowing.accesses) });
+      some = omega (arith, few, full, h.flows.flowing.accesses, h.flows.unit.least);
     }
 
 -- What a flow leaves
@@ -102,5 +102,6 @@ can_restore b flow h =
           (noted_unit (with_reopened flow.from (filled b W)) false flow.from h.reopens
           (record { no_miss = h.reopens.noted.no_miss; are_settled = older_settled flow.from W h.from h.flowing.completed }));
       there = h.flowing.there;
+      all = h.flowing.foresees.all;
       room = λ w e. absurd (cc (e, h.last));
     }

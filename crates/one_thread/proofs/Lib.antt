@@ -50,9 +50,12 @@ pub mod Ends
 pub mod Stores
 pub mod FlowRuns
 pub mod FlowJoins
+pub mod FlowKept
 pub mod FlowLast
 pub mod FlowIn
 pub mod FlowPassed
 pub mod FlowOut
+pub mod FlowLeft
 pub mod FlowStays
+pub mod Kept
 pub mod Flowing

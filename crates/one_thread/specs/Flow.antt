@@ -11,13 +11,15 @@ use Rattle.instructions.specs.declared.op.Op.{Op}
 use Rattle.instructions.specs.declared.guessing.Leaver.{Leaver}
 use Rattle.instructions.specs.declared.stop.Outcome.{Outcome}
 use Rattle.instructions.specs.declared.stop.Outcome.TheVariants.{Address, Next}
+use Rattle.instructions.specs.declared.end.Ending.{Ending}
 use Rattle.instructions.specs.declared.stop.Stop.{Stop}
 use Rattle.inorder.specs.Committed.{ahead_by}
-use Rattle.inorder.specs.Machine.{State}
+use Rattle.inorder.specs.Machine.{State, store_bytes}
 use Rattle.lsq.specs.LoadRule.{answer_over}
 use Rattle.lsq.specs.declared.entry.Entry.{Entry}
 use Rattle.one_thread.specs.Changes.{registers_of, run_from}
 use Rattle.one_thread.specs.CompletedRing.{station_by, stations, stores}
+use Rattle.one_thread.specs.Kept.{HaveKept, registers_before, with_held}
 use Rattle.one_thread.specs.Leaves.{with_station}
 use Rattle.one_thread.specs.Loads.{value_by}
 use Rattle.one_thread.specs.Notes.{settled_by}
@@ -31,7 +33,8 @@ use Rattle.one_thread.specs.declared.execute.Operands.{Operands}
 use Rattle.one_thread.specs.declared.flow.Flow.{Flow}
 use Rattle.one_thread.specs.declared.completed_ring.Completed.{Completed}
 use Rattle.one_thread.specs.declared.pipeline.Pipeline.{Pipeline}
-use Rattle.one_thread.specs.declared.station.Stage.TheVariants.{Done as IsDone, Stops}
+use Rattle.one_thread.specs.declared.station.Stage.{Stage}
+use Rattle.one_thread.specs.declared.station.Stage.TheVariants.{Addr, Done as IsDone, Stops}
 use Rattle.one_thread.specs.declared.station.Station.{Station}
 
 -- What a load of an address gets behind these stores, if none blocks it
@@ -97,6 +100,20 @@ pub record IsFlow (b : Pipeline) (flow : Flow) : Type 0 where
   pub from : flow.from ≤ length (window_of b flow)
   pub reopens : StandsForSome (with_reopened flow.from (filled b (window_of b flow)))
 
+-- The fields of a unit in a flow: its registers are those that the oldest instruction found
+abbrev pub in_order : Pipeline → Flow → Pipeline
+in_order b flow =
+    record b {
+      committed = record b.committed {
+        registers = with_held b.low flow.held (registers_before b.program.now flow.ring.completed flow.future.values);
+      };
+    }
+
+-- A flow stands for the window, and keeps what the registers have held
+pub record Flows (b : Pipeline) (flow : Flow) : Type 0 where
+  pub flows : IsFlow (in_order b flow) flow
+  pub kept : HaveKept b.program.now (registers_of (in_order b flow)) flow.ring.completed flow.future.values
+
 -- The next instruction can enter
 pub record CanEnter (b : Pipeline) (flow : Flow) : Type 0 where
   pub instr : Instr
@@ -111,7 +128,7 @@ with_leaver station left b = record b { leavers = slice_set b.leavers station le
 -- The next instruction can enter, and who has left its station was told of
 pub record HasPlace (b : Pipeline) (flow : Flow) : Type 0 where
   pub before : Pipeline
-  pub flows : IsFlow before flow
+  pub flows : Flows before flow
   pub can : CanEnter before flow
   pub leavers :
       b.leavers ≡ slice_set before.leavers ((before.oldest + length (window_of before flow)) % before.ring) None
@@ -128,10 +145,18 @@ Upcoming b flow None = ⊤
 Upcoming b flow (Some true) = CanEnter b flow
 Upcoming b flow (Some false) = IsStuck b flow
 
--- The next instruction as one that has completed
-abbrev pub completed_as : Flow → ℕ → Done → Completed
-completed_as flow predicted d =
-    record { pc = flow.future.pc; half = flow.half; predicted = predicted; next = d.next; value = d.value }
+-- The next instruction as one that has completed, and keeps this
+abbrev pub completed_as : Flow → ℕ → Done → Bool → ℕ → Completed
+completed_as flow predicted d plain kept =
+    record {
+      pc = flow.future.pc;
+      half = flow.half;
+      plain = plain;
+      predicted = predicted;
+      next = d.next;
+      value = d.value;
+      kept = kept;
+    }
 
 -- The station of the next instruction as it is let
 abbrev pub enters_as : Flow → Instr → ℕ → Station
@@ -156,7 +181,7 @@ comes_to b flow i predicted o =
 abbrev pub Completes : Pipeline → Flow → Instr → ℕ → Operands → Option Done → Type 0
 Completes b flow i predicted o None = ⊤
 Completes b flow i predicted o (Some d) =
-    comes_to b flow i predicted o ≡ station_by i (completed_as flow predicted d)
+    comes_to b flow i predicted o ≡ station_by i (completed_as flow predicted d false 0)
 
 -- The stations of a flow, and one more
 abbrev pub with_last : List Station → Option Station → List Station
@@ -176,12 +201,13 @@ restored b flow =
 pub record CanRestore (b : Pipeline) (flow : Flow) : Type 0 where
   pub unit : StandsForSome (restored b flow)
   pub there : AreThere b.program.now flow.ring.completed
+  pub all : length flow.future.values ≡ 34
   pub room : (w : Station) → flow.last ≡ Some w → length flow.ring.completed < 32
 
 -- An instruction has entered, and has completed or is left as it was let
 abbrev pub HasEntered : Pipeline → Flow → Bool → Type 0
-HasEntered b flow true = IsFlow b flow
-HasEntered b flow false = CanRestore b flow
+HasEntered b flow true = Flows b flow
+HasEntered b flow false = CanRestore (in_order b flow) flow
 
 -- What the oldest tenant commits where all have completed: a first half nothing, any other with what waits for LO
 abbrev pub committed_by : Bool → Station → Option ℕ → State → State
@@ -193,6 +219,22 @@ abbrev pub low_by : Bool → Station → Option ℕ
 low_by true w = Some (unwrap_or w.made 0)
 low_by false w = None
 
+-- The memory behind a station that has kept this
+abbrev pub memory_kept : Op → Stage → ℕ → List ℕ → List ℕ
+memory_kept op (Addr a) kept memory = store_bytes memory a (width op) kept
+memory_kept op _ kept memory = memory
+
+-- What the oldest tenant commits but for its register, which holds that since it has completed
+abbrev pub passed_by : Bool → Station → ℕ → State → State
+passed_by true w kept s = s
+passed_by false w kept s =
+    record s { memory = memory_kept w.instr.op w.stage kept s.memory; pc = w.next; count = suc s.count }
+
+-- What LO holds behind it while a value waits: what a first half has kept
+abbrev pub held_by : Bool → ℕ → ℕ → ℕ
+held_by true kept held = kept
+held_by false kept held = held
+
 -- How many retirements there are up to a limit at the most
 abbrev pub to_do : ℕ → Pipeline → ℕ
 to_do limit b = (limit - b.committed.count) * 2 + (if is_none b.low then 1 else 0)
@@ -201,9 +243,13 @@ to_do limit b = (limit - b.committed.count) * 2 + (if is_none b.low then 1 else 
 abbrev pub ahead_to : ℕ → Pipeline → Flow → ℕ
 ahead_to limit b flow = to_do limit b * 64 + (32 - length flow.ring.completed)
 
+-- The run from a flow until the count has reached a limit
+abbrev pub run_in : Pipeline → Flow → ℕ → Ending × State
+run_in b flow limit = run_from (in_order b flow) limit
+
 -- The oldest instruction of a flow has retired, and this is to be told of who has left its station
 pub record OldestRetired (b : Pipeline) (flow : Flow) (left : Option Leaver) (later : Pipeline) (after : Flow) : Type 0 where
-  pub flows : IsFlow (with_leaver b.oldest left later) after
+  pub flows : Flows (with_leaver b.oldest left later) after
   pub shorter : length flow.ring.completed ≡ suc (length after.ring.completed)
   pub untold : slice_get later.leavers b.oldest ≡ Some None
   pub inside : b.oldest < b.ring
@@ -211,5 +257,5 @@ pub record OldestRetired (b : Pipeline) (flow : Flow) (left : Option Leaver) (la
   pub ring : later.ring ≡ b.ring
   pub code : later.code ≡ b.code
   pub program : later.program ≡ b.program
-  pub ends : (limit : ℕ) → b.committed.count < limit → run_from later limit ≡ run_from b limit
+  pub ends : (limit : ℕ) → b.committed.count < limit → run_in later after limit ≡ run_in b flow limit
   pub less : (limit : ℕ) → b.committed.count < limit → to_do limit later < to_do limit b

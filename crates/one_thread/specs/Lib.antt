@@ -21,6 +21,7 @@ pub mod Steps
 pub mod Ordered
 pub mod Seeds
 pub mod CompletedRing
+pub mod Kept
 pub mod Futures
 pub mod Reopened
 pub mod Flow

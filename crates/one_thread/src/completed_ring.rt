@@ -12,12 +12,16 @@ use std::marker::Model;
 pub struct Completed {
     pub pc: u32,
     pub half: Half,
+    /// Its operation computes one value, and the path goes on behind it. Else this may be left open.
+    pub plain: bool,
     /// The next pc that was predicted.
     pub predicted: u32,
     /// Where it has gone on.
     pub next: u32,
     /// What it has made for its register, or where it stores; 0 for a jump that does not link.
     pub value: u32,
+    /// What its register held before; of a store, what it writes.
+    pub kept: u32,
 }
 
 /// At most 32 completed instructions in a ring of slots, the oldest first, and the entries of the stores among them.
@@ -54,9 +58,11 @@ fn unused() -> Completed {
     Completed {
         pc: 0,
         half: Half::Low,
+        plain: false,
         predicted: 0,
         next: 0,
         value: 0,
+        kept: 0,
     }
 }
 
@@ -115,11 +121,11 @@ impl CompletedRing {
 
     /// The oldest instruction.
     #[inline(always)]
-    pub fn oldest(&self) -> Completed
+    pub fn oldest(&self) -> &Completed
         requires { 0 < length self.now.completed }
-        ensures { slice_get self.now.completed 0 ≡ Some result }
+        ensures { slice_get self.now.completed 0 ≡ Some result.now }
     {
-        self.slots[self.start]
+        &self.slots[self.start]
     }
 
     /// An instruction joins.

@@ -2,7 +2,7 @@
 ghost use Rattle.std.specs.Prelude.{⊤, ◌≡◌, ◌<◌, suc, length, slice_get, slice_set, IsFalse, IsTrue, None, Some};
 ghost use Rattle.instructions.specs.declared.op.Half.TheVariants.{Low};
 ghost use Rattle.one_thread.specs.Decoding.{HasInstr, IsDecoded};
-ghost use Rattle.one_thread.specs.Flow.{CanEnter, HasEntered, HasPlace, IsFlow, IsLast, Upcoming, enters_as};
+ghost use Rattle.one_thread.specs.Flow.{CanEnter, Flows, HasEntered, HasPlace, IsLast, Upcoming, enters_as, in_order};
 ghost use Rattle.one_thread.specs.Givers.{Chosen};
 
 use crate::decoded::{Decoded, access};
@@ -80,7 +80,7 @@ impl<'a> Pipeline<'a> {
     /// Whether the next instruction can enter, if there is one; else nothing can be done before the oldest leaves.
     #[inline(always)]
     pub fn upcoming(&self, flow: &Flow) -> Option<bool>
-        requires flow { IsFlow self.now flow.now }
+        requires flow { Flows self.now flow.now }
         requires room { length flow.now.ring.completed < self.now.ring }
         requires code { IsDecoded self.now.code.items self.now.program.now }
         ensures { Upcoming self.now flow.now result }
@@ -109,6 +109,7 @@ impl<'a> Pipeline<'a> {
         ensures entered { HasEntered self.now flow.new result }
         ensures longer { Chosen result (length flow.new.ring.completed ≡
             suc (length flow.old.ring.completed)) ⊤ }
+        ensures order { in_order self.now flow.new ≡ in_order self.now flow.old }
     {
         let pc = flow.future.pc;
         let instr = fetch_known(self.code.as_slice(), pc);
@@ -124,12 +125,8 @@ impl<'a> Pipeline<'a> {
             Self::stays(flow, instr, predicted);
             return false;
         }
-        flow.joins(
-            instr,
-            flow.completed(half, predicted, done),
-            operands.b,
-            plain,
-        );
+        let completed = flow.completed(instr, half, predicted, done, operands.b, plain);
+        flow.joins(instr, completed, operands.b, plain);
         if is_miss {
             flow.from = flow.ring.len();
         }
@@ -149,6 +146,7 @@ impl<'a> Pipeline<'a> {
         ensures entered { HasEntered self.now flow.new result }
         ensures longer { Chosen result (length flow.new.ring.completed ≡
             suc (length flow.old.ring.completed)) ⊤ }
+        ensures order { in_order self.now flow.new ≡ in_order self.now flow.old }
     {
         let half = flow.half;
         self.runs_next(predictor, flow, left, half, false)
@@ -201,6 +199,7 @@ impl<'a> Pipeline<'a> {
         ensures entered { HasEntered self.now flow.new result }
         ensures longer { Chosen result (length flow.new.ring.completed ≡
             suc (length flow.old.ring.completed)) ⊤ }
+        ensures order { in_order self.now flow.new ≡ in_order self.now flow.old }
     {
         if flow.half == Half::Low && self.is_plain(flow) {
             return self.runs_next(predictor, flow, left, Half::Low, true);
@@ -214,11 +213,12 @@ impl<'a> Pipeline<'a> {
     /// Lets the next instruction, and runs it as far as it comes. Answers whether it has completed.
     #[inline(always)]
     pub fn enters_flow<P: Predictor>(&mut self, predictor: &mut P, flow: &mut Flow) -> bool
-        requires flow { IsFlow self.old flow.old }
+        requires flow { Flows self.old flow.old }
         requires can { CanEnter self.old flow.old }
         ensures entered { HasEntered self.new flow.new result }
         ensures longer { Chosen result (length flow.new.ring.completed ≡
             suc (length flow.old.ring.completed)) ⊤ }
+        ensures order { in_order self.new flow.new ≡ in_order self.new flow.old }
         ensures rest { self.new ≡ record self.old { leavers = self.new.leavers } }
     {
         let station = self.station_at(flow.ring.len());

@@ -1,11 +1,13 @@
 //! The flow: live tenants that have all completed, and what the next instruction finds.
 ghost use Rattle.std.specs.Prelude.{◌≡◌, ◌<◌, ◌≤◌, ◌+◌, ◌-◌, ◌∷◌, ◌++◌, [], drop, length, IsTrue, false};
 ghost use Rattle.instructions.specs.declared.op.Kind.TheVariants.{Computes};
+ghost use Rattle.inorder.specs.Machine.{write};
 ghost use Rattle.inorder.specs.Unit.{half_after};
 ghost use Rattle.instructions.specs.Instruction.{is_first_half, is_pair, kind as kind_of};
 ghost use Rattle.one_thread.specs.Flow.{completed_as};
 ghost use Rattle.one_thread.specs.CompletedRing.{station_by, store_with};
 ghost use Rattle.one_thread.specs.Futures.{GoesOnBehind};
+ghost use Rattle.one_thread.specs.Kept.{kept_with};
 ghost use Rattle.one_thread.specs.Loads.{with_entry};
 ghost use Rattle.one_thread.specs.Window.{access_of};
 
@@ -30,21 +32,50 @@ pub struct Flow {
     pub from: usize,
     /// The station of the last instruction that was let, if it is left as it was let.
     pub last: Option<Station>,
+    /// What LO is committed to hold, where what a first half has made waits for it.
+    pub held: u32,
 }
 
 impl Flow {
+    /// What an instruction keeps: a store its content, any other what its register holds.
+    #[inline(always)]
+    pub fn kept(&self, instr: &Decoded, half: Half, content: u32, plain: bool) -> u32
+        requires plain { IsTrue plain → kind_of instr.now.op ≡ Computes }
+        requires all { length self.now.future.values ≡ 34 }
+        ensures { result ≡ kept_with instr.now half content self.now.future.values }
+    {
+        match instr.kind() {
+            Kind::Stores if !plain => content,
+            _ => self.future.values[instr.destination(half).number() as usize],
+        }
+    }
+
     /// The next instruction as one that has completed.
     #[inline(always)]
-    pub fn completed(&self, half: Half, predicted: u32, done: Done) -> Completed
-        requires { half ≡ self.now.half }
-        ensures { result ≡ completed_as self.now predicted done }
+    pub fn completed(
+        &self,
+        instr: &Decoded,
+        half: Half,
+        predicted: u32,
+        done: Done,
+        content: u32,
+        plain: bool,
+    ) -> Completed
+        requires half { half ≡ self.now.half }
+        requires plain { IsTrue plain → kind_of instr.now.op ≡ Computes }
+        requires all { length self.now.future.values ≡ 34 }
+        ensures { result ≡ completed_as self.now predicted done plain
+            (kept_with instr.now half content self.now.future.values) }
     {
+        let kept = self.kept(instr, half, content, plain);
         Completed {
             pc: self.future.pc,
             half,
+            plain,
             predicted,
             next: done.next,
             value: done.value,
+            kept,
         }
     }
 
@@ -60,12 +91,15 @@ impl Flow {
         ensures completed { self.new.ring.completed ≡ self.old.ring.completed ++ completed ∷ [] }
         ensures stores { self.new.ring.stores ≡
             with_entry self.old.ring.stores (store_with (station_by instr.now completed) content) }
+        ensures values { self.new.future.values ≡ write self.old.future.values
+            (station_by instr.now completed).destination completed.value }
         ensures future { GoesOnBehind self.old.future (station_by instr.now completed).destination
             (station_by instr.now completed).made completed.next self.new.future }
         ensures half { self.new.half ≡ half_after (is_first_half instr.now.op completed.half) }
         ensures accesses { self.new.accesses ≡ self.old.accesses + access_of instr.now }
         ensures from { self.new.from ≡ self.old.from }
         ensures last { self.new.last ≡ self.old.last }
+        ensures held { self.new.held ≡ self.old.held }
     {
         let destination = instr.destination(completed.half);
         self.ring.push(completed);
@@ -83,15 +117,15 @@ impl Flow {
         }
     }
 
-    /// The oldest instruction leaves, without its entry: those behind it have completed for good.
+    /// The oldest instruction leaves, without its entry, where it counts for so many accesses: those behind it have
+    /// completed for good.
     #[inline(always)]
-    pub fn leaves(&mut self, instr: &Decoded, plain: bool)
-        requires plain { IsTrue plain → kind_of instr.now.op ≡ Computes }
+    pub fn leaves(&mut self, accesses: usize)
         requires some { 0 < length self.old.ring.completed }
-        requires counted { access_of instr.now ≤ self.old.accesses }
+        requires counted { accesses ≤ self.old.accesses }
         ensures completed { self.new.ring.completed ≡ drop 1 self.old.ring.completed }
         ensures stores { self.new.ring.stores ≡ self.old.ring.stores }
-        ensures accesses { self.new.accesses ≡ self.old.accesses - access_of instr.now }
+        ensures accesses { self.new.accesses ≡ self.old.accesses - accesses }
         ensures from { self.new.from ≡ length self.new.ring.completed }
         ensures rest { self.new ≡ record self.old {
           ring = self.new.ring;
@@ -99,9 +133,7 @@ impl Flow {
           from = self.new.from;
         } }
     {
-        if !plain {
-            self.accesses -= access(instr);
-        }
+        self.accesses -= accesses;
         self.ring.shift();
         self.from = self.ring.len();
     }

@@ -1,5 +1,6 @@
 //! What a tenant finds that is let next, where all live ones have made what they write.
-ghost use Rattle.std.specs.Prelude.{◌≡◌, ◌≢◌, ◌<◌, ℕ, [], length, slice_index, Option, Some};
+ghost use Rattle.std.specs.Prelude.{◌≡◌, ◌≢◌, ◌<◌, ℕ, [], length, slice_index, slice_set, Option, Some};
+ghost use Rattle.inorder.specs.Machine.{write};
 ghost use Rattle.instructions.specs.Instruction.{first_of, second_of};
 ghost use Rattle.one_thread.specs.Futures.{Foresees, GoesOnBehind};
 
@@ -36,7 +37,8 @@ impl Future {
     #[inline(always)]
     pub fn follows(&mut self, destination: Reg, value: u32, next: u32)
         requires { length self.old.values ≡ 34 }
-        ensures { (made : Option ℕ) → (destination ≢ 0 → made ≡ Some value) →
+        ensures values { self.new.values ≡ write self.old.values destination value }
+        ensures on { (made : Option ℕ) → (destination ≢ 0 → made ≡ Some value) →
             GoesOnBehind self.old destination made next self.new }
     {
         let r = destination.number() as usize;
@@ -49,7 +51,8 @@ impl Future {
     /// The values where nobody is live.
     pub fn behind(ahead: &Ahead) -> Future
         requires { length ahead.now.registers ≡ 34 }
-        ensures { Foresees result ahead.now.registers ahead.now.pc [] }
+        ensures values { result.values ≡ slice_set ahead.now.registers 0 0 }
+        ensures on { Foresees result ahead.now.registers ahead.now.pc [] }
     {
         let mut values = *ahead.committed.registers();
         if let Some(low) = *ahead.low {

@@ -1,7 +1,6 @@
 //! The rounds of a flow: an instruction enters, and the oldest leaves.
 ghost use Rattle.std.specs.Prelude.{⊤, ◌≡◌, ◌<◌, ◌≤◌, length};
-ghost use Rattle.one_thread.specs.Changes.{run_from};
-ghost use Rattle.one_thread.specs.Flow.{CanRestore, HasEntered, IsFlow, ahead_to};
+ghost use Rattle.one_thread.specs.Flow.{CanRestore, Flows, HasEntered, ahead_to, in_order, run_in};
 ghost use Rattle.one_thread.specs.Givers.{Chosen};
 
 use crate::flow::Flow;
@@ -14,14 +13,14 @@ impl<'a> Pipeline<'a> {
     // station. Answers whether each has completed.
     #[inline(always)]
     fn rounds<P: Predictor>(&mut self, predictor: &mut P, flow: &mut Flow, limit: u64) -> bool
-        requires flow { IsFlow self.old flow.old }
+        requires flow { Flows self.old flow.old }
         requires below { self.old.committed.count < limit }
         ensures entered { HasEntered self.new flow.new result }
         ensures room { Chosen result (length flow.new.ring.completed < self.new.ring) ⊤ }
         ensures code { self.new.code ≡ self.old.code }
         ensures program { self.new.program ≡ self.old.program }
         ensures more { self.old.committed.count ≤ self.new.committed.count }
-        ensures ends { run_from self.new limit ≡ run_from self.old limit }
+        ensures ends { run_in self.new flow.new limit ≡ run_in self.old flow.old limit }
         ensures less { ahead_to limit self.new flow.new ≤ ahead_to limit self.old flow.old }
     {
         while flow.ring.len() == self.ring {
@@ -42,13 +41,13 @@ impl<'a> Pipeline<'a> {
     /// reached a limit.
     #[inline(always)]
     pub fn flows<P: Predictor>(&mut self, predictor: &mut P, flow: &mut Flow, limit: u64)
-        requires flow { IsFlow self.old flow.old }
+        requires flow { Flows self.old flow.old }
         requires room { length flow.old.ring.completed < self.old.ring }
-        ensures flow { CanRestore self.new flow.new }
+        ensures flow { CanRestore (in_order self.new flow.new) flow.new }
         ensures code { self.new.code ≡ self.old.code }
         ensures program { self.new.program ≡ self.old.program }
         ensures more { self.old.committed.count ≤ self.new.committed.count }
-        ensures ends { run_from self.new limit ≡ run_from self.old limit }
+        ensures ends { run_in self.new flow.new limit ≡ run_in self.old flow.old limit }
     {
         while self.committed.count() < limit {
             let Some(fits) = self.upcoming(flow) else {

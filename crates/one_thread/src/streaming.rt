@@ -7,13 +7,14 @@
 //! not complete then, all of these are again as they were let. So what stands in the stations behind each retirement
 //! is meant to be the same as if all turns were made one by one, in their order; the contracts promise a unit that
 //! legal steps reach, and the end of the run.
-ghost use Rattle.std.specs.Prelude.{◌≡◌, ◌<◌, ◌≤◌, length, slice_get, is_some, true, IfSome, None, Some};
+ghost use Rattle.std.specs.Prelude.{◌≡◌, ◌<◌, ◌≤◌, length, slice_get, false, is_some, true, IfSome, None, Some};
 ghost use Rattle.instructions.specs.Instruction.{kind as kind_of};
 ghost use Rattle.instructions.specs.Programs.{instr_at};
 ghost use Rattle.one_thread.specs.Changes.{run_from};
 ghost use Rattle.one_thread.specs.Decoding.{IsDecoded};
-ghost use Rattle.one_thread.specs.Flow.{AreThere, CanRestore, IsFlow, restored, window_of};
+ghost use Rattle.one_thread.specs.Flow.{AreThere, CanRestore, Flows, in_order, restored, window_of};
 ghost use Rattle.one_thread.specs.CompletedRing.{made_by, stage_by, station_in};
+ghost use Rattle.one_thread.specs.Kept.{registers_before};
 ghost use Rattle.one_thread.specs.Reopened.{reopened};
 ghost use Rattle.one_thread.specs.StandsFor.{StandsForSome};
 
@@ -25,7 +26,7 @@ use crate::future::Future;
 use crate::pipeline::Pipeline;
 use crate::station::{Stage, Station, made_at_let};
 use crate::window::Window;
-use instructions::{Kind, Predictor};
+use instructions::{Kind, Predictor, Reg};
 
 // What a station has made, or where it stores, if it has completed.
 fn value_of(station: &Station) -> Option<u32>
@@ -49,6 +50,7 @@ impl<'a> Pipeline<'a> {
         ensures there { IfSome result (λ c.
             instr_at self.now.program.now c.pc ≡ Some station.now.instr) }
         ensures same { IfSome result (λ c. station_in self.now.program.now c ≡ station.now) }
+        ensures open { IfSome result (λ c. c.plain ≡ false) }
     {
         let instr = fetch(self.code.as_slice(), station.pc)?;
         if !instr.to_instr().is_same(&station.instr.to_instr()) {
@@ -61,9 +63,11 @@ impl<'a> Pipeline<'a> {
         Some(Completed {
             pc: station.pc,
             half: station.half,
+            plain: false,
             predicted: station.predicted,
             next: station.next,
             value,
+            kept: 0,
         })
     }
 
@@ -72,7 +76,8 @@ impl<'a> Pipeline<'a> {
         requires unit { StandsForSome self.now }
         requires goes_on { self.now.over ≡ None }
         requires two { 2 ≤ self.now.ring }
-        ensures flow { IfSome result (IsFlow self.now) }
+        ensures flow { IfSome result (Flows self.now) }
+        ensures same { IfSome result (λ flow. in_order self.now flow ≡ self.now) }
         ensures room { IfSome result (λ flow. length flow.ring.completed < self.now.ring) }
     {
         if self.ring <= self.window.len() {
@@ -85,11 +90,14 @@ impl<'a> Pipeline<'a> {
             accesses: 0,
             from: 0,
             last: None,
+            held: self.committed.register(Reg::LO),
         };
         for i in 0..self.window.len() {
             let station = self.window.get(i);
             let completed = self.completed(&station)?;
             let content = flow.future.operands(&station.instr).b;
+            let kept = flow.kept(&station.instr, station.half, content, false);
+            let completed = Completed { kept, ..completed };
             flow.joins(&station.instr, completed, content, false);
         }
         flow.from = flow.ring.len();
@@ -138,12 +146,50 @@ impl<'a> Pipeline<'a> {
         }
     }
 
-    // The window is what a flow leaves.
+    // The registers that the oldest instruction of a flow has found.
+    fn registers_before(&self, flow: &Flow) -> [u32; 34]
+        requires code { IsDecoded self.now.code.items self.now.program.now }
+        requires there { AreThere self.now.program.now flow.now.ring.completed }
+        requires all { length flow.now.future.values ≡ 34 }
+        ensures registers { result ≡ registers_before self.now.program.now
+            flow.now.ring.completed flow.now.future.values }
+        ensures all { length result ≡ 34 }
+    {
+        let mut registers = flow.future.values;
+        let mut i = flow.ring.len();
+        while 0 < i {
+            i -= 1;
+            let completed = flow.ring.get(i);
+            let instr = fetch_known(self.code.as_slice(), completed.pc);
+            let r = instr.destination(completed.half).number() as usize;
+            if r != 0 {
+                registers[r] = completed.kept;
+            }
+        }
+        registers
+    }
+
+    // The registers are those that are committed.
+    fn restores_registers(&mut self, flow: &Flow)
+        requires code { IsDecoded self.old.code.items self.old.program.now }
+        requires there { AreThere self.old.program.now flow.now.ring.completed }
+        requires all { length flow.now.future.values ≡ 34 }
+        ensures { self.new ≡ in_order self.old flow.now }
+    {
+        let mut registers = self.registers_before(flow);
+        if self.low.is_some() {
+            registers[Reg::LO.number() as usize] = flow.held;
+        }
+        self.committed.restore(&registers);
+    }
+
+    // The registers and the window are what a flow leaves.
     fn restores(&mut self, flow: &Flow)
         requires code { IsDecoded self.old.code.items self.old.program.now }
-        requires flow { CanRestore self.old flow.now }
-        ensures { self.new ≡ restored self.old flow.now }
+        requires flow { CanRestore (in_order self.old flow.now) flow.now }
+        ensures { self.new ≡ restored (in_order self.old flow.now) flow.now }
     {
+        self.restores_registers(flow);
         self.window.clear();
         for i in 0..flow.ring.len() {
             let station = self.station_at_exit(flow, i);

@@ -10,18 +10,18 @@ returns-in-Stores-clause-future c =
     let i = c.args.instr.now in
     let x = c.args.completed in
     subst (λ d. GoesOnBehind c.args.self.now.future d (made_by (kind i.op) x.value) x.next c.follows.new.self) c.destination-destination.ensures
-    (c.follows.ensures (made_by (kind i.op) x.value) (λ n. made_where i x.half x.value (λ z. n (c.destination-destination.ensures ∙ z))))
+    (c.follows.ensures.on (made_by (kind i.op) x.value) (λ n. made_where i x.half x.value (λ z. n (c.destination-destination.ensures ∙ z))))
 
 pub returns-in_default-clause-future : goal.returns-in_default-clause-future
 returns-in_default-clause-future c =
     let i = c.args.instr.now in
     let x = c.args.completed in
     subst (λ d. GoesOnBehind c.args.self.now.future d (made_by (kind i.op) x.value) x.next c.follows.new.self) c.destination-destination.ensures
-    (c.follows.ensures (made_by (kind i.op) x.value) (λ n. made_where i x.half x.value (λ z. n (c.destination-destination.ensures ∙ z))))
+    (c.follows.ensures.on (made_by (kind i.op) x.value) (λ n. made_where i x.half x.value (λ z. n (c.destination-destination.ensures ∙ z))))
 
 pub returns-then-plain-clause-future : goal.returns-then-plain-clause-future
 returns-then-plain-clause-future c =
     let i = c.args.instr.now in
     let x = c.args.completed in
     subst (λ d. GoesOnBehind c.args.self.now.future d (made_by (kind i.op) x.value) x.next c.follows.new.self) c.destination-destination.ensures
-    (c.follows.ensures (made_by (kind i.op) x.value) (λ n. made_where i x.half x.value (λ z. n (c.destination-destination.ensures ∙ z))))
+    (c.follows.ensures.on (made_by (kind i.op) x.value) (λ n. made_where i x.half x.value (λ z. n (c.destination-destination.ensures ∙ z))))

@@ -14,4 +14,8 @@ returns c =
           ∙ sym (ap (λ o. with_low o registers) w.in-Some.is)
       | in_default w ↦ w.values-is ∙ c.registers.ensures ∙ sym (ap (λ o. with_low o registers) w.in_default.is)
     ] in
-    nobody_live c.match-ahead.values c.args.ahead.now.registers c.pc.result c.args.ahead.now.pc (is ∙ ap (λ s. s.registers) c.ahead.view_is) (c.pc.ensures ∙ ap (λ s. s.pc) c.ahead.view_is) c.requires
+    let all : c.match-ahead.values ≡ c.args.ahead.now.registers = is ∙ ap (λ s. s.registers) c.ahead.view_is in
+    record {
+      values = ap (λ l. set l 0 0) all;
+      on = nobody_live c.match-ahead.values c.args.ahead.now.registers c.pc.result c.args.ahead.now.pc all (c.pc.ensures ∙ ap (λ s. s.pc) c.ahead.view_is) c.requires;
+    }

@@ -6,8 +6,8 @@ use Rattle.one_thread.proofs.Futures.{behind_none, behind_writes}
 use Rattle.one_thread.proofs.future.Future.follows.Goals.{then-r-ne0, else-r-ne0}
 use Rattle.one_thread.proofs.future.Future.follows.Goals as goal
 
-pub returns : goal.returns
-returns c made is =
+pub returns-clause-on : goal.returns-clause-on
+returns-clause-on c made is =
     let f = c.args.self.now in
     let d = c.args.destination in
     let v = c.args.value in

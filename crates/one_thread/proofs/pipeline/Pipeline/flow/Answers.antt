@@ -1,13 +1,37 @@
-use Rattle.std.proofs.Common.{◌<◌, ◌≤◌, length, sym, ap, ◌∙◌, arith}
+use Rattle.std.proofs.Common.{◌≡◌, ◌<◌, ◌≤◌, length, rules, None, refl, sym, ap, ◌∙◌, subst, arith, true≢false}
+use Rattle.std.specs.Prelude.{slice_set}
 use Rattle.std.proofs.lemmas.List.{take_all}
+use Rattle.one_thread.specs.Changes.{registers_of}
+use Rattle.one_thread.specs.CompletedRing.{stations}
+use Rattle.one_thread.specs.Flow.{IsFlowing, window_of}
+use Rattle.one_thread.specs.Kept.{HasKept, HaveKept, kept_with}
+use Rattle.one_thread.specs.declared.completed_ring.Completed.{Completed}
+use Rattle.one_thread.specs.declared.station.Station.{Station}
 use Rattle.one_thread.proofs.Completions.{station_is, stations_long}
 use Rattle.one_thread.proofs.FlowJoins.{HasJoined, joined, joined_window}
+use Rattle.one_thread.proofs.FlowKept.{begins, begins_in_order, joins_kept}
+use Rattle.one_thread.proofs.Kept.{kept_now, set_zero, zero_held}
 use Rattle.one_thread.proofs.FlowStays.{begun, room_among, taken}
 use Rattle.one_thread.proofs.Flowing.{registers_all}
 use Rattle.one_thread.proofs.pipeline.Pipeline.flow.Goals as goal
 
 pub behind-requires : goal.behind-requires
 behind-requires c = ap (λ s. length s.registers) c.ahead.ensures ∙ registers_all c.args.self.now c.requires.unit
+
+pub loop-i-init : goal.loop-i-init
+loop-i-init c =
+    let b = c.args.self.now in
+    let values : c.behind.result.values ≡ registers_of b =
+    c.behind.ensures.values ∙ ap (λ s. slice_set s.registers 0 0) c.ahead.ensures ∙ set_zero (registers_of b) (zero_held b c.requires.unit) in
+    let begun : IsFlowing b (record { ring = c.new.result; future = c.behind.result; half = c.waiting_half.result; accesses = 0; from = 0; last = None; held = c.register.result }) =
+    search rules in
+    record {
+      flowing = begun;
+      window = ap (stations b.program.now) c.new.ensures.completed;
+      last = refl;
+      kept = subst (λ cs. HaveKept b.program.now (registers_of b) cs c.behind.result.values) (sym c.new.ensures.completed) (sym values);
+      held = c.register.ensures;
+    }
 
 pub joins-requires-clause-room : goal.joins-requires-clause-room
 joins-requires-clause-room c =
@@ -35,7 +59,7 @@ loop-i-preserved c =
     let b = c.args.self.now in
     let h = c.loop-i.invariant in
     let i = c.get-station.result.instr in
-    let x = c.in_ok-completed.completed in
+    let x : Completed = record c.in_ok-completed.completed { kept = c.kept-kept.result } in
     let there = c.in_ok-completed.ensures.there in
     let content = c.operands-content.result.b in
     let j : HasJoined c.loop-i.flow c.joins.new.self i x content =
@@ -43,12 +67,25 @@ loop-i-preserved c =
       completed = c.joins.ensures.completed;
       from = c.joins.ensures.from;
       last = c.joins.ensures.last;
+      held = c.joins.ensures.held;
+      values = c.joins.ensures.values;
       stores = c.joins.ensures.stores;
       future = c.joins.ensures.future;
       half = c.joins.ensures.half;
       accesses = c.joins.ensures.accesses;
     } in
+    let half : x.half ≡ c.get-station.result.half = ap (λ (w : Station). w.half) c.in_ok-completed.ensures.same in
+    let read = c.operands-content.ensures in
+    let keeps : HasKept i x c.loop-i.flow.future.values =
     record {
+      kept = c.kept-kept.ensures
+          ∙ ap (λ k. kept_with i k content c.loop-i.flow.future.values) (sym half)
+          ∙ kept_now c.loop-i.flow.future (registers_of b) b.committed.pc (window_of b c.loop-i.flow) i x.half content h.flowing.foresees read.registers.1 read.second;
+      plain = λ e. absurd (true≢false (sym e ∙ c.in_ok-completed.ensures.open));
+    } in
+    record {
+      kept = joins_kept b c.loop-i.flow c.joins.new.self i x content (registers_of b) h.kept j there keeps;
+      held = c.joins.ensures.held ∙ h.held;
       flowing = joined b c.loop-i.flow c.joins.new.self i x content j there h.flowing c.operands-content.ensures.registers.1 c.operands-content.ensures.second;
       window = joined_window b c.loop-i.flow c.joins.new.self i x content j there
           ∙ taken _ b.window c.loop-i.i c.get-station.result _ h.window c.get-station.ensures (sym (station_is b.program.now x i there) ∙ c.in_ok-completed.ensures.same);
@@ -60,7 +97,11 @@ returns-clause-flow c =
     let b = c.args.self.now in
     let h = c.loop-i.invariant in
     let whole = h.window ∙ take_all c.loop-i.i b.window (omega (arith, c.loop-i-test.false, c.len-i-end.ensures.value)) in
-    begun b c.loop-i.flow c.len-2.result c.requires.unit c.requires.two (omega (arith, c.if-self-len.false, c.len.ensures.value)) h.flowing whole h.last c.len-2.ensures.value
+    begins b c.loop-i.flow h.kept h.held c.len-2.result
+    (begun b c.loop-i.flow c.len-2.result c.requires.unit c.requires.two (omega (arith, c.if-self-len.false, c.len.ensures.value)) h.flowing whole h.last c.len-2.ensures.value)
+
+pub returns-clause-same : goal.returns-clause-same
+returns-clause-same c = begins_in_order c.args.self.now c.loop-i.flow c.loop-i.invariant.kept c.loop-i.invariant.held
 
 pub returns-clause-room : goal.returns-clause-room
 returns-clause-room c =

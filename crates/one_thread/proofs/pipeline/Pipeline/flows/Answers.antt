@@ -1,15 +1,19 @@
-use Rattle.std.proofs.Common.{◌≡◌, ◌<◌, ◌-◌, ap, ◌∙◌, arith}
-use Rattle.inorder.specs.Runs.{end_from}
+use Rattle.std.proofs.Common.{◌≡◌, ◌<◌, ap, ◌∙◌, arith}
+use Rattle.instructions.specs.declared.end.Ending.{Ending}
+use Rattle.inorder.specs.Machine.{State}
 use Rattle.one_thread.specs.Changes.{run_from}
+use Rattle.one_thread.specs.Flow.{in_order, run_in}
 use Rattle.one_thread.specs.declared.pipeline.Pipeline.{Pipeline}
 use Rattle.one_thread.proofs.FlowStays.{can_restore}
+use Rattle.one_thread.proofs.pipeline.Pipeline.flows.Given.{Over}
+use Rattle.one_thread.proofs.pipeline.Pipeline.flows.Goals.{After-enters_flow}
 use Rattle.one_thread.proofs.pipeline.Pipeline.flows.Goals as goal
 
 pub returns-in_default-clause-flow : goal.returns-in_default-clause-flow
-returns-in_default-clause-flow g c = can_restore c.loop-self.self c.loop-self.flow c.loop-self.invariant.flow
+returns-in_default-clause-flow g c = can_restore (in_order c.loop-self.self c.loop-self.flow) c.loop-self.flow c.loop-self.invariant.flow.flows
 
 pub returns-clause-flow : goal.returns-clause-flow
-returns-clause-flow g c = can_restore c.loop-self.self c.loop-self.flow c.loop-self.invariant.flow
+returns-clause-flow g c = can_restore (in_order c.loop-self.self c.loop-self.flow) c.loop-self.flow c.loop-self.invariant.flow.flows
 
 pub loop-self-preserved-then-not-fits : goal.loop-self-preserved-then-not-fits
 loop-self-preserved-then-not-fits g c =
@@ -25,21 +29,30 @@ loop-self-preserved-then-not-fits g c =
       ends = left.ends c.args.limit less ∙ before.ends;
     }
 
+-- what enters changes no run
+entered : (g : Over) (c : After-enters_flow g) → run_in c.enters_flow.new.self c.enters_flow.new.flow c.args.limit ≡ run_in c.args.self.now c.args.flow.now c.args.limit
+entered g c =
+    let flow = c.loop-self.flow in
+    let run : Pipeline → Ending × State = λ p. run_in p flow c.args.limit in
+    ap (λ p. run_from p c.args.limit) c.enters_flow.ensures.order ∙ ap run c.enters_flow.ensures.rest ∙ c.loop-self.invariant.ends
+
+pub returns-then-not-enters_flow-clause-ends : goal.returns-then-not-enters_flow-clause-ends
+returns-then-not-enters_flow-clause-ends g c = entered g (goal.at.returns-then-not-enters_flow-clause-ends g c).After-enters_flow
+
+pub returns-then-not-rounds-clause-ends : goal.returns-then-not-rounds-clause-ends
+returns-then-not-rounds-clause-ends g c = c.rounds.ensures.ends ∙ entered g (goal.at.returns-then-not-rounds-clause-ends g c).After-enters_flow
+
 pub loop-self-preserved : goal.loop-self-preserved
 loop-self-preserved g c =
-    let b = c.loop-self.self in
     let mid = c.enters_flow.new.self in
-    let limit = c.args.limit in
     let before = c.loop-self.invariant in
     let on = c.rounds.ensures in
-    let same : mid.committed ≡ b.committed = ap (λ (p : Pipeline). p.committed) c.enters_flow.ensures.rest in
-    let program : mid.program ≡ b.program = ap (λ (p : Pipeline). p.program) c.enters_flow.ensures.rest in
-    let run : run_from mid limit ≡ run_from b limit = ap (λ s. end_from mid.program.now (limit - s.count) s) same ∙ ap (λ p. end_from p.now (limit - b.committed.count) b.committed) program in
+    let rest = c.enters_flow.ensures.rest in
     record {
       flow = c.if-not-rounds.ensures.entered;
       room = c.if-not-rounds.ensures.room;
-      code = on.code ∙ ap (λ (p : Pipeline). p.code) c.enters_flow.ensures.rest ∙ before.code;
-      program = on.program ∙ program ∙ before.program;
-      more = omega (arith, on.more, ap (λ s. s.count) same, before.more);
-      ends = on.ends ∙ run ∙ before.ends;
+      code = on.code ∙ ap (λ (p : Pipeline). p.code) rest ∙ before.code;
+      program = on.program ∙ ap (λ (p : Pipeline). p.program) rest ∙ before.program;
+      more = omega (arith, on.more, ap (λ (p : Pipeline). p.committed.count) rest, before.more);
+      ends = on.ends ∙ entered g (goal.at.loop-self-preserved g c).After-enters_flow;
     }

@@ -1,7 +1,7 @@
 use Rattle.std.proofs.Common.{◌≡◌, ◌++◌, ◌∷◌, [], List, Some, length, take, refl, sym, ap, ◌∙◌, subst, arith, false, length-take}
 use Rattle.std.specs.Prelude.{slice_get}
 use Rattle.std.proofs.lemmas.List.{take_all}
-use Rattle.one_thread.specs.Flow.{window_of, with_last}
+use Rattle.one_thread.specs.Flow.{in_order, window_of, with_last}
 use Rattle.one_thread.specs.Reopened.{reopened}
 use Rattle.one_thread.specs.declared.pipeline.Pipeline.{Pipeline}
 use Rattle.one_thread.specs.declared.station.Station.{Station}
@@ -11,6 +11,11 @@ use Rattle.one_thread.proofs.Reopened.{reopened_long}
 use Rattle.one_thread.proofs.pipeline.Pipeline.restores.Goals.{in-Some, in_default}
 use Rattle.one_thread.proofs.pipeline.Pipeline.restores.Goals as goal
 
+pub loop-i-init : goal.loop-i-init
+loop-i-init c =
+    ap (λ (p : Pipeline). record p { window = c.clear.new.self }) c.restores_registers.ensures
+    ∙ ap (λ W. record (in_order c.args.self.now c.args.flow.now) { window = W }) c.clear.ensures
+
 pub join-requires : goal.join-requires
 join-requires c =
     let V = reopened c.args.flow.now.from (window_of c.args.self.now c.args.flow.now) in
@@ -18,8 +23,8 @@ join-requires c =
 
 pub loop-i-preserved : goal.loop-i-preserved
 loop-i-preserved c =
-    let b = c.args.self.now in
     let flow = c.args.flow.now in
+    let b = in_order c.args.self.now flow in
     let V = reopened flow.from (window_of b flow) in
     let there = subst (λ (p : Pipeline). slice_get (reopened flow.from (window_of p flow)) c.loop-i.i ≡ Some c.station_at_exit-station.result) c.loop-i.invariant c.station_at_exit-station.ensures in
     let same : c.loop-i.self.window ≡ take c.loop-i.i V = ap (λ (p : Pipeline). p.window) c.loop-i.invariant in
@@ -28,8 +33,8 @@ loop-i-preserved c =
 
 pub returns : goal.returns
 returns c =
-    let b = c.args.self.now in
     let flow = c.args.flow.now in
+    let b = in_order c.args.self.now flow in
     let V = reopened flow.from (window_of b flow) in
     let long = stations_long b.program.now flow.ring.completed in
     let same = reopened_long flow.from (window_of b flow) in

@@ -1,4 +1,5 @@
-use Rattle.std.proofs.Common.{refl, sym, ◌∙◌, arith}
+use Rattle.std.proofs.Common.{refl, sym, ap, ◌∙◌, arith}
+use Rattle.one_thread.specs.Changes.{run_from}
 use Rattle.one_thread.proofs.Completions.{stations_long}
 use Rattle.one_thread.proofs.FlowOut.{has_place}
 use Rattle.one_thread.proofs.FlowStays.{no_room}
@@ -24,11 +25,16 @@ loop-self-preserved g c =
       code = d.code ∙ before.code;
       program = d.program ∙ before.program;
       more = omega (arith, c.departs-left.ensures.more, before.more);
-      ends = d.ends c.args.limit before.below ∙ before.ends;
+      ends = ap (λ p. run_from p c.args.limit) c.enters_behind.ensures.order ∙ d.ends c.args.limit before.below ∙ before.ends;
       less = omega (arith, less, before.less);
     }
 
 pub returns-clause-room : goal.returns-clause-room
 returns-clause-room g c =
     let long = stations_long c.loop-self.self.program.now c.loop-self.flow.ring.completed in
-    omega (arith, long, c.loop-self.invariant.flow.most, c.len.ensures.value, c.loop-self-test.false)
+    omega (arith, long, c.loop-self.invariant.flow.flows.most, c.len.ensures.value, c.loop-self-test.false)
+
+pub returns-then-not-enters_behind-clause-ends : goal.returns-then-not-enters_behind-clause-ends
+returns-then-not-enters_behind-clause-ends g c =
+    let before = c.loop-self.invariant in
+    ap (λ p. run_from p c.args.limit) c.enters_behind.ensures.order ∙ c.departs-left.ensures.departed.ends c.args.limit before.below ∙ before.ends

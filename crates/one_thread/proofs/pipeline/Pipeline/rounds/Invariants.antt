@@ -1,17 +1,16 @@
 use Rattle.std.proofs.Common.{◌≡◌, ◌<◌, ◌≤◌}
-use Rattle.one_thread.specs.Changes.{run_from}
-use Rattle.one_thread.specs.Flow.{IsFlow, ahead_to, to_do}
+use Rattle.one_thread.specs.Flow.{Flows, ahead_to, run_in, to_do}
 use Rattle.one_thread.proofs.pipeline.Pipeline.rounds.Given as goal
 
 abbrev pub invariant-loop-self : goal.invariant-loop-self
 invariant-loop-self g l =
     record {
-      flow : IsFlow l.self l.flow;
+      flow : Flows l.self l.flow;
       below : l.self.committed.count < l.limit;
       code : l.self.code ≡ l.fn.self.code;
       program : l.self.program ≡ l.fn.self.program;
       more : l.fn.self.committed.count ≤ l.self.committed.count;
-      ends : run_from l.self l.limit ≡ run_from l.fn.self l.limit;
+      ends : run_in l.self l.flow l.limit ≡ run_in l.fn.self l.fn.flow l.limit;
       less : ahead_to l.limit l.self l.flow ≤ ahead_to l.limit l.fn.self l.fn.flow;
     }
 

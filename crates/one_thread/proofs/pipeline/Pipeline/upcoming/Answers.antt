@@ -12,7 +12,7 @@ returns c =
     let long = stations_long b.program.now flow.ring.completed in
     record {
       instr = i;
-      is = sym (c.in_ok-instr.ensures b.program.now (subst (λ l. IsDecoded l b.program.now) (sym c.as_slice.ensures.value) c.requires.flow.unit.code));
+      is = sym (c.in_ok-instr.ensures b.program.now (subst (λ l. IsDecoded l b.program.now) (sym c.as_slice.ensures.value) c.requires.flow.flows.unit.code));
       free = λ e. elim c.else-is_access.branch [
         | else-is_access-via-then-is_access+else-self-flow w ↦ w.if-self-flow.false
         | else-is_access-via-else-is_access w ↦ absurd (true≢false (sym e ∙ sym c.is_access.ensures ∙ w.if-is_access.false))

@@ -1,0 +1,195 @@
+-- The oldest instruction of a flow leaves, and what the flow keeps stands for its registers.
+use Rattle.std.proofs.Common.{◌≡◌, ◌<◌, ℕ, suc, ◌+◌, ◌-◌, ◌%◌, Bool, true, false, cond, ◌&&◌, List, [], ◌∷◌, length, drop, Option, Some, None, refl, sym, ap, ◌∙◌, subst, arith}
+use Rattle.std.specs.Prelude.{slice_get, slice_set, unwrap_or}
+use Rattle.instructions.specs.Instruction.{destination, is_first_half, is_low, kind}
+use Rattle.instructions.specs.Registers.{lo}
+use Rattle.instructions.specs.Programs.{instr_at}
+use Rattle.instructions.specs.declared.guessing.Leaver.{Leaver}
+use Rattle.instructions.specs.declared.instr.Instr.{Instr}
+use Rattle.inorder.specs.Committed.{with_low}
+use Rattle.inorder.specs.Machine.{State, write}
+use Rattle.one_thread.specs.Changes.{registers_of}
+use Rattle.one_thread.specs.CompletedRing.{instr_there, station_by, station_in, stores_behind}
+use Rattle.one_thread.specs.Flow.{Flows, IsStuck, OldestRetired, committed_by, filled, held_by, in_order, low_by, passed_by, window_of, with_leaver}
+use Rattle.one_thread.specs.Kept.{ComputesOne, HasKept, HaveKept, registers_before, registers_with, with_held}
+use Rattle.one_thread.specs.Leavers.{told_at}
+use Rattle.one_thread.specs.Turns.{Falls}
+use Rattle.one_thread.specs.Window.{access_of}
+use Rattle.one_thread.specs.declared.completed_ring.Completed.{Completed}
+use Rattle.one_thread.specs.declared.flow.Flow.{Flow}
+use Rattle.one_thread.specs.declared.pipeline.Pipeline.{Pipeline}
+use Rattle.one_thread.specs.declared.station.Station.{Station}
+use Rattle.one_thread.proofs.Completions.{low_destination, some_there}
+use Rattle.one_thread.proofs.FlowOut.{HasLeft, IsOldest, fills, left_flow, left_less, left_registers, left_runs, left_shorter, oldest_is, stuck_in}
+use Rattle.one_thread.proofs.FlowPassed.{answer_by, passed_from, passed_shows}
+use Rattle.one_thread.proofs.Kept.{kept_less, put_back, stored, undone, written}
+use Rattle.one_thread.proofs.Untold.{oldest_untold}
+
+pub record HasGone (b later : Pipeline) (flow after : Flow) (i : Instr) (c : Completed) (told : Option Leaver) : Type 0 where
+  pub flows : Flows b flow
+  pub stuck : IsStuck b flow
+  pub is : slice_get flow.ring.completed 0 ≡ Some c
+  pub instr : instr_at b.program.now c.pc ≡ Some i
+  pub completed : after.ring.completed ≡ drop 1 flow.ring.completed
+  pub stores : after.ring.stores ≡ stores_behind (station_by i c) flow.ring.stores
+  pub accesses : after.accesses ≡ flow.accesses - access_of i
+  pub from : after.from ≡ length after.ring.completed
+  pub last : after.last ≡ flow.last
+  pub future : after.future ≡ flow.future
+  pub half : after.half ≡ flow.half
+  pub held : after.held ≡ held_by (is_first_half i.op c.half) c.kept flow.held
+  pub passes : later.committed ≡ passed_by (is_first_half i.op c.half) (station_by i c) c.kept b.committed
+  pub low : later.low ≡ low_by (is_first_half i.op c.half) (station_by i c)
+  pub oldest : later.oldest ≡ (b.oldest + 1) % b.ring
+  pub told_is : told ≡ told_at (station_by i c)
+  pub rest : later ≡ record b { committed = later.committed; low = later.low; oldest = later.oldest }
+
+module _ (b later : Pipeline) (flow after : Flow) (i : Instr) (c : Completed) (told : Option Leaver) (h : HasGone b later flow after i c told) where
+  abbrev w : Station
+  w = station_by i c
+
+  abbrev f : Bool
+  f = is_first_half i.op c.half
+
+  abbrev x : Pipeline
+  x = in_order b flow
+
+  abbrev y : Pipeline
+  y = with_leaver b.oldest told (in_order later after)
+
+  abbrev registers : List ℕ
+  registers = registers_of x
+
+  here : IsOldest x flow i c
+  here = record { flows = h.flows.flows; stuck = stuck_in b flow h.stuck; is = h.is; instr = h.instr }
+
+  there : instr_there b.program.now c.pc ≡ i
+  there = ap (λ o. unwrap_or o (record { op = Rattle.instructions.specs.declared.op.Op.TheVariants.Break; target = 0; first = 0; second = 0; number = 0 })) h.instr
+
+  split : HasKept (instr_there b.program.now c.pc) c registers × HaveKept b.program.now (registers_with b.program.now c registers) (drop 1 flow.ring.completed) flow.future.values
+  split = kept_less b.program.now registers flow.ring.completed flow.future.values c h.is h.flows.kept
+
+  keeps : HasKept i c registers
+  keeps = subst (λ n. HasKept n c registers) there split.0
+
+  with_it : registers_with b.program.now c registers ≡ write registers w.destination c.value
+  with_it = ap (λ n. write registers (destination n c.half) c.value) there
+
+  rest_kept : HaveKept b.program.now (write registers w.destination c.value) after.ring.completed after.future.values
+  rest_kept =
+      subst (λ l. HaveKept b.program.now l after.ring.completed after.future.values) with_it
+      (subst (λ g. HaveKept b.program.now (registers_with b.program.now c registers) after.ring.completed g.values) (sym h.future)
+      (subst (λ cs. HaveKept b.program.now (registers_with b.program.now c registers) cs flow.future.values) (sym h.completed) split.1))
+
+  before : registers_before later.program.now after.ring.completed after.future.values ≡ write registers w.destination c.value
+  before =
+      ap (λ (p : Pipeline). registers_before p.program.now after.ring.completed after.future.values) h.rest
+      ∙ undone b.program.now (write registers w.destination c.value) after.ring.completed after.future.values rest_kept
+
+  none_waits : f ≡ true → x.low ≡ None
+  none_waits e =
+      let filled_x = filled x (window_of x flow) in
+      let shows = passed_shows filled_x (passed_from f filled_x w) w (fills x flow i c here) (oldest_is x flow i c here) refl in
+      let falls : Falls (answer_by true) filled_x (passed_from f filled_x w) = subst (λ g. Falls (answer_by g) filled_x (passed_from f filled_x w)) e shows.falls in
+      falls.1
+
+  commits_by : (g : Bool) → f ≡ g → later.committed ≡ passed_by g w c.kept b.committed → later.low ≡ low_by g w → after.held ≡ held_by g c.kept flow.held →
+      record later.committed { registers = with_held later.low after.held (write registers w.destination c.value) } ≡ committed_by g w x.low x.committed
+  commits_by true e passes low held =
+      let is_lo = low_destination i c.half e in
+      let back : with_held later.low after.held (write registers w.destination c.value) ≡ registers =
+      ap (λ o. with_held o after.held (write registers w.destination c.value)) low
+      ∙ ap (write (write registers w.destination c.value) lo) held
+      ∙ ap (λ d. write (write registers w.destination c.value) d c.kept) (sym is_lo)
+      ∙ put_back i c.half c.value c.kept registers keeps.kept in
+      ap (λ l. record later.committed { registers = l }) (back ∙ ap (λ o. with_low o x.committed.registers) (none_waits e))
+      ∙ ap (λ (s : State). record s { registers = x.committed.registers }) passes
+  commits_by false e passes low held =
+      ap (λ o. record later.committed { registers = with_held o after.held (write registers w.destination c.value) }) low
+      ∙ ap (λ (s : State). record s { registers = write registers w.destination c.value }) passes
+      ∙ ap (λ l. record b.committed { registers = l; memory = Rattle.one_thread.specs.Flow.memory_kept i.op w.stage c.kept b.committed.memory; pc = w.next; count = suc b.committed.count }) (written i c.half c.value registers)
+      ∙ ap (λ m. record b.committed { registers = write registers w.destination (unwrap_or w.made 0); memory = m; pc = w.next; count = suc b.committed.count }) (stored i c.half c.value c.kept registers b.committed.memory keeps.kept)
+
+  left : HasLeft x y flow after i c
+  left =
+      record {
+        here = here;
+        completed = h.completed;
+        stores = h.stores;
+        accesses = h.accesses;
+        from = h.from;
+        last = h.last;
+        future = h.future;
+        half = h.half;
+        commits = ap (λ l. record later.committed { registers = with_held later.low after.held l }) before ∙ commits_by f refl h.passes h.low h.held;
+        low = h.low;
+        oldest = h.oldest;
+        leavers = ap (λ (p : Pipeline). slice_set p.leavers b.oldest told) h.rest ∙ ap (slice_set b.leavers b.oldest) h.told_is;
+        rest = ap (λ (p : Pipeline). record p { committed = y.committed; leavers = y.leavers }) h.rest;
+      }
+
+  pub gone : OldestRetired b flow told later after
+  gone =
+      record {
+        flows = record {
+          flows = left_flow x y flow after i c left;
+          kept = subst (λ (p : Pipeline). HaveKept p.program.now (registers_of y) after.ring.completed after.future.values) (sym h.rest)
+              (subst (λ l. HaveKept b.program.now l after.ring.completed after.future.values) (written i c.half c.value registers ∙ left_registers x y flow after i c left) rest_kept);
+        };
+        shorter = left_shorter x y flow after i c left;
+        untold = subst (λ (p : Pipeline). slice_get p.leavers b.oldest ≡ Some None) (sym h.rest)
+            (oldest_untold (filled x (window_of x flow)) w h.flows.flows.unit (oldest_is x flow i c here));
+        inside = h.flows.flows.unit.oldest;
+        place = h.oldest;
+        ring = ap (λ (p : Pipeline). p.ring) h.rest;
+        code = ap (λ (p : Pipeline). p.code) h.rest;
+        program = ap (λ (p : Pipeline). p.program) h.rest;
+        ends = left_runs x y flow after i c left;
+        less = left_less x y flow after i c left;
+      }
+
+-- One that computes one value leaves with nothing to look at
+
+module _ (b later : Pipeline) (flow after : Flow) (c : Completed) (flows : Flows b flow) (is : slice_get flow.ring.completed 0 ≡ Some c) (plain : c.plain ≡ true) where
+  found : (i : Instr) × (instr_at b.program.now c.pc ≡ Some i)
+  found = some_there (instr_at b.program.now c.pc) (flows.flows.flowing.there 0 c is)
+
+  abbrev one : Instr
+  one = found.0
+
+  computes : ComputesOne one
+  computes =
+      subst ComputesOne (ap (λ o. unwrap_or o (record { op = Rattle.instructions.specs.declared.op.Op.TheVariants.Break; target = 0; first = 0; second = 0; number = 0 })) found.1)
+      ((kept_less b.program.now (registers_of (in_order b flow)) flow.ring.completed flow.future.values c is flows.kept).0.plain plain)
+
+  whole : is_first_half one.op c.half ≡ false
+  whole = ap (λ p. p && is_low c.half) computes.whole
+
+  pub gone_plain : IsStuck b flow → after.ring.completed ≡ drop 1 flow.ring.completed → after.ring.stores ≡ flow.ring.stores → after.from ≡ length after.ring.completed →
+      after ≡ record flow { ring = after.ring; from = after.from } → later.committed ≡ record b.committed { pc = c.next; count = suc b.committed.count } → later.low ≡ None →
+      later.oldest ≡ (b.oldest + 1) % b.ring → later ≡ record b { committed = later.committed; low = later.low; oldest = later.oldest } → OldestRetired b flow None later after
+  gone_plain stuck completed stores from same committed low oldest rest =
+      let none : access_of one ≡ 0 = ap (λ k. cond (Rattle.instructions.specs.Instruction.is_access k) 1 0) computes.computes in
+      let less : flow.accesses ≡ flow.accesses - access_of one = omega (arith, none) in
+      gone b later flow after one c None
+      (record {
+        flows = flows;
+        stuck = stuck;
+        is = is;
+        instr = found.1;
+        completed = completed;
+        stores = stores ∙ ap (λ k. cond (Rattle.inorder.specs.Loads.is_store k) (drop 1 flow.ring.stores) flow.ring.stores) (sym computes.computes);
+        accesses = ap (λ (g : Flow). g.accesses) same ∙ less;
+        from = from;
+        last = ap (λ (g : Flow). g.last) same;
+        future = ap (λ (g : Flow). g.future) same;
+        half = ap (λ (g : Flow). g.half) same;
+        held = ap (λ (g : Flow). g.held) same ∙ ap (λ p. held_by p c.kept flow.held) (sym whole);
+        passes = committed
+            ∙ ap (λ k. passed_by false (record (station_by one c) { stage = Rattle.one_thread.specs.CompletedRing.stage_by k c.value }) c.kept b.committed) (sym computes.computes)
+            ∙ ap (λ p. passed_by p (station_by one c) c.kept b.committed) (sym whole);
+        low = low ∙ ap (λ p. low_by p (station_by one c)) (sym whole);
+        oldest = oldest;
+        told_is = ap (λ o. Rattle.one_thread.specs.Leavers.leaver_by o c.pc c.next) (sym (computes.fixed c.half c.pc));
+        rest = rest;
+      })
