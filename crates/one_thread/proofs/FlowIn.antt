@@ -1,5 +1,5 @@
 -- The next instruction enters a flow.
-use Rattle.std.proofs.Common.{◌≡◌, ◌<◌, ◌≤◌, ◌^◌, ℕ, ◌+◌, ◌%◌, Bool, true, false, List, [], ◌∷◌, ◌++◌, length, Option, Some, None, refl, sym, ap, ◌∙◌, subst, suc, arith, length-append}
+use Rattle.std.proofs.Common.{◌≡◌, ◌<◌, ◌≤◌, ◌^◌, ℕ, ◌+◌, ◌%◌, true, false, List, [], ◌∷◌, ◌++◌, length, Option, Some, None, refl, sym, ap, ◌∙◌, subst, suc, arith, length-append}
 use Rattle.std.specs.Prelude.{IfSome, slice_index, slice_set}
 use Rattle.instructions.specs.Instruction.{first_of, fixed_next, second_of, width}
 use Rattle.instructions.specs.Guesses.{Guesses}
@@ -18,6 +18,7 @@ use Rattle.one_thread.specs.Window.{reaches_memory}
 use Rattle.one_thread.specs.declared.dispatch.Fetched.{Fetched}
 use Rattle.one_thread.specs.declared.completing.Done.{Done as DoneBy}
 use Rattle.one_thread.specs.declared.execute.Operands.{Operands}
+use Rattle.one_thread.specs.declared.completed_ring.Leaves.{Leaves}
 use Rattle.one_thread.specs.declared.flow.Flow.{Flow}
 use Rattle.one_thread.specs.declared.pipeline.Pipeline.{Pipeline}
 use Rattle.one_thread.specs.declared.station.Station.{Station}
@@ -143,12 +144,12 @@ module _ (x later : Pipeline) (flow : Flow) (i : Instr) (predicted : ℕ) (o : O
       )
 
   -- it has completed
-  module _ (d : DoneBy) (plain : Bool) (kept : ℕ) (after : Flow) (completes : Completes x flow i predicted o (Some d)) (j : HasJoined flow after i (completed_as flow predicted d plain kept) o.b) where
+  module _ (d : DoneBy) (leaves : Leaves) (kept : ℕ) (after : Flow) (completes : Completes x flow i predicted o (Some d)) (j : HasJoined flow after i (completed_as flow predicted d leaves kept) o.b) where
     abbrev y : Station
-    y = station_by i (completed_as flow predicted d plain kept)
+    y = station_by i (completed_as flow predicted d leaves kept)
 
     window_is : window_of later after ≡ all ++ y ∷ []
-    window_is = ap (λ (p : Pipeline). stations p.program.now after.ring.completed) h.rest ∙ joined_window x flow after i (completed_as flow predicted d plain kept) o.b j h.is
+    window_is = ap (λ (p : Pipeline). stations p.program.now after.ring.completed) h.rest ∙ joined_window x flow after i (completed_as flow predicted d leaves kept) o.b j h.is
 
     unit_is : StandsForSome (filled later (window_of later after))
     unit_is = subst StandsForSome (ap (λ w. filled later (all ++ w ∷ [])) completes ∙ sym (ap (filled later) window_is)) comes_unit
@@ -160,7 +161,7 @@ module _ (x later : Pipeline) (flow : Flow) (i : Instr) (predicted : ℕ) (o : O
     ring_is = ap (λ (p : Pipeline). p.ring) h.rest
 
     flows_on : IsFlowing later after
-    flows_on = flowing_later x later after h.rest (joined x flow after i (completed_as flow predicted d plain kept) o.b j h.is h.flows.flowing h.second_small h.second)
+    flows_on = flowing_later x later after h.rest (joined x flow after i (completed_as flow predicted d leaves kept) o.b j h.is h.flows.flowing h.second_small h.second)
 
     -- as predicted
     pub entered_hit : d.next ≡ predicted → IsFlow later after

@@ -1,17 +1,20 @@
 -- The oldest instruction of a flow leaves, and what the flow keeps stands for its registers.
-use Rattle.std.proofs.Common.{◌≡◌, ◌<◌, ℕ, suc, ◌+◌, ◌-◌, ◌%◌, Bool, true, false, cond, ◌&&◌, List, [], ◌∷◌, length, drop, Option, Some, None, refl, sym, ap, ◌∙◌, subst, arith}
+use Rattle.std.proofs.Common.{◌≡◌, ◌<◌, ◌≤◌, ℕ, suc, ◌+◌, ◌-◌, ◌%◌, Bool, true, false, cond, ◌&&◌, List, [], ◌∷◌, length, drop, Option, Some, None, refl, sym, ap, ◌∙◌, subst, arith}
 use Rattle.std.specs.Prelude.{slice_get, slice_set, unwrap_or}
 use Rattle.instructions.specs.Instruction.{destination, is_first_half, is_low, kind}
 use Rattle.instructions.specs.Registers.{lo}
 use Rattle.instructions.specs.Programs.{instr_at}
 use Rattle.instructions.specs.declared.guessing.Leaver.{Leaver}
 use Rattle.instructions.specs.declared.instr.Instr.{Instr}
+use Rattle.instructions.specs.declared.op.Kind.{Kind}
+use Rattle.instructions.specs.declared.op.Kind.TheVariants.{Computes, Jumps, Links, Loads, Stores}
+use Rattle.instructions.specs.declared.op.Op.{Op}
 use Rattle.inorder.specs.Committed.{with_low}
 use Rattle.inorder.specs.Machine.{State, write}
 use Rattle.one_thread.specs.Changes.{registers_of}
-use Rattle.one_thread.specs.CompletedRing.{instr_there, station_by, station_in, stores_behind}
-use Rattle.one_thread.specs.Flow.{Flows, IsStuck, OldestRetired, committed_by, filled, held_by, in_order, low_by, passed_by, window_of, with_leaver}
-use Rattle.one_thread.specs.Kept.{ComputesOne, HasKept, HaveKept, registers_before, registers_with, with_held}
+use Rattle.one_thread.specs.CompletedRing.{instr_there, stage_by, station_by, stores_behind}
+use Rattle.one_thread.specs.Flow.{Flows, IsStuck, OldestRetired, committed_by, filled, held_by, in_order, low_by, memory_kept, passed_by, window_of, with_leaver}
+use Rattle.one_thread.specs.Kept.{HasKept, HaveKept, IsCounted, LeavesAs, registers_before, registers_with, with_held}
 use Rattle.one_thread.specs.Leavers.{told_at}
 use Rattle.one_thread.specs.Turns.{Falls}
 use Rattle.one_thread.specs.Window.{access_of}
@@ -20,7 +23,7 @@ use Rattle.one_thread.specs.declared.flow.Flow.{Flow}
 use Rattle.one_thread.specs.declared.pipeline.Pipeline.{Pipeline}
 use Rattle.one_thread.specs.declared.station.Station.{Station}
 use Rattle.one_thread.proofs.Completions.{low_destination, some_there}
-use Rattle.one_thread.proofs.FlowOut.{HasLeft, IsOldest, fills, left_flow, left_less, left_registers, left_runs, left_shorter, oldest_is, stuck_in}
+use Rattle.one_thread.proofs.FlowOut.{HasLeft, IsOldest, fills, left_flow, left_less, left_registers, left_runs, left_shorter, oldest_counted, oldest_is, stuck_in}
 use Rattle.one_thread.proofs.FlowPassed.{answer_by, passed_from, passed_shows}
 use Rattle.one_thread.proofs.Kept.{kept_less, put_back, stored, undone, written}
 use Rattle.one_thread.proofs.Untold.{oldest_untold}
@@ -148,29 +151,39 @@ module _ (b later : Pipeline) (flow after : Flow) (i : Instr) (c : Completed) (t
         less = left_less x y flow after i c left;
       }
 
--- One that computes one value leaves with nothing to look at
+-- One that is only counted leaves
 
-module _ (b later : Pipeline) (flow after : Flow) (c : Completed) (flows : Flows b flow) (is : slice_get flow.ring.completed 0 ≡ Some c) (plain : c.plain ≡ true) where
+none_stored : (k : Kind) (op : Op) (v kept : ℕ) (memory : List ℕ) → Rattle.inorder.specs.Loads.is_store k ≡ false → memory_kept op (stage_by k v) kept memory ≡ memory
+none_stored Computes op v kept memory e = refl
+none_stored Jumps op v kept memory e = refl
+none_stored Links op v kept memory e = refl
+none_stored Loads op v kept memory e = refl
+none_stored Stores op v kept memory e = absurd (cc e)
+
+module _ (b : Pipeline) (flow : Flow) (c : Completed) (flows : Flows b flow) (is : slice_get flow.ring.completed 0 ≡ Some c) (n : ℕ) (leaves : (i : Instr) → LeavesAs c.leaves i → IsCounted n i) where
   found : (i : Instr) × (instr_at b.program.now c.pc ≡ Some i)
   found = some_there (instr_at b.program.now c.pc) (flows.flows.flowing.there 0 c is)
 
   abbrev one : Instr
   one = found.0
 
-  computes : ComputesOne one
-  computes =
-      subst ComputesOne (ap (λ o. unwrap_or o (record { op = Rattle.instructions.specs.declared.op.Op.TheVariants.Break; target = 0; first = 0; second = 0; number = 0 })) found.1)
-      ((kept_less b.program.now (registers_of (in_order b flow)) flow.ring.completed flow.future.values c is flows.kept).0.plain plain)
+  counted : IsCounted n one
+  counted =
+      leaves one
+      (subst (LeavesAs c.leaves) (ap (λ o. unwrap_or o (record { op = Rattle.instructions.specs.declared.op.Op.TheVariants.Break; target = 0; first = 0; second = 0; number = 0 })) found.1)
+      (kept_less b.program.now (registers_of (in_order b flow)) flow.ring.completed flow.future.values c is flows.kept).0.leaves)
 
-  whole : is_first_half one.op c.half ≡ false
-  whole = ap (λ p. p && is_low c.half) computes.whole
+  pub counted_few : IsStuck b flow → n ≤ flow.accesses
+  counted_few stuck =
+      subst (λ k. k ≤ flow.accesses) counted.accesses
+      (oldest_counted (in_order b flow) flow one c (record { flows = flows.flows; stuck = stuck_in b flow stuck; is = is; instr = found.1 }))
 
-  pub gone_plain : IsStuck b flow → after.ring.completed ≡ drop 1 flow.ring.completed → after.ring.stores ≡ flow.ring.stores → after.from ≡ length after.ring.completed →
-      after ≡ record flow { ring = after.ring; from = after.from } → later.committed ≡ record b.committed { pc = c.next; count = suc b.committed.count } → later.low ≡ None →
-      later.oldest ≡ (b.oldest + 1) % b.ring → later ≡ record b { committed = later.committed; low = later.low; oldest = later.oldest } → OldestRetired b flow None later after
-  gone_plain stuck completed stores from same committed low oldest rest =
-      let none : access_of one ≡ 0 = ap (λ k. cond (Rattle.instructions.specs.Instruction.is_access k) 1 0) computes.computes in
-      let less : flow.accesses ≡ flow.accesses - access_of one = omega (arith, none) in
+  pub gone_counted : (later : Pipeline) (after : Flow) → IsStuck b flow → after.ring.completed ≡ drop 1 flow.ring.completed → after.ring.stores ≡ flow.ring.stores → after.accesses ≡ flow.accesses - n →
+      after.from ≡ length after.ring.completed → after ≡ record flow { ring = after.ring; accesses = after.accesses; from = after.from } →
+      later.committed ≡ record b.committed { pc = c.next; count = suc b.committed.count } → later.low ≡ None → later.oldest ≡ (b.oldest + 1) % b.ring →
+      later ≡ record b { committed = later.committed; low = later.low; oldest = later.oldest } → OldestRetired b flow None later after
+  gone_counted later after stuck completed stores accesses from same committed low oldest rest =
+      let whole : is_first_half one.op c.half ≡ false = ap (λ p. p && is_low c.half) counted.whole in
       gone b later flow after one c None
       (record {
         flows = flows;
@@ -178,18 +191,18 @@ module _ (b later : Pipeline) (flow after : Flow) (c : Completed) (flows : Flows
         is = is;
         instr = found.1;
         completed = completed;
-        stores = stores ∙ ap (λ k. cond (Rattle.inorder.specs.Loads.is_store k) (drop 1 flow.ring.stores) flow.ring.stores) (sym computes.computes);
-        accesses = ap (λ (g : Flow). g.accesses) same ∙ less;
+        stores = stores ∙ ap (λ k. cond k (drop 1 flow.ring.stores) flow.ring.stores) (sym counted.none);
+        accesses = accesses ∙ ap (λ k. flow.accesses - k) (sym counted.accesses);
         from = from;
         last = ap (λ (g : Flow). g.last) same;
         future = ap (λ (g : Flow). g.future) same;
         half = ap (λ (g : Flow). g.half) same;
         held = ap (λ (g : Flow). g.held) same ∙ ap (λ p. held_by p c.kept flow.held) (sym whole);
         passes = committed
-            ∙ ap (λ k. passed_by false (record (station_by one c) { stage = Rattle.one_thread.specs.CompletedRing.stage_by k c.value }) c.kept b.committed) (sym computes.computes)
+            ∙ ap (λ m. record b.committed { memory = m; pc = c.next; count = suc b.committed.count }) (sym (none_stored (kind one.op) one.op c.value c.kept b.committed.memory counted.none))
             ∙ ap (λ p. passed_by p (station_by one c) c.kept b.committed) (sym whole);
         low = low ∙ ap (λ p. low_by p (station_by one c)) (sym whole);
         oldest = oldest;
-        told_is = ap (λ o. Rattle.one_thread.specs.Leavers.leaver_by o c.pc c.next) (sym (computes.fixed c.half c.pc));
+        told_is = ap (λ o. Rattle.one_thread.specs.Leavers.leaver_by o c.pc c.next) (sym (counted.fixed c.half c.pc));
         rest = rest;
       })

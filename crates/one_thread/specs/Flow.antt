@@ -32,6 +32,8 @@ use Rattle.one_thread.specs.declared.completing.Done.{Done}
 use Rattle.one_thread.specs.declared.execute.Operands.{Operands}
 use Rattle.one_thread.specs.declared.flow.Flow.{Flow}
 use Rattle.one_thread.specs.declared.completed_ring.Completed.{Completed}
+use Rattle.one_thread.specs.declared.completed_ring.Leaves.{Leaves}
+use Rattle.one_thread.specs.declared.completed_ring.Leaves.TheVariants.{Any}
 use Rattle.one_thread.specs.declared.pipeline.Pipeline.{Pipeline}
 use Rattle.one_thread.specs.declared.station.Stage.{Stage}
 use Rattle.one_thread.specs.declared.station.Stage.TheVariants.{Addr, Done as IsDone, Stops}
@@ -146,12 +148,12 @@ Upcoming b flow (Some true) = CanEnter b flow
 Upcoming b flow (Some false) = IsStuck b flow
 
 -- The next instruction as one that has completed, and keeps this
-abbrev pub completed_as : Flow → ℕ → Done → Bool → ℕ → Completed
-completed_as flow predicted d plain kept =
+abbrev pub completed_as : Flow → ℕ → Done → Leaves → ℕ → Completed
+completed_as flow predicted d leaves kept =
     record {
       pc = flow.future.pc;
       half = flow.half;
-      plain = plain;
+      leaves = leaves;
       predicted = predicted;
       next = d.next;
       value = d.value;
@@ -181,7 +183,7 @@ comes_to b flow i predicted o =
 abbrev pub Completes : Pipeline → Flow → Instr → ℕ → Operands → Option Done → Type 0
 Completes b flow i predicted o None = ⊤
 Completes b flow i predicted o (Some d) =
-    comes_to b flow i predicted o ≡ station_by i (completed_as flow predicted d false 0)
+    comes_to b flow i predicted o ≡ station_by i (completed_as flow predicted d Any 0)
 
 -- The stations of a flow, and one more
 abbrev pub with_last : List Station → Option Station → List Station

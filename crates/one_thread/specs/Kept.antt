@@ -1,5 +1,5 @@
 -- What completed instructions keep: what each found in its register, and what each store writes.
-use Rattle.std.specs.Prelude.{◌≡◌, ℕ, Bool, true, false, List, [], ◌∷◌, Option, Some, None, if◌then◌else◌, slice_index, unwrap_or}
+use Rattle.std.specs.Prelude.{⊤, ◌≡◌, ℕ, Bool, true, false, List, [], ◌∷◌, Option, Some, None, if◌then◌else◌, slice_get, slice_index, unwrap_or}
 use Rattle.instructions.specs.Instruction.{destination, fixed_next, is_pair, kind, pc_plus_4, second_of}
 use Rattle.instructions.specs.Programs.{Program}
 use Rattle.instructions.specs.Registers.{lo}
@@ -9,8 +9,10 @@ use Rattle.instructions.specs.declared.op.Kind.TheVariants.{Computes}
 use Rattle.inorder.specs.Loads.{is_store}
 use Rattle.inorder.specs.Machine.{write}
 use Rattle.one_thread.specs.CompletedRing.{instr_there, station_in}
-use Rattle.one_thread.specs.Window.{source_in}
+use Rattle.one_thread.specs.Window.{access_of, source_in}
 use Rattle.one_thread.specs.declared.completed_ring.Completed.{Completed}
+use Rattle.one_thread.specs.declared.completed_ring.Leaves.{Leaves}
+use Rattle.one_thread.specs.declared.completed_ring.Leaves.TheVariants.{Any, Load, Nothing}
 
 -- What an instruction keeps that finds these registers, and this in its source 2
 abbrev pub kept_with : Instr → Half → ℕ → List ℕ → ℕ
@@ -28,10 +30,30 @@ pub record ComputesOne (i : Instr) : Type 0 where
   pub whole : is_pair i.op ≡ false
   pub fixed : (half : Half) (pc : ℕ) → fixed_next i half pc ≡ Some (pc_plus_4 pc)
 
--- A completed instruction keeps what it has to, where it found these registers, and is plain where it says so
+-- An instruction leaves with so many accesses, and nothing to do but to count it
+pub record IsCounted (n : ℕ) (i : Instr) : Type 0 where
+  pub none : is_store (kind i.op) ≡ false
+  pub whole : is_pair i.op ≡ false
+  pub fixed : (half : Half) (pc : ℕ) → fixed_next i half pc ≡ Some (pc_plus_4 pc)
+  pub accesses : access_of i ≡ n
+
+-- What there is to do when an instruction leaves is this
+abbrev pub LeavesAs : Leaves → Instr → Type 0
+LeavesAs Nothing i = IsCounted 0 i
+LeavesAs Load i = IsCounted 1 i
+LeavesAs Any i = ⊤
+
+-- The oldest of these leaves with so many accesses and goes on there, and there is nothing to do but to count it
+pub record OldestIsCounted (cs : List Completed) (n next : ℕ) : Type 0 where
+  pub oldest : Completed
+  pub is : slice_get cs 0 ≡ Some oldest
+  pub leaves : (i : Instr) → LeavesAs oldest.leaves i → IsCounted n i
+  pub goes_on : next ≡ oldest.next
+
+-- A completed instruction keeps what it has to, where it found these registers, and says how it leaves
 pub record HasKept (i : Instr) (c : Completed) (registers : List ℕ) : Type 0 where
   pub kept : c.kept ≡ kept_of i c.half registers
-  pub plain : c.plain ≡ true → ComputesOne i
+  pub leaves : LeavesAs c.leaves i
 
 -- The registers behind a completed instruction
 abbrev pub registers_with : Program → Completed → List ℕ → List ℕ

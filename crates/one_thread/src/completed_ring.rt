@@ -7,13 +7,22 @@ use instructions::Half;
 use lsq::Entry;
 use std::marker::Model;
 
+/// What there is to do when an instruction leaves, beside counting it.
+#[derive(Clone, Copy)]
+pub enum Leaves {
+    Nothing,
+    /// It is a load: one access less is live.
+    Load,
+    /// Perhaps more: the instruction tells.
+    Any,
+}
+
 /// A completed instruction. With its program this is all that its station holds.
 #[derive(Clone, Copy)]
 pub struct Completed {
     pub pc: u32,
     pub half: Half,
-    /// Its operation computes one value, and the path goes on behind it. Else this may be left open.
-    pub plain: bool,
+    pub leaves: Leaves,
     /// The next pc that was predicted.
     pub predicted: u32,
     /// Where it has gone on.
@@ -58,7 +67,7 @@ fn unused() -> Completed {
     Completed {
         pc: 0,
         half: Half::Low,
-        plain: false,
+        leaves: Leaves::Any,
         predicted: 0,
         next: 0,
         value: 0,

@@ -5,10 +5,11 @@ ghost use Rattle.instructions.specs.Instruction.{fixed_next, is_first_half, is_p
 ghost use Rattle.instructions.specs.declared.op.Kind.TheVariants.{Stores as StoreKind};
 ghost use Rattle.one_thread.specs.Flow.{Flows, IsStuck, OldestRetired, held_by, low_by, passed_by, run_in, to_do};
 ghost use Rattle.one_thread.specs.CompletedRing.{station_by, stores_behind};
+ghost use Rattle.one_thread.specs.Kept.{OldestIsCounted};
 ghost use Rattle.one_thread.specs.Leavers.{leaver_by};
 ghost use Rattle.one_thread.specs.Window.{access_of};
 
-use crate::completed_ring::Completed;
+use crate::completed_ring::{Completed, Leaves};
 use crate::decoded::{Decoded, access};
 use crate::fetch::fetch_known;
 use crate::flow::Flow;
@@ -135,27 +136,39 @@ fn retire(
     leaver_of(instr, oldest.half, oldest.pc, oldest.next)
 }
 
-// The oldest instruction, which computes one value, leaves and is committed.
+// The oldest instruction leaves, with so many accesses, and is counted.
 #[inline(always)]
-fn retire_plain(committed: &mut Committed, low: &mut Option<u32>, flow: &mut Flow, next: u32)
+fn retire_counted(
+    committed: &mut Committed,
+    low: &mut Option<u32>,
+    flow: &mut Flow,
+    accesses: usize,
+    next: u32,
+)
     requires count { committed.old.count < 2 ^ 64 - 1 }
     requires some { 0 < length flow.old.ring.completed }
+    requires counted { accesses ≤ flow.old.accesses }
     ensures completed { flow.new.ring.completed ≡ drop 1 flow.old.ring.completed }
     ensures stores { flow.new.ring.stores ≡ flow.old.ring.stores }
+    ensures accesses { flow.new.accesses ≡ flow.old.accesses - accesses }
     ensures from { flow.new.from ≡ length flow.new.ring.completed }
-    ensures rest { flow.new ≡ record flow.old { ring = flow.new.ring; from = flow.new.from } }
+    ensures rest { flow.new ≡ record flow.old {
+      ring = flow.new.ring;
+      accesses = flow.new.accesses;
+      from = flow.new.from;
+    } }
     ensures committed { committed.new ≡ record committed.old {
       pc = next;
       count = suc committed.old.count;
     } }
     ensures low { low.new ≡ None }
 {
-    flow.leaves(0);
+    flow.leaves(accesses);
     count(committed, low, next);
 }
 
 impl<'a> Pipeline<'a> {
-    // Retires the oldest instruction, which may do more than to compute one value.
+    // Retires the oldest instruction, whatever there is to do.
     #[inline(always)]
     fn departs_any(&mut self, flow: &mut Flow) -> Option<Leaver>
         requires flow { Flows self.old flow.old }
@@ -171,8 +184,23 @@ impl<'a> Pipeline<'a> {
         told
     }
 
+    // Retires the oldest instruction, which leaves with so many accesses and goes on at `next`.
+    #[inline(always)]
+    fn departs_counted(&mut self, flow: &mut Flow, accesses: usize, next: u32) -> Option<Leaver>
+        requires flow { Flows self.old flow.old }
+        requires stuck { IsStuck self.old flow.old }
+        requires count { self.old.committed.count < 2 ^ 64 - 1 }
+        requires oldest { OldestIsCounted flow.old.ring.completed accesses next }
+        ensures departed { OldestRetired self.old flow.old result self.new flow.new }
+        ensures more { self.old.committed.count ≤ self.new.committed.count }
+    {
+        retire_counted(&mut self.committed, &mut self.low, flow, accesses, next);
+        self.oldest = self.station_behind(self.oldest);
+        None
+    }
+
     /// Retires the oldest instruction of a flow where nothing can enter before. Answers what a predictor is to be told
-    /// of who has left its station. One that computes one value takes a way of its own, with nothing to look at.
+    /// of who has left its station. Where there is nothing to do but to count it, nothing else is looked at.
     #[inline(always)]
     pub fn departs(&mut self, flow: &mut Flow) -> Option<Leaver>
         requires flow { Flows self.old flow.old }
@@ -182,13 +210,12 @@ impl<'a> Pipeline<'a> {
         ensures more { self.old.committed.count ≤ self.new.committed.count }
     {
         let oldest = flow.ring.oldest();
-        let next = oldest.next;
-        if !oldest.plain {
-            return self.departs_any(flow);
+        let (leaves, next) = (oldest.leaves, oldest.next);
+        match leaves {
+            Leaves::Nothing => self.departs_counted(flow, 0, next),
+            Leaves::Load => self.departs_counted(flow, 1, next),
+            Leaves::Any => self.departs_any(flow),
         }
-        retire_plain(&mut self.committed, &mut self.low, flow, next);
-        self.oldest = self.station_behind(self.oldest);
-        None
     }
 
     /// Retires the oldest instruction of a flow where nothing can enter before.

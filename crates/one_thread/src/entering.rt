@@ -106,6 +106,7 @@ impl<'a> Pipeline<'a> {
     ) -> bool
         requires place { HasPlace self.now flow.old }
         requires half { half ≡ flow.old.half }
+        requires first { IsTrue plain → half ≡ Low }
         ensures entered { HasEntered self.now flow.new result }
         ensures longer { Chosen result (length flow.new.ring.completed ≡
             suc (length flow.old.ring.completed)) ⊤ }
@@ -179,8 +180,10 @@ impl<'a> Pipeline<'a> {
         let Some(instr) = fetch(self.code.as_slice(), flow.future.pc) else {
             return false;
         };
-        let is_full = self.queue <= flow.accesses;
-        if instr.is_access() && is_full {
+        if instr.is_plain() {
+            return true;
+        }
+        if instr.is_access() && self.queue <= flow.accesses {
             return false;
         }
         true

@@ -1,5 +1,6 @@
 //! The flow: live tenants that have all completed, and what the next instruction finds.
 ghost use Rattle.std.specs.Prelude.{◌≡◌, ◌<◌, ◌≤◌, ◌+◌, ◌-◌, ◌∷◌, ◌++◌, [], drop, length, IsTrue, false};
+ghost use Rattle.instructions.specs.declared.op.Half.TheVariants.{Low};
 ghost use Rattle.instructions.specs.declared.op.Kind.TheVariants.{Computes};
 ghost use Rattle.inorder.specs.Machine.{write};
 ghost use Rattle.inorder.specs.Unit.{half_after};
@@ -7,11 +8,11 @@ ghost use Rattle.instructions.specs.Instruction.{is_first_half, is_pair, kind as
 ghost use Rattle.one_thread.specs.Flow.{completed_as};
 ghost use Rattle.one_thread.specs.CompletedRing.{station_by, store_with};
 ghost use Rattle.one_thread.specs.Futures.{GoesOnBehind};
-ghost use Rattle.one_thread.specs.Kept.{kept_with};
+ghost use Rattle.one_thread.specs.Kept.{ComputesOne, LeavesAs, kept_with};
 ghost use Rattle.one_thread.specs.Loads.{with_entry};
 ghost use Rattle.one_thread.specs.Window.{access_of};
 
-use crate::completed_ring::{Completed, CompletedRing};
+use crate::completed_ring::{Completed, CompletedRing, Leaves};
 use crate::completing::Done;
 use crate::decoded::{Decoded, access};
 use crate::future::Future;
@@ -50,6 +51,21 @@ impl Flow {
         }
     }
 
+    // What there is to do when an instruction leaves.
+    #[inline(always)]
+    fn leaves_as(instr: &Decoded, plain: bool) -> Leaves
+        requires plain { IsTrue plain → ComputesOne instr.now }
+        ensures { LeavesAs result instr.now }
+    {
+        if plain {
+            return Leaves::Nothing;
+        }
+        match instr.kind() {
+            Kind::Loads => Leaves::Load,
+            _ => Leaves::Any,
+        }
+    }
+
     /// The next instruction as one that has completed.
     #[inline(always)]
     pub fn completed(
@@ -62,16 +78,17 @@ impl Flow {
         plain: bool,
     ) -> Completed
         requires half { half ≡ self.now.half }
-        requires plain { IsTrue plain → kind_of instr.now.op ≡ Computes }
+        requires plain { IsTrue plain → ComputesOne instr.now }
         requires all { length self.now.future.values ≡ 34 }
-        ensures { result ≡ completed_as self.now predicted done plain
+        ensures is { result ≡ completed_as self.now predicted done result.leaves
             (kept_with instr.now half content self.now.future.values) }
+        ensures leaves { LeavesAs result.leaves instr.now }
     {
         let kept = self.kept(instr, half, content, plain);
         Completed {
             pc: self.future.pc,
             half,
-            plain,
+            leaves: Self::leaves_as(instr, plain),
             predicted,
             next: done.next,
             value: done.value,
@@ -84,6 +101,7 @@ impl Flow {
     pub fn joins(&mut self, instr: &Decoded, completed: Completed, content: u32, plain: bool)
         requires plain { IsTrue plain →
             (kind_of instr.now.op ≡ Computes) × (is_pair instr.now.op ≡ false) }
+        requires first { IsTrue plain → self.old.half ≡ Low }
         requires room { length self.old.ring.completed < 32 }
         requires few { length self.old.ring.stores < 32 }
         requires all { length self.old.future.values ≡ 34 }
@@ -106,7 +124,6 @@ impl Flow {
         self.future
             .follows(destination, completed.value, completed.next);
         if plain {
-            self.half = Half::Low;
             return;
         }
         self.accesses += access(instr);

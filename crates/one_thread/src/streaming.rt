@@ -7,7 +7,7 @@
 //! not complete then, all of these are again as they were let. So what stands in the stations behind each retirement
 //! is meant to be the same as if all turns were made one by one, in their order; the contracts promise a unit that
 //! legal steps reach, and the end of the run.
-ghost use Rattle.std.specs.Prelude.{◌≡◌, ◌<◌, ◌≤◌, length, slice_get, false, is_some, true, IfSome, None, Some};
+ghost use Rattle.std.specs.Prelude.{◌≡◌, ◌<◌, ◌≤◌, length, slice_get, is_some, true, IfSome, None, Some};
 ghost use Rattle.instructions.specs.Instruction.{kind as kind_of};
 ghost use Rattle.instructions.specs.Programs.{instr_at};
 ghost use Rattle.one_thread.specs.Changes.{run_from};
@@ -15,10 +15,11 @@ ghost use Rattle.one_thread.specs.Decoding.{IsDecoded};
 ghost use Rattle.one_thread.specs.Flow.{AreThere, CanRestore, Flows, in_order, restored, window_of};
 ghost use Rattle.one_thread.specs.CompletedRing.{made_by, stage_by, station_in};
 ghost use Rattle.one_thread.specs.Kept.{registers_before};
+ghost use Rattle.one_thread.specs.declared.completed_ring.Leaves.TheVariants.{Any};
 ghost use Rattle.one_thread.specs.Reopened.{reopened};
 ghost use Rattle.one_thread.specs.StandsFor.{StandsForSome};
 
-use crate::completed_ring::{Completed, CompletedRing};
+use crate::completed_ring::{Completed, CompletedRing, Leaves};
 use crate::dispatch::waiting_half;
 use crate::fetch::{fetch, fetch_known};
 use crate::flow::Flow;
@@ -50,7 +51,7 @@ impl<'a> Pipeline<'a> {
         ensures there { IfSome result (λ c.
             instr_at self.now.program.now c.pc ≡ Some station.now.instr) }
         ensures same { IfSome result (λ c. station_in self.now.program.now c ≡ station.now) }
-        ensures open { IfSome result (λ c. c.plain ≡ false) }
+        ensures open { IfSome result (λ c. c.leaves ≡ Any) }
     {
         let instr = fetch(self.code.as_slice(), station.pc)?;
         if !instr.to_instr().is_same(&station.instr.to_instr()) {
@@ -63,7 +64,7 @@ impl<'a> Pipeline<'a> {
         Some(Completed {
             pc: station.pc,
             half: station.half,
-            plain: false,
+            leaves: Leaves::Any,
             predicted: station.predicted,
             next: station.next,
             value,

@@ -1,10 +1,10 @@
-use Rattle.std.proofs.Common.{◌≡◌, ◌<◌, ◌≤◌, length, rules, None, refl, sym, ap, ◌∙◌, subst, arith, true≢false}
+use Rattle.std.proofs.Common.{◌≡◌, ◌<◌, ◌≤◌, length, rules, None, refl, sym, ap, ◌∙◌, subst, arith}
 use Rattle.std.specs.Prelude.{slice_set}
 use Rattle.std.proofs.lemmas.List.{take_all}
 use Rattle.one_thread.specs.Changes.{registers_of}
 use Rattle.one_thread.specs.CompletedRing.{stations}
 use Rattle.one_thread.specs.Flow.{IsFlowing, window_of}
-use Rattle.one_thread.specs.Kept.{HasKept, HaveKept, kept_with}
+use Rattle.one_thread.specs.Kept.{HasKept, HaveKept, LeavesAs, kept_with}
 use Rattle.one_thread.specs.declared.completed_ring.Completed.{Completed}
 use Rattle.one_thread.specs.declared.station.Station.{Station}
 use Rattle.one_thread.proofs.Completions.{station_is, stations_long}
@@ -81,7 +81,7 @@ loop-i-preserved c =
       kept = c.kept-kept.ensures
           ∙ ap (λ k. kept_with i k content c.loop-i.flow.future.values) (sym half)
           ∙ kept_now c.loop-i.flow.future (registers_of b) b.committed.pc (window_of b c.loop-i.flow) i x.half content h.flowing.foresees read.registers.1 read.second;
-      plain = λ e. absurd (true≢false (sym e ∙ c.in_ok-completed.ensures.open));
+      leaves = subst (λ l. LeavesAs l i) (sym c.in_ok-completed.ensures.open) tt;
     } in
     record {
       kept = joins_kept b c.loop-i.flow c.joins.new.self i x content (registers_of b) h.kept j there keeps;

@@ -5,14 +5,14 @@ use Rattle.instructions.specs.Programs.{instr_at}
 use Rattle.instructions.specs.declared.stop.Outcome.TheVariants.{Address}
 use Rattle.one_thread.specs.Changes.{registers_of}
 use Rattle.one_thread.specs.Flow.{CanRestore, Completes, Flows, IsFlow, completed_as, in_order, outcome_in, window_of}
-use Rattle.one_thread.specs.Kept.{ComputesOne, HasKept, HaveKept, kept_with}
+use Rattle.one_thread.specs.Kept.{HasKept, HaveKept, kept_with}
 use Rattle.one_thread.specs.declared.pipeline.Pipeline.{Pipeline}
 use Rattle.one_thread.proofs.FlowJoins.{HasJoined}
 use Rattle.one_thread.proofs.FlowKept.{joins_flows, joins_in_order}
 use Rattle.one_thread.proofs.Kept.{kept_now}
 use Rattle.one_thread.proofs.FlowIn.{Enters, entered_hit, entered_inside, entered_miss, entered_room, entered_stays, enters, place_decoded}
 use Rattle.one_thread.proofs.pipeline.Pipeline.runs_next.Given.{Over}
-use Rattle.one_thread.proofs.pipeline.Pipeline.runs_next.Goals.{After-joins, After-operands-operands, else-plain, then-plain}
+use Rattle.one_thread.proofs.pipeline.Pipeline.runs_next.Goals.{After-joins, After-operands-operands}
 use Rattle.one_thread.proofs.pipeline.Pipeline.runs_next.Goals as goal
 
 -- What enters, as it was fetched, predicted and read
@@ -41,10 +41,10 @@ abbrev content : (g : Over) (c : After-joins g) → ℕ
 content g c = kept_with c.fetch_known-instr.result.now c.args.half c.operands-operands.result.b c.args.flow.now.future.values
 
 joined : (g : Over) (c : After-joins g) → HasJoined c.args.flow.now c.joins.new.self c.fetch_known-instr.result.now
-    (completed_as c.args.flow.now c.guess_behind-predicted.result c.in-Some.done c.if-plain.plain (content g c)) c.operands-operands.result.b
+    (completed_as c.args.flow.now c.guess_behind-predicted.result c.in-Some.done c.completed-completed.result.leaves (content g c)) c.operands-operands.result.b
 joined g c =
     let on = c.joins.ensures in
-    subst (λ y. HasJoined c.args.flow.now c.joins.new.self c.fetch_known-instr.result.now y c.operands-operands.result.b) c.completed-completed.ensures
+    subst (λ y. HasJoined c.args.flow.now c.joins.new.self c.fetch_known-instr.result.now y c.operands-operands.result.b) c.completed-completed.ensures.is
     (record {
       completed = on.completed;
       from = on.from;
@@ -66,17 +66,8 @@ done g c =
 
 -- and keeps what it has to
 
-plain_is : (g : Over) (c : After-joins g) → c.if-plain.plain ≡ true → ComputesOne c.fetch_known-instr.result.now
-plain_is g c e =
-    elim c.if-plain.branch [
-      | then-plain w ↦
-          let t = sym w.plain-is ∙ e in
-          record { computes = w.is_plain-plain.ensures.computes t; whole = w.is_plain-plain.ensures.whole t; fixed = w.is_plain-plain.ensures.fixed t }
-      | else-plain w ↦ absurd (true≢false (sym e ∙ w.plain-is ∙ w.if-plain.false))
-    ]
-
 keeps : (g : Over) (c : After-joins g) → HasKept c.fetch_known-instr.result.now
-    (completed_as c.args.flow.now c.guess_behind-predicted.result c.in-Some.done c.if-plain.plain (content g c)) c.args.flow.now.future.values
+    (completed_as c.args.flow.now c.guess_behind-predicted.result c.in-Some.done c.completed-completed.result.leaves (content g c)) c.args.flow.now.future.values
 keeps g c =
     let flow = c.args.flow.now in
     let x = in_order c.requires.place.before flow in
@@ -86,7 +77,7 @@ keeps g c =
       kept = ap (λ h. kept_with i h c.operands-operands.result.b flow.future.values) c.requires.half
           ∙ kept_now flow.future (registers_of x) x.committed.pc (window_of x flow) i flow.half c.operands-operands.result.b
           c.requires.place.flows.flows.flowing.foresees read.registers.1 read.second;
-      plain = plain_is g c;
+      leaves = c.completed-completed.ensures.leaves;
     }
 
 is_there : (g : Over) (c : After-joins g) → instr_at c.args.self.now.program.now c.args.flow.now.future.pc ≡ Some c.fetch_known-instr.result.now
@@ -144,14 +135,14 @@ pub returns-then-is_miss-2-clause-entered : goal.returns-then-is_miss-2-clause-e
 returns-then-is_miss-2-clause-entered g c =
     let at = goal.at.returns-then-is_miss-2-clause-entered g c in
     flows_on g at.After-joins c.len-flow.result
-    (entered_miss _ _ _ _ _ _ (entering g at.After-operands-operands) c.in-Some.done c.if-plain.plain (content g at.After-joins) c.joins.new.self
+    (entered_miss _ _ _ _ _ _ (entering g at.After-operands-operands) c.in-Some.done c.completed-completed.result.leaves (content g at.After-joins) c.joins.new.self
     (done g at.After-joins) (joined g at.After-joins) c.len-flow.result c.len-flow.ensures.value)
 
 pub returns-else-is_miss-2-clause-entered : goal.returns-else-is_miss-2-clause-entered
 returns-else-is_miss-2-clause-entered g c =
     let at = goal.at.returns-else-is_miss-2-clause-entered g c in
     flows_on g at.After-joins c.joins.new.self.from
-    (entered_hit _ _ _ _ _ _ (entering g at.After-operands-operands) c.in-Some.done c.if-plain.plain (content g at.After-joins) c.joins.new.self
+    (entered_hit _ _ _ _ _ _ (entering g at.After-operands-operands) c.in-Some.done c.completed-completed.result.leaves (content g at.After-joins) c.joins.new.self
     (done g at.After-joins) (joined g at.After-joins) c.if-is_miss-2.false)
 
 pub returns-then-is_miss-2-clause-order : goal.returns-then-is_miss-2-clause-order
