@@ -85,7 +85,7 @@ pub count_put : (S : List Station) (start len i n : ℕ) (x : Station) → lengt
     n ≡ accesses (ring_of (set S (slot_of start i) x) start len) len
 count_put S start len i n x every begins most less same e =
     e ∙ sym (accesses_set (ring_of S start len) i len x same)
-    ∙ ap (λ l. accesses l len) (sym (ring_set S start len i x every begins most less))
+    ∙ ap (λ l. accesses l len) (sym (ring_set 32 S start len i x every begins most less))
 
 -- a let
 pub count_push : (S : List Station) (start len n : ℕ) (w : Station) → length S ≡ 32 → start < 32 → len < 32 →
@@ -94,13 +94,13 @@ pub count_push : (S : List Station) (start len n : ℕ) (w : Station) → length
 count_push S start len n w every begins room e =
     let W = ring_of S start len in
     let most : len ≤ 32 = omega (arith, room) in
-    let size : length W ≡ len = ring_length S start len every begins most in
+    let size : length W ≡ len = ring_length 32 S start len every begins most in
     let more : suc (length W) ≡ len + 1 = omega (arith, size) in
     ap (λ k. k + access_at (Some w)) e
     ∙ ap (λ k. accesses W k + access_at (Some w)) (sym size)
     ∙ sym (accesses_end W w)
     ∙ ap (λ k. accesses (W ++ w ∷ []) k) more
-    ∙ ap (λ l. accesses l (len + 1)) (sym (ring_push S start len w every begins room))
+    ∙ ap (λ l. accesses l (len + 1)) (sym (ring_push 32 S start len w every begins room))
 
 -- the youngest among the others
 pub count_youngest : (S : List Station) (start len m n : ℕ) (w : Station) → len ≡ suc m →
@@ -113,7 +113,7 @@ count_youngest S start len m n w one is e =
     e ∙ ap (accesses W) one
     ∙ ap (λ o. accesses W m + access_at o) is
     ∙ ap (λ k. k + access_at (Some w))
-    (sym (accesses_take m m W all) ∙ ap (λ l. accesses l m) (sym (ring_cut S start m len le)))
+    (sym (accesses_take m m W all) ∙ ap (λ l. accesses l m) (sym (ring_cut 32 S start m len le)))
 
 -- the oldest among the others
 pub count_oldest : (S : List Station) (start len m n : ℕ) (w : Station) → length S ≡ 32 → start < 32 → len ≤ 32 → len ≡ suc m →
@@ -126,4 +126,4 @@ count_oldest S start len m n w every begins most one is e =
     e ∙ ap (accesses W) one
     ∙ accesses_drop W w m is
     ∙ ap (λ l. access_at (Some w) + accesses l m)
-    (sym (ap (ring_of S (slot_of start 1)) rest ∙ ring_shift S start len every begins most some))
+    (sym (ap (ring_of S (slot_of start 1)) rest ∙ ring_shift 32 S start len every begins most some))

@@ -9,7 +9,7 @@ use Rattle.instructions.specs.declared.instr.Instr.{Instr}
 use Rattle.instructions.specs.declared.stop.Outcome.TheVariants.{Address}
 use Rattle.one_thread.specs.Changes.{registers_of}
 use Rattle.one_thread.specs.Decoding.{IsDecoded}
-use Rattle.one_thread.specs.Flow.{AreThere, CanRestore, Completes, HasPlace, IsFlow, IsFlowing, comes_to, completed_as, enters_as, filled, in_order, outcome_in, window_of}
+use Rattle.one_thread.specs.Flow.{AreThere, CanRestore, Completes, IsFlow, IsFlowing, IsPlaced, comes_to, completed_as, enters_as, filled, in_order, outcome_in, window_of}
 use Rattle.one_thread.specs.CompletedRing.{station_by, stations}
 use Rattle.one_thread.specs.Stages.{CanLet}
 use Rattle.one_thread.specs.StandsFor.{StandsForSome}
@@ -49,7 +49,7 @@ pub record Enters (x later : Pipeline) (flow : Flow) (i : Instr) (predicted : �
 -- by what the predictor answers, and what the next instruction reads
 pub enters : {S : Type 0} {Predicts : S → ℕ → Instr → ℕ → S → Type 0} {Learns : S → ℕ → ℕ → S →
     Type 0} (later : Pipeline) (flow : Flow) (i : Instr) (predicted : ℕ) (o : Operands) (left : Option Leaver) (old new : S) →
-    (p : HasPlace later flow) → instr_at p.before.program.now flow.future.pc ≡ Some i → predicted < 2 ^ 32 → Guesses Predicts Learns left i flow.half flow.future.pc predicted old new →
+    (p : IsPlaced later flow) → instr_at p.before.program.now flow.future.pc ≡ Some i → predicted < 2 ^ 32 → Guesses Predicts Learns left i flow.half flow.future.pc predicted old new →
     (first_of i < 34) × (second_of i < 34) → o.a ≡ slice_index flow.future.values (first_of i) → o.b ≡ slice_index flow.future.values (second_of i) → Enters (in_order p.before flow) (in_order later flow) flow i predicted o
 enters {S} {Predicts} {Learns} later flow i predicted o left old new p is small guess registers first second =
     let same : p.can.instr ≡ i = cc (sym p.can.is ∙ is) in
@@ -68,7 +68,7 @@ enters {S} {Predicts} {Learns} later flow i predicted o left old new p is small 
       rest = ap (λ (q : Pipeline). in_order q flow) p.rest;
     }
 
-pub place_decoded : (later : Pipeline) (flow : Flow) (code : List Instr) (p : HasPlace later flow) → code ≡ later.code.items → IsDecoded code p.before.program.now
+pub place_decoded : (later : Pipeline) (flow : Flow) (code : List Instr) (p : IsPlaced later flow) → code ≡ later.code.items → IsDecoded code p.before.program.now
 place_decoded later flow code p e =
     subst (λ l. IsDecoded l p.before.program.now) (sym (e ∙ ap (λ (b : Pipeline). b.code.items) p.rest)) p.flows.flows.unit.code
 
@@ -133,7 +133,7 @@ module _ (x later : Pipeline) (flow : Flow) (i : Instr) (predicted : ℕ) (o : O
       ∙ ap (λ l. record b { window = all ++ y ∷ []; leavers = l }) (ap (λ (p : Pipeline). p.leavers) (as_later (all ++ y ∷ []))))
 
   -- there is room for it
-  pub entered_room : (length flow.ring.completed < 32) × (length flow.ring.stores < 32) × (flow.accesses ≤ 32)
+  pub entered_room : (length flow.ring.completed < x.ring) × (length flow.ring.stores < 32) × (flow.accesses ≤ 32)
   entered_room =
       let long = stations_long x.program.now flow.ring.completed in
       let few = stores_few (registers_of x) all (length all) in

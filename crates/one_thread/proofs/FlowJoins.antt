@@ -27,6 +27,8 @@ pub record HasJoined (flow after : Flow) (i : Instr) (c : Completed) (content : 
   pub last : after.last ≡ flow.last
   pub stores : after.ring.stores ≡ with_entry flow.ring.stores (store_with (station_by i c) content)
   pub held : after.held ≡ flow.held
+  pub oldest : after.ring.oldest ≡ flow.ring.oldest
+  pub size : after.ring.size ≡ flow.ring.size
   pub values : after.future.values ≡ write flow.future.values (destination i c.half) c.value
   pub future : GoesOnBehind flow.future (destination i c.half) (made_by (kind i.op) c.value) c.next after.future
   pub half : after.half ≡ half_after (is_first_half i.op c.half)

@@ -36,28 +36,33 @@ module _ (b : Pipeline) (flow after : Flow) (i : Instr) (c : Completed) (content
 
   pub joins_in_order : in_order b after ≡ in_order b flow
   joins_in_order =
-      ap (λ l. record b { committed = record b.committed { registers = with_held b.low after.held l } })
+      ap (λ l. record b { committed = record b.committed { registers = with_held b.low after.held l }; oldest = after.ring.oldest })
       (undone b.program.now registers after.ring.completed after.future.values joins_kept ∙ sym (undone b.program.now registers flow.ring.completed flow.future.values h))
-      ∙ ap (λ n. record b { committed = record b.committed { registers = with_held b.low n (registers_before b.program.now flow.ring.completed flow.future.values) } }) j.held
+      ∙ ap (λ n. record b { committed = record b.committed { registers = with_held b.low n (registers_before b.program.now flow.ring.completed flow.future.values) }; oldest = after.ring.oldest }) j.held
+      ∙ ap (λ n. record (in_order b flow) { oldest = n }) j.oldest
 
-  pub joins_flows : (n : ℕ) → registers ≡ registers_of (in_order b flow) → IsFlow (in_order b flow) (record after { from = n }) → Flows b (record after { from = n })
-  joins_flows n same f =
+  pub joins_flows : (n : ℕ) → registers ≡ registers_of (in_order b flow) → flow.ring.size ≡ b.ring → IsFlow (in_order b flow) (record after { from = n }) → Flows b (record after { from = n })
+  joins_flows n same size f =
       record {
         flows = subst (λ (q : Pipeline). IsFlow q (record after { from = n })) (sym joins_in_order) f;
         kept = subst (λ l. HaveKept b.program.now l after.ring.completed after.future.values) (same ∙ ap registers_of (sym joins_in_order)) joins_kept;
+        size = j.size ∙ size;
       }
 
 -- A flow begins
 
-module _ (b : Pipeline) (flow : Flow) (h : HaveKept b.program.now (registers_of b) flow.ring.completed flow.future.values) (held : flow.held ≡ slice_index b.committed.registers lo) where
+module _ (b : Pipeline) (flow : Flow) (h : HaveKept b.program.now (registers_of b) flow.ring.completed flow.future.values) (held : flow.held ≡ slice_index b.committed.registers lo) (oldest : flow.ring.oldest ≡ b.oldest)
+  (size : flow.ring.size ≡ b.ring) where
   pub begins_in_order : in_order b flow ≡ b
   begins_in_order =
-      ap (λ l. record b { committed = record b.committed { registers = l } })
+      ap (λ l. record b { committed = record b.committed { registers = l }; oldest = flow.ring.oldest })
       (ap (with_held b.low flow.held) (undone b.program.now (registers_of b) flow.ring.completed flow.future.values h) ∙ held_back b.low flow.held b.committed.registers held)
+      ∙ ap (λ n. record b { oldest = n }) oldest
 
   pub begins : (n : ℕ) → IsFlow b (record flow { from = n }) → Flows b (record flow { from = n })
   begins n f =
       record {
         flows = subst (λ (q : Pipeline). IsFlow q (record flow { from = n })) (sym begins_in_order) f;
         kept = subst (λ (q : Pipeline). HaveKept b.program.now (registers_of q) flow.ring.completed flow.future.values) (sym begins_in_order) h;
+        size = size;
       }

@@ -3,7 +3,7 @@ use Rattle.std.proofs.Common.{◌≡◌, ◌≤◌, ◌+◌, ℕ, suc, true, Lis
 use Rattle.instructions.specs.Programs.{instr_at}
 use Rattle.instructions.specs.declared.instr.Instr.{Instr}
 use Rattle.one_thread.specs.Decoding.{IsDecoded}
-use Rattle.one_thread.specs.Flow.{HasPlace, IsFlowing, IsLast, enters_as, in_order, window_of}
+use Rattle.one_thread.specs.Flow.{IsFlowing, IsLast, IsPlaced, enters_as, in_order, window_of}
 use Rattle.one_thread.specs.Stages.{NoInstr, NoRoom, QueueFull}
 use Rattle.one_thread.specs.Window.{access_of, accesses, reaches_memory}
 use Rattle.one_thread.specs.declared.flow.Flow.{Flow}
@@ -14,7 +14,7 @@ use Rattle.one_thread.proofs.Completions.{stations_long}
 use Rattle.one_thread.proofs.FlowJoins.{flowing_later}
 use Rattle.one_thread.proofs.Futures.{path_end}
 
-module _ (b : Pipeline) (flow : Flow) (i : Instr) (predicted : ℕ) (p : HasPlace b flow) where
+module _ (b : Pipeline) (flow : Flow) (i : Instr) (predicted : ℕ) (p : IsPlaced b flow) where
   abbrev W : List Station
   W = window_of b flow
 

@@ -12,10 +12,11 @@ use Rattle.instructions.specs.declared.op.Op.{Op}
 use Rattle.inorder.specs.Committed.{with_low}
 use Rattle.inorder.specs.Machine.{State, write}
 use Rattle.one_thread.specs.Changes.{registers_of}
-use Rattle.one_thread.specs.CompletedRing.{instr_there, stage_by, station_by, stores_behind}
+use Rattle.one_thread.specs.CompletedRing.{Contents, instr_there, stage_by, station_by, stores_behind}
 use Rattle.one_thread.specs.Flow.{Flows, IsStuck, OldestRetired, committed_by, filled, held_by, in_order, low_by, memory_kept, passed_by, window_of, with_leaver}
 use Rattle.one_thread.specs.Kept.{HasKept, HaveKept, IsCounted, LeavesAs, registers_before, registers_with, with_held}
 use Rattle.one_thread.specs.Leavers.{told_at}
+use Rattle.one_thread.specs.Slots.{slot_in}
 use Rattle.one_thread.specs.Turns.{Falls}
 use Rattle.one_thread.specs.Window.{access_of}
 use Rattle.one_thread.specs.declared.completed_ring.Completed.{Completed}
@@ -33,8 +34,11 @@ pub record HasGone (b later : Pipeline) (flow after : Flow) (i : Instr) (c : Com
   pub stuck : IsStuck b flow
   pub is : slice_get flow.ring.completed 0 ≡ Some c
   pub instr : instr_at b.program.now c.pc ≡ Some i
-  pub completed : after.ring.completed ≡ drop 1 flow.ring.completed
-  pub stores : after.ring.stores ≡ stores_behind (station_by i c) flow.ring.stores
+  pub ring : after.ring ≡ record flow.ring {
+      completed = drop 1 flow.ring.completed;
+      stores = stores_behind (station_by i c) flow.ring.stores;
+      oldest = slot_in flow.ring.size flow.ring.oldest 1;
+    }
   pub accesses : after.accesses ≡ flow.accesses - access_of i
   pub from : after.from ≡ length after.ring.completed
   pub last : after.last ≡ flow.last
@@ -43,9 +47,8 @@ pub record HasGone (b later : Pipeline) (flow after : Flow) (i : Instr) (c : Com
   pub held : after.held ≡ held_by (is_first_half i.op c.half) c.kept flow.held
   pub passes : later.committed ≡ passed_by (is_first_half i.op c.half) (station_by i c) c.kept b.committed
   pub low : later.low ≡ low_by (is_first_half i.op c.half) (station_by i c)
-  pub oldest : later.oldest ≡ (b.oldest + 1) % b.ring
   pub told_is : told ≡ told_at (station_by i c)
-  pub rest : later ≡ record b { committed = later.committed; low = later.low; oldest = later.oldest }
+  pub rest : later ≡ record b { committed = later.committed; low = later.low }
 
 module _ (b later : Pipeline) (flow after : Flow) (i : Instr) (c : Completed) (told : Option Leaver) (h : HasGone b later flow after i c told) where
   abbrev w : Station
@@ -58,10 +61,16 @@ module _ (b later : Pipeline) (flow after : Flow) (i : Instr) (c : Completed) (t
   x = in_order b flow
 
   abbrev y : Pipeline
-  y = with_leaver b.oldest told (in_order later after)
+  y = with_leaver flow.ring.oldest told (in_order later after)
 
   abbrev registers : List ℕ
   registers = registers_of x
+
+  completed : after.ring.completed ≡ drop 1 flow.ring.completed
+  completed = ap (λ (r : Contents). r.completed) h.ring
+
+  place : after.ring.oldest ≡ (flow.ring.oldest + 1) % b.ring
+  place = ap (λ (r : Contents). r.oldest) h.ring ∙ ap (λ n. slot_in n flow.ring.oldest 1) h.flows.size
 
   here : IsOldest x flow i c
   here = record { flows = h.flows.flows; stuck = stuck_in b flow h.stuck; is = h.is; instr = h.instr }
@@ -82,7 +91,7 @@ module _ (b later : Pipeline) (flow after : Flow) (i : Instr) (c : Completed) (t
   rest_kept =
       subst (λ l. HaveKept b.program.now l after.ring.completed after.future.values) with_it
       (subst (λ g. HaveKept b.program.now (registers_with b.program.now c registers) after.ring.completed g.values) (sym h.future)
-      (subst (λ cs. HaveKept b.program.now (registers_with b.program.now c registers) cs flow.future.values) (sym h.completed) split.1))
+      (subst (λ cs. HaveKept b.program.now (registers_with b.program.now c registers) cs flow.future.values) (sym completed) split.1))
 
   before : registers_before later.program.now after.ring.completed after.future.values ≡ write registers w.destination c.value
   before =
@@ -117,8 +126,8 @@ module _ (b later : Pipeline) (flow after : Flow) (i : Instr) (c : Completed) (t
   left =
       record {
         here = here;
-        completed = h.completed;
-        stores = h.stores;
+        completed = completed;
+        stores = ap (λ (r : Contents). r.stores) h.ring;
         accesses = h.accesses;
         from = h.from;
         last = h.last;
@@ -126,9 +135,9 @@ module _ (b later : Pipeline) (flow after : Flow) (i : Instr) (c : Completed) (t
         half = h.half;
         commits = ap (λ l. record later.committed { registers = with_held later.low after.held l }) before ∙ commits_by f refl h.passes h.low h.held;
         low = h.low;
-        oldest = h.oldest;
-        leavers = ap (λ (p : Pipeline). slice_set p.leavers b.oldest told) h.rest ∙ ap (slice_set b.leavers b.oldest) h.told_is;
-        rest = ap (λ (p : Pipeline). record p { committed = y.committed; leavers = y.leavers }) h.rest;
+        oldest = place;
+        leavers = ap (λ (p : Pipeline). slice_set p.leavers flow.ring.oldest told) h.rest ∙ ap (slice_set b.leavers flow.ring.oldest) h.told_is;
+        rest = ap (λ (p : Pipeline). record p { committed = y.committed; oldest = y.oldest; leavers = y.leavers }) h.rest;
       }
 
   pub gone : OldestRetired b flow told later after
@@ -138,12 +147,13 @@ module _ (b later : Pipeline) (flow after : Flow) (i : Instr) (c : Completed) (t
           flows = left_flow x y flow after i c left;
           kept = subst (λ (p : Pipeline). HaveKept p.program.now (registers_of y) after.ring.completed after.future.values) (sym h.rest)
               (subst (λ l. HaveKept b.program.now l after.ring.completed after.future.values) (written i c.half c.value registers ∙ left_registers x y flow after i c left) rest_kept);
+          size = ap (λ (r : Contents). r.size) h.ring ∙ h.flows.size ∙ sym (ap (λ (p : Pipeline). p.ring) h.rest);
         };
         shorter = left_shorter x y flow after i c left;
-        untold = subst (λ (p : Pipeline). slice_get p.leavers b.oldest ≡ Some None) (sym h.rest)
+        untold = subst (λ (p : Pipeline). slice_get p.leavers flow.ring.oldest ≡ Some None) (sym h.rest)
             (oldest_untold (filled x (window_of x flow)) w h.flows.flows.unit (oldest_is x flow i c here));
         inside = h.flows.flows.unit.oldest;
-        place = h.oldest;
+        place = place;
         ring = ap (λ (p : Pipeline). p.ring) h.rest;
         code = ap (λ (p : Pipeline). p.code) h.rest;
         program = ap (λ (p : Pipeline). p.program) h.rest;
@@ -178,11 +188,11 @@ module _ (b : Pipeline) (flow : Flow) (c : Completed) (flows : Flows b flow) (is
       subst (λ k. k ≤ flow.accesses) counted.accesses
       (oldest_counted (in_order b flow) flow one c (record { flows = flows.flows; stuck = stuck_in b flow stuck; is = is; instr = found.1 }))
 
-  pub gone_counted : (later : Pipeline) (after : Flow) → IsStuck b flow → after.ring.completed ≡ drop 1 flow.ring.completed → after.ring.stores ≡ flow.ring.stores → after.accesses ≡ flow.accesses - n →
-      after.from ≡ length after.ring.completed → after ≡ record flow { ring = after.ring; accesses = after.accesses; from = after.from } →
-      later.committed ≡ record b.committed { pc = c.next; count = suc b.committed.count } → later.low ≡ None → later.oldest ≡ (b.oldest + 1) % b.ring →
-      later ≡ record b { committed = later.committed; low = later.low; oldest = later.oldest } → OldestRetired b flow None later after
-  gone_counted later after stuck completed stores accesses from same committed low oldest rest =
+  pub gone_counted : (later : Pipeline) (after : Flow) → IsStuck b flow → after.ring ≡ record flow.ring { completed = drop 1 flow.ring.completed; oldest = slot_in flow.ring.size flow.ring.oldest 1 } →
+      after.accesses ≡ flow.accesses - n → after.from ≡ length after.ring.completed → after ≡ record flow { ring = after.ring; accesses = after.accesses; from = after.from } →
+      later.committed ≡ record b.committed { pc = c.next; count = suc b.committed.count } → later.low ≡ None → later ≡ record b { committed = later.committed; low = later.low } →
+      OldestRetired b flow None later after
+  gone_counted later after stuck ring accesses from same committed low rest =
       let whole : is_first_half one.op c.half ≡ false = ap (λ p. p && is_low c.half) counted.whole in
       gone b later flow after one c None
       (record {
@@ -190,8 +200,7 @@ module _ (b : Pipeline) (flow : Flow) (c : Completed) (flows : Flows b flow) (is
         stuck = stuck;
         is = is;
         instr = found.1;
-        completed = completed;
-        stores = stores ∙ ap (λ k. cond k (drop 1 flow.ring.stores) flow.ring.stores) (sym counted.none);
+        ring = ring ∙ ap (λ k. record flow.ring { completed = drop 1 flow.ring.completed; stores = cond k (drop 1 flow.ring.stores) flow.ring.stores; oldest = slot_in flow.ring.size flow.ring.oldest 1 }) (sym counted.none);
         accesses = accesses ∙ ap (λ k. flow.accesses - k) (sym counted.accesses);
         from = from;
         last = ap (λ (g : Flow). g.last) same;
@@ -202,7 +211,6 @@ module _ (b : Pipeline) (flow : Flow) (c : Completed) (flows : Flows b flow) (is
             ∙ ap (λ m. record b.committed { memory = m; pc = c.next; count = suc b.committed.count }) (sym (none_stored (kind one.op) one.op c.value c.kept b.committed.memory counted.none))
             ∙ ap (λ p. passed_by p (station_by one c) c.kept b.committed) (sym whole);
         low = low ∙ ap (λ p. low_by p (station_by one c)) (sym whole);
-        oldest = oldest;
         told_is = ap (λ o. Rattle.one_thread.specs.Leavers.leaver_by o c.pc c.next) (sym (counted.fixed c.half c.pc));
         rest = rest;
       })

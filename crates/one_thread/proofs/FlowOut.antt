@@ -15,6 +15,7 @@ use Rattle.one_thread.specs.Flow.{AreThere, CanEnter, OldestRetired, Flows, HasP
 use Rattle.one_thread.specs.CompletedRing.{stage_by, station_by, stations, stores, stores_behind}
 use Rattle.one_thread.specs.Leaves.{HasEnded, leavers_with}
 use Rattle.one_thread.specs.Futures.{Foresees}
+use Rattle.one_thread.specs.Slots.{slot_in}
 use Rattle.one_thread.specs.Window.{access_of, accesses, half_in}
 use Rattle.one_thread.specs.declared.flow.Flow.{Flow}
 use Rattle.one_thread.specs.declared.completed_ring.Completed.{Completed}
@@ -222,17 +223,22 @@ has_room x y flow after left h d =
     omega (arith, long, h.flows.most, d.shorter, d.ring)
 
 -- the next enters the station that was left
-pub has_place : (x y : Pipeline) (flow after : Flow) (left : Option Leaver) → OldestRetired x flow left y after → length flow.ring.completed ≡ x.ring → CanEnter y after → HasPlace y after
+pub has_place : (x y : Pipeline) (flow after : Flow) (left : Option Leaver) → OldestRetired x flow left y after → length flow.ring.completed ≡ x.ring → CanEnter y after → HasPlace y after flow.ring.oldest
 has_place x y flow after left d full can =
     let long = stations_long y.program.now after.ring.completed in
-    let there : (y.oldest + length (window_of y after)) % y.ring ≡ x.oldest =
-    ap (λ r. (y.oldest + length (window_of y after)) % r) d.ring
+    let oldest = flow.ring.oldest in
+    let there : (after.ring.oldest + length (window_of y after)) % y.ring ≡ oldest =
+    ap (λ r. (after.ring.oldest + length (window_of y after)) % r) d.ring
     ∙ ap (λ k. (k + length (window_of y after)) % x.ring) d.place
-    ∙ once_around x.oldest (length (window_of y after)) x.ring d.inside (omega (arith, long, d.shorter, full)) in
+    ∙ once_around oldest (length (window_of y after)) x.ring d.inside (omega (arith, long, d.shorter, full)) in
     record {
-      before = with_leaver x.oldest left y;
-      flows = d.flows;
-      can = record { instr = can.instr; is = can.is; free = can.free; room = can.room };
-      leavers = sym (ap (λ k. slice_set (slice_set y.leavers x.oldest left) k None) there ∙ set_back y.leavers x.oldest None left d.untold);
-      rest = refl;
+      placed = record {
+        before = with_leaver oldest left y;
+        flows = d.flows;
+        can = record { instr = can.instr; is = can.is; free = can.free; room = can.room };
+        leavers = sym (ap (λ k. slice_set (slice_set y.leavers oldest left) k None) there ∙ set_back y.leavers oldest None left d.untold);
+        rest = refl;
+      };
+      small = omega (arith, d.inside, d.flows.flows.unit.ring, d.ring);
+      is = sym there ∙ ap (λ n. (after.ring.oldest + n) % y.ring) long ∙ ap (λ r. slot_in r after.ring.oldest (length after.ring.completed)) (sym d.flows.size);
     }

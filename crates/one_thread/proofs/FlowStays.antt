@@ -1,5 +1,5 @@
 -- The live tenants are taken into a flow, and put back.
-use Rattle.std.proofs.Common.{◌≡◌, ◌<◌, ◌≤◌, ◌+◌, ℕ, zero, suc, true, false, List, [], ◌∷◌, ◌++◌, length, take, Some, None, sym, ap, ◌∙◌, subst, ⊎_elim, arith, length-take}
+use Rattle.std.proofs.Common.{◌≡◌, ◌<◌, ◌≤◌, ◌+◌, ℕ, zero, suc, true, false, List, [], ◌∷◌, ◌++◌, length, take, Some, None, sym, ap, ◌∙◌, subst, ⊎_elim, arith, length-take-le}
 use Rattle.std.proofs.lemmas.Bool.{cases_lt}
 use Rattle.std.specs.Prelude.{slice_get}
 use Rattle.instructions.specs.declared.instr.Instr.{Instr}
@@ -24,14 +24,14 @@ use Rattle.one_thread.proofs.Stores.{stores_few}
 -- There is room in a flow
 
 pub room_among : (b : Pipeline) (flow : Flow) (n : ℕ) → IsFlowing b flow → window_of b flow ≡ take n b.window → n < length b.window → length b.window ≤ 32 →
-    (length flow.ring.completed < 32) × (length flow.ring.stores < 32) × (flow.accesses ≤ 32)
+    (length flow.ring.completed ≡ n) × (length flow.ring.stores < 32) × (flow.accesses ≤ 32)
 room_among b flow n h is less most =
     let W = window_of b flow in
     let long = stations_long b.program.now flow.ring.completed in
-    let taken : length W ≤ n = omega (arith, ap length is, length-take n b.window) in
+    let taken : length W ≡ n = ap length is ∙ length-take-le n b.window (omega (arith, less)) in
     let few = stores_few (registers_of b) W (length W) in
     let counted = accesses_most W (length W) in
-    (omega (arith, long, taken, less, most), omega (arith, few, ap length h.stores, taken, less, most), omega (arith, counted, h.accesses, taken, less, most))
+    (sym long ∙ taken, omega (arith, few, ap length h.stores, taken, less, most), omega (arith, counted, h.accesses, taken, less, most))
 
 -- A station is taken
 

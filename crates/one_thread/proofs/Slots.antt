@@ -1,22 +1,39 @@
 -- A ring of slots as a list.
-use Rattle.std.proofs.Common.{◌≡◌, ◌≢◌, ◌<◌, ◌≤◌, ◌-◌, ℕ, suc, ◌+◌, List, [], ◌∷◌, ◌++◌, length, take, drop, set, refl, sym, ap, ◌∙◌, ⊎_elim, arith, length-append, length-drop, length-set}
+use Rattle.std.proofs.Common.{◌≡◌, ◌≢◌, ◌<◌, ◌≤◌, ◌⊎◌, ◌-◌, ◌%◌, ℕ, zero, suc, ◌+◌, inl, inr, List, [], ◌∷◌, ◌++◌, length, take, drop, set, refl, sym, ap, ◌∙◌, ⊎_elim, arith, length-append, length-drop, length-set}
 use Rattle.std.proofs.Common.{length-take-le}
 use Rattle.std.specs.Prelude.{slice_get}
 use Rattle.std.proofs.lemmas.Bool.{cases_eq, cases_lt}
 use Rattle.std.proofs.lemmas.List.{take-take}
 use Rattle.circular_buffer.proofs.Places.{slice_get-append_left, slice_get-append_right, slice_get-drop, slice_get-last, slice_get-push, slice_get-set_other, slice_get-set_same, slice_get-take}
-use Rattle.one_thread.specs.Slots.{place_from, ring_of, slot_of}
+use Rattle.std.proofs.Math.Nat.{add-mod_left, mod-eq_of_lt, mod-lt}
+use Rattle.one_thread.specs.Slots.{place_from, ring_of, slot_in, slot_of}
+use Rattle.one_thread.proofs.Ring.{mod_first}
 
 -- Numbers
 
-pub slot_small : (s i : ℕ) → slot_of s i < 32
-slot_small s i = omega arith
+pub slot_small : (n s i : ℕ) → 0 < n → slot_in n s i < n
+slot_small n s i h = mod-lt (s + i) h
 
-pub slots_apart : (s i j : ℕ) → s < 32 → i < 32 → j < 32 → i ≢ j → slot_of s i ≢ slot_of s j
-slots_apart s i j ls li lj ne e = ne (omega (arith, ls, li, lj, e))
+-- around the end once at the most
+near : (n s i : ℕ) → s < n → i ≤ n → (slot_in n s i ≡ s + i) ⊎ (slot_in n s i + n ≡ s + i)
+near n s i ls li =
+    ⊎_elim (λ (low : s + i < n). inl (mod-eq_of_lt low))
+    (λ high.
+    let more : s + i - n < n = omega (arith, ls, li, high) in
+    let whole : n + (s + i - n) ≡ s + i = omega (arith, high) in
+    let same : slot_in n s i ≡ s + i - n = ap (λ k. k % n) (sym whole) ∙ add-mod_left n (s + i - n) ∙ mod-eq_of_lt more in
+    inr (omega (arith, same, high)))
+    (cases_lt (s + i) n)
 
-next_slot : (s i : ℕ) → slot_of (slot_of s 1) i ≡ slot_of s (1 + i)
-next_slot s i = omega arith
+pub slots_apart : (n s i j : ℕ) → s < n → i < n → j < n → i ≢ j → slot_in n s i ≢ slot_in n s j
+slots_apart n s i j ls li lj ne e =
+    let one = near n s i ls (omega (arith, li)) in
+    let other = near n s j ls (omega (arith, lj)) in
+    ⊎_elim (λ p. ⊎_elim (λ q. ne (omega (arith, p, q, e))) (λ q. absurd (omega (arith, p, q, e, lj, li))) other)
+    (λ p. ⊎_elim (λ q. absurd (omega (arith, p, q, e, lj, li))) (λ q. ne (omega (arith, p, q, e))) other) one
+
+next_slot : (n s i : ℕ) → slot_in n (slot_in n s 1) i ≡ slot_in n s (1 + i)
+next_slot n s i = mod_first (s + 1) i n ∙ ap (λ k. k % n) (omega arith)
 
 -- the place of the slot of a place
 pub place_slot : (s i : ℕ) → s < 32 → i < 32 → place_from (slot_of s i) s ≡ i
@@ -38,29 +55,37 @@ module _ {X : Type 0} where
       let rest : xs ≡ ys = same_gets xs ys (omega (arith, e)) (λ i l. let more : suc i < length (x ∷ xs) = omega (arith, l) in h (suc i) more) in
       ap (λ z. z ∷ xs) same ∙ ap (λ l. y ∷ l) rest
 
+  -- of more slots the first
+  pub take_set : (n : ℕ) (xs : List X) (k : ℕ) (x : X) → take n (set xs k x) ≡ set (take n xs) k x
+  take_set zero xs k x = refl
+  take_set (suc n) [] k x = refl
+  take_set (suc n) (y ∷ ys) zero x = refl
+  take_set (suc n) (y ∷ ys) (suc k) x = ap (λ l. y ∷ l) (take_set n ys k x)
+
+module _ {X : Type 0} (z : ℕ) where
   -- the slots, twice
-  twice : (xs : List X) (s i : ℕ) → length xs ≡ 32 → s < 32 → i < 32 → slice_get (xs ++ xs) (s + i) ≡ slice_get xs (slot_of s i)
+  twice : (xs : List X) (s i : ℕ) → length xs ≡ z → s < z → i < z → slice_get (xs ++ xs) (s + i) ≡ slice_get xs (slot_in z s i)
   twice xs s i n ls li =
       ⊎_elim
-      (λ (low : s + i < 32).
-      let same : s + i ≡ slot_of s i = omega (arith, low) in
-      slice_get-append_left xs xs (s + i) (omega (arith, low, n)) ∙ ap (slice_get xs) same)
-      (λ high. slice_get-append_right xs xs (s + i) (slot_of s i) (omega (arith, high, n, ls, li)))
-      (cases_lt (s + i) 32)
+      (λ (low : slot_in z s i ≡ s + i).
+      let small = slot_small z s i (omega (arith, ls)) in
+      slice_get-append_left xs xs (s + i) (omega (arith, low, small, n)) ∙ ap (slice_get xs) (sym low))
+      (λ high. slice_get-append_right xs xs (s + i) (slot_in z s i) (omega (arith, high, n)))
+      (near z s i ls (omega (arith, li)))
 
-  pub ring_length : (xs : List X) (s n : ℕ) → length xs ≡ 32 → s < 32 → n ≤ 32 → length (ring_of xs s n) ≡ n
+  pub ring_length : (xs : List X) (s n : ℕ) → length xs ≡ z → s < z → n ≤ z → length (ring_of xs s n) ≡ n
   ring_length xs s n e ls ln = length-take-le n (drop s (xs ++ xs)) (omega (arith, length-drop s (xs ++ xs), length-append xs xs, e, ls, ln))
 
-  pub ring_get : (xs : List X) (s n i : ℕ) → length xs ≡ 32 → s < 32 → n ≤ 32 → i < n → slice_get (ring_of xs s n) i ≡ slice_get xs (slot_of s i)
+  pub ring_get : (xs : List X) (s n i : ℕ) → length xs ≡ z → s < z → n ≤ z → i < n → slice_get (ring_of xs s n) i ≡ slice_get xs (slot_in z s i)
   ring_get xs s n i e ls ln li =
       slice_get-take n (drop s (xs ++ xs)) i li ∙ slice_get-drop s (xs ++ xs) i (s + i) refl ∙ twice xs s i e ls (omega (arith, li, ln))
 
   -- an item changes
-  pub ring_set : (xs : List X) (s n i : ℕ) (x : X) → length xs ≡ 32 → s < 32 → n ≤ 32 → i < n → ring_of (set xs (slot_of s i) x) s n ≡ set (ring_of xs s n) i x
+  pub ring_set : (xs : List X) (s n i : ℕ) (x : X) → length xs ≡ z → s < z → n ≤ z → i < n → ring_of (set xs (slot_in z s i) x) s n ≡ set (ring_of xs s n) i x
   ring_set xs s n i x e ls ln li =
-      let ys = set xs (slot_of s i) x in
-      let long : length ys ≡ 32 = length-set xs (slot_of s i) x ∙ e in
-      let inside : slot_of s i < length xs = omega (arith, slot_small s i, e) in
+      let ys = set xs (slot_in z s i) x in
+      let long : length ys ≡ z = length-set xs (slot_in z s i) x ∙ e in
+      let inside : slot_in z s i < length xs = omega (arith, slot_small z s i (omega (arith, ls)), e) in
       let here : i < length (ring_of xs s n) = omega (arith, ring_length xs s n e ls ln, li) in
       same_gets (ring_of ys s n) (set (ring_of xs s n) i x)
       (ring_length ys s n long ls ln ∙ sym (length-set (ring_of xs s n) i x ∙ ring_length xs s n e ls ln))
@@ -68,20 +93,20 @@ module _ {X : Type 0} where
       let lj : j < n = omega (arith, l, ring_length ys s n long ls ln) in
       ring_get ys s n j long ls ln lj
       ∙ ⊎_elim
-      (λ (same : j ≡ i). ap (λ k. slice_get ys (slot_of s k)) same ∙ slice_get-set_same xs (slot_of s i) x inside ∙
+      (λ (same : j ≡ i). ap (λ k. slice_get ys (slot_in z s k)) same ∙ slice_get-set_same xs (slot_in z s i) x inside ∙
       sym (ap (slice_get (set (ring_of xs s n) i x)) same ∙ slice_get-set_same (ring_of xs s n) i x here))
-      (λ other. slice_get-set_other xs (slot_of s i) (slot_of s j) x (slots_apart s j i ls (omega (arith, lj, ln)) (omega (arith, li, ln)) other) ∙
+      (λ other. slice_get-set_other xs (slot_in z s i) (slot_in z s j) x (slots_apart z s j i ls (omega (arith, lj, ln)) (omega (arith, li, ln)) other) ∙
       sym (slice_get-set_other (ring_of xs s n) i j x other ∙ ring_get xs s n j e ls ln lj))
       (cases_eq j i))
 
   -- an item joins
-  pub ring_push : (xs : List X) (s n : ℕ) (x : X) → length xs ≡ 32 → s < 32 → n < 32 → ring_of (set xs (slot_of s n) x) s (n + 1) ≡ ring_of xs s n ++ x ∷ []
+  pub ring_push : (xs : List X) (s n : ℕ) (x : X) → length xs ≡ z → s < z → n < z → ring_of (set xs (slot_in z s n) x) s (n + 1) ≡ ring_of xs s n ++ x ∷ []
   ring_push xs s n x e ls ln =
-      let ys = set xs (slot_of s n) x in
-      let long : length ys ≡ 32 = length-set xs (slot_of s n) x ∙ e in
-      let inside : slot_of s n < length xs = omega (arith, slot_small s n, e) in
-      let more : n + 1 ≤ 32 = omega (arith, ln) in
-      let le : n ≤ 32 = omega (arith, ln) in
+      let ys = set xs (slot_in z s n) x in
+      let long : length ys ≡ z = length-set xs (slot_in z s n) x ∙ e in
+      let inside : slot_in z s n < length xs = omega (arith, slot_small z s n (omega (arith, ls)), e) in
+      let more : n + 1 ≤ z = omega (arith, ln) in
+      let le : n ≤ z = omega (arith, ln) in
       let size : length (ring_of xs s n) ≡ n = ring_length xs s n e ls le in
       same_gets (ring_of ys s (n + 1)) (ring_of xs s n ++ x ∷ [])
       (omega (arith, ring_length ys s (n + 1) long ls more, length-append (ring_of xs s n) (x ∷ []), size))
@@ -89,10 +114,10 @@ module _ {X : Type 0} where
       let lj : j < n + 1 = omega (arith, l, ring_length ys s (n + 1) long ls more) in
       ring_get ys s (n + 1) j long ls more lj
       ∙ ⊎_elim
-      (λ (same : j ≡ n). ap (λ k. slice_get ys (slot_of s k)) same ∙ slice_get-set_same xs (slot_of s n) x inside ∙ sym (slice_get-last (ring_of xs s n) x j (same ∙ sym size)))
+      (λ (same : j ≡ n). ap (λ k. slice_get ys (slot_in z s k)) same ∙ slice_get-set_same xs (slot_in z s n) x inside ∙ sym (slice_get-last (ring_of xs s n) x j (same ∙ sym size)))
       (λ other.
       let less : j < n = omega (arith, lj, other) in
-      slice_get-set_other xs (slot_of s n) (slot_of s j) x (slots_apart s j n ls (omega (arith, lj, ln)) (omega (arith, ln)) other)
+      slice_get-set_other xs (slot_in z s n) (slot_in z s j) x (slots_apart z s j n ls (omega (arith, lj, ln)) (omega (arith, ln)) other)
       ∙ sym (slice_get-push (ring_of xs s n) x j (λ q. other (q ∙ size)) ∙ ring_get xs s n j e ls le less))
       (cases_eq j n))
 
@@ -101,16 +126,16 @@ module _ {X : Type 0} where
   ring_cut xs s m n le = sym (take-take m n (drop s (xs ++ xs)) le)
 
   -- the oldest leaves
-  pub ring_shift : (xs : List X) (s n : ℕ) → length xs ≡ 32 → s < 32 → n ≤ 32 → 0 < n → ring_of xs (slot_of s 1) (n - 1) ≡ drop 1 (ring_of xs s n)
+  pub ring_shift : (xs : List X) (s n : ℕ) → length xs ≡ z → s < z → n ≤ z → 0 < n → ring_of xs (slot_in z s 1) (n - 1) ≡ drop 1 (ring_of xs s n)
   ring_shift xs s n e ls ln some =
-      let next : slot_of s 1 < 32 = slot_small s 1 in
-      let less : n - 1 ≤ 32 = omega (arith, ln) in
-      let size : length (ring_of xs (slot_of s 1) (n - 1)) ≡ n - 1 = ring_length xs (slot_of s 1) (n - 1) e next less in
-      same_gets (ring_of xs (slot_of s 1) (n - 1)) (drop 1 (ring_of xs s n))
+      let next : slot_in z s 1 < z = slot_small z s 1 (omega (arith, ls)) in
+      let less : n - 1 ≤ z = omega (arith, ln) in
+      let size : length (ring_of xs (slot_in z s 1) (n - 1)) ≡ n - 1 = ring_length xs (slot_in z s 1) (n - 1) e next less in
+      same_gets (ring_of xs (slot_in z s 1) (n - 1)) (drop 1 (ring_of xs s n))
       (omega (arith, size, length-drop 1 (ring_of xs s n), ring_length xs s n e ls ln))
       (λ j l.
       let lj : j < n - 1 = omega (arith, l, size) in
       let more : 1 + j < n = omega (arith, lj) in
-      ring_get xs (slot_of s 1) (n - 1) j e next less lj
-      ∙ ap (slice_get xs) (next_slot s j)
+      ring_get xs (slot_in z s 1) (n - 1) j e next less lj
+      ∙ ap (slice_get xs) (next_slot z s j)
       ∙ sym (slice_get-drop 1 (ring_of xs s n) j (1 + j) refl ∙ ring_get xs s n (1 + j) e ls ln more))

@@ -20,7 +20,7 @@ window_put S C newest start len i x h less same =
       most = h.most;
       every_station = length-set S (slot_of start i) x ∙ h.every_station;
       every_creator = h.every_creator;
-      known = subst (λ l. KnowsCreators l (ring_of C start len) newest start) (sym (ring_set S start len i x h.every_station h.begins h.most less))
+      known = subst (λ l. KnowsCreators l (ring_of C start len) newest start) (sym (ring_set 32 S start len i x h.every_station h.begins h.most less))
           (known_put (ring_of S start len) (ring_of C start len) newest start i x h.known same);
     }
 
@@ -31,7 +31,7 @@ pub window_let : (S : List Station) (C : List Creators) (newest : List ℕ) (sta
 window_let S C newest start len w c h room a b r first second replaced =
     let W = ring_of S start len in
     let R = ring_of C start len in
-    let size : length W ≡ len = ring_length S start len h.every_station h.begins h.most in
+    let size : length W ≡ len = ring_length 32 S start len h.every_station h.begins h.most in
     let table = set newest w.destination (slot_of start len) in
     let has : HasCreators W (length W) w (places_of c start) =
     record {
@@ -44,22 +44,22 @@ window_let S C newest start len w c h room a b r first second replaced =
       most = omega (arith, room);
       every_station = length-set S (slot_of start len) w ∙ h.every_station;
       every_creator = length-set C (slot_of start len) c ∙ h.every_creator;
-      known = subst (λ l. KnowsCreators l (ring_of (set C (slot_of start len) c) start (len + 1)) table start) (sym (ring_push S start len w h.every_station h.begins room))
-          (subst (λ l. KnowsCreators (W ++ w ∷ []) l table start) (sym (ring_push C start len c h.every_creator h.begins room))
+      known = subst (λ l. KnowsCreators l (ring_of (set C (slot_of start len) c) start (len + 1)) table start) (sym (ring_push 32 S start len w h.every_station h.begins room))
+          (subst (λ l. KnowsCreators (W ++ w ∷ []) l table start) (sym (ring_push 32 C start len c h.every_creator h.begins room))
           (subst (λ n. KnowsCreators (W ++ w ∷ []) (R ++ c ∷ []) (set newest w.destination (slot_of start n)) start) size
           (known_let W R newest start w c h.begins h.known (omega (arith, size, room)) r has)));
     }
 
 pub window_room : (S : List Station) (C : List Creators) (newest : List ℕ) (start len : ℕ) (W : List Station) → IsWindow S C newest start len → ring_of S start len ≡ W → length W < 32 → len < 32
 window_room S C newest start len W h is room =
-    let long = ring_length S start len h.every_station h.begins h.most in
+    let long = ring_length 32 S start len h.every_station h.begins h.most in
     omega (arith, room, ap length is, long)
 
 pub view_let : (S : List Station) (C : List Creators) (newest : List ℕ) (start len k : ℕ) (W : List Station) (w : Station) → IsWindow S C newest start len → ring_of S start len ≡ W → length W < 32 →
     k ≡ slot_of start len → ring_of (set S k w) start (len + 1) ≡ W ++ w ∷ []
 view_let S C newest start len k W w h is room place =
     ap (λ j. ring_of (set S j w) start (len + 1)) place
-    ∙ ring_push S start len w h.every_station h.begins (window_room S C newest start len W h is room)
+    ∙ ring_push 32 S start len w h.every_station h.begins (window_room S C newest start len W h is room)
     ∙ ap (λ l. l ++ w ∷ []) is
 
 -- the youngest is squashed
@@ -69,7 +69,7 @@ window_popped S C newest start len m w c h one e f small =
     let W = ring_of S start len in
     let R = ring_of C start len in
     let table = set newest w.destination c.replaced in
-    let size : length W ≡ len = ring_length S start len h.every_station h.begins h.most in
+    let size : length W ≡ len = ring_length 32 S start len h.every_station h.begins h.most in
     let less : m < len = omega (arith, one) in
     let le : m ≤ len = omega (arith, one) in
     record {
@@ -77,23 +77,23 @@ window_popped S C newest start len m w c h one e f small =
       most = omega (arith, h.most, one);
       every_station = h.every_station;
       every_creator = h.every_creator;
-      known = subst (λ l. KnowsCreators l (ring_of C start m) table start) (sym (ring_cut S start m len le))
-          (subst (λ l. KnowsCreators (take m W) l table start) (sym (ring_cut C start m len le))
+      known = subst (λ l. KnowsCreators l (ring_of C start m) table start) (sym (ring_cut 32 S start m len le))
+          (subst (λ l. KnowsCreators (take m W) l table start) (sym (ring_cut 32 C start m len le))
           (known_pop W R newest start m w c h.known (size ∙ one)
-          (ring_get S start len m h.every_station h.begins h.most less ∙ e)
-          (ring_get C start len m h.every_creator h.begins h.most less ∙ f) small));
+          (ring_get 32 S start len m h.every_station h.begins h.most less ∙ e)
+          (ring_get 32 C start len m h.every_creator h.begins h.most less ∙ f) small));
     }
 
 -- the oldest leaves
 pub window_shifted : (S : List Station) (C : List Creators) (newest : List ℕ) (start len : ℕ) → IsWindow S C newest start len → 0 < len → IsWindow S C newest (slot_of start 1) (len - 1)
 window_shifted S C newest start len h some =
     record {
-      begins = slot_small start 1;
+      begins = slot_small 32 start 1 (omega arith);
       most = omega (arith, h.most);
       every_station = h.every_station;
       every_creator = h.every_creator;
-      known = subst (λ l. KnowsCreators l (ring_of C (slot_of start 1) (len - 1)) newest (slot_of start 1)) (sym (ring_shift S start len h.every_station h.begins h.most some))
-          (subst (λ l. KnowsCreators (drop 1 (ring_of S start len)) l newest (slot_of start 1)) (sym (ring_shift C start len h.every_creator h.begins h.most some))
+      known = subst (λ l. KnowsCreators l (ring_of C (slot_of start 1) (len - 1)) newest (slot_of start 1)) (sym (ring_shift 32 S start len h.every_station h.begins h.most some))
+          (subst (λ l. KnowsCreators (drop 1 (ring_of S start len)) l newest (slot_of start 1)) (sym (ring_shift 32 C start len h.every_creator h.begins h.most some))
           (known_shift (ring_of S start len) (ring_of C start len) newest start h.begins h.known));
     }
 

@@ -25,6 +25,7 @@ use Rattle.one_thread.specs.Loads.{value_by}
 use Rattle.one_thread.specs.Notes.{settled_by}
 use Rattle.one_thread.specs.StandsFor.{StandsForSome}
 use Rattle.one_thread.specs.Futures.{Foresees}
+use Rattle.one_thread.specs.Slots.{slot_in}
 use Rattle.one_thread.specs.Reopened.{reopened, with_reopened}
 use Rattle.one_thread.specs.Stages.{CannotLet}
 use Rattle.one_thread.specs.Window.{accesses, further_on, half_in, let_at, reaches_memory, station_after}
@@ -102,19 +103,22 @@ pub record IsFlow (b : Pipeline) (flow : Flow) : Type 0 where
   pub from : flow.from ≤ length (window_of b flow)
   pub reopens : StandsForSome (with_reopened flow.from (filled b (window_of b flow)))
 
--- The fields of a unit in a flow: its registers are those that the oldest instruction found
+-- The fields of a unit in a flow: its registers are those that the oldest instruction found, and the flow knows where
+-- that stands
 abbrev pub in_order : Pipeline → Flow → Pipeline
 in_order b flow =
     record b {
       committed = record b.committed {
         registers = with_held b.low flow.held (registers_before b.program.now flow.ring.completed flow.future.values);
       };
+      oldest = flow.ring.oldest;
     }
 
 -- A flow stands for the window, and keeps what the registers have held
 pub record Flows (b : Pipeline) (flow : Flow) : Type 0 where
   pub flows : IsFlow (in_order b flow) flow
   pub kept : HaveKept b.program.now (registers_of (in_order b flow)) flow.ring.completed flow.future.values
+  pub size : flow.ring.size ≡ b.ring
 
 -- The next instruction can enter
 pub record CanEnter (b : Pipeline) (flow : Flow) : Type 0 where
@@ -128,13 +132,19 @@ abbrev pub with_leaver : ℕ → Option Leaver → Pipeline → Pipeline
 with_leaver station left b = record b { leavers = slice_set b.leavers station left }
 
 -- The next instruction can enter, and who has left its station was told of
-pub record HasPlace (b : Pipeline) (flow : Flow) : Type 0 where
+pub record IsPlaced (b : Pipeline) (flow : Flow) : Type 0 where
   pub before : Pipeline
   pub flows : Flows before flow
   pub can : CanEnter before flow
   pub leavers :
-      b.leavers ≡ slice_set before.leavers ((before.oldest + length (window_of before flow)) % before.ring) None
+      b.leavers ≡ slice_set before.leavers ((flow.ring.oldest + length (window_of before flow)) % before.ring) None
   pub rest : b ≡ record before { leavers = b.leavers }
+
+-- and this is its station
+pub record HasPlace (b : Pipeline) (flow : Flow) (station : ℕ) : Type 0 where
+  pub placed : IsPlaced b flow
+  pub small : station < 32
+  pub is : station ≡ slot_in flow.ring.size flow.ring.oldest (length flow.ring.completed)
 
 -- Nothing can enter before the oldest leaves
 pub record IsStuck (b : Pipeline) (flow : Flow) : Type 0 where
@@ -251,11 +261,11 @@ run_in b flow limit = run_from (in_order b flow) limit
 
 -- The oldest instruction of a flow has retired, and this is to be told of who has left its station
 pub record OldestRetired (b : Pipeline) (flow : Flow) (left : Option Leaver) (later : Pipeline) (after : Flow) : Type 0 where
-  pub flows : Flows (with_leaver b.oldest left later) after
+  pub flows : Flows (with_leaver flow.ring.oldest left later) after
   pub shorter : length flow.ring.completed ≡ suc (length after.ring.completed)
-  pub untold : slice_get later.leavers b.oldest ≡ Some None
-  pub inside : b.oldest < b.ring
-  pub place : later.oldest ≡ (b.oldest + 1) % b.ring
+  pub untold : slice_get later.leavers flow.ring.oldest ≡ Some None
+  pub inside : flow.ring.oldest < b.ring
+  pub place : after.ring.oldest ≡ (flow.ring.oldest + 1) % b.ring
   pub ring : later.ring ≡ b.ring
   pub code : later.code ≡ b.code
   pub program : later.program ≡ b.program

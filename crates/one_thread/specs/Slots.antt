@@ -5,9 +5,13 @@ use Rattle.std.specs.Prelude.{ℕ, ◌+◌, ◌-◌, ◌%◌, List, ◌++◌, ta
 abbrev pub ring_of : {X : Type 0} → List X → ℕ → ℕ → List X
 ring_of slots start len = take len (drop start (slots ++ slots))
 
--- The slot of the item at i, from that of the oldest on
+-- The slot of the item at i of so many slots, from that of the oldest on
+abbrev pub slot_in : ℕ → ℕ → ℕ → ℕ
+slot_in n start i = (start + i) % n
+
+-- and of 32
 abbrev pub slot_of : ℕ → ℕ → ℕ
-slot_of start i = (start + i) % 32
+slot_of start i = slot_in 32 start i
 
 -- The place of the item of a slot
 abbrev pub place_from : ℕ → ℕ → ℕ

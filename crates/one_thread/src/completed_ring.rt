@@ -1,8 +1,9 @@
 //! Completed instructions in a ring of slots, and the stores among them.
 ghost use Rattle.std.specs.Prelude.{◌≡◌, ◌<◌, ◌≤◌, [], ◌∷◌, ◌++◌, length, drop, slice_get, Some};
+ghost use Rattle.one_thread.specs.Slots.{slot_in};
 
-use crate::places::slot_of;
 use arrayvec::ArrayVec;
+use inorder::wrapped;
 use instructions::Half;
 use lsq::Entry;
 use std::marker::Model;
@@ -33,13 +34,15 @@ pub struct Completed {
     pub kept: u32,
 }
 
-/// At most 32 completed instructions in a ring of slots, the oldest first, and the entries of the stores among them.
-/// Unlike a window it does not keep who makes what a tenant reads.
+/// Completed instructions by their stations, the oldest first, and the entries of the stores among them. Unlike a window
+/// it does not keep who makes what a tenant reads.
 #[derive(Drop)]
 pub struct CompletedRing {
     slots: [Completed; 32],
-    // the slot of the oldest
-    start: usize,
+    // how many stations there are
+    size: usize,
+    // the station of the oldest
+    oldest: usize,
     len: usize,
     // the entries of its stores, behind some that have left
     stores: ArrayVec<Entry, 32>,
@@ -48,18 +51,20 @@ pub struct CompletedRing {
 }
 
 impl Model for CompletedRing {
-    ghost use Rattle.std.specs.Prelude.{◌≤◌, drop, length};
+    ghost use Rattle.std.specs.Prelude.{◌≤◌, drop, length, take};
     ghost use Rattle.one_thread.specs.CompletedRing.{Contents, IsRing};
     ghost use Rattle.one_thread.specs.Slots.{ring_of};
 
     ghost Value = { Contents };
 
     ghost view = { λ r. record {
-      completed = ring_of r.slots r.start r.len;
+      completed = ring_of (take r.size r.slots) r.oldest r.len;
       stores = drop r.past r.stores.items;
+      oldest = r.oldest;
+      size = r.size;
     } };
 
-    ghost invariant = { λ r. IsRing r.slots r.start r.len × (r.past ≤ length r.stores.items) };
+    ghost invariant = { λ r. IsRing r.slots r.size r.oldest r.len × (r.past ≤ length r.stores.items) };
 }
 
 // The content of a slot that nobody has used.
@@ -90,14 +95,19 @@ fn forget(stores: &mut ArrayVec<Entry, 32>, past: usize)
 }
 
 impl CompletedRing {
-    /// A ring without an instruction.
-    pub fn new() -> CompletedRing
+    /// A ring of so many stations without an instruction; the next enters this one.
+    pub fn new(size: usize, oldest: usize) -> CompletedRing
+        requires inside { oldest < size }
+        requires small { size ≤ 32 }
         ensures completed { result.completed ≡ [] }
         ensures stores { result.stores ≡ [] }
+        ensures oldest { result.oldest ≡ oldest }
+        ensures size { result.size ≡ size }
     {
         CompletedRing {
             slots: [unused(); 32],
-            start: 0,
+            size,
+            oldest,
             len: 0,
             stores: ArrayVec::new(),
             past: 0,
@@ -119,13 +129,30 @@ impl CompletedRing {
         &self.stores.as_slice()[self.past..]
     }
 
+    /// The station of the oldest instruction; where there is none, of the next.
+    #[inline(always)]
+    pub fn station(&self) -> usize
+        ensures { result ≡ self.now.oldest }
+    {
+        self.oldest
+    }
+
+    /// The station of the instruction at `i`, or of the next.
+    #[inline(always)]
+    pub fn station_at(&self, i: usize) -> usize
+        requires { i ≤ length self.now.completed }
+        ensures value { result ≡ slot_in self.now.size self.now.oldest i }
+        ensures small { result < 32 }
+    {
+        wrapped(self.oldest + i, self.size)
+    }
+
     /// The instruction at `i`.
     pub fn get(&self, i: usize) -> Completed
         requires { i < length self.now.completed }
         ensures { slice_get self.now.completed i ≡ Some result }
     {
-        let slot = slot_of(self.start, i);
-        self.slots[slot]
+        self.slots[self.station_at(i)]
     }
 
     /// The oldest instruction.
@@ -134,18 +161,19 @@ impl CompletedRing {
         requires { 0 < length self.now.completed }
         ensures { slice_get self.now.completed 0 ≡ Some result.now }
     {
-        &self.slots[self.start]
+        &self.slots[self.oldest]
     }
 
-    /// An instruction joins.
+    /// An instruction joins, in its station.
     #[inline(always)]
-    pub fn push(&mut self, completed: Completed)
-        requires { length self.old.completed < 32 }
+    pub fn push(&mut self, station: usize, completed: Completed)
+        requires room { length self.old.completed < self.old.size }
+        requires small { station < 32 }
+        requires station { station ≡ slot_in self.old.size self.old.oldest (length self.old.completed) }
         ensures { self.new ≡
             record self.old { completed = self.old.completed ++ completed ∷ [] } }
     {
-        let slot = slot_of(self.start, self.len);
-        self.slots[slot] = completed;
+        self.slots[station] = completed;
         self.len += 1;
     }
 
@@ -166,9 +194,12 @@ impl CompletedRing {
     #[inline(always)]
     pub fn shift(&mut self)
         requires { 0 < length self.old.completed }
-        ensures { self.new ≡ record self.old { completed = drop 1 self.old.completed } }
+        ensures { self.new ≡ record self.old {
+          completed = drop 1 self.old.completed;
+          oldest = slot_in self.old.size self.old.oldest 1;
+        } }
     {
-        self.start = slot_of(self.start, 1);
+        self.oldest = wrapped(self.oldest + 1, self.size);
         self.len -= 1;
     }
 

@@ -7,6 +7,7 @@ ghost use Rattle.one_thread.specs.Flow.{Flows, IsStuck, OldestRetired, held_by, 
 ghost use Rattle.one_thread.specs.CompletedRing.{station_by, stores_behind};
 ghost use Rattle.one_thread.specs.Kept.{OldestIsCounted};
 ghost use Rattle.one_thread.specs.Leavers.{leaver_by};
+ghost use Rattle.one_thread.specs.Slots.{slot_in};
 ghost use Rattle.one_thread.specs.Window.{access_of};
 
 use crate::completed_ring::{Completed, Leaves};
@@ -44,9 +45,9 @@ fn store(committed: &mut Committed, flow: &mut Flow, instr: &Decoded, oldest: &C
           store_bytes committed.old.memory oldest.now.value (width_of instr.now.op)
           oldest.now.kept;
     } }
-    ensures completed { flow.new.ring.completed ≡ flow.old.ring.completed }
-    ensures stores { flow.new.ring.stores ≡ drop 1 flow.old.ring.stores }
-    ensures rest { flow.new ≡ record flow.old { ring = flow.new.ring } }
+    ensures flow { flow.new ≡ record flow.old {
+      ring = record flow.old.ring { stores = drop 1 flow.old.ring.stores };
+    } }
 {
     flow.ring.shift_store();
     let width = instr.op().width() as usize;
@@ -82,9 +83,10 @@ fn commit(
         (station_by instr.now oldest.now) }
     ensures held { flow.new.held ≡ held_by (is_first_half instr.now.op oldest.now.half)
         oldest.now.kept flow.old.held }
-    ensures completed { flow.new.ring.completed ≡ flow.old.ring.completed }
-    ensures stores { flow.new.ring.stores ≡
-        stores_behind (station_by instr.now oldest.now) flow.old.ring.stores }
+    ensures ring { flow.new.ring ≡ record flow.old.ring {
+      stores =
+          stores_behind (station_by instr.now oldest.now) flow.old.ring.stores;
+    } }
     ensures rest { flow.new ≡ record flow.old { ring = flow.new.ring; held = flow.new.held } }
 {
     if instr.is_first_half(oldest.half) {
@@ -113,9 +115,12 @@ fn retire(
         oldest.now.value + width_of instr.now.op ≤ length committed.old.memory }
     ensures told { let fixed = fixed_next instr.now oldest.now.half oldest.now.pc in
         result ≡ leaver_by fixed oldest.now.pc oldest.now.next }
-    ensures completed { flow.new.ring.completed ≡ drop 1 flow.old.ring.completed }
-    ensures stores { flow.new.ring.stores ≡
-        stores_behind (station_by instr.now oldest.now) flow.old.ring.stores }
+    ensures ring { flow.new.ring ≡ record flow.old.ring {
+      completed = drop 1 flow.old.ring.completed;
+      stores =
+          stores_behind (station_by instr.now oldest.now) flow.old.ring.stores;
+      oldest = slot_in flow.old.ring.size flow.old.ring.oldest 1;
+    } }
     ensures accesses { flow.new.accesses ≡ flow.old.accesses - access_of instr.now }
     ensures from { flow.new.from ≡ length flow.new.ring.completed }
     ensures held { flow.new.held ≡ held_by (is_first_half instr.now.op oldest.now.half)
@@ -148,8 +153,10 @@ fn retire_counted(
     requires count { committed.old.count < 2 ^ 64 - 1 }
     requires some { 0 < length flow.old.ring.completed }
     requires counted { accesses ≤ flow.old.accesses }
-    ensures completed { flow.new.ring.completed ≡ drop 1 flow.old.ring.completed }
-    ensures stores { flow.new.ring.stores ≡ flow.old.ring.stores }
+    ensures ring { flow.new.ring ≡ record flow.old.ring {
+      completed = drop 1 flow.old.ring.completed;
+      oldest = slot_in flow.old.ring.size flow.old.ring.oldest 1;
+    } }
     ensures accesses { flow.new.accesses ≡ flow.old.accesses - accesses }
     ensures from { flow.new.from ≡ length flow.new.ring.completed }
     ensures rest { flow.new ≡ record flow.old {
@@ -179,9 +186,7 @@ impl<'a> Pipeline<'a> {
     {
         let oldest = *flow.ring.oldest();
         let instr = fetch_known(self.code.as_slice(), oldest.pc);
-        let told = retire(&mut self.committed, &mut self.low, flow, instr, &oldest);
-        self.oldest = self.station_behind(self.oldest);
-        told
+        retire(&mut self.committed, &mut self.low, flow, instr, &oldest)
     }
 
     // Retires the oldest instruction, which leaves with so many accesses and goes on at `next`.
@@ -195,7 +200,6 @@ impl<'a> Pipeline<'a> {
         ensures more { self.old.committed.count ≤ self.new.committed.count }
     {
         retire_counted(&mut self.committed, &mut self.low, flow, accesses, next);
-        self.oldest = self.station_behind(self.oldest);
         None
     }
 
@@ -234,7 +238,7 @@ impl<'a> Pipeline<'a> {
         ensures less { (limit : ℕ) → self.old.committed.count < limit →
             to_do limit self.new < to_do limit self.old }
     {
-        let station = self.oldest;
+        let station = flow.ring.station();
         let told = self.departs(flow);
         leave_untold(&mut self.leavers, station, told);
     }

@@ -2,7 +2,7 @@
 ghost use Rattle.std.specs.Prelude.{⊤, ◌≡◌, ◌<◌, suc, length, slice_get, slice_set, IsFalse, IsTrue, None, Some};
 ghost use Rattle.instructions.specs.declared.op.Half.TheVariants.{Low};
 ghost use Rattle.one_thread.specs.Decoding.{HasInstr, IsDecoded};
-ghost use Rattle.one_thread.specs.Flow.{CanEnter, Flows, HasEntered, HasPlace, IsLast, Upcoming, enters_as, in_order};
+ghost use Rattle.one_thread.specs.Flow.{CanEnter, Flows, HasEntered, HasPlace, IsLast, IsPlaced, Upcoming, enters_as, in_order};
 ghost use Rattle.one_thread.specs.Givers.{Chosen};
 
 use crate::decoded::{Decoded, access};
@@ -51,7 +51,7 @@ impl<'a> Pipeline<'a> {
 
     // Nothing can be let behind the next instruction, where that was predicted.
     fn is_last(&self, flow: &Flow, instr: &Decoded, predicted: u32) -> bool
-        requires place { HasPlace self.now flow.now }
+        requires place { IsPlaced self.now flow.now }
         ensures { IsTrue result → IsLast self.now flow.now instr.now predicted }
     {
         if flow.ring.len() + 1 == self.ring {
@@ -70,7 +70,7 @@ impl<'a> Pipeline<'a> {
     #[cold]
     #[inline(never)]
     fn is_alone(&self, flow: &Flow, instr: &Decoded, predicted: u32) -> bool
-        requires place { HasPlace self.now flow.now }
+        requires place { IsPlaced self.now flow.now }
         ensures from { IsTrue result → flow.now.from ≡ length flow.now.ring.completed }
         ensures last { IsTrue result → IsLast self.now flow.now instr.now predicted }
     {
@@ -101,10 +101,11 @@ impl<'a> Pipeline<'a> {
         predictor: &mut P,
         flow: &mut Flow,
         left: Option<Leaver>,
+        station: usize,
         half: Half,
         plain: bool,
     ) -> bool
-        requires place { HasPlace self.now flow.old }
+        requires place { HasPlace self.now flow.old station }
         requires half { half ≡ flow.old.half }
         requires first { IsTrue plain → half ≡ Low }
         ensures entered { HasEntered self.now flow.new result }
@@ -127,7 +128,7 @@ impl<'a> Pipeline<'a> {
             return false;
         }
         let completed = flow.completed(instr, half, predicted, done, operands.b, plain);
-        flow.joins(instr, completed, operands.b, plain);
+        flow.joins(station, instr, completed, operands.b, plain);
         if is_miss {
             flow.from = flow.ring.len();
         }
@@ -142,15 +143,16 @@ impl<'a> Pipeline<'a> {
         predictor: &mut P,
         flow: &mut Flow,
         left: Option<Leaver>,
+        station: usize,
     ) -> bool
-        requires { HasPlace self.now flow.old }
+        requires { HasPlace self.now flow.old station }
         ensures entered { HasEntered self.now flow.new result }
         ensures longer { Chosen result (length flow.new.ring.completed ≡
             suc (length flow.old.ring.completed)) ⊤ }
         ensures order { in_order self.now flow.new ≡ in_order self.now flow.old }
     {
         let half = flow.half;
-        self.runs_next(predictor, flow, left, half, false)
+        self.runs_next(predictor, flow, left, station, half, false)
     }
 
     // Whether the next instruction is half of a pair.
@@ -190,27 +192,28 @@ impl<'a> Pipeline<'a> {
     }
 
     /// Lets the next instruction, and runs it as far as it comes, where the predictor is to be told of who has left its
-    /// station. Answers whether it has completed. One that computes a value takes a way of its own, compiled apart.
+    /// station, which is this one. Answers whether it has completed. One that computes a value takes a way of its own, compiled apart.
     #[inline(always)]
     pub fn enters_behind<P: Predictor>(
         &self,
         predictor: &mut P,
         flow: &mut Flow,
         left: Option<Leaver>,
+        station: usize,
     ) -> bool
-        requires { HasPlace self.now flow.old }
+        requires { HasPlace self.now flow.old station }
         ensures entered { HasEntered self.now flow.new result }
         ensures longer { Chosen result (length flow.new.ring.completed ≡
             suc (length flow.old.ring.completed)) ⊤ }
         ensures order { in_order self.now flow.new ≡ in_order self.now flow.old }
     {
         if flow.half == Half::Low && self.is_plain(flow) {
-            return self.runs_next(predictor, flow, left, Half::Low, true);
+            return self.runs_next(predictor, flow, left, station, Half::Low, true);
         }
         if self.is_half(flow) {
-            return self.runs_half(predictor, flow, left);
+            return self.runs_half(predictor, flow, left, station);
         }
-        self.runs_next(predictor, flow, left, Half::Low, false)
+        self.runs_next(predictor, flow, left, station, Half::Low, false)
     }
 
     /// Lets the next instruction, and runs it as far as it comes. Answers whether it has completed.
@@ -224,8 +227,8 @@ impl<'a> Pipeline<'a> {
         ensures order { in_order self.new flow.new ≡ in_order self.new flow.old }
         ensures rest { self.new ≡ record self.old { leavers = self.new.leavers } }
     {
-        let station = self.station_at(flow.ring.len());
+        let station = flow.ring.station_at(flow.ring.len());
         let left = take_leaver(&mut self.leavers, station);
-        self.enters_behind(predictor, flow, left)
+        self.enters_behind(predictor, flow, left, station)
     }
 }

@@ -10,6 +10,7 @@ ghost use Rattle.one_thread.specs.CompletedRing.{station_by, store_with};
 ghost use Rattle.one_thread.specs.Futures.{GoesOnBehind};
 ghost use Rattle.one_thread.specs.Kept.{ComputesOne, LeavesAs, kept_with};
 ghost use Rattle.one_thread.specs.Loads.{with_entry};
+ghost use Rattle.one_thread.specs.Slots.{slot_in};
 ghost use Rattle.one_thread.specs.Window.{access_of};
 
 use crate::completed_ring::{Completed, CompletedRing, Leaves};
@@ -98,15 +99,27 @@ impl Flow {
 
     /// A completed instruction joins, with its content, if it is a store. One that is `plain` computes one value.
     #[inline(always)]
-    pub fn joins(&mut self, instr: &Decoded, completed: Completed, content: u32, plain: bool)
+    pub fn joins(
+        &mut self,
+        station: usize,
+        instr: &Decoded,
+        completed: Completed,
+        content: u32,
+        plain: bool,
+    )
         requires plain { IsTrue plain →
             (kind_of instr.now.op ≡ Computes) × (is_pair instr.now.op ≡ false) }
         requires first { IsTrue plain → self.old.half ≡ Low }
-        requires room { length self.old.ring.completed < 32 }
+        requires room { length self.old.ring.completed < self.old.ring.size }
+        requires small { station < 32 }
+        requires station { station ≡
+            slot_in self.old.ring.size self.old.ring.oldest (length self.old.ring.completed) }
         requires few { length self.old.ring.stores < 32 }
         requires all { length self.old.future.values ≡ 34 }
         requires accesses { self.old.accesses ≤ 32 }
         ensures completed { self.new.ring.completed ≡ self.old.ring.completed ++ completed ∷ [] }
+        ensures oldest { self.new.ring.oldest ≡ self.old.ring.oldest }
+        ensures size { self.new.ring.size ≡ self.old.ring.size }
         ensures stores { self.new.ring.stores ≡
             with_entry self.old.ring.stores (store_with (station_by instr.now completed) content) }
         ensures values { self.new.future.values ≡ write self.old.future.values
@@ -120,7 +133,7 @@ impl Flow {
         ensures held { self.new.held ≡ self.old.held }
     {
         let destination = instr.destination(completed.half);
-        self.ring.push(completed);
+        self.ring.push(station, completed);
         self.future
             .follows(destination, completed.value, completed.next);
         if plain {
@@ -140,8 +153,10 @@ impl Flow {
     pub fn leaves(&mut self, accesses: usize)
         requires some { 0 < length self.old.ring.completed }
         requires counted { accesses ≤ self.old.accesses }
-        ensures completed { self.new.ring.completed ≡ drop 1 self.old.ring.completed }
-        ensures stores { self.new.ring.stores ≡ self.old.ring.stores }
+        ensures ring { self.new.ring ≡ record self.old.ring {
+          completed = drop 1 self.old.ring.completed;
+          oldest = slot_in self.old.ring.size self.old.ring.oldest 1;
+        } }
         ensures accesses { self.new.accesses ≡ self.old.accesses - accesses }
         ensures from { self.new.from ≡ length self.new.ring.completed }
         ensures rest { self.new ≡ record self.old {

@@ -24,13 +24,13 @@ impl<'a> Pipeline<'a> {
         ensures less { ahead_to limit self.new flow.new ≤ ahead_to limit self.old flow.old }
     {
         while flow.ring.len() == self.ring {
-            let station = self.oldest;
+            let station = flow.ring.station();
             let left = self.departs(flow);
             if limit <= self.committed.count() || !self.can_enter(flow) {
                 leave_untold(&mut self.leavers, station, left);
                 return true;
             }
-            if !self.enters_behind(predictor, flow, left) {
+            if !self.enters_behind(predictor, flow, left, station) {
                 return false;
             }
         }

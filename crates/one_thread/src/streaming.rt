@@ -85,7 +85,7 @@ impl<'a> Pipeline<'a> {
             return None;
         }
         let mut flow = Flow {
-            ring: CompletedRing::new(),
+            ring: CompletedRing::new(self.ring, self.oldest),
             future: Future::behind(&self.ahead()),
             half: waiting_half(self.low),
             accesses: 0,
@@ -99,7 +99,8 @@ impl<'a> Pipeline<'a> {
             let content = flow.future.operands(&station.instr).b;
             let kept = flow.kept(&station.instr, station.half, content, false);
             let completed = Completed { kept, ..completed };
-            flow.joins(&station.instr, completed, content, false);
+            let place = flow.ring.station_at(i);
+            flow.joins(place, &station.instr, completed, content, false);
         }
         flow.from = flow.ring.len();
         Some(flow)
@@ -170,8 +171,8 @@ impl<'a> Pipeline<'a> {
         registers
     }
 
-    // The registers are those that are committed.
-    fn restores_registers(&mut self, flow: &Flow)
+    // The registers are those that are committed, and the oldest tenant is that of the flow.
+    fn restores_order(&mut self, flow: &Flow)
         requires code { IsDecoded self.old.code.items self.old.program.now }
         requires there { AreThere self.old.program.now flow.now.ring.completed }
         requires all { length flow.now.future.values ≡ 34 }
@@ -182,6 +183,7 @@ impl<'a> Pipeline<'a> {
             registers[Reg::LO.number() as usize] = flow.held;
         }
         self.committed.restore(&registers);
+        self.oldest = flow.ring.station();
     }
 
     // The registers and the window are what a flow leaves.
@@ -190,7 +192,7 @@ impl<'a> Pipeline<'a> {
         requires flow { CanRestore (in_order self.old flow.now) flow.now }
         ensures { self.new ≡ restored (in_order self.old flow.now) flow.now }
     {
-        self.restores_registers(flow);
+        self.restores_order(flow);
         self.window.clear();
         for i in 0..flow.ring.len() {
             let station = self.station_at_exit(flow, i);

@@ -1,9 +1,9 @@
-use Rattle.std.proofs.Common.{◌<◌, ◌+◌, ◌++◌, ◌∷◌, [], drop, length, List, ap, ◌∙◌, arith}
+use Rattle.std.proofs.Common.{◌≡◌, ◌<◌, ◌+◌, ◌++◌, ◌∷◌, [], drop, length, take, List, sym, ap, ◌∙◌, arith, length-take-le}
 use Rattle.std.specs.Prelude.{slice_set}
 use Rattle.one_thread.specs.CompletedRing.{Contents}
-use Rattle.one_thread.specs.Slots.{ring_of}
+use Rattle.one_thread.specs.Slots.{ring_of, slot_in}
 use Rattle.one_thread.specs.declared.completed_ring.Completed.{Completed}
-use Rattle.one_thread.proofs.Slots.{ring_length, ring_push}
+use Rattle.one_thread.proofs.Slots.{ring_length, ring_push, take_set}
 use Rattle.one_thread.proofs.completed_ring.CompletedRing.push.Goals as goal
 
 pub returns : goal.returns
@@ -11,8 +11,13 @@ returns c =
     let s = c.self.inside in
     let h = c.self.invariant.0 in
     let x = c.args.completed in
-    let with : List Completed → Contents = λ l. record { completed = l; stores = drop s.past s.stores.items } in
-    let long = ring_length s.slots s.start s.len h.every_slot h.begins h.most in
-    let room : s.len < 32 = omega (arith, c.requires, ap (λ r. length r.completed) c.self.view_is, long) in
-    ap with (ap (λ k. ring_of (slice_set s.slots k x) s.start (s.len + 1)) c.slot_of-slot.ensures.value ∙ ring_push s.slots s.start s.len x h.every_slot h.begins room)
+    let xs : List Completed = take s.size s.slots in
+    let all : length xs ≡ s.size = length-take-le s.size s.slots (omega (arith, h.every_slot, h.small)) in
+    let with : List Completed → Contents = λ l. record { completed = l; stores = drop s.past s.stores.items; oldest = s.oldest; size = s.size } in
+    let long = ring_length s.size xs s.oldest s.len all h.begins h.most in
+    let room : s.len < s.size = omega (arith, c.requires.room, ap (λ r. length r.completed) c.self.view_is, ap (λ (r : Contents). r.size) c.self.view_is, long) in
+    let at : c.args.station ≡ slot_in s.size s.oldest s.len =
+    c.requires.station ∙ ap (λ (r : Contents). slot_in r.size r.oldest (length r.completed)) (sym c.self.view_is) ∙ ap (slot_in s.size s.oldest) long in
+    ap (λ l. with (ring_of l s.oldest (s.len + 1))) (take_set s.size s.slots c.args.station x ∙ ap (λ k. slice_set xs k x) at)
+    ∙ ap with (ring_push s.size xs s.oldest s.len x all h.begins room)
     ∙ ap (λ (r : Contents). record r { completed = r.completed ++ x ∷ [] }) c.self.view_is

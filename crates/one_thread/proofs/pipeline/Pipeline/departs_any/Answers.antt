@@ -14,16 +14,16 @@ fetch_known-instr-requires c =
     has_instr x.program.now c.as_slice.result.now c.oldest.result.now.pc (subst (λ l. IsDecoded l x.program.now) (sym c.as_slice.ensures.value) c.requires.flow.flows.unit.code)
     (c.requires.flow.flows.flowing.there 0 c.oldest.result.now c.oldest.ensures)
 
-pub retire-told-requires-clause-counted : goal.retire-told-requires-clause-counted
-retire-told-requires-clause-counted c =
+pub retire-requires-clause-counted : goal.retire-requires-clause-counted
+retire-requires-clause-counted c =
     let x = in_order c.args.self.now c.args.flow.now in
     let i = c.fetch_known-instr.result.now in
     let oldest = c.oldest.result.now in
     oldest_counted x c.args.flow.now i oldest
     (oldest_of c.args.self.now c.args.flow.now i oldest c.as_slice.result.now c.requires.flow c.requires.stuck c.oldest.ensures c.as_slice.ensures.value c.fetch_known-instr.ensures)
 
-pub retire-told-requires-clause-inside : goal.retire-told-requires-clause-inside
-retire-told-requires-clause-inside c =
+pub retire-requires-clause-inside : goal.retire-requires-clause-inside
+retire-requires-clause-inside c =
     let x = in_order c.args.self.now c.args.flow.now in
     let i = c.fetch_known-instr.result.now in
     let oldest = c.oldest.result.now in
@@ -36,18 +36,17 @@ returns-clause-departed c =
     let flow = c.args.flow.now in
     let i = c.fetch_known-instr.result.now in
     let oldest = c.oldest.result.now in
-    let r = c.retire-told.ensures in
-    let later : Pipeline = record b { committed = c.retire-told.new.committed; low = c.retire-told.new.low; oldest = c.station_behind-self.result } in
-    let after : Flow = c.retire-told.new.flow in
+    let r = c.retire.ensures in
+    let later : Pipeline = record b { committed = c.retire.new.committed; low = c.retire.new.low } in
+    let after : Flow = c.retire.new.flow in
     let here = oldest_of b flow i oldest c.as_slice.result.now c.requires.flow c.requires.stuck c.oldest.ensures c.as_slice.ensures.value c.fetch_known-instr.ensures in
-    let left : HasGone b later flow after i oldest c.retire-told.result =
+    let left : HasGone b later flow after i oldest c.retire.result =
     record {
       flows = c.requires.flow;
       stuck = c.requires.stuck;
       is = c.oldest.ensures;
       instr = here.instr;
-      completed = r.completed;
-      stores = r.stores;
+      ring = r.ring;
       accesses = r.accesses;
       from = r.from;
       last = ap (λ (g : Flow). g.last) r.rest;
@@ -56,8 +55,7 @@ returns-clause-departed c =
       held = r.held;
       passes = r.committed;
       low = r.low;
-      oldest = c.station_behind-self.ensures.value;
       told_is = r.told;
       rest = refl;
     } in
-    gone b later flow after i oldest c.retire-told.result left
+    gone b later flow after i oldest c.retire.result left

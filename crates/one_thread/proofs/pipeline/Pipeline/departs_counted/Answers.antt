@@ -12,7 +12,7 @@ pub returns-clause-departed : goal.returns-clause-departed
 returns-clause-departed c =
     let b = c.args.self.now in
     let o = c.requires.oldest in
-    let later : Pipeline = record b { committed = c.retire_counted.new.committed; low = c.retire_counted.new.low; oldest = c.station_behind-self.result } in
+    let later : Pipeline = record b { committed = c.retire_counted.new.committed; low = c.retire_counted.new.low } in
     let r = c.retire_counted.ensures in
     gone_counted b c.args.flow.now o.oldest c.requires.flow o.is c.args.accesses o.leaves later c.retire_counted.new.flow c.requires.stuck
-    r.completed r.stores r.accesses r.from r.rest (r.committed ∙ ap (λ n. record b.committed { pc = n; count = suc b.committed.count }) o.goes_on) r.low c.station_behind-self.ensures.value refl
+    r.ring r.accesses r.from r.rest (r.committed ∙ ap (λ n. record b.committed { pc = n; count = suc b.committed.count }) o.goes_on) r.low refl

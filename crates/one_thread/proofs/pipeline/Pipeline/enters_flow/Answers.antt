@@ -1,23 +1,24 @@
-use Rattle.std.proofs.Common.{◌+◌, ◌%◌, None, refl, sym, ap, ◌∙◌, arith}
+use Rattle.std.proofs.Common.{◌+◌, ◌%◌, length, None, refl, sym, ap, ◌∙◌}
 use Rattle.std.specs.Prelude.{slice_set}
+use Rattle.one_thread.specs.Slots.{slot_in}
 use Rattle.one_thread.proofs.Completions.{stations_long}
 use Rattle.one_thread.proofs.pipeline.Pipeline.enters_flow.Goals as goal
-
-pub station_at-station-requires-clause-near : goal.station_at-station-requires-clause-near
-station_at-station-requires-clause-near g c =
-    let b = c.args.self.now in
-    let long = stations_long b.program.now c.args.flow.now.ring.completed in
-    omega (arith, long, c.len.ensures.value, c.requires.can.room)
 
 pub enters_behind-requires : goal.enters_behind-requires
 enters_behind-requires g c =
     let b = c.args.self.now in
     let flow = c.args.flow.now in
-    let place = c.station_at-station.ensures.value ∙ ap (λ n. (b.oldest + n) % b.ring) (c.len.ensures.value ∙ sym (stations_long b.program.now flow.ring.completed)) in
+    let size = c.requires.flow.size in
+    let is = c.station_at-station.ensures.value ∙ ap (slot_in flow.ring.size flow.ring.oldest) c.len.ensures.value in
+    let place = is ∙ ap (λ r. slot_in r flow.ring.oldest (length flow.ring.completed)) size ∙ ap (λ n. (flow.ring.oldest + n) % b.ring) (sym (stations_long b.program.now flow.ring.completed)) in
     record {
-      before = b;
-      flows = c.requires.flow;
-      can = c.requires.can;
-      leavers = c.take_leaver-left.ensures.none ∙ ap (λ k. slice_set b.leavers k None) place;
-      rest = refl;
+      placed = record {
+        before = b;
+        flows = c.requires.flow;
+        can = c.requires.can;
+        leavers = c.take_leaver-left.ensures.none ∙ ap (λ k. slice_set b.leavers k None) place;
+        rest = refl;
+      };
+      small = c.station_at-station.ensures.small;
+      is = is;
     }

@@ -5,6 +5,7 @@ use Rattle.one_thread.specs.Changes.{registers_of}
 use Rattle.one_thread.specs.CompletedRing.{stations}
 use Rattle.one_thread.specs.Flow.{IsFlowing, window_of}
 use Rattle.one_thread.specs.Kept.{HasKept, HaveKept, LeavesAs, kept_with}
+use Rattle.one_thread.specs.Slots.{slot_in}
 use Rattle.one_thread.specs.declared.completed_ring.Completed.{Completed}
 use Rattle.one_thread.specs.declared.station.Station.{Station}
 use Rattle.one_thread.proofs.Completions.{station_is, stations_long}
@@ -13,6 +14,7 @@ use Rattle.one_thread.proofs.FlowKept.{begins, begins_in_order, joins_kept}
 use Rattle.one_thread.proofs.Kept.{kept_now, set_zero, zero_held}
 use Rattle.one_thread.proofs.FlowStays.{begun, room_among, taken}
 use Rattle.one_thread.proofs.Flowing.{registers_all}
+use Rattle.one_thread.proofs.pipeline.Pipeline.flow.Goals.{After-operands-content}
 use Rattle.one_thread.proofs.pipeline.Pipeline.flow.Goals as goal
 
 pub behind-requires : goal.behind-requires
@@ -31,28 +33,36 @@ loop-i-init c =
       last = refl;
       kept = subst (λ cs. HaveKept b.program.now (registers_of b) cs c.behind.result.values) (sym c.new.ensures.completed) (sym values);
       held = c.register.ensures;
+      oldest = c.new.ensures.oldest;
+      size = c.new.ensures.size;
     }
+
+-- so many have joined
+among : (c : After-operands-content) → let flow = c.loop-i.flow in (length flow.ring.completed ≡ c.loop-i.i) × (length flow.ring.stores < 32) × (flow.accesses ≤ 32)
+among c =
+    let b = c.args.self.now in
+    let less : c.loop-i.i < length b.window = omega (arith, c.loop-i-test.true, c.len-i-end.ensures.value) in
+    let most : length b.window ≤ 32 = omega (arith, c.len-i-end.ensures.value, c.len-i-end.ensures.most) in
+    room_among b c.loop-i.flow c.loop-i.i c.loop-i.invariant.flowing c.loop-i.invariant.window less most
+
+pub station_at-place-requires : goal.station_at-place-requires
+station_at-place-requires c = let same = (among (goal.at.station_at-place-requires c).After-operands-content).0 in omega (arith, same)
 
 pub joins-requires-clause-room : goal.joins-requires-clause-room
 joins-requires-clause-room c =
-    let b = c.args.self.now in
-    let less : c.loop-i.i < length b.window = omega (arith, c.loop-i-test.true, c.len-i-end.ensures.value) in
-    let most : length b.window ≤ 32 = omega (arith, c.len-i-end.ensures.value, c.len-i-end.ensures.most) in
-    (room_among b c.loop-i.flow c.loop-i.i c.loop-i.invariant.flowing c.loop-i.invariant.window less most).0
+    let same = (among (goal.at.joins-requires-clause-room c).After-operands-content).0 in
+    omega (arith, same, c.loop-i.invariant.size, c.loop-i-test.true, c.len-i-end.ensures.value, c.if-self-len.false, c.len.ensures.value)
+
+pub joins-requires-clause-station : goal.joins-requires-clause-station
+joins-requires-clause-station c =
+    c.station_at-place.ensures.value
+    ∙ ap (slot_in c.loop-i.flow.ring.size c.loop-i.flow.ring.oldest) (sym (among (goal.at.joins-requires-clause-station c).After-operands-content).0)
 
 pub joins-requires-clause-few : goal.joins-requires-clause-few
-joins-requires-clause-few c =
-    let b = c.args.self.now in
-    let less : c.loop-i.i < length b.window = omega (arith, c.loop-i-test.true, c.len-i-end.ensures.value) in
-    let most : length b.window ≤ 32 = omega (arith, c.len-i-end.ensures.value, c.len-i-end.ensures.most) in
-    (room_among b c.loop-i.flow c.loop-i.i c.loop-i.invariant.flowing c.loop-i.invariant.window less most).1
+joins-requires-clause-few c = (among (goal.at.joins-requires-clause-few c).After-operands-content).1
 
 pub joins-requires-clause-accesses : goal.joins-requires-clause-accesses
-joins-requires-clause-accesses c =
-    let b = c.args.self.now in
-    let less : c.loop-i.i < length b.window = omega (arith, c.loop-i-test.true, c.len-i-end.ensures.value) in
-    let most : length b.window ≤ 32 = omega (arith, c.len-i-end.ensures.value, c.len-i-end.ensures.most) in
-    (room_among b c.loop-i.flow c.loop-i.i c.loop-i.invariant.flowing c.loop-i.invariant.window less most).2
+joins-requires-clause-accesses c = (among (goal.at.joins-requires-clause-accesses c).After-operands-content).2
 
 pub loop-i-preserved : goal.loop-i-preserved
 loop-i-preserved c =
@@ -68,6 +78,8 @@ loop-i-preserved c =
       from = c.joins.ensures.from;
       last = c.joins.ensures.last;
       held = c.joins.ensures.held;
+      oldest = c.joins.ensures.oldest;
+      size = c.joins.ensures.size;
       values = c.joins.ensures.values;
       stores = c.joins.ensures.stores;
       future = c.joins.ensures.future;
@@ -86,6 +98,8 @@ loop-i-preserved c =
     record {
       kept = joins_kept b c.loop-i.flow c.joins.new.self i x content (registers_of b) h.kept j there keeps;
       held = c.joins.ensures.held ∙ h.held;
+      oldest = c.joins.ensures.oldest ∙ h.oldest;
+      size = c.joins.ensures.size ∙ h.size;
       flowing = joined b c.loop-i.flow c.joins.new.self i x content j there h.flowing c.operands-content.ensures.registers.1 c.operands-content.ensures.second;
       window = joined_window b c.loop-i.flow c.joins.new.self i x content j there
           ∙ taken _ b.window c.loop-i.i c.get-station.result _ h.window c.get-station.ensures (sym (station_is b.program.now x i there) ∙ c.in_ok-completed.ensures.same);
@@ -97,11 +111,11 @@ returns-clause-flow c =
     let b = c.args.self.now in
     let h = c.loop-i.invariant in
     let whole = h.window ∙ take_all c.loop-i.i b.window (omega (arith, c.loop-i-test.false, c.len-i-end.ensures.value)) in
-    begins b c.loop-i.flow h.kept h.held c.len-2.result
+    begins b c.loop-i.flow h.kept h.held h.oldest h.size c.len-2.result
     (begun b c.loop-i.flow c.len-2.result c.requires.unit c.requires.two (omega (arith, c.if-self-len.false, c.len.ensures.value)) h.flowing whole h.last c.len-2.ensures.value)
 
 pub returns-clause-same : goal.returns-clause-same
-returns-clause-same c = begins_in_order c.args.self.now c.loop-i.flow c.loop-i.invariant.kept c.loop-i.invariant.held
+returns-clause-same c = begins_in_order c.args.self.now c.loop-i.flow c.loop-i.invariant.kept c.loop-i.invariant.held c.loop-i.invariant.oldest c.loop-i.invariant.size
 
 pub returns-clause-room : goal.returns-clause-room
 returns-clause-room c =

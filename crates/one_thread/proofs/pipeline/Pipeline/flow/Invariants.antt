@@ -13,5 +13,7 @@ invariant-loop-i l =
       window : window_of l.self l.flow ≡ take l.i l.self.window;
       last : l.flow.last ≡ None;
       kept : HaveKept l.self.program.now (registers_of l.self) l.flow.ring.completed l.flow.future.values;
+      oldest : l.flow.ring.oldest ≡ l.self.oldest;
+      size : l.flow.ring.size ≡ l.self.ring;
       held : l.flow.held ≡ slice_index l.self.committed.registers lo;
     }

@@ -13,7 +13,7 @@ use Rattle.one_thread.proofs.pipeline.Pipeline.restores.Goals as goal
 
 pub loop-i-init : goal.loop-i-init
 loop-i-init c =
-    ap (λ (p : Pipeline). record p { window = c.clear.new.self }) c.restores_registers.ensures
+    ap (λ (p : Pipeline). record p { window = c.clear.new.self }) c.restores_order.ensures
     ∙ ap (λ W. record (in_order c.args.self.now c.args.flow.now) { window = W }) c.clear.ensures
 
 pub join-requires : goal.join-requires

@@ -1,4 +1,5 @@
-use Rattle.std.proofs.Common.{refl, sym, ap, ◌∙◌, arith}
+use Rattle.std.proofs.Common.{refl, sym, ap, ◌∙◌, subst, arith}
+use Rattle.one_thread.specs.Flow.{HasPlace}
 use Rattle.one_thread.specs.Changes.{run_from}
 use Rattle.one_thread.proofs.Completions.{stations_long}
 use Rattle.one_thread.proofs.FlowOut.{has_place}
@@ -11,8 +12,9 @@ departs-left-requires-clause-stuck g c =
 
 pub enters_behind-requires : goal.enters_behind-requires
 enters_behind-requires g c =
-    has_place c.loop-self.self c.departs-left.new.self c.loop-self.flow c.departs-left.new.flow c.departs-left.result c.departs-left.ensures.departed (sym c.len.ensures.value ∙ c.loop-self-test.true)
-    (c.if-not-can_enter.ensures refl)
+    subst (HasPlace c.departs-left.new.self c.departs-left.new.flow) (sym c.station-station.ensures)
+    (has_place c.loop-self.self c.departs-left.new.self c.loop-self.flow c.departs-left.new.flow c.departs-left.result c.departs-left.ensures.departed (sym c.len.ensures.value ∙ c.loop-self-test.true)
+    (c.if-not-can_enter.ensures refl))
 
 pub loop-self-preserved : goal.loop-self-preserved
 loop-self-preserved g c =

@@ -1,4 +1,4 @@
-use Rattle.std.proofs.Common.{◌≡◌, ◌≤◌, ◌+◌, ℕ, length, Some, true, refl, sym, ap, ◌∙◌, subst, true≢false}
+use Rattle.std.proofs.Common.{◌≡◌, ◌≤◌, ◌+◌, ℕ, length, Some, true, refl, sym, ap, ◌∙◌, subst, arith, true≢false}
 use Rattle.instructions.specs.Guesses.{Guesses}
 use Rattle.instructions.specs.Instruction.{width}
 use Rattle.instructions.specs.Programs.{instr_at}
@@ -17,14 +17,14 @@ use Rattle.one_thread.proofs.pipeline.Pipeline.runs_next.Goals as goal
 
 -- What enters, as it was fetched, predicted and read
 
-entering : (g : Over) (c : After-operands-operands g) → Enters (in_order c.requires.place.before c.args.flow.now) (in_order c.args.self.now c.args.flow.now) c.args.flow.now c.fetch_known-instr.result.now
+entering : (g : Over) (c : After-operands-operands g) → Enters (in_order c.requires.place.placed.before c.args.flow.now) (in_order c.args.self.now c.args.flow.now) c.args.flow.now c.fetch_known-instr.result.now
     c.guess_behind-predicted.result c.operands-operands.result
 entering g c =
     let x = c.args.self.now in
     let flow = c.args.flow.now in
     let i = c.fetch_known-instr.result.now in
     let p = c.guess_behind-predicted.result in
-    let place = c.requires.place in
+    let place = c.requires.place.placed in
     let decoded = place_decoded x flow c.as_slice.result.now place c.as_slice.ensures.value in
     let is = c.fetch_known-instr.ensures place.before.program.now decoded in
     let old = c.args.predictor.now in
@@ -50,6 +50,8 @@ joined g c =
       from = on.from;
       last = on.last;
       held = on.held;
+      oldest = on.oldest;
+      size = on.size;
       stores = on.stores;
       values = on.values;
       future = on.future;
@@ -57,12 +59,12 @@ joined g c =
       accesses = on.accesses;
     })
 
-done : (g : Over) (c : After-joins g) → Completes c.requires.place.before c.args.flow.now c.fetch_known-instr.result.now
+done : (g : Over) (c : After-joins g) → Completes c.requires.place.placed.before c.args.flow.now c.fetch_known-instr.result.now
     c.guess_behind-predicted.result c.operands-operands.result (Some c.in-Some.done)
 done g c =
     let i = c.fetch_known-instr.result.now in
     subst (λ (q : Pipeline). Completes q c.args.flow.now i c.guess_behind-predicted.result c.operands-operands.result (Some c.in-Some.done))
-    c.requires.place.rest c.in-Some.ensures
+    c.requires.place.placed.rest c.in-Some.ensures
 
 -- and keeps what it has to
 
@@ -70,13 +72,13 @@ keeps : (g : Over) (c : After-joins g) → HasKept c.fetch_known-instr.result.no
     (completed_as c.args.flow.now c.guess_behind-predicted.result c.in-Some.done c.completed-completed.result.leaves (content g c)) c.args.flow.now.future.values
 keeps g c =
     let flow = c.args.flow.now in
-    let x = in_order c.requires.place.before flow in
+    let x = in_order c.requires.place.placed.before flow in
     let i = c.fetch_known-instr.result.now in
     let read = c.operands-operands.ensures in
     record {
       kept = ap (λ h. kept_with i h c.operands-operands.result.b flow.future.values) c.requires.half
           ∙ kept_now flow.future (registers_of x) x.committed.pc (window_of x flow) i flow.half c.operands-operands.result.b
-          c.requires.place.flows.flows.flowing.foresees read.registers.1 read.second;
+          c.requires.place.placed.flows.flows.flowing.foresees read.registers.1 read.second;
       leaves = c.completed-completed.ensures.leaves;
     }
 
@@ -84,7 +86,7 @@ is_there : (g : Over) (c : After-joins g) → instr_at c.args.self.now.program.n
 is_there g c =
     let x = c.args.self.now in
     let flow = c.args.flow.now in
-    let place = c.requires.place in
+    let place = c.requires.place.placed in
     ap (λ (q : Pipeline). instr_at q.program.now flow.future.pc) place.rest
     ∙ c.fetch_known-instr.ensures place.before.program.now (place_decoded x flow c.as_slice.result.now place c.as_slice.ensures.value)
 
@@ -92,13 +94,16 @@ kept : (g : Over) (c : After-joins g) → let flow = c.args.flow.now in
     HaveKept c.args.self.now.program.now (registers_of (in_order c.args.self.now flow)) flow.ring.completed flow.future.values
 kept g c =
     let flow = c.args.flow.now in
-    subst (λ (q : Pipeline). HaveKept q.program.now (registers_of (in_order q flow)) flow.ring.completed flow.future.values) (sym c.requires.place.rest)
-    c.requires.place.flows.kept
+    subst (λ (q : Pipeline). HaveKept q.program.now (registers_of (in_order q flow)) flow.ring.completed flow.future.values) (sym c.requires.place.placed.rest)
+    c.requires.place.placed.flows.kept
+
+size : (g : Over) (c : After-joins g) → c.args.flow.now.ring.size ≡ c.args.self.now.ring
+size g c = c.requires.place.placed.flows.size ∙ ap (λ (q : Pipeline). q.ring) (sym c.requires.place.placed.rest)
 
 flows_on : (g : Over) (c : After-joins g) (n : ℕ) → IsFlow (in_order c.args.self.now c.args.flow.now) (record c.joins.new.self { from = n }) →
     Flows c.args.self.now (record c.joins.new.self { from = n })
 flows_on g c n h =
-    joins_flows _ _ c.joins.new.self _ _ c.operands-operands.result.b _ (kept g c) (joined g c) (is_there g c) (keeps g c) n refl h
+    joins_flows _ _ c.joins.new.self _ _ c.operands-operands.result.b _ (kept g c) (joined g c) (is_there g c) (keeps g c) n refl (size g c) h
 
 order_on : (g : Over) (c : After-joins g) → in_order c.args.self.now c.joins.new.self ≡ in_order c.args.self.now c.args.flow.now
 order_on g c =
@@ -109,7 +114,7 @@ completes-requires-clause-inside g c =
     let flow = c.args.flow.now in
     let i = c.fetch_known-instr.result.now in
     let o = c.operands-operands.result in
-    subst (λ (q : Pipeline). (a : ℕ) → outcome_in q flow i o ≡ Address a → a + width i.op ≤ length q.committed.memory) (sym c.requires.place.rest)
+    subst (λ (q : Pipeline). (a : ℕ) → outcome_in q flow i o ≡ Address a → a + width i.op ≤ length q.committed.memory) (sym c.requires.place.placed.rest)
     (entered_inside _ _ flow i _ o (entering g (goal.at.completes-requires-clause-inside g c).After-operands-operands))
 
 pub returns-in_default-clause-entered : goal.returns-in_default-clause-entered
@@ -123,7 +128,9 @@ returns-then-not-is_alone-clause-entered g c =
     (entered_stays _ _ _ _ _ _ (entering g (goal.at.returns-then-not-is_alone-clause-entered g c).After-operands-operands))
 
 pub joins-requires-clause-room : goal.joins-requires-clause-room
-joins-requires-clause-room g c = (entered_room _ _ _ _ _ _ (entering g (goal.at.joins-requires-clause-room g c).After-operands-operands)).0
+joins-requires-clause-room g c =
+    let room = (entered_room _ _ _ _ _ _ (entering g (goal.at.joins-requires-clause-room g c).After-operands-operands)).0 in
+    omega (arith, room, c.requires.place.placed.flows.size)
 
 pub joins-requires-clause-few : goal.joins-requires-clause-few
 joins-requires-clause-few g c = (entered_room _ _ _ _ _ _ (entering g (goal.at.joins-requires-clause-few g c).After-operands-operands)).1

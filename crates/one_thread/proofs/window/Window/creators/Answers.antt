@@ -13,11 +13,11 @@ returns c =
     let h = c.self.invariant.0 in
     let none : Creators = record { first = 0; second = 0; replaced = 0 } in
     let made = get_or s.creators c.slot_of-slot.result none in
-    let long = ring_length s.stations s.start s.len h.every_station h.begins h.most in
+    let long = ring_length 32 s.stations s.start s.len h.every_station h.begins h.most in
     let inside : c.args.i < s.len = omega (arith, c.requires, ap length c.self.view_is, long) in
     let slot : c.slot_of-slot.result < length s.creators = omega (arith, c.slot_of-slot.ensures.small, h.every_creator) in
     let is : slice_get (ring_of s.creators s.start s.len) c.args.i ≡ Some made =
-    ring_get s.creators s.start s.len c.args.i h.every_creator h.begins h.most inside
+    ring_get 32 s.creators s.start s.len c.args.i h.every_creator h.begins h.most inside
     ∙ ap (slice_get s.creators) (sym c.slot_of-slot.ensures.value)
     ∙ slot_gives s.creators c.slot_of-slot.result none slot in
     let all : CreatorsAt c.args.self.now c.args.i (places_of made s.start) =

@@ -12,7 +12,7 @@ pub returns-in_default : goal.returns-in_default
 returns-in_default c =
     let s = c.self.inside in
     let h = c.self.invariant.0 in
-    let long = ring_length s.stations s.start s.len h.every_station h.begins h.most in
+    let long = ring_length 32 s.stations s.start s.len h.every_station h.begins h.most in
     let inside : s.len - 1 < length c.args.self.now = omega (arith, c.requires, ap length c.self.view_is, long) in
     let there = slice_get-some c.args.self.now (s.len - 1) inside in
     absurd (cc (there.1, c.peek.ensures, ap option_copied c.in_default.is))
@@ -24,11 +24,11 @@ invariant_of-self c =
     let w = c.in-Some.station.now in
     let none : Creators = record { first = 0; second = 0; replaced = 0 } in
     let made = get_or s.creators c.slot_of-slot.result none in
-    let long = ring_length s.stations s.start s.len h.every_station h.begins h.most in
+    let long = ring_length 32 s.stations s.start s.len h.every_station h.begins h.most in
     let one : s.len ≡ suc (s.len - 1) = omega (arith, c.requires, ap length c.self.view_is, long) in
     let less : s.len - 1 < s.len = omega (arith, one) in
     let is : slice_get c.args.self.now (s.len - 1) ≡ Some w = sym c.peek.ensures ∙ ap option_copied c.in-Some.is in
-    let here = sym (ring_get s.stations s.start s.len (s.len - 1) h.every_station h.begins h.most less) ∙ ap (λ l. slice_get l (s.len - 1)) c.self.view_is ∙ is in
+    let here = sym (ring_get 32 s.stations s.start s.len (s.len - 1) h.every_station h.begins h.most less) ∙ ap (λ l. slice_get l (s.len - 1)) c.self.view_is ∙ is in
     let b : c.slot_of-slot.result < length s.creators = omega (arith, c.slot_of-slot.ensures.small, h.every_creator) in
     let small : w.destination < 34 = omega (arith, c.number-r.ensures.value, c.number-r.ensures.small) in
     let known =
@@ -45,7 +45,7 @@ overflow_sub-self c =
     let s = c.self.inside in
     let h = c.self.invariant.0 in
     let w = c.in-Some.station.now in
-    let long = ring_length s.stations s.start s.len h.every_station h.begins h.most in
+    let long = ring_length 32 s.stations s.start s.len h.every_station h.begins h.most in
     let one : s.len ≡ suc (s.len - 1) = omega (arith, c.requires, ap length c.self.view_is, long) in
     let is : slice_get c.args.self.now (s.len - 1) ≡ Some w = sym c.peek.ensures ∙ ap option_copied c.in-Some.is in
     let there = ap (λ l. slice_get l (s.len - 1)) c.self.view_is ∙ is in

@@ -15,7 +15,7 @@ invariant_of-self c =
     let h = c.self.invariant.0 in
     let w = c.args.oldest.now in
     let there = ap (λ l. slice_get l 0) c.self.view_is ∙ c.requires in
-    let long = ring_length s.stations s.start s.len h.every_station h.begins h.most in
+    let long = ring_length 32 s.stations s.start s.len h.every_station h.begins h.most in
     let inside : 0 < length (ring_of s.stations s.start s.len) = slice_get_within (ring_of s.stations s.start s.len) 0 w there in
     let some : 0 < s.len = omega (arith, inside, long) in
     let one : s.len ≡ suc (s.len - 1) = omega (arith, some) in
@@ -30,7 +30,7 @@ overflow_sub-self c =
     let h = c.self.invariant.0 in
     let w = c.args.oldest.now in
     let there = ap (λ l. slice_get l 0) c.self.view_is ∙ c.requires in
-    let long = ring_length s.stations s.start s.len h.every_station h.begins h.most in
+    let long = ring_length 32 s.stations s.start s.len h.every_station h.begins h.most in
     let inside : 0 < length (ring_of s.stations s.start s.len) = slice_get_within (ring_of s.stations s.start s.len) 0 w there in
     let one : s.len ≡ suc (s.len - 1) = omega (arith, inside, long) in
     let count = count_oldest s.stations s.start s.len (s.len - 1) s.accesses w h.every_station h.begins h.most one there c.self.invariant.1 in
@@ -42,9 +42,9 @@ returns c =
     let h = c.self.invariant.0 in
     let w = c.args.oldest.now in
     let there = ap (λ l. slice_get l 0) c.self.view_is ∙ c.requires in
-    let long = ring_length s.stations s.start s.len h.every_station h.begins h.most in
+    let long = ring_length 32 s.stations s.start s.len h.every_station h.begins h.most in
     let inside : 0 < length (ring_of s.stations s.start s.len) = slice_get_within (ring_of s.stations s.start s.len) 0 w there in
     let some : 0 < s.len = omega (arith, inside, long) in
     ap (λ k. ring_of s.stations k (s.len - 1)) c.slot_of-self-inside.ensures.value
-    ∙ ring_shift s.stations s.start s.len h.every_station h.begins h.most some
+    ∙ ring_shift 32 s.stations s.start s.len h.every_station h.begins h.most some
     ∙ ap (λ l. drop 1 l) c.self.view_is
