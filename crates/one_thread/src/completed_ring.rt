@@ -2,6 +2,7 @@
 ghost use Rattle.std.specs.Prelude.{◌≡◌, ◌<◌, ◌≤◌, [], ◌∷◌, ◌++◌, length, drop, slice_get, Some};
 ghost use Rattle.one_thread.specs.Slots.{slot_in};
 
+use crate::places::next_station;
 use arrayvec::ArrayVec;
 use inorder::wrapped;
 use instructions::Half;
@@ -199,7 +200,7 @@ impl CompletedRing {
           oldest = slot_in self.old.size self.old.oldest 1;
         } }
     {
-        self.oldest = wrapped(self.oldest + 1, self.size);
+        self.oldest = next_station(self.oldest, self.size);
         self.len -= 1;
     }
 

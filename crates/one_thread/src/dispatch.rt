@@ -17,6 +17,7 @@ use crate::decoded::Decoded;
 use crate::fetch::{fetch, fetch_known};
 use crate::leaver::guess;
 use crate::pipeline::Pipeline;
+use crate::places::next_station;
 use inorder::wrapped;
 use instructions::{Half, Leaver, Predictor};
 
@@ -58,8 +59,7 @@ impl<'a> Pipeline<'a> {
         ensures value { result ≡ (station + 1) % self.now.ring }
         ensures small { result < self.now.ring }
     {
-        let next = station + 1;
-        if next == self.ring { 0 } else { next }
+        next_station(station, self.ring)
     }
 
     // The pc where the path goes on, and the half that comes there.

@@ -49,14 +49,13 @@ impl<'a> Pipeline<'a> {
         });
     }
 
-    // Nothing can be let behind the next instruction, where that was predicted.
-    fn is_last(&self, flow: &Flow, instr: &Decoded, predicted: u32) -> bool
+    // Nothing can be let behind the next instruction, since there is no instruction, or the queue is full.
+    #[cold]
+    #[inline(never)]
+    fn is_last_let(&self, flow: &Flow, instr: &Decoded, predicted: u32) -> bool
         requires place { IsPlaced self.now flow.now }
         ensures { IsTrue result → IsLast self.now flow.now instr.now predicted }
     {
-        if flow.ring.len() + 1 == self.ring {
-            return true;
-        }
         let Some(next) = fetch(self.code.as_slice(), predicted) else {
             return true;
         };
@@ -66,15 +65,20 @@ impl<'a> Pipeline<'a> {
         false
     }
 
-    // The next instruction is let alone, and nothing can be let behind it.
-    #[cold]
-    #[inline(never)]
+    // The next instruction is let alone, and nothing can be let behind it, where it was predicted.
+    #[inline(always)]
     fn is_alone(&self, flow: &Flow, instr: &Decoded, predicted: u32) -> bool
         requires place { IsPlaced self.now flow.now }
         ensures from { IsTrue result → flow.now.from ≡ length flow.now.ring.completed }
         ensures last { IsTrue result → IsLast self.now flow.now instr.now predicted }
     {
-        flow.from == flow.ring.len() && self.is_last(flow, instr, predicted)
+        if flow.from != flow.ring.len() {
+            return false;
+        }
+        if flow.ring.len() + 1 == self.ring {
+            return true;
+        }
+        self.is_last_let(flow, instr, predicted)
     }
 
     /// Whether the next instruction can enter, if there is one; else nothing can be done before the oldest leaves.

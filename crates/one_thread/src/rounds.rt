@@ -23,7 +23,10 @@ impl<'a> Pipeline<'a> {
         ensures ends { run_in self.new flow.new limit ≡ run_in self.old flow.old limit }
         ensures less { ahead_to limit self.new flow.new ≤ ahead_to limit self.old flow.old }
     {
-        while flow.ring.len() == self.ring {
+        if flow.ring.len() != self.ring {
+            return true;
+        }
+        loop {
             let station = flow.ring.station();
             let left = self.departs(flow);
             if limit <= self.committed.count() || !self.can_enter(flow) {
@@ -34,7 +37,6 @@ impl<'a> Pipeline<'a> {
                 return false;
             }
         }
-        true
     }
 
     /// Lets instructions enter a flow, and the oldest leave it, as long as each completes and the count has not

@@ -1,4 +1,4 @@
-use Rattle.std.proofs.Common.{◌≡◌, ◌<◌, ◌≤◌}
+use Rattle.std.proofs.Common.{◌≡◌, ◌<◌, ◌≤◌, length}
 use Rattle.one_thread.specs.Flow.{Flows, ahead_to, run_in, to_do}
 use Rattle.one_thread.proofs.pipeline.Pipeline.rounds.Given as goal
 
@@ -6,6 +6,7 @@ abbrev pub invariant-loop-self : goal.invariant-loop-self
 invariant-loop-self g l =
     record {
       flow : Flows l.self l.flow;
+      full : length l.flow.ring.completed ≡ l.self.ring;
       below : l.self.committed.count < l.limit;
       code : l.self.code ≡ l.fn.self.code;
       program : l.self.program ≡ l.fn.self.program;

@@ -1,10 +1,6 @@
 use Rattle.std.proofs.Common.{◌+◌, sym, ap, ◌∙◌, arith}
-use Rattle.one_thread.proofs.FlowLast.{few_accesses, last_decoded, last_full, last_room}
-use Rattle.one_thread.proofs.pipeline.Pipeline.is_last.Goals as goal
-
-pub returns-then-len-self : goal.returns-then-len-self
-returns-then-len-self c t =
-    last_room c.args.self.now c.args.flow.now c.args.instr.now c.args.predicted c.requires.place (ap (λ n. n + 1) (sym c.len.ensures.value) ∙ c.if-len-self.true)
+use Rattle.one_thread.proofs.FlowLast.{few_accesses, last_decoded, last_full}
+use Rattle.one_thread.proofs.pipeline.Pipeline.is_last_let.Goals as goal
 
 pub overflow_add-flow : goal.overflow_add-flow
 overflow_add-flow c =
