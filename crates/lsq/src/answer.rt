@@ -1,5 +1,5 @@
 //! The rule for one load over the older stores.
-ghost use Rattle.std.specs.Prelude.{◌≡◌, ◌+◌, ◌%◌, ◌^◌, IsSome};
+ghost use Rattle.std.specs.Prelude.{◌≡◌, ◌+◌, ◌%◌, ◌^◌, IsSome, None};
 ghost use Rattle.lsq.specs.Entries.{bytes, load_entry_at};
 ghost use Rattle.lsq.specs.LoadRule.{lacks_address, overlaps, taken_from, youngest, answer_over, answer};
 
@@ -40,6 +40,14 @@ pub fn answer_over(older: &[Entry], address: u32, width: Width) -> Answer
     if let Some((place, _)) = youngest_lacking(older) {
         return Answer::Blocked(place);
     }
+    answer_over_known(older, address, width)
+}
+
+/// Answers a load as `answer_over` does, by older stores that have their addresses.
+pub fn answer_over_known(older: &[Entry], address: u32, width: Width) -> Answer
+    requires { youngest lacks_address older.now ≡ None }
+    ensures { result ≡ answer_over older.now address (bytes width) }
+{
     let Some((place, store)) = youngest_overlapping(older, address, width) else {
         return Answer::Memory;
     };

@@ -8,7 +8,7 @@ mod entry;
 mod law;
 mod queue;
 
-pub use answer::{Answer, answer_over, lacks_address, overlaps, taken_from};
+pub use answer::{Answer, answer_over, answer_over_known, lacks_address, overlaps, taken_from};
 pub use entry::{Entry, Width};
 pub use law::loads_read_the_last_stores;
 pub use queue::{Full, MOST_ENTRIES, Queue};

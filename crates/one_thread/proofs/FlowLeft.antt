@@ -14,7 +14,7 @@ use Rattle.inorder.specs.Machine.{State, write}
 use Rattle.one_thread.specs.Changes.{registers_of}
 use Rattle.one_thread.specs.CompletedRing.{Contents, instr_there, stage_by, station_by, stores_behind}
 use Rattle.one_thread.specs.Flow.{Flows, IsStuck, OldestRetired, committed_by, filled, held_by, in_order, low_by, memory_kept, passed_by, window_of, with_leaver}
-use Rattle.one_thread.specs.Kept.{HasKept, HaveKept, IsCounted, LeavesAs, registers_before, registers_with, with_held}
+use Rattle.one_thread.specs.Kept.{HasKept, HaveKept, IsCounted, LeavesAs, registers_before, registers_with, told_if, with_held}
 use Rattle.one_thread.specs.Leavers.{told_at}
 use Rattle.one_thread.specs.Slots.{slot_in}
 use Rattle.one_thread.specs.Turns.{Falls}
@@ -170,14 +170,15 @@ none_stored Links op v kept memory e = refl
 none_stored Loads op v kept memory e = refl
 none_stored Stores op v kept memory e = absurd (cc e)
 
-module _ (b : Pipeline) (flow : Flow) (c : Completed) (flows : Flows b flow) (is : slice_get flow.ring.completed 0 ≡ Some c) (n : ℕ) (leaves : (i : Instr) → LeavesAs c.leaves i → IsCounted n i) where
+module _ (b : Pipeline) (flow : Flow) (c : Completed) (flows : Flows b flow) (is : slice_get flow.ring.completed 0 ≡ Some c) (n : ℕ) (tells : Bool)
+  (leaves : (i : Instr) → LeavesAs c.leaves i → IsCounted n tells i) where
   found : (i : Instr) × (instr_at b.program.now c.pc ≡ Some i)
   found = some_there (instr_at b.program.now c.pc) (flows.flows.flowing.there 0 c is)
 
   abbrev one : Instr
   one = found.0
 
-  counted : IsCounted n one
+  counted : IsCounted n tells one
   counted =
       leaves one
       (subst (LeavesAs c.leaves) (ap (λ o. unwrap_or o (record { op = Rattle.instructions.specs.declared.op.Op.TheVariants.Break; target = 0; first = 0; second = 0; number = 0 })) found.1)
@@ -191,10 +192,10 @@ module _ (b : Pipeline) (flow : Flow) (c : Completed) (flows : Flows b flow) (is
   pub gone_counted : (later : Pipeline) (after : Flow) → IsStuck b flow → after.ring ≡ record flow.ring { completed = drop 1 flow.ring.completed; oldest = slot_in flow.ring.size flow.ring.oldest 1 } →
       after.accesses ≡ flow.accesses - n → after.from ≡ length after.ring.completed → after ≡ record flow { ring = after.ring; accesses = after.accesses; from = after.from } →
       later.committed ≡ record b.committed { pc = c.next; count = suc b.committed.count } → later.low ≡ None → later ≡ record b { committed = later.committed; low = later.low } →
-      OldestRetired b flow None later after
-  gone_counted later after stuck ring accesses from same committed low rest =
+      (told : Option Leaver) → told ≡ told_if tells c.pc c.next → OldestRetired b flow told later after
+  gone_counted later after stuck ring accesses from same committed low rest told told_is =
       let whole : is_first_half one.op c.half ≡ false = ap (λ p. p && is_low c.half) counted.whole in
-      gone b later flow after one c None
+      gone b later flow after one c told
       (record {
         flows = flows;
         stuck = stuck;
@@ -211,6 +212,6 @@ module _ (b : Pipeline) (flow : Flow) (c : Completed) (flows : Flows b flow) (is
             ∙ ap (λ m. record b.committed { memory = m; pc = c.next; count = suc b.committed.count }) (sym (none_stored (kind one.op) one.op c.value c.kept b.committed.memory counted.none))
             ∙ ap (λ p. passed_by p (station_by one c) c.kept b.committed) (sym whole);
         low = low ∙ ap (λ p. low_by p (station_by one c)) (sym whole);
-        told_is = ap (λ o. Rattle.one_thread.specs.Leavers.leaver_by o c.pc c.next) (sym (counted.fixed c.half c.pc));
+        told_is = told_is ∙ sym (counted.told c.half c.pc c.next);
         rest = rest;
       })

@@ -50,6 +50,7 @@ pub mod Ends
 pub mod Stores
 pub mod FlowRuns
 pub mod FlowJoins
+pub mod StoresKnown
 pub mod FlowKept
 pub mod FlowLast
 pub mod FlowIn

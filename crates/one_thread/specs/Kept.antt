@@ -3,16 +3,18 @@ use Rattle.std.specs.Prelude.{⊤, ◌≡◌, ℕ, Bool, true, false, List, [], 
 use Rattle.instructions.specs.Instruction.{destination, fixed_next, is_pair, kind, pc_plus_4, second_of}
 use Rattle.instructions.specs.Programs.{Program}
 use Rattle.instructions.specs.Registers.{lo}
+use Rattle.instructions.specs.declared.guessing.Leaver.{Leaver}
 use Rattle.instructions.specs.declared.instr.Instr.{Instr}
 use Rattle.instructions.specs.declared.op.Half.{Half}
 use Rattle.instructions.specs.declared.op.Kind.TheVariants.{Computes}
 use Rattle.inorder.specs.Loads.{is_store}
 use Rattle.inorder.specs.Machine.{write}
 use Rattle.one_thread.specs.CompletedRing.{instr_there, station_in}
+use Rattle.one_thread.specs.Leavers.{leaver_by}
 use Rattle.one_thread.specs.Window.{access_of, source_in}
 use Rattle.one_thread.specs.declared.completed_ring.Completed.{Completed}
 use Rattle.one_thread.specs.declared.completed_ring.Leaves.{Leaves}
-use Rattle.one_thread.specs.declared.completed_ring.Leaves.TheVariants.{Any, Load, Nothing}
+use Rattle.one_thread.specs.declared.completed_ring.Leaves.TheVariants.{Any, Load, Nothing, Told}
 
 -- What an instruction keeps that finds these registers, and this in its source 2
 abbrev pub kept_with : Instr → Half → ℕ → List ℕ → ℕ
@@ -30,25 +32,34 @@ pub record ComputesOne (i : Instr) : Type 0 where
   pub whole : is_pair i.op ≡ false
   pub fixed : (half : Half) (pc : ℕ) → fixed_next i half pc ≡ Some (pc_plus_4 pc)
 
--- An instruction leaves with so many accesses, and nothing to do but to count it
-pub record IsCounted (n : ℕ) (i : Instr) : Type 0 where
+-- What a predictor is told, if it is told where an instruction has gone on
+abbrev pub told_if : Bool → ℕ → ℕ → Option Leaver
+told_if true pc next = Some (record { pc = pc; next = next })
+told_if false pc next = None
+
+-- An instruction leaves with so many accesses, and nothing to do but to count it, and perhaps to tell a predictor
+pub record IsCounted (n : ℕ) (tells : Bool) (i : Instr) : Type 0 where
   pub none : is_store (kind i.op) ≡ false
   pub whole : is_pair i.op ≡ false
-  pub fixed : (half : Half) (pc : ℕ) → fixed_next i half pc ≡ Some (pc_plus_4 pc)
+  pub told : (half : Half) (pc next : ℕ) → leaver_by (fixed_next i half pc) pc next ≡ told_if tells pc next
   pub accesses : access_of i ≡ n
 
 -- What there is to do when an instruction leaves is this
 abbrev pub LeavesAs : Leaves → Instr → Type 0
-LeavesAs Nothing i = IsCounted 0 i
-LeavesAs Load i = IsCounted 1 i
+LeavesAs Nothing i = IsCounted 0 false i
+LeavesAs Load i = IsCounted 1 false i
+LeavesAs Told i = IsCounted 0 true i
 LeavesAs Any i = ⊤
 
--- The oldest of these leaves with so many accesses and goes on there, and there is nothing to do but to count it
-pub record OldestIsCounted (cs : List Completed) (n next : ℕ) : Type 0 where
+-- The oldest of these leaves with so many accesses and goes on there, and there is nothing to do but to count it and
+-- to tell a predictor this
+pub record OldestIsCounted (cs : List Completed) (n next : ℕ) (told : Option Leaver) : Type 0 where
   pub oldest : Completed
   pub is : slice_get cs 0 ≡ Some oldest
-  pub leaves : (i : Instr) → LeavesAs oldest.leaves i → IsCounted n i
+  pub tells : Bool
+  pub leaves : (i : Instr) → LeavesAs oldest.leaves i → IsCounted n tells i
   pub goes_on : next ≡ oldest.next
+  pub told_is : told ≡ told_if tells oldest.pc oldest.next
 
 -- A completed instruction keeps what it has to, where it found these registers, and says how it leaves
 pub record HasKept (i : Instr) (c : Completed) (registers : List ℕ) : Type 0 where

@@ -15,6 +15,8 @@ pub enum Leaves {
     Nothing,
     /// It is a load: one access less is live.
     Load,
+    /// A predictor is told where it has gone on.
+    Told,
     /// Perhaps more: the instruction tells.
     Any,
 }

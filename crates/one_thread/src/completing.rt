@@ -1,9 +1,9 @@
 //! What the next instruction of a flow completes with.
-ghost use Rattle.std.specs.Prelude.{◌≡◌, ◌≤◌, ◌+◌, ℕ, length, IsTrue};
+ghost use Rattle.std.specs.Prelude.{◌≡◌, ◌≤◌, ◌+◌, ℕ, length, IsTrue, None};
 ghost use Rattle.instructions.specs.Instruction.{kind as kind_in, width as width_in};
 ghost use Rattle.instructions.specs.declared.op.Kind.TheVariants.{Computes};
 ghost use Rattle.instructions.specs.declared.stop.Outcome.TheVariants.{Address};
-ghost use Rattle.lsq.specs.LoadRule.{answer_over as answer_of};
+ghost use Rattle.lsq.specs.LoadRule.{answer_over as answer_of, lacks_address, youngest};
 ghost use Rattle.one_thread.specs.Flow.{Completes, outcome_in};
 ghost use Rattle.one_thread.specs.Loads.{value_by};
 
@@ -13,7 +13,7 @@ use crate::flow::Flow;
 use crate::pipeline::Pipeline;
 use inorder::access_width;
 use instructions::{Half, Kind, Op, Outcome, loaded, outcome_by_kind, pc_plus_4};
-use lsq::{Answer, Entry, answer_over};
+use lsq::{Answer, Entry, answer_over_known};
 
 /// What an instruction completes with: what it has made, or where it stores, and where it goes on.
 #[derive(Clone, Copy)]
@@ -26,11 +26,12 @@ impl<'a> Pipeline<'a> {
     // The value of a load of an address behind these stores, unless one blocks it.
     #[inline(always)]
     fn value_behind(&self, stores: &[Entry], op: Op, address: u32) -> Option<u32>
-        requires { address + width_in op ≤ length self.now.committed.memory }
+        requires inside { address + width_in op ≤ length self.now.committed.memory }
+        requires known { youngest lacks_address stores.now ≡ None }
         ensures { let older = answer_of stores.now address (width_in op) in
             result ≡ value_by older self.now.committed.memory op address }
     {
-        match answer_over(stores, address, access_width(op)) {
+        match answer_over_known(stores, address, access_width(op)) {
             Answer::Forward(raw) => Some(loaded(op, raw)),
             Answer::Memory => {
                 let raw = self
@@ -102,6 +103,7 @@ impl<'a> Pipeline<'a> {
         requires inside { (a : ℕ) →
             outcome_in self.now flow.now instr.now operands.now ≡ Address a →
             a + width_in instr.now.op ≤ length self.now.committed.memory }
+        requires known { youngest lacks_address flow.now.ring.stores ≡ None }
         ensures { Completes self.now flow.now instr.now predicted operands.now result }
     {
         if plain {

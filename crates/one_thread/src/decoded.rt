@@ -5,8 +5,10 @@ ghost use Rattle.instructions.specs.declared.op.Kind.TheVariants.{Computes};
 ghost use Rattle.instructions.specs.Instruction.{destination as destination_of, first_of, fixed_next as fixed_next_of, fixed_next_by, is_access as is_access_of, is_first_half as first_half, is_pair as is_pair_of, kind as kind_of, pc_plus_4 as pc_plus_4_of, second_of};
 ghost use Rattle.inorder.specs.Unit.{half_after};
 ghost use Rattle.one_thread.specs.Decoding.{goes_of as goes_in};
+ghost use Rattle.one_thread.specs.Kept.{LeavesAs};
 ghost use Rattle.one_thread.specs.Window.{access_of};
 
+use crate::completed_ring::Leaves;
 use instructions::{Half, Instr, Kind, Op, Reg, pc_plus_4};
 use std::marker::Model;
 
@@ -123,6 +125,19 @@ impl Decoded {
             fixed_next_of self.now half pc ≡ Some (pc_plus_4_of pc) }
     {
         matches!(self.goes, Goes::Plain)
+    }
+
+    /// What there is to do when it leaves.
+    #[inline(always)]
+    pub(crate) fn leaves(&self) -> Leaves
+        ensures { LeavesAs result self.now }
+    {
+        match (self.goes, self.kind) {
+            (Goes::Plain | Goes::To, _) => Leaves::Nothing,
+            (Goes::Behind, Kind::Loads) => Leaves::Load,
+            (Goes::Varies, _) if !self.pair => Leaves::Told,
+            _ => Leaves::Any,
+        }
     }
 
     /// The operation is a load or store.

@@ -189,18 +189,25 @@ impl<'a> Pipeline<'a> {
         retire(&mut self.committed, &mut self.low, flow, instr, &oldest)
     }
 
-    // Retires the oldest instruction, which leaves with so many accesses and goes on at `next`.
+    // Retires the oldest instruction, which leaves with so many accesses and goes on at `next`. Answers what a predictor
+    // is to be told.
     #[inline(always)]
-    fn departs_counted(&mut self, flow: &mut Flow, accesses: usize, next: u32) -> Option<Leaver>
+    fn departs_counted(
+        &mut self,
+        flow: &mut Flow,
+        accesses: usize,
+        next: u32,
+        told: Option<Leaver>,
+    ) -> Option<Leaver>
         requires flow { Flows self.old flow.old }
         requires stuck { IsStuck self.old flow.old }
         requires count { self.old.committed.count < 2 ^ 64 - 1 }
-        requires oldest { OldestIsCounted flow.old.ring.completed accesses next }
+        requires oldest { OldestIsCounted flow.old.ring.completed accesses next told }
         ensures departed { OldestRetired self.old flow.old result self.new flow.new }
         ensures more { self.old.committed.count ≤ self.new.committed.count }
     {
         retire_counted(&mut self.committed, &mut self.low, flow, accesses, next);
-        None
+        told
     }
 
     /// Retires the oldest instruction of a flow where nothing can enter before. Answers what a predictor is to be told
@@ -214,10 +221,11 @@ impl<'a> Pipeline<'a> {
         ensures more { self.old.committed.count ≤ self.new.committed.count }
     {
         let oldest = flow.ring.oldest();
-        let (leaves, next) = (oldest.leaves, oldest.next);
+        let (leaves, pc, next) = (oldest.leaves, oldest.pc, oldest.next);
         match leaves {
-            Leaves::Nothing => self.departs_counted(flow, 0, next),
-            Leaves::Load => self.departs_counted(flow, 1, next),
+            Leaves::Nothing => self.departs_counted(flow, 0, next, None),
+            Leaves::Load => self.departs_counted(flow, 1, next, None),
+            Leaves::Told => self.departs_counted(flow, 0, next, Some(Leaver { pc, next })),
             Leaves::Any => self.departs_any(flow),
         }
     }

@@ -52,21 +52,6 @@ impl Flow {
         }
     }
 
-    // What there is to do when an instruction leaves.
-    #[inline(always)]
-    fn leaves_as(instr: &Decoded, plain: bool) -> Leaves
-        requires plain { IsTrue plain → ComputesOne instr.now }
-        ensures { LeavesAs result instr.now }
-    {
-        if plain {
-            return Leaves::Nothing;
-        }
-        match instr.kind() {
-            Kind::Loads => Leaves::Load,
-            _ => Leaves::Any,
-        }
-    }
-
     /// The next instruction as one that has completed.
     #[inline(always)]
     pub fn completed(
@@ -89,7 +74,7 @@ impl Flow {
         Completed {
             pc: self.future.pc,
             half,
-            leaves: Self::leaves_as(instr, plain),
+            leaves: if plain { Leaves::Nothing } else { instr.leaves() },
             predicted,
             next: done.next,
             value: done.value,

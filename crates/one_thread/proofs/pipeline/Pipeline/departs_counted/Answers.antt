@@ -6,7 +6,7 @@ use Rattle.one_thread.proofs.pipeline.Pipeline.departs_counted.Goals as goal
 pub retire_counted-requires-clause-counted : goal.retire_counted-requires-clause-counted
 retire_counted-requires-clause-counted c =
     let o = c.requires.oldest in
-    counted_few c.args.self.now c.args.flow.now o.oldest c.requires.flow o.is c.args.accesses o.leaves c.requires.stuck
+    counted_few c.args.self.now c.args.flow.now o.oldest c.requires.flow o.is c.args.accesses o.tells o.leaves c.requires.stuck
 
 pub returns-clause-departed : goal.returns-clause-departed
 returns-clause-departed c =
@@ -14,5 +14,5 @@ returns-clause-departed c =
     let o = c.requires.oldest in
     let later : Pipeline = record b { committed = c.retire_counted.new.committed; low = c.retire_counted.new.low } in
     let r = c.retire_counted.ensures in
-    gone_counted b c.args.flow.now o.oldest c.requires.flow o.is c.args.accesses o.leaves later c.retire_counted.new.flow c.requires.stuck
-    r.ring r.accesses r.from r.rest (r.committed ∙ ap (λ n. record b.committed { pc = n; count = suc b.committed.count }) o.goes_on) r.low refl
+    gone_counted b c.args.flow.now o.oldest c.requires.flow o.is c.args.accesses o.tells o.leaves later c.retire_counted.new.flow c.requires.stuck
+    r.ring r.accesses r.from r.rest (r.committed ∙ ap (λ n. record b.committed { pc = n; count = suc b.committed.count }) o.goes_on) r.low refl c.args.told o.told_is

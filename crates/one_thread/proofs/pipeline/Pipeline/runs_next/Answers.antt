@@ -3,6 +3,7 @@ use Rattle.instructions.specs.Guesses.{Guesses}
 use Rattle.instructions.specs.Instruction.{width}
 use Rattle.instructions.specs.Programs.{instr_at}
 use Rattle.instructions.specs.declared.stop.Outcome.TheVariants.{Address}
+use Rattle.lsq.specs.LoadRule.{lacks_address, youngest}
 use Rattle.one_thread.specs.Changes.{registers_of}
 use Rattle.one_thread.specs.Flow.{CanRestore, Completes, Flows, IsFlow, completed_as, in_order, outcome_in, window_of}
 use Rattle.one_thread.specs.Kept.{HasKept, HaveKept, kept_with}
@@ -10,6 +11,7 @@ use Rattle.one_thread.specs.declared.pipeline.Pipeline.{Pipeline}
 use Rattle.one_thread.proofs.FlowJoins.{HasJoined}
 use Rattle.one_thread.proofs.FlowKept.{joins_flows, joins_in_order}
 use Rattle.one_thread.proofs.Kept.{kept_now}
+use Rattle.one_thread.proofs.StoresKnown.{stores_known}
 use Rattle.one_thread.proofs.FlowIn.{Enters, entered_hit, entered_inside, entered_miss, entered_room, entered_stays, enters, place_decoded}
 use Rattle.one_thread.proofs.pipeline.Pipeline.runs_next.Given.{Over}
 use Rattle.one_thread.proofs.pipeline.Pipeline.runs_next.Goals.{After-joins, After-operands-operands}
@@ -116,6 +118,13 @@ completes-requires-clause-inside g c =
     let o = c.operands-operands.result in
     subst (λ (q : Pipeline). (a : ℕ) → outcome_in q flow i o ≡ Address a → a + width i.op ≤ length q.committed.memory) (sym c.requires.place.placed.rest)
     (entered_inside _ _ flow i _ o (entering g (goal.at.completes-requires-clause-inside g c).After-operands-operands))
+
+pub completes-requires-clause-known : goal.completes-requires-clause-known
+completes-requires-clause-known g c =
+    let flow = c.args.flow.now in
+    let x = in_order c.requires.place.placed.before flow in
+    ap (youngest lacks_address) c.requires.place.placed.flows.flows.flowing.stores
+    ∙ stores_known x.program.now (registers_of x) flow.ring.completed (length (window_of x flow))
 
 pub returns-in_default-clause-entered : goal.returns-in_default-clause-entered
 returns-in_default-clause-entered g c =
