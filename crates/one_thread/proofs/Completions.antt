@@ -13,7 +13,7 @@ use Rattle.instructions.specs.declared.stop.Stop.{Stop}
 use Rattle.inorder.proofs.Pairs.{and_left, and_right, pair_computes}
 use Rattle.one_thread.specs.Decoding.{HasInstr, IsDecoded}
 use Rattle.one_thread.specs.Flow.{AreThere, HasCompleted, WritesLow}
-use Rattle.one_thread.specs.CompletedRing.{made_by, stage_by, station_by, station_in, stations}
+use Rattle.one_thread.specs.CompletedRing.{instr_there, made_by, stage_by, station_by, station_in, stations}
 use Rattle.one_thread.specs.Notes.{settled_by}
 use Rattle.one_thread.specs.declared.completed_ring.Completed.{Completed}
 use Rattle.one_thread.specs.declared.station.Stage.TheVariants.{Stops}
@@ -69,8 +69,11 @@ has_completed i c = (
 
 -- Their stations
 
+pub instr_is : (P : Program) (pc : ℕ) (i : Instr) → instr_at P pc ≡ Some i → instr_there P pc ≡ i
+instr_is P pc i e = ap (λ o. unwrap_or o (record { op = Rattle.instructions.specs.declared.op.Op.TheVariants.Break; target = 0; first = 0; second = 0; number = 0 })) e
+
 pub station_is : (P : Program) (c : Completed) (i : Instr) → instr_at P c.pc ≡ Some i → station_in P c ≡ station_by i c
-station_is P c i e = ap (λ o. station_by (unwrap_or o (record { op = Rattle.instructions.specs.declared.op.Op.TheVariants.Break; target = 0; first = 0; second = 0; number = 0 })) c) e
+station_is P c i e = ap (λ n. station_by n c) (instr_is P c.pc i e)
 
 pub stations_more : (P : Program) (cs : List Completed) (c : Completed) → stations P (cs ++ c ∷ []) ≡ stations P cs ++ station_in P c ∷ []
 stations_more P [] c = refl

@@ -50,7 +50,8 @@ pub record Enters (x later : Pipeline) (flow : Flow) (i : Instr) (predicted : �
 pub enters : {S : Type 0} {Predicts : S → ℕ → Instr → ℕ → S → Type 0} {Learns : S → ℕ → ℕ → S →
     Type 0} (later : Pipeline) (flow : Flow) (i : Instr) (predicted : ℕ) (o : Operands) (left : Option Leaver) (old new : S) →
     (p : IsPlaced later flow) → instr_at p.before.program.now flow.future.pc ≡ Some i → predicted < 2 ^ 32 → Guesses Predicts Learns left i flow.half flow.future.pc predicted old new →
-    (first_of i < 34) × (second_of i < 34) → o.a ≡ slice_index flow.future.values (first_of i) → o.b ≡ slice_index flow.future.values (second_of i) → Enters (in_order p.before flow) (in_order later flow) flow i predicted o
+    (first_of i < 34) × (second_of i < 34) → o.a ≡ slice_index flow.future.values (first_of i) → o.b ≡ slice_index flow.future.values (second_of i) →
+    Enters (in_order p.before flow) (in_order later flow) flow i predicted o
 enters {S} {Predicts} {Learns} later flow i predicted o left old new p is small guess registers first second =
     let same : p.can.instr ≡ i = cc (sym p.can.is ∙ is) in
     record {
@@ -144,7 +145,8 @@ module _ (x later : Pipeline) (flow : Flow) (i : Instr) (predicted : ℕ) (o : O
       )
 
   -- it has completed
-  module _ (d : DoneBy) (leaves : Leaves) (kept : ℕ) (after : Flow) (completes : Completes x flow i predicted o (Some d)) (j : HasJoined flow after i (completed_as flow predicted d leaves kept) o.b) where
+  module _ (d : DoneBy) (leaves : Leaves) (kept : ℕ) (after : Flow) (completes : Completes x flow i predicted o (Some d))
+      (j : HasJoined flow after i (completed_as flow predicted d leaves kept) o.b) where
     abbrev y : Station
     y = station_by i (completed_as flow predicted d leaves kept)
 

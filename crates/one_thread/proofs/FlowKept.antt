@@ -1,31 +1,28 @@
 -- What the instructions of a flow keep: where one joins, where the oldest leaves, and where the flow begins.
-use Rattle.std.proofs.Common.{◌≡◌, ◌≢◌, ◌<◌, ◌≤◌, ℕ, suc, ◌+◌, ◌%◌, Bool, true, false, List, [], ◌∷◌, ◌++◌, length, drop, Option, Some, None, refl, sym, ap, ◌∙◌, subst, arith}
-use Rattle.std.specs.Prelude.{slice_get, slice_index, unwrap_or}
-use Rattle.instructions.specs.Instruction.{destination, is_first_half, kind}
+use Rattle.std.proofs.Common.{◌≡◌, ℕ, List, [], ◌∷◌, ◌++◌, Some, sym, ap, ◌∙◌, subst}
+use Rattle.std.specs.Prelude.{slice_index}
+use Rattle.instructions.specs.Instruction.{destination}
 use Rattle.instructions.specs.Registers.{lo}
-use Rattle.instructions.specs.Programs.{Program, instr_at}
+use Rattle.instructions.specs.Programs.{instr_at}
 use Rattle.instructions.specs.declared.instr.Instr.{Instr}
-use Rattle.inorder.specs.Committed.{ahead_by, with_low}
 use Rattle.inorder.specs.Machine.{write}
 use Rattle.one_thread.specs.Changes.{registers_of}
-use Rattle.one_thread.specs.CompletedRing.{instr_there, station_by, station_in}
-use Rattle.one_thread.specs.Flow.{Flows, IsFlow, committed_by, held_by, in_order, low_by, passed_by, window_of}
-use Rattle.one_thread.specs.Kept.{HasKept, HaveKept, registers_before, registers_with, with_held}
-use Rattle.one_thread.specs.StandsFor.{StandsForSome}
+use Rattle.one_thread.specs.CompletedRing.{instr_there}
+use Rattle.one_thread.specs.Flow.{Flows, IsFlow, in_order}
+use Rattle.one_thread.specs.Kept.{HasKept, HaveKept, registers_before, with_held}
 use Rattle.one_thread.specs.declared.completed_ring.Completed.{Completed}
 use Rattle.one_thread.specs.declared.flow.Flow.{Flow}
 use Rattle.one_thread.specs.declared.pipeline.Pipeline.{Pipeline}
-use Rattle.one_thread.specs.declared.station.Station.{Station}
-use Rattle.one_thread.proofs.Completions.{made_where, station_is}
+use Rattle.one_thread.proofs.Completions.{instr_is}
 use Rattle.one_thread.proofs.FlowJoins.{HasJoined}
-use Rattle.one_thread.proofs.Kept.{held_back, kept_more, undone, write_back}
+use Rattle.one_thread.proofs.Kept.{held_back, kept_more, undone}
 
 -- A completed instruction joins
 
 module _ (b : Pipeline) (flow after : Flow) (i : Instr) (c : Completed) (content : ℕ) (registers : List ℕ) (h : HaveKept b.program.now registers flow.ring.completed flow.future.values)
-  (j : HasJoined flow after i c content) (is : instr_at b.program.now c.pc ≡ Some i) (k : HasKept i c flow.future.values) where
+    (j : HasJoined flow after i c content) (is : instr_at b.program.now c.pc ≡ Some i) (k : HasKept i c flow.future.values) where
   there : instr_there b.program.now c.pc ≡ i
-  there = ap (λ o. unwrap_or o (record { op = Rattle.instructions.specs.declared.op.Op.TheVariants.Break; target = 0; first = 0; second = 0; number = 0 })) is
+  there = instr_is b.program.now c.pc i is
 
   pub joins_kept : HaveKept b.program.now registers after.ring.completed after.future.values
   joins_kept =
@@ -38,7 +35,9 @@ module _ (b : Pipeline) (flow after : Flow) (i : Instr) (c : Completed) (content
   joins_in_order =
       ap (λ l. record b { committed = record b.committed { registers = with_held b.low after.held l }; oldest = after.ring.oldest })
       (undone b.program.now registers after.ring.completed after.future.values joins_kept ∙ sym (undone b.program.now registers flow.ring.completed flow.future.values h))
-      ∙ ap (λ n. record b { committed = record b.committed { registers = with_held b.low n (registers_before b.program.now flow.ring.completed flow.future.values) }; oldest = after.ring.oldest }) j.held
+      ∙ ap
+      (λ n. record b { committed = record b.committed { registers = with_held b.low n (registers_before b.program.now flow.ring.completed flow.future.values) }; oldest = after.ring.oldest })
+      j.held
       ∙ ap (λ n. record (in_order b flow) { oldest = n }) j.oldest
 
   pub joins_flows : (n : ℕ) → registers ≡ registers_of (in_order b flow) → flow.ring.size ≡ b.ring → IsFlow (in_order b flow) (record after { from = n }) → Flows b (record after { from = n })
@@ -51,8 +50,9 @@ module _ (b : Pipeline) (flow after : Flow) (i : Instr) (c : Completed) (content
 
 -- A flow begins
 
-module _ (b : Pipeline) (flow : Flow) (h : HaveKept b.program.now (registers_of b) flow.ring.completed flow.future.values) (held : flow.held ≡ slice_index b.committed.registers lo) (oldest : flow.ring.oldest ≡ b.oldest)
-  (size : flow.ring.size ≡ b.ring) where
+module _ (b : Pipeline) (flow : Flow) (h : HaveKept b.program.now (registers_of b) flow.ring.completed flow.future.values) (held : flow.held ≡ slice_index b.committed.registers lo)
+    (oldest : flow.ring.oldest ≡ b.oldest)
+    (size : flow.ring.size ≡ b.ring) where
   pub begins_in_order : in_order b flow ≡ b
   begins_in_order =
       ap (λ l. record b { committed = record b.committed { registers = l }; oldest = flow.ring.oldest })

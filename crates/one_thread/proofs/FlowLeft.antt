@@ -1,5 +1,5 @@
 -- The oldest instruction of a flow leaves, and what the flow keeps stands for its registers.
-use Rattle.std.proofs.Common.{◌≡◌, ◌<◌, ◌≤◌, ℕ, suc, ◌+◌, ◌-◌, ◌%◌, Bool, true, false, cond, ◌&&◌, List, [], ◌∷◌, length, drop, Option, Some, None, refl, sym, ap, ◌∙◌, subst, arith}
+use Rattle.std.proofs.Common.{◌≡◌, ◌≤◌, ℕ, suc, ◌+◌, ◌-◌, ◌%◌, Bool, true, false, cond, ◌&&◌, List, length, drop, Option, Some, None, refl, sym, ap, ◌∙◌, subst}
 use Rattle.std.specs.Prelude.{slice_get, slice_set, unwrap_or}
 use Rattle.instructions.specs.Instruction.{destination, is_first_half, is_low, kind}
 use Rattle.instructions.specs.Registers.{lo}
@@ -13,8 +13,9 @@ use Rattle.inorder.specs.Committed.{with_low}
 use Rattle.inorder.specs.Machine.{State, write}
 use Rattle.one_thread.specs.Changes.{registers_of}
 use Rattle.one_thread.specs.CompletedRing.{Contents, instr_there, stage_by, station_by, stores_behind}
-use Rattle.one_thread.specs.Flow.{Flows, IsStuck, OldestRetired, committed_by, filled, held_by, in_order, low_by, memory_kept, passed_by, window_of, with_leaver}
-use Rattle.one_thread.specs.Kept.{HasKept, HaveKept, IsCounted, LeavesAs, registers_before, registers_with, told_if, with_held}
+use Rattle.one_thread.specs.Departing.{OldestRetired, committed_by, held_by, low_by, memory_kept, passed_by}
+use Rattle.one_thread.specs.Flow.{Flows, IsStuck, filled, in_order, window_of, with_leaver}
+use Rattle.one_thread.specs.Kept.{HasKept, HaveKept, LeavesCounted, LeavesAs, registers_before, registers_with, told_if, with_held}
 use Rattle.one_thread.specs.Leavers.{told_at}
 use Rattle.one_thread.specs.Slots.{slot_in}
 use Rattle.one_thread.specs.Turns.{Falls}
@@ -23,10 +24,10 @@ use Rattle.one_thread.specs.declared.completed_ring.Completed.{Completed}
 use Rattle.one_thread.specs.declared.flow.Flow.{Flow}
 use Rattle.one_thread.specs.declared.pipeline.Pipeline.{Pipeline}
 use Rattle.one_thread.specs.declared.station.Station.{Station}
-use Rattle.one_thread.proofs.Completions.{low_destination, some_there}
+use Rattle.one_thread.proofs.Completions.{instr_is, low_destination, some_there}
 use Rattle.one_thread.proofs.FlowOut.{HasLeft, IsOldest, fills, left_flow, left_less, left_registers, left_runs, left_shorter, oldest_counted, oldest_is, stuck_in}
 use Rattle.one_thread.proofs.FlowPassed.{answer_by, passed_from, passed_shows}
-use Rattle.one_thread.proofs.Kept.{kept_less, put_back, stored, undone, written}
+use Rattle.one_thread.proofs.Kept.{given_back, kept_less, memory_same, undone, value_written}
 use Rattle.one_thread.proofs.Untold.{oldest_untold}
 
 pub record HasGone (b later : Pipeline) (flow after : Flow) (i : Instr) (c : Completed) (told : Option Leaver) : Type 0 where
@@ -35,10 +36,10 @@ pub record HasGone (b later : Pipeline) (flow after : Flow) (i : Instr) (c : Com
   pub is : slice_get flow.ring.completed 0 ≡ Some c
   pub instr : instr_at b.program.now c.pc ≡ Some i
   pub ring : after.ring ≡ record flow.ring {
-      completed = drop 1 flow.ring.completed;
-      stores = stores_behind (station_by i c) flow.ring.stores;
-      oldest = slot_in flow.ring.size flow.ring.oldest 1;
-    }
+    completed = drop 1 flow.ring.completed;
+    stores = stores_behind (station_by i c) flow.ring.stores;
+    oldest = slot_in flow.ring.size flow.ring.oldest 1;
+  }
   pub accesses : after.accesses ≡ flow.accesses - access_of i
   pub from : after.from ≡ length after.ring.completed
   pub last : after.last ≡ flow.last
@@ -76,7 +77,7 @@ module _ (b later : Pipeline) (flow after : Flow) (i : Instr) (c : Completed) (t
   here = record { flows = h.flows.flows; stuck = stuck_in b flow h.stuck; is = h.is; instr = h.instr }
 
   there : instr_there b.program.now c.pc ≡ i
-  there = ap (λ o. unwrap_or o (record { op = Rattle.instructions.specs.declared.op.Op.TheVariants.Break; target = 0; first = 0; second = 0; number = 0 })) h.instr
+  there = instr_is b.program.now c.pc i h.instr
 
   split : HasKept (instr_there b.program.now c.pc) c registers × HaveKept b.program.now (registers_with b.program.now c registers) (drop 1 flow.ring.completed) flow.future.values
   split = kept_less b.program.now registers flow.ring.completed flow.future.values c h.is h.flows.kept
@@ -113,14 +114,16 @@ module _ (b later : Pipeline) (flow after : Flow) (i : Instr) (c : Completed) (t
       ap (λ o. with_held o after.held (write registers w.destination c.value)) low
       ∙ ap (write (write registers w.destination c.value) lo) held
       ∙ ap (λ d. write (write registers w.destination c.value) d c.kept) (sym is_lo)
-      ∙ put_back i c.half c.value c.kept registers keeps.kept in
+      ∙ given_back i c.half c.value c.kept registers keeps.kept in
       ap (λ l. record later.committed { registers = l }) (back ∙ ap (λ o. with_low o x.committed.registers) (none_waits e))
       ∙ ap (λ (s : State). record s { registers = x.committed.registers }) passes
   commits_by false e passes low held =
       ap (λ o. record later.committed { registers = with_held o after.held (write registers w.destination c.value) }) low
       ∙ ap (λ (s : State). record s { registers = write registers w.destination c.value }) passes
-      ∙ ap (λ l. record b.committed { registers = l; memory = Rattle.one_thread.specs.Flow.memory_kept i.op w.stage c.kept b.committed.memory; pc = w.next; count = suc b.committed.count }) (written i c.half c.value registers)
-      ∙ ap (λ m. record b.committed { registers = write registers w.destination (unwrap_or w.made 0); memory = m; pc = w.next; count = suc b.committed.count }) (stored i c.half c.value c.kept registers b.committed.memory keeps.kept)
+      ∙ ap (λ l. record b.committed { registers = l; memory = memory_kept i.op w.stage c.kept b.committed.memory; pc = w.next; count = suc b.committed.count })
+      (value_written i c.half c.value registers)
+      ∙ ap (λ m. record b.committed { registers = write registers w.destination (unwrap_or w.made 0); memory = m; pc = w.next; count = suc b.committed.count })
+      (memory_same i c.half c.value c.kept registers b.committed.memory keeps.kept)
 
   left : HasLeft x y flow after i c
   left =
@@ -146,7 +149,7 @@ module _ (b later : Pipeline) (flow after : Flow) (i : Instr) (c : Completed) (t
         flows = record {
           flows = left_flow x y flow after i c left;
           kept = subst (λ (p : Pipeline). HaveKept p.program.now (registers_of y) after.ring.completed after.future.values) (sym h.rest)
-              (subst (λ l. HaveKept b.program.now l after.ring.completed after.future.values) (written i c.half c.value registers ∙ left_registers x y flow after i c left) rest_kept);
+              (subst (λ l. HaveKept b.program.now l after.ring.completed after.future.values) (value_written i c.half c.value registers ∙ left_registers x y flow after i c left) rest_kept);
           size = ap (λ (r : Contents). r.size) h.ring ∙ h.flows.size ∙ sym (ap (λ (p : Pipeline). p.ring) h.rest);
         };
         shorter = left_shorter x y flow after i c left;
@@ -171,17 +174,17 @@ none_stored Loads op v kept memory e = refl
 none_stored Stores op v kept memory e = absurd (cc e)
 
 module _ (b : Pipeline) (flow : Flow) (c : Completed) (flows : Flows b flow) (is : slice_get flow.ring.completed 0 ≡ Some c) (n : ℕ) (tells : Bool)
-  (leaves : (i : Instr) → LeavesAs c.leaves i → IsCounted n tells i) where
+    (leaves : (i : Instr) → LeavesAs c.leaves i → LeavesCounted n tells i) where
   found : (i : Instr) × (instr_at b.program.now c.pc ≡ Some i)
   found = some_there (instr_at b.program.now c.pc) (flows.flows.flowing.there 0 c is)
 
   abbrev one : Instr
   one = found.0
 
-  counted : IsCounted n tells one
+  counted : LeavesCounted n tells one
   counted =
       leaves one
-      (subst (LeavesAs c.leaves) (ap (λ o. unwrap_or o (record { op = Rattle.instructions.specs.declared.op.Op.TheVariants.Break; target = 0; first = 0; second = 0; number = 0 })) found.1)
+      (subst (LeavesAs c.leaves) (instr_is b.program.now c.pc one found.1)
       (kept_less b.program.now (registers_of (in_order b flow)) flow.ring.completed flow.future.values c is flows.kept).0.leaves)
 
   pub counted_few : IsStuck b flow → n ≤ flow.accesses
@@ -201,7 +204,9 @@ module _ (b : Pipeline) (flow : Flow) (c : Completed) (flows : Flows b flow) (is
         stuck = stuck;
         is = is;
         instr = found.1;
-        ring = ring ∙ ap (λ k. record flow.ring { completed = drop 1 flow.ring.completed; stores = cond k (drop 1 flow.ring.stores) flow.ring.stores; oldest = slot_in flow.ring.size flow.ring.oldest 1 }) (sym counted.none);
+        ring = ring
+            ∙ ap (λ l. record flow.ring { completed = drop 1 flow.ring.completed; stores = l; oldest = slot_in flow.ring.size flow.ring.oldest 1 })
+            (ap (λ k. cond k (drop 1 flow.ring.stores) flow.ring.stores) (sym counted.none));
         accesses = accesses ∙ ap (λ k. flow.accesses - k) (sym counted.accesses);
         from = from;
         last = ap (λ (g : Flow). g.last) same;

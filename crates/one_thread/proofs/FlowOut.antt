@@ -11,7 +11,8 @@ use Rattle.inorder.specs.Committed.{with_low}
 use Rattle.inorder.specs.Machine.{write}
 use Rattle.one_thread.specs.Changes.{registers_of, run_from}
 use Rattle.one_thread.specs.Decoding.{IsDecoded}
-use Rattle.one_thread.specs.Flow.{AreThere, CanEnter, OldestRetired, Flows, HasPlace, HaveCompleted, IsFlow, IsFlowing, IsStuck, committed_by, filled, in_order, low_by, to_do, window_of, with_leaver}
+use Rattle.one_thread.specs.Departing.{OldestRetired, committed_by, low_by, to_do}
+use Rattle.one_thread.specs.Flow.{AreThere, CanEnter, Flows, HasPlace, HaveCompleted, IsFlow, IsFlowing, IsStuck, filled, in_order, window_of, with_leaver}
 use Rattle.one_thread.specs.CompletedRing.{stage_by, station_by, stations, stores, stores_behind}
 use Rattle.one_thread.specs.Leaves.{HasEnded, leavers_with}
 use Rattle.one_thread.specs.Futures.{Foresees}
@@ -223,7 +224,8 @@ has_room x y flow after left h d =
     omega (arith, long, h.flows.most, d.shorter, d.ring)
 
 -- the next enters the station that was left
-pub has_place : (x y : Pipeline) (flow after : Flow) (left : Option Leaver) → OldestRetired x flow left y after → length flow.ring.completed ≡ x.ring → CanEnter y after → HasPlace y after flow.ring.oldest
+pub has_place : (x y : Pipeline) (flow after : Flow) (left : Option Leaver) → OldestRetired x flow left y after → length flow.ring.completed ≡ x.ring → CanEnter y after →
+    HasPlace y after flow.ring.oldest
 has_place x y flow after left d full can =
     let long = stations_long y.program.now after.ring.completed in
     let oldest = flow.ring.oldest in

@@ -5,7 +5,8 @@ use Rattle.instructions.specs.Instruction.{is_first_half}
 use Rattle.instructions.specs.declared.stop.Stop.{Stop}
 use Rattle.inorder.specs.Runs.{end_from}
 use Rattle.one_thread.specs.Changes.{registers_of, run_from}
-use Rattle.one_thread.specs.Flow.{HaveCompleted, committed_by, low_by, to_do}
+use Rattle.one_thread.specs.Departing.{committed_by, low_by, to_do}
+use Rattle.one_thread.specs.Flow.{HaveCompleted}
 use Rattle.one_thread.specs.Givers.{NoneGives}
 use Rattle.one_thread.specs.Leaves.{HasEnded, LeavesTo, OldestHasEnded, PassesTo, RetiresTo, halved, leavers_with, left}
 use Rattle.one_thread.specs.Loads.{load_in}

@@ -1,5 +1,5 @@
 -- What completed instructions keep gives back the registers that the oldest found.
-use Rattle.std.proofs.Common.{◌≡◌, ◌≢◌, ◌<◌, ◌≤◌, ℕ, zero, suc, Bool, true, false, cond, List, [], ◌∷◌, ◌++◌, length, drop, Option, Some, None, refl, sym, ap, ◌∙◌, subst, arith}
+use Rattle.std.proofs.Common.{◌≡◌, ◌≢◌, ◌<◌, ℕ, zero, suc, cond, List, [], ◌∷◌, ◌++◌, drop, Option, Some, None, refl, sym, ap, ◌∙◌, subst, arith}
 use Rattle.std.specs.Prelude.{slice_get, slice_index, slice_set, unwrap_or}
 use Rattle.instructions.specs.Instruction.{destination, destination_by, kind, second_of, target_of, width}
 use Rattle.instructions.specs.Programs.{Program, instr_at}
@@ -14,7 +14,7 @@ use Rattle.inorder.specs.Machine.{store_bytes, write}
 use Rattle.inorder.proofs.SettledRegisters.{register_zero}
 use Rattle.one_thread.specs.Changes.{registers_of}
 use Rattle.one_thread.specs.CompletedRing.{instr_there, made_by, stage_by, station_in}
-use Rattle.one_thread.specs.Flow.{memory_kept}
+use Rattle.one_thread.specs.Departing.{memory_kept}
 use Rattle.one_thread.specs.Futures.{Foresees}
 use Rattle.one_thread.specs.Kept.{HasKept, HaveKept, kept_of, kept_with, registers_before, registers_with, with_held}
 use Rattle.one_thread.specs.Leaves.{memory_with}
@@ -39,19 +39,19 @@ pub write_back : (xs : List ℕ) (r v held : ℕ) → held ≡ slice_index xs r 
 write_back xs zero v held e = refl
 write_back xs (suc r) v held e = ap (slice_set (slice_set xs (suc r) v) (suc r)) e ∙ set_back_to xs (suc r) v
 
-put_back_by : (k : Kind) (target content value held : ℕ) (registers : List ℕ) →
+given_back_by : (k : Kind) (target content value held : ℕ) (registers : List ℕ) →
     held ≡ cond (is_store k) content (slice_index registers (destination_by k target)) →
     write (write registers (destination_by k target) value) (destination_by k target) held ≡ registers
-put_back_by Computes target content value held registers e = write_back registers target value held e
-put_back_by Jumps target content value held registers e = refl
-put_back_by Links target content value held registers e = write_back registers target value held e
-put_back_by Loads target content value held registers e = write_back registers target value held e
-put_back_by Stores target content value held registers e = refl
+given_back_by Computes target content value held registers e = write_back registers target value held e
+given_back_by Jumps target content value held registers e = refl
+given_back_by Links target content value held registers e = write_back registers target value held e
+given_back_by Loads target content value held registers e = write_back registers target value held e
+given_back_by Stores target content value held registers e = refl
 
-pub put_back : (i : Instr) (half : Half) (value held : ℕ) (registers : List ℕ) → held ≡ kept_of i half registers →
+pub given_back : (i : Instr) (half : Half) (value held : ℕ) (registers : List ℕ) → held ≡ kept_of i half registers →
     write (write registers (destination i half) value) (destination i half) held ≡ registers
-put_back i half value held registers e =
-    put_back_by (kind i.op) (target_of i half) (unwrap_or (source_in registers [] (second_of i)) 0) value held registers e
+given_back i half value held registers e =
+    given_back_by (kind i.op) (target_of i half) (unwrap_or (source_in registers [] (second_of i)) 0) value held registers e
 
 -- All are
 
@@ -59,7 +59,7 @@ pub undone : (P : Program) (registers : List ℕ) (cs : List Completed) (values 
 undone P registers [] values h = sym h
 undone P registers (c ∷ cs) values h =
     ap (λ l. write l (station_in P c).destination c.kept) (undone P (registers_with P c registers) cs values h.1)
-    ∙ put_back (instr_there P c.pc) c.half c.value c.kept registers h.0.kept
+    ∙ given_back (instr_there P c.pc) c.half c.value c.kept registers h.0.kept
 
 -- one after the other, the youngest first
 
@@ -96,29 +96,29 @@ kept_less P registers (d ∷ cs) values c e h =
     subst (λ x. HasKept (instr_there P x.pc) x registers × HaveKept P (registers_with P x registers) cs values) same h
 
 -- what it stores is what it has kept
-stored_by : (k : Kind) (i : Instr) (value kept read : ℕ) (registers memory : List ℕ) → kept ≡ cond (is_store k) (unwrap_or (source_in registers [] (second_of i)) 0) read →
+memory_same_by : (k : Kind) (i : Instr) (value kept read : ℕ) (registers memory : List ℕ) → kept ≡ cond (is_store k) (unwrap_or (source_in registers [] (second_of i)) 0) read →
     memory_kept i.op (stage_by k value) kept memory ≡ memory_with i (stage_by k value) registers memory
-stored_by Computes i value kept read registers memory e = refl
-stored_by Jumps i value kept read registers memory e = refl
-stored_by Links i value kept read registers memory e = refl
-stored_by Loads i value kept read registers memory e = refl
-stored_by Stores i value kept read registers memory e = ap (store_bytes memory value (width i.op)) e
+memory_same_by Computes i value kept read registers memory e = refl
+memory_same_by Jumps i value kept read registers memory e = refl
+memory_same_by Links i value kept read registers memory e = refl
+memory_same_by Loads i value kept read registers memory e = refl
+memory_same_by Stores i value kept read registers memory e = ap (store_bytes memory value (width i.op)) e
 
-pub stored : (i : Instr) (half : Half) (value kept : ℕ) (registers memory : List ℕ) → kept ≡ kept_of i half registers →
+pub memory_same : (i : Instr) (half : Half) (value kept : ℕ) (registers memory : List ℕ) → kept ≡ kept_of i half registers →
     memory_kept i.op (stage_by (kind i.op) value) kept memory ≡ memory_with i (stage_by (kind i.op) value) registers memory
-stored i half value kept registers memory e = stored_by (kind i.op) i value kept (slice_index registers (destination i half)) registers memory e
+memory_same i half value kept registers memory e = memory_same_by (kind i.op) i value kept (slice_index registers (destination i half)) registers memory e
 
 -- and what it has made is its value
-written_by : (k : Kind) (target value : ℕ) (registers : List ℕ) → write registers (destination_by k target) value ≡ write registers (destination_by k target) (unwrap_or (made_by k value) 0)
-written_by Computes target value registers = refl
-written_by Jumps target value registers = refl
-written_by Links target value registers = refl
-written_by Loads target value registers = refl
-written_by Stores target value registers = refl
+value_written_by : (k : Kind) (target value : ℕ) (registers : List ℕ) → write registers (destination_by k target) value ≡ write registers (destination_by k target) (unwrap_or (made_by k value) 0)
+value_written_by Computes target value registers = refl
+value_written_by Jumps target value registers = refl
+value_written_by Links target value registers = refl
+value_written_by Loads target value registers = refl
+value_written_by Stores target value registers = refl
 
-pub written : (i : Instr) (half : Half) (value : ℕ) (registers : List ℕ) →
+pub value_written : (i : Instr) (half : Half) (value : ℕ) (registers : List ℕ) →
     write registers (destination i half) value ≡ write registers (destination i half) (unwrap_or (made_by (kind i.op) value) 0)
-written i half value registers = written_by (kind i.op) (target_of i half) value registers
+value_written i half value registers = value_written_by (kind i.op) (target_of i half) value registers
 
 -- The registers that the next instruction finds are all there
 

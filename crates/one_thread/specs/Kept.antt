@@ -38,7 +38,7 @@ told_if true pc next = Some (record { pc = pc; next = next })
 told_if false pc next = None
 
 -- An instruction leaves with so many accesses, and nothing to do but to count it, and perhaps to tell a predictor
-pub record IsCounted (n : ℕ) (tells : Bool) (i : Instr) : Type 0 where
+pub record LeavesCounted (n : ℕ) (tells : Bool) (i : Instr) : Type 0 where
   pub none : is_store (kind i.op) ≡ false
   pub whole : is_pair i.op ≡ false
   pub told : (half : Half) (pc next : ℕ) → leaver_by (fixed_next i half pc) pc next ≡ told_if tells pc next
@@ -46,9 +46,9 @@ pub record IsCounted (n : ℕ) (tells : Bool) (i : Instr) : Type 0 where
 
 -- What there is to do when an instruction leaves is this
 abbrev pub LeavesAs : Leaves → Instr → Type 0
-LeavesAs Nothing i = IsCounted 0 false i
-LeavesAs Load i = IsCounted 1 false i
-LeavesAs Told i = IsCounted 0 true i
+LeavesAs Nothing i = LeavesCounted 0 false i
+LeavesAs Load i = LeavesCounted 1 false i
+LeavesAs Told i = LeavesCounted 0 true i
 LeavesAs Any i = ⊤
 
 -- The oldest of these leaves with so many accesses and goes on there, and there is nothing to do but to count it and
@@ -57,7 +57,7 @@ pub record OldestIsCounted (cs : List Completed) (n next : ℕ) (told : Option L
   pub oldest : Completed
   pub is : slice_get cs 0 ≡ Some oldest
   pub tells : Bool
-  pub leaves : (i : Instr) → LeavesAs oldest.leaves i → IsCounted n tells i
+  pub leaves : (i : Instr) → LeavesAs oldest.leaves i → LeavesCounted n tells i
   pub goes_on : next ≡ oldest.next
   pub told_is : told ≡ told_if tells oldest.pc oldest.next
 

@@ -25,3 +25,4 @@ pub mod Kept
 pub mod Futures
 pub mod Reopened
 pub mod Flow
+pub mod Departing

@@ -13,7 +13,7 @@ use std::marker::Model;
 #[derive(Clone, Copy)]
 pub enum Leaves {
     Nothing,
-    /// It is a load: one access less is live.
+    /// One access less is live: a load leaves.
     Load,
     /// A predictor is told where it has gone on.
     Told,
@@ -172,7 +172,8 @@ impl CompletedRing {
     pub fn push(&mut self, station: usize, completed: Completed)
         requires room { length self.old.completed < self.old.size }
         requires small { station < 32 }
-        requires station { station ≡ slot_in self.old.size self.old.oldest (length self.old.completed) }
+        requires station { station ≡
+            slot_in self.old.size self.old.oldest (length self.old.completed) }
         ensures { self.new ≡
             record self.old { completed = self.old.completed ++ completed ∷ [] } }
     {

@@ -74,7 +74,11 @@ impl Flow {
         Completed {
             pc: self.future.pc,
             half,
-            leaves: if plain { Leaves::Nothing } else { instr.leaves() },
+            leaves: if plain {
+                Leaves::Nothing
+            } else {
+                instr.leaves()
+            },
             predicted,
             next: done.next,
             value: done.value,

@@ -25,6 +25,7 @@ mod places;
 mod possible;
 mod recovery;
 mod retire;
+mod retiring;
 mod rounds;
 mod source;
 mod station;

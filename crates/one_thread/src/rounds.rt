@@ -1,6 +1,7 @@
 //! The rounds of a flow: an instruction enters, and the oldest leaves.
 ghost use Rattle.std.specs.Prelude.{⊤, ◌≡◌, ◌<◌, ◌≤◌, length};
-ghost use Rattle.one_thread.specs.Flow.{CanRestore, Flows, HasEntered, ahead_to, in_order, run_in};
+ghost use Rattle.one_thread.specs.Departing.{ahead_to, run_in};
+ghost use Rattle.one_thread.specs.Flow.{CanRestore, Flows, HasEntered, in_order};
 ghost use Rattle.one_thread.specs.Givers.{Chosen};
 
 use crate::flow::Flow;

@@ -1,4 +1,4 @@
-use Rattle.std.proofs.Common.{◌≡◌, ◌<◌, ◌-◌, drop, length, take, ℕ, List, sym, ap, ◌∙◌, arith, length-take-le}
+use Rattle.std.proofs.Common.{◌≡◌, ◌<◌, ◌-◌, drop, length, take, ℕ, List, ap, ◌∙◌, arith, length-take-le}
 use Rattle.one_thread.specs.CompletedRing.{Contents}
 use Rattle.one_thread.specs.Slots.{ring_of, slot_in}
 use Rattle.one_thread.specs.declared.completed_ring.Completed.{Completed}

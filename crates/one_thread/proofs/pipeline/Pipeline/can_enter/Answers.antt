@@ -1,5 +1,4 @@
-use Rattle.std.proofs.Common.{◌≡◌, ◌<◌, true, Some, refl, sym, ap, ◌∙◌, subst, arith, true≢false}
-use Rattle.instructions.specs.Programs.{instr_at}
+use Rattle.std.proofs.Common.{◌≡◌, ◌<◌, true, sym, ap, ◌∙◌, subst, arith, true≢false}
 use Rattle.one_thread.specs.Decoding.{IsDecoded}
 use Rattle.one_thread.specs.Flow.{CanEnter}
 use Rattle.one_thread.specs.Window.{reaches_memory}

@@ -2,7 +2,8 @@ use Rattle.std.proofs.Common.{◌≡◌, ◌<◌, ap, ◌∙◌, arith}
 use Rattle.instructions.specs.declared.end.Ending.{Ending}
 use Rattle.inorder.specs.Machine.{State}
 use Rattle.one_thread.specs.Changes.{run_from}
-use Rattle.one_thread.specs.Flow.{in_order, run_in}
+use Rattle.one_thread.specs.Departing.{run_in}
+use Rattle.one_thread.specs.Flow.{in_order}
 use Rattle.one_thread.specs.declared.pipeline.Pipeline.{Pipeline}
 use Rattle.one_thread.proofs.FlowStays.{can_restore}
 use Rattle.one_thread.proofs.pipeline.Pipeline.flows.Given.{Over}

@@ -1,5 +1,6 @@
 use Rattle.std.proofs.Common.{◌≡◌, ◌<◌, ◌≤◌, ◌+◌, ◌-◌, ◌*◌, length}
-use Rattle.one_thread.specs.Flow.{Flows, run_in, to_do}
+use Rattle.one_thread.specs.Departing.{run_in, to_do}
+use Rattle.one_thread.specs.Flow.{Flows}
 use Rattle.one_thread.proofs.pipeline.Pipeline.flows.Given as goal
 
 abbrev pub invariant-loop-self : goal.invariant-loop-self

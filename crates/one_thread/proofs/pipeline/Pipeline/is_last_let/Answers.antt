@@ -1,4 +1,4 @@
-use Rattle.std.proofs.Common.{◌+◌, sym, ap, ◌∙◌, arith}
+use Rattle.std.proofs.Common.{sym, ◌∙◌, arith}
 use Rattle.one_thread.proofs.FlowLast.{few_accesses, last_decoded, last_full}
 use Rattle.one_thread.proofs.pipeline.Pipeline.is_last_let.Goals as goal
 

@@ -1,4 +1,4 @@
-use Rattle.std.proofs.Common.{◌≡◌, ◌-◌, suc, length, drop, Some, sym, ap, ◌∙◌, subst, arith, length-set}
+use Rattle.std.proofs.Common.{◌≡◌, ◌-◌, suc, drop, Some, sym, ap, ◌∙◌, subst, arith, length-set}
 use Rattle.inorder.specs.Machine.{write}
 use Rattle.instructions.specs.Programs.{instr_at}
 use Rattle.one_thread.specs.Decoding.{IsDecoded}

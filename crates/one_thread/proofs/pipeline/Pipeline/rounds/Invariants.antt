@@ -1,5 +1,6 @@
 use Rattle.std.proofs.Common.{◌≡◌, ◌<◌, ◌≤◌, length}
-use Rattle.one_thread.specs.Flow.{Flows, ahead_to, run_in, to_do}
+use Rattle.one_thread.specs.Departing.{ahead_to, run_in, to_do}
+use Rattle.one_thread.specs.Flow.{Flows}
 use Rattle.one_thread.proofs.pipeline.Pipeline.rounds.Given as goal
 
 abbrev pub invariant-loop-self : goal.invariant-loop-self

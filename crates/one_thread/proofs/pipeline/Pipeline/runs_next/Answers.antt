@@ -1,4 +1,4 @@
-use Rattle.std.proofs.Common.{◌≡◌, ◌≤◌, ◌+◌, ℕ, length, Some, true, refl, sym, ap, ◌∙◌, subst, arith, true≢false}
+use Rattle.std.proofs.Common.{◌≡◌, ◌≤◌, ◌+◌, ℕ, length, Some, refl, sym, ap, ◌∙◌, subst, arith}
 use Rattle.instructions.specs.Guesses.{Guesses}
 use Rattle.instructions.specs.Instruction.{width}
 use Rattle.instructions.specs.Programs.{instr_at}
@@ -19,7 +19,8 @@ use Rattle.one_thread.proofs.pipeline.Pipeline.runs_next.Goals as goal
 
 -- What enters, as it was fetched, predicted and read
 
-entering : (g : Over) (c : After-operands-operands g) → Enters (in_order c.requires.place.placed.before c.args.flow.now) (in_order c.args.self.now c.args.flow.now) c.args.flow.now c.fetch_known-instr.result.now
+entering : (g : Over) (c : After-operands-operands g) → Enters (in_order c.requires.place.placed.before c.args.flow.now) (in_order c.args.self.now c.args.flow.now)
+    c.args.flow.now c.fetch_known-instr.result.now
     c.guess_behind-predicted.result c.operands-operands.result
 entering g c =
     let x = c.args.self.now in
