@@ -1,5 +1,5 @@
 -- Turns in the order of the unit on one thread.
-use Rattle.std.proofs.Common.{◌≡◌, inl, inr, ℕ, ◌+◌, ◌<◌, true, false, List, [], ◌++◌, length, drop, get_or, refl, sym, ap, ◌∙◌, subst, add-one, arith}
+use Rattle.std.proofs.Common.{◌≡◌, inl, ℕ, ◌+◌, ◌<◌, true, false, List, ◌++◌, length, drop, get_or, refl, sym, ap, ◌∙◌, subst, add-one, arith}
 use Rattle.std.proofs.lemmas.List.{drop_more}
 use Rattle.session.specs.declared.advance.Progress.{Progress}
 use Rattle.session.specs.declared.advance.Progress.TheVariants.{Moved, Retired}
@@ -8,7 +8,7 @@ use Rattle.session.specs.declared.commands.Command.TheVariants.{Commit}
 use Rattle.session.specs.declared.reading.Goal.{Goal}
 use Rattle.session.specs.declared.replies.Reply.{Reply}
 use Rattle.instructions.specs.Programs.{Program}
-use Rattle.session.specs.Advances.{AreTurnsTaken, TurnComesTo, HasAddedText, HasAdvanced, HasToldCommit, HasToldMove, WasTried, has_moved, is_met, progress_by, is_over, retired_in}
+use Rattle.session.specs.Advances.{AreTurnsTaken, TurnComesTo, HasAddedText, HasAdvanced, HasToldCommit, HasToldMove, has_moved, is_met, progress_by, is_over, retired_in}
 use Rattle.session.specs.Order.{IsReplied}
 use Rattle.session.specs.Sessions.{TheSession}
 use Rattle.session.specs.Texts.{reply_line}
@@ -20,21 +20,10 @@ Leads rest whole here first number =
 
 module _ (whole : List Command) (at : ℕ) (d : Command) (within : at < length whole) (here next first : TheSession) (number : ℕ)
     (leads : Leads (drop at whole) whole here first number) where
-  -- One more did nothing
-  pub leads_on : WasTried here next (get_or whole at d) → Leads (drop (at + 1) whole) whole next first number
-  leads_on tried last come text goes =
-      leads last come text (subst (λ (cs : List Command). TurnComesTo cs here last number come text) (sym (drop_more whole at d within)) (inr (next, tried, goes)))
-
   -- One did something
   pub moves_at : (text : List ℕ) → HasToldMove here next number (get_or whole at d) text → TurnComesTo whole first next number Moved text
   moves_at text moved =
       leads next Moved text (subst (λ (cs : List Command). TurnComesTo cs here next number Moved text) (sym (drop_more whole at d within)) (inl (moved, refl)))
-
--- None of them did
-pub leads_to_commit : (whole rest : List Command) (here next first : TheSession) (number : ℕ) (come : Progress) (text : List ℕ) →
-    rest ≡ [] → Leads rest whole here first number → HasToldCommit here next number come text → TurnComesTo whole first next number come text
-leads_to_commit whole rest here next first number come text none leads committed =
-    leads next come text (subst (λ (cs : List Command). TurnComesTo cs here next number come text) (sym none) committed)
 
 -- A commit, which is told
 pub committed_here : (here next : TheSession) (number : ℕ) (reply : Reply) (come : Progress) (P : Program) (before after : List ℕ) →

@@ -14,3 +14,4 @@ pub mod Played
 pub mod Woken
 pub mod Advancing
 pub mod Queuing
+pub mod EachVerb

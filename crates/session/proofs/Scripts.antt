@@ -1,6 +1,6 @@
 -- A transcript, line by line.
 use Rattle.std.proofs.Common.{◌≡◌, ◌<◌, ◌&&◌, inl, inr, Bool, true, false, ℕ, ◌+◌, suc, List, [], ◌∷◌, ◌++◌, map, length, take}
-use Rattle.std.proofs.Common.{Option, Some, None, Result, Ok, Err, IfErr, IfSome, refl, sym, ap, ◌∙◌, subst, add-one}
+use Rattle.std.proofs.Common.{Option, Some, None, Result, Ok, Err, is_ok, if◌then◌else◌, IfErr, IfSome, OnOk, refl, sym, ap, ◌∙◌, subst, add-one}
 use Rattle.std.specs.Io.BufRead.{DropsThrough, take_through}
 use Rattle.std.specs.Io.KnownBytes.{Appends}
 use Rattle.std.proofs.KnownBytes.{Appends-trans}
@@ -53,6 +53,11 @@ pub cut_short : (echo : Bool) (from to : Option (List ℕ)) (a b : TheSession) (
 cut_short echo from to a b number out new chunk text bytes read told same part =
     let whole = subst (λ (xs : List ℕ). (n : ℕ) × (n < length xs) × Appends out new (take n xs)) same part in
     record { to = to; new = b; chunk = chunk; text = text; read = read; told = told; count = whole.0; part = whole.1; written = whole.2 }
+
+-- What follows from a success that has added more
+pub appended : {T E P : Type 0} (r : Result T E) (old new more : List ℕ) → new ≡ (if is_ok r then old ++ more else old) → (new ≡ old ++ more → P) → OnOk r P
+appended (Ok x) old new more is then_so = then_so is
+appended (Err e) old new more is then_so = tt
 
 -- What holds at all holds where writing fails
 pub on_err : {T Q : Type 0} (r : Result T Fault) → Q → IfErr r (λ fault. fault ≡ Write → Q)

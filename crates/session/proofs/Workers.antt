@@ -41,37 +41,12 @@ none_is_some core w e = cc
 pub none_works : (core : TheCore) (units : List (Option Worker)) → HasNone units → AreWorkers core units
 none_works core units none place w here = none_is_some core w (sym (none place) ∙ here)
 
-none_at_work : (w : Worker) → ◌≡◌ {A = Option Worker} None (Some w) → IsAtWork w
-none_at_work w e = cc
-
 -- who is of a core holds its job there
 pub at_work : (core : TheCore) (w : Worker) → IsWorker core w → IsAtWork w
 at_work core w is job e = subst (λ (k : TheCore). HoldsJob k w.seat job) (sym is.core_is) (is.holds job e)
 
 pub all_at_work : (core : TheCore) (units : List (Option Worker)) → AreWorkers core units → AreAtWork units
 all_at_work core units are place w here = at_work core w (are place w here)
-
--- where no unit is made, each that is made holds its job
-pub nobody_at_work : (units : List (Option Worker)) → HasNone units → AreAtWork units
-nobody_at_work units none place w here = none_at_work w (sym (none place) ∙ here)
-
--- the others hold their jobs where one is forgotten
-pub forgets_one : (units : List (Option Worker)) (at : ℕ) → at < length units → AreAtWork units → AreAtWork (set units at None)
-forgets_one units at within are place w here = go (cases_eq place at)
-  where
-    go : (place ≡ at) ⊎ (place ≢ at) → IsAtWork w
-    go (inl e) = none_at_work w (sym (ap (λ k. get_or (set units at None) k None) e ∙ get_or-set_same units at None None within) ∙ here)
-    go (inr ne) = are place w (sym (get_or-set_other units at place None None ne) ∙ here)
-
--- of a list with one more, those before it and that one hold their jobs
-pub last_at_work : (units : List (Option Worker)) (x : Option Worker) → AreAtWork (units ++ x ∷ []) → (w : Worker) → x ≡ Some w → IsAtWork w
-last_at_work [] x are w e = are 0 w e
-last_at_work (u ∷ units) x are w e = last_at_work units x (λ place v here. are (suc place) v here) w e
-
-pub front_at_work : (units : List (Option Worker)) (x : Option Worker) → AreAtWork (units ++ x ∷ []) → AreAtWork units
-front_at_work [] x are place w here = none_at_work w here
-front_at_work (u ∷ units) x are zero w here = are 0 w here
-front_at_work (u ∷ units) x are (suc place) w here = front_at_work units x (λ at v e. are (suc at) v e) place w here
 
 its_own : (core : TheCore) (v w : Worker) → IsWorker core v → ◌≡◌ {A = Option Worker} (Some v) (Some w) → IsWorker core w
 its_own core v w is e = let same : v ≡ w = cc in subst (λ (u : Worker). IsWorker core u) same is

@@ -2,7 +2,6 @@
 ghost use Rattle.std.specs.Prelude.{◌≡◌};
 ghost use Rattle.session.specs.Commands.{command_of, turn_of};
 ghost use Rattle.session.specs.Words.{texts_of};
-ghost use Rattle.session.specs.declared.verbs.Verb.TheVariants.{Claim, Finish, Link, Meet, Operand};
 
 use crate::operands::{
     Which, bare, only_number, only_pc, only_register, station_and_source, two_parties,
@@ -51,41 +50,6 @@ fn turn_in(words: &Words<'_>) -> Option<Command>
     }
 }
 
-fn claim_in(words: &Words<'_>) -> Option<Command>
-    ensures { result ≡ command_of Claim (texts_of words.now) }
-{
-    let (unit, station) = unit_and_number(words)?;
-    Some(Command::Claim(unit, station))
-}
-
-fn finish_in(words: &Words<'_>) -> Option<Command>
-    ensures { result ≡ command_of Finish (texts_of words.now) }
-{
-    let (unit, station) = unit_and_number(words)?;
-    Some(Command::Finish(unit, station))
-}
-
-fn operand_in(words: &Words<'_>) -> Option<Command>
-    ensures { result ≡ command_of Operand (texts_of words.now) }
-{
-    let (station, k) = station_and_source(words)?;
-    Some(Command::Operand(station, k))
-}
-
-fn link_in(words: &Words<'_>) -> Option<Command>
-    ensures { result ≡ command_of Link (texts_of words.now) }
-{
-    let (station, k) = station_and_source(words)?;
-    Some(Command::Link(station, k))
-}
-
-fn meeting_in(words: &Words<'_>) -> Option<Command>
-    ensures { result ≡ command_of Meet (texts_of words.now) }
-{
-    let (one, other) = two_parties(words)?;
-    Some(Command::Meet(one, other))
-}
-
 /// The command of a word and its operands. A table, a queue and turns are none: each of them is many. Help, a list and
 /// the end of a script make no call.
 pub(crate) fn command_in(verb: Verb, words: &Words<'_>) -> Option<Command>
@@ -94,8 +58,14 @@ pub(crate) fn command_in(verb: Verb, words: &Words<'_>) -> Option<Command>
     match verb {
         Verb::Turn => turn_in(words),
         Verb::Recover => bare(words, Command::Recover),
-        Verb::Claim => claim_in(words),
-        Verb::Finish => finish_in(words),
+        Verb::Claim => {
+            let (unit, station) = unit_and_number(words)?;
+            Some(Command::Claim(unit, station))
+        }
+        Verb::Finish => {
+            let (unit, station) = unit_and_number(words)?;
+            Some(Command::Finish(unit, station))
+        }
         Verb::Refresh => bare(words, Command::Refresh),
         Verb::Commit => bare(words, Command::Commit),
         Verb::Show => bare(words, Command::Show),
@@ -105,12 +75,21 @@ pub(crate) fn command_in(verb: Verb, words: &Words<'_>) -> Option<Command>
         Verb::Creator => Some(Command::Creator(only_register(words)?)),
         Verb::Touched => bare(words, Command::Touched),
         Verb::Info => Some(Command::Info(only_number(words)?)),
-        Verb::Operand => operand_in(words),
-        Verb::Link => link_in(words),
+        Verb::Operand => {
+            let (station, k) = station_and_source(words)?;
+            Some(Command::Operand(station, k))
+        }
+        Verb::Link => {
+            let (station, k) = station_and_source(words)?;
+            Some(Command::Link(station, k))
+        }
         Verb::Station => Some(Command::Station(only_number(words)?)),
         Verb::Ring => bare(words, Command::Ring),
         Verb::Rest => bare(words, Command::Rest),
-        Verb::Meet => meeting_in(words),
+        Verb::Meet => {
+            let (one, other) = two_parties(words)?;
+            Some(Command::Meet(one, other))
+        }
         Verb::Report => bare(words, Command::Report),
         Verb::Renew => bare(words, Command::Renew),
         Verb::Table | Verb::Queue | Verb::Step | Verb::Until => None,

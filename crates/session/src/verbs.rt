@@ -1,7 +1,8 @@
 //! The words that commands begin with.
-ghost use Rattle.std.specs.Prelude.{◌≡◌, ◌≢◌, IfNone, IfSome};
+ghost use Rattle.std.specs.Prelude.{◌≡◌, ◌≢◌, ◌<◌, ℕ, true, false, get_or, length, IfNone, IfSome};
 ghost use Rattle.session.specs.Commands.{verb_name};
 ghost use Rattle.session.specs.declared.verbs.Verb.{Verb};
+ghost use Rattle.session.specs.declared.verbs.Verb.TheVariants.{Turn};
 
 /// The word that a command begins with.
 #[derive(Clone, Copy)]
@@ -36,76 +37,76 @@ pub enum Verb {
     Quit,
 }
 
-/// The command with this word.
-pub(crate) fn verb_in(word: &[u8]) -> Option<Verb>
-    ensures some { IfSome result (λ v. word.now ≡ verb_name v) }
-    ensures none { IfNone result ((v : Verb) → word.now ≢ verb_name v) }
-{
-    match word {
-        b"turn" => Some(Verb::Turn),
-        b"recover" => Some(Verb::Recover),
-        b"claim" => Some(Verb::Claim),
-        b"finish" => Some(Verb::Finish),
-        b"refresh" => Some(Verb::Refresh),
-        b"commit" => Some(Verb::Commit),
-        b"show" => Some(Verb::Show),
-        b"take" => Some(Verb::Take),
-        b"learn" => Some(Verb::Learn),
-        b"look" => Some(Verb::Look),
-        b"creator" => Some(Verb::Creator),
-        b"touched" => Some(Verb::Touched),
-        b"info" => Some(Verb::Info),
-        b"operand" => Some(Verb::Operand),
-        b"link" => Some(Verb::Link),
-        b"station" => Some(Verb::Station),
-        b"ring" => Some(Verb::Ring),
-        b"rest" => Some(Verb::Rest),
-        b"meet" => Some(Verb::Meet),
-        b"report" => Some(Verb::Report),
-        b"renew" => Some(Verb::Renew),
-        b"table" => Some(Verb::Table),
-        b"queue" => Some(Verb::Queue),
-        b"step" => Some(Verb::Step),
-        b"until" => Some(Verb::Until),
-        b"help" => Some(Verb::Help),
-        b"list" => Some(Verb::List),
-        b"quit" => Some(Verb::Quit),
-        _ => None,
-    }
-}
+static VERBS: [Verb; 28] = [
+    Verb::Turn,
+    Verb::Recover,
+    Verb::Claim,
+    Verb::Finish,
+    Verb::Refresh,
+    Verb::Commit,
+    Verb::Show,
+    Verb::Take,
+    Verb::Learn,
+    Verb::Look,
+    Verb::Creator,
+    Verb::Touched,
+    Verb::Info,
+    Verb::Operand,
+    Verb::Link,
+    Verb::Station,
+    Verb::Ring,
+    Verb::Rest,
+    Verb::Meet,
+    Verb::Report,
+    Verb::Renew,
+    Verb::Table,
+    Verb::Queue,
+    Verb::Step,
+    Verb::Until,
+    Verb::Help,
+    Verb::List,
+    Verb::Quit,
+];
+
+static WORDS: [&'static str; 28] = [
+    "turn", "recover", "claim", "finish", "refresh", "commit", "show", "take", "learn", "look",
+    "creator", "touched", "info", "operand", "link", "station", "ring", "rest", "meet", "report",
+    "renew", "table", "queue", "step", "until", "help", "list", "quit",
+];
 
 /// The word of a command.
 pub(crate) fn word(verb: Verb) -> &'static str
     ensures { result.now ≡ verb_name verb }
 {
-    match verb {
-        Verb::Turn => "turn",
-        Verb::Recover => "recover",
-        Verb::Claim => "claim",
-        Verb::Finish => "finish",
-        Verb::Refresh => "refresh",
-        Verb::Commit => "commit",
-        Verb::Show => "show",
-        Verb::Take => "take",
-        Verb::Learn => "learn",
-        Verb::Look => "look",
-        Verb::Creator => "creator",
-        Verb::Touched => "touched",
-        Verb::Info => "info",
-        Verb::Operand => "operand",
-        Verb::Link => "link",
-        Verb::Station => "station",
-        Verb::Ring => "ring",
-        Verb::Rest => "rest",
-        Verb::Meet => "meet",
-        Verb::Report => "report",
-        Verb::Renew => "renew",
-        Verb::Table => "table",
-        Verb::Queue => "queue",
-        Verb::Step => "step",
-        Verb::Until => "until",
-        Verb::Help => "help",
-        Verb::List => "list",
-        Verb::Quit => "quit",
+    WORDS[verb as usize]
+}
+
+fn is_word(verb: Verb, text: &[u8]) -> bool
+    ensures is { result ≡ true → text.now ≡ verb_name verb }
+    ensures not { result ≡ false → text.now ≢ verb_name verb }
+{
+    word(verb).as_bytes() == text
+}
+
+// The first of some commands with this word.
+fn verb_among(table: &[Verb], text: &[u8]) -> Option<Verb>
+    ensures some { IfSome result (λ v. text.now ≡ verb_name v) }
+    ensures none { IfNone result ((k : ℕ) → k < length table.now
+        → text.now ≢ verb_name (get_or table.now k Turn)) }
+{
+    for at in 0..table.len() {
+        let verb = table[at];
+        if is_word(verb, text) {
+            return Some(verb);
+        }
     }
+    None
+}
+
+/// The command with this word.
+pub(crate) fn verb_in(word: &[u8]) -> Option<Verb>
+    ensures some { IfSome result (λ v. word.now ≡ verb_name v) }
+    ensures none { IfNone result ((v : Verb) → word.now ≢ verb_name v) }
+{
+    verb_among(VERBS.as_slice(), word)
 }

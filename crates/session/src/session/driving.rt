@@ -16,7 +16,6 @@ impl<'a, P: Predictor + Drop, J: Naming> Session<'a, P, J> {
     ghost use Rattle.session.specs.declared.commands.Command.TheVariants.{Claim, Commit, Finish, Recover, Refresh, Turn};
 
     pub(super) fn turn(&mut self, given: Option<u32>) -> Reply
-        ensures core { self.new.core ≡ self.old.core }
         ensures grows { GrowsLegally self.old.core self.old.seen self.new.seen }
         ensures kept { self.new ≡ after_command (Turn given) self.old self.new }
         ensures reply { Answers self.old self.new (Turn given) result }
@@ -28,7 +27,6 @@ impl<'a, P: Predictor + Drop, J: Naming> Session<'a, P, J> {
     }
 
     pub(super) fn recover(&mut self) -> Reply
-        ensures core { self.new.core ≡ self.old.core }
         ensures grows { GrowsLegally self.old.core self.old.seen self.new.seen }
         ensures kept { self.new ≡ after_command Recover self.old self.new }
         ensures reply { Answers self.old self.new Recover result }
@@ -38,7 +36,6 @@ impl<'a, P: Predictor + Drop, J: Naming> Session<'a, P, J> {
     }
 
     pub(super) fn claim(&mut self, unit: usize, station: u32) -> Reply
-        ensures core { self.new.core ≡ self.old.core }
         ensures grows { GrowsLegally self.old.core self.old.seen self.new.seen }
         ensures kept { self.new ≡ after_command (Claim unit station) self.old self.new }
         ensures reply { Answers self.old self.new (Claim unit station) result }
@@ -60,7 +57,6 @@ impl<'a, P: Predictor + Drop, J: Naming> Session<'a, P, J> {
     }
 
     pub(super) fn finish(&mut self, unit: usize, station: u32) -> Reply
-        ensures core { self.new.core ≡ self.old.core }
         ensures grows { GrowsLegally self.old.core self.old.seen self.new.seen }
         ensures kept { self.new ≡ after_command (Finish unit station) self.old self.new }
         ensures reply { Answers self.old self.new (Finish unit station) result }
@@ -82,7 +78,6 @@ impl<'a, P: Predictor + Drop, J: Naming> Session<'a, P, J> {
     }
 
     pub(super) fn refresh(&mut self) -> Reply
-        ensures core { self.new.core ≡ self.old.core }
         ensures grows { GrowsLegally self.old.core self.old.seen self.new.seen }
         ensures kept { self.new ≡ after_command Refresh self.old self.new }
         ensures reply { Answers self.old self.new Refresh result }
@@ -91,7 +86,6 @@ impl<'a, P: Predictor + Drop, J: Naming> Session<'a, P, J> {
     }
 
     pub(super) fn commit(&mut self) -> Reply
-        ensures core { self.new.core ≡ self.old.core }
         ensures grows { GrowsLegally self.old.core self.old.seen self.new.seen }
         ensures kept { self.new ≡ after_command Commit self.old self.new }
         ensures reply { Answers self.old self.new Commit result }

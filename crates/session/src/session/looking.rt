@@ -27,7 +27,6 @@ impl<'a, P: Predictor + Drop, J: Naming> Session<'a, P, J> {
     ghost use Rattle.session.specs.declared.commands.Command.TheVariants.{Creator, Info, Link, Look, Operand, Ring, Station, Touched};
 
     pub(super) fn look(&mut self, station: u32) -> Reply
-        ensures core { self.new.core ≡ self.old.core }
         ensures grows { GrowsLegally self.old.core self.old.seen self.new.seen }
         ensures kept { self.new ≡ after_command (Look station) self.old self.new }
         ensures reply { Answers self.old self.new (Look station) result }
@@ -40,7 +39,6 @@ impl<'a, P: Predictor + Drop, J: Naming> Session<'a, P, J> {
     }
 
     pub(super) fn creator(&mut self, register: u32) -> Reply
-        ensures core { self.new.core ≡ self.old.core }
         ensures grows { GrowsLegally self.old.core self.old.seen self.new.seen }
         ensures kept { self.new ≡ after_command (Creator register) self.old self.new }
         ensures reply { Answers self.old self.new (Creator register) result }
@@ -53,7 +51,6 @@ impl<'a, P: Predictor + Drop, J: Naming> Session<'a, P, J> {
     }
 
     pub(super) fn touched(&mut self) -> Reply
-        ensures core { self.new.core ≡ self.old.core }
         ensures grows { GrowsLegally self.old.core self.old.seen self.new.seen }
         ensures kept { self.new ≡ after_command Touched self.old self.new }
         ensures reply { Answers self.old self.new Touched result }
@@ -62,7 +59,6 @@ impl<'a, P: Predictor + Drop, J: Naming> Session<'a, P, J> {
     }
 
     pub(super) fn info(&mut self, station: u32) -> Reply
-        ensures core { self.new.core ≡ self.old.core }
         ensures grows { GrowsLegally self.old.core self.old.seen self.new.seen }
         ensures kept { self.new ≡ after_command (Info station) self.old self.new }
         ensures reply { Answers self.old self.new (Info station) result }
@@ -75,7 +71,6 @@ impl<'a, P: Predictor + Drop, J: Naming> Session<'a, P, J> {
     }
 
     pub(super) fn operand(&mut self, station: u32, which: Which) -> Reply
-        ensures core { self.new.core ≡ self.old.core }
         ensures grows { GrowsLegally self.old.core self.old.seen self.new.seen }
         ensures kept { self.new ≡ after_command (Operand station which) self.old self.new }
         ensures reply { Answers self.old self.new (Operand station which) result }
@@ -92,7 +87,6 @@ impl<'a, P: Predictor + Drop, J: Naming> Session<'a, P, J> {
     }
 
     pub(super) fn link(&mut self, station: u32, which: Which) -> Reply
-        ensures core { self.new.core ≡ self.old.core }
         ensures grows { GrowsLegally self.old.core self.old.seen self.new.seen }
         ensures kept { self.new ≡ after_command (Link station which) self.old self.new }
         ensures reply { Answers self.old self.new (Link station which) result }
@@ -106,7 +100,6 @@ impl<'a, P: Predictor + Drop, J: Naming> Session<'a, P, J> {
     }
 
     pub(super) fn station(&mut self, station: u32) -> Reply
-        ensures core { self.new.core ≡ self.old.core }
         ensures grows { GrowsLegally self.old.core self.old.seen self.new.seen }
         ensures kept { self.new ≡ after_command (Station station) self.old self.new }
         ensures reply { Answers self.old self.new (Station station) result }
@@ -119,7 +112,6 @@ impl<'a, P: Predictor + Drop, J: Naming> Session<'a, P, J> {
     }
 
     pub(super) fn ring_told(&mut self) -> Reply
-        ensures core { self.new.core ≡ self.old.core }
         ensures grows { GrowsLegally self.old.core self.old.seen self.new.seen }
         ensures kept { self.new ≡ after_command Ring self.old self.new }
         ensures reply { Answers self.old self.new Ring result }

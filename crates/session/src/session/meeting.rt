@@ -44,7 +44,6 @@ impl<'a, P: Predictor + Drop, J: Naming> Session<'a, P, J> {
 
     // They meet by the seat that has seen all: it meets the first, the other, and the first again.
     pub(super) fn meet(&mut self, one: Party, other: Party) -> Reply
-        ensures core { self.new.core ≡ self.old.core }
         ensures grows { GrowsLegally self.old.core self.old.seen self.new.seen }
         ensures kept { self.new ≡ after_command (Meet one other) self.old self.new }
         ensures reply { Answers self.old self.new (Meet one other) result }

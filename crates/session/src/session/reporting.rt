@@ -13,7 +13,6 @@ impl<'a, P: Predictor + Drop, J: Naming> Session<'a, P, J> {
     ghost use Rattle.session.specs.declared.commands.Command.TheVariants.{Report};
 
     pub(super) fn report(&mut self, alloc: Global) -> Reply
-        ensures core { self.new.core ≡ self.old.core }
         ensures grows { GrowsLegally self.old.core self.old.seen self.new.seen }
         ensures kept { self.new ≡ after_command Report self.old self.new }
         ensures reply { Answers self.old self.new Report result }

@@ -12,7 +12,6 @@ impl<'a, P: Predictor + Drop, J: Naming> Session<'a, P, J> {
     ghost use Rattle.session.specs.declared.commands.Command.TheVariants.{Rest};
 
     pub(super) fn rest(&mut self) -> Reply
-        ensures core { self.new.core ≡ self.old.core }
         ensures grows { GrowsLegally self.old.core self.old.seen self.new.seen }
         ensures kept { self.new ≡ after_command Rest self.old self.new }
         ensures reply { Answers self.old self.new Rest result }

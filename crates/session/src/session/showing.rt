@@ -13,7 +13,6 @@ impl<'a, P: Predictor + Drop, J: Naming> Session<'a, P, J> {
     ghost use Rattle.session.specs.declared.commands.Command.TheVariants.{Learn, Show, Take};
 
     pub(super) fn show<R: Wait>(&mut self, wait: &R) -> Reply
-        ensures core { self.new.core ≡ self.old.core }
         ensures grows { GrowsLegally self.old.core self.old.seen self.new.seen }
         ensures kept { self.new ≡ after_command Show self.old self.new }
         ensures reply { Answers self.old self.new Show result }
@@ -28,7 +27,6 @@ impl<'a, P: Predictor + Drop, J: Naming> Session<'a, P, J> {
     }
 
     pub(super) fn take(&mut self) -> Reply
-        ensures core { self.new.core ≡ self.old.core }
         ensures grows { GrowsLegally self.old.core self.old.seen self.new.seen }
         ensures kept { self.new ≡ after_command Take self.old self.new }
         ensures reply { Answers self.old self.new Take result }
@@ -40,7 +38,6 @@ impl<'a, P: Predictor + Drop, J: Naming> Session<'a, P, J> {
     }
 
     pub(super) fn learn(&mut self) -> Reply
-        ensures core { self.new.core ≡ self.old.core }
         ensures grows { GrowsLegally self.old.core self.old.seen self.new.seen }
         ensures kept { self.new ≡ after_command Learn self.old self.new }
         ensures reply { Answers self.old self.new Learn result }

@@ -6,6 +6,7 @@ use Rattle.back.specs.Stills.{GoesOnForBack, TheStillBack, head_at}
 use Rattle.front.specs.Stills.{next_at}
 use Rattle.station.specs.Renewals.{seats_of}
 use Rattle.station.specs.Seats.{TheCore}
+use Rattle.session.proofs.Renewing.{begun, stayed}
 use Rattle.session.proofs.renewal.renew.Goals as goal
 
 pub renew-requires-clause-goes_on : goal.renew-requires-clause-goes_on
@@ -38,3 +39,16 @@ enter_again-back-requires-clause-head g c =
     let may = c.a_back_enters_behind_a_renewal.ensures.refused c.args.core c.in-Err.core (seats_of c.leave-front_seat.result.0 left.result.0 c.args.all)
     (seats_of c.in-Err.front_seat c.in-Err.back_seat c.in-Err.all) core_is (left.ensures.by ∙ c.requires.stage.back_by) c.in-Err.ensures.err in
     may.head ∙ (ap (λ k. head_at k left.result.0.seen) (sym core_is) ∙ left.ensures.head)
+
+pub returns-in-Ok-clause-renewed : goal.returns-in-Ok-clause-renewed
+returns-in-Ok-clause-renewed g c =
+    let left = c.leave-back_seat in
+    begun c.args.core c.in-Ok.core (seats_of c.leave-front_seat.result.0 left.result.0 c.args.all) (seats_of c.in-Ok.front_seat c.in-Ok.back_seat c.in-Ok.all)
+    c.in-Ok.ensures.ok c.args.back c.enter-back.result left.result.1 left.ensures.still c.enter-back.ensures.back c.enter-back.ensures.state
+    c.enter-front.result.told c.enter-front.ensures.told
+
+pub returns-in-Err-clause-refused : goal.returns-in-Err-clause-refused
+returns-in-Err-clause-refused g c =
+    let left = c.leave-back_seat in
+    stayed c.args.core c.in-Err.core (seats_of c.leave-front_seat.result.0 left.result.0 c.args.all) (seats_of c.in-Err.front_seat c.in-Err.back_seat c.in-Err.all)
+    c.in-Err.ensures.err c.args.back c.enter_again-back.result left.result.1 left.ensures.still c.enter_again-back.ensures.back c.enter_again-back.ensures.state
