@@ -65,19 +65,16 @@ refused_by_clap word words error no.Ring has usage = absurd usage
 refused_by_clap word words error no.Memory has usage = tt
 
 -- words without rows are refused whatever is asked of the rows
-pub refused_unread : (app word : App) (words : List Text) (Values Odd : List Row → Type 0) (e : NoRun) → app ≡ word
-    → IsNotEntered app words e → IsNoRunFor word words Values Odd e
-refused_unread app word words Values Odd e same is = go e (subst (λ (a : App). IsNotEntered a words e) same is)
-  where
-    go : (e : NoRun) → IsNotEntered word words e → IsNoRunFor word words Values Odd e
-    go (no.Help _) is = is
-    go (no.Usage _) is = record {
-      no_help = is.no_help;
-      no_version = is.no_version;
-      not_held = λ held. is.not_held (record { rows = held.rows; entered = held.entered; holds = tt });
-    }
-    go no.Ring is = absurd is
-    go no.Memory is = tt
+pub refused_unread : (word : App) (words : List Text) (Values Odd : List Row → Type 0) (e : NoRun) → IsNotEntered word words e
+    → IsNoRunFor word words Values Odd e
+refused_unread word words Values Odd (no.Help _) is = is
+refused_unread word words Values Odd (no.Usage _) is = record {
+  no_help = is.no_help;
+  no_version = is.no_version;
+  not_held = λ held. is.not_held (record { rows = held.rows; entered = held.entered; holds = tt });
+}
+refused_unread word words Values Odd no.Ring is = absurd is
+refused_unread word words Values Odd no.Memory is = tt
 
 same_second : {X Y : Type 0} (o : Option (X × Y)) (x : X) (y z : Y) → o ≡ Some (x, y)
     → o ≡ Some (x, z) → z ≡ y
@@ -85,21 +82,12 @@ same_second {X} {Y} o x y z one two =
     let pair : ◌≡◌ {A = X × Y} (x, y) (x, z) = cc in
     sym (ap (λ (p : X × Y). p.1) pair)
 
--- words whose rows hold
-pub holds_in : (app word : App) (words : List Text) (rows : List Row) (P : List Row → Type 0) → app ≡ word
-    → MatchesRows app words rows → P rows → HoldsIn word words P
-holds_in app word words rows P same entered holds =
-    record { rows = rows; entered = subst (λ (a : App). MatchesRows a words rows) same entered; holds = holds }
-
 -- words whose rows are refused
-pub refused_read : (app word : App) (words : List Text) (rows : List Row) (Values Odd : List Row → Type 0) (e : NoRun) → app ≡ word
-    → MatchesRows app words rows → AreRefused rows Values Odd e → IsNoRunFor word words Values Odd e
-refused_read app word words rows Values Odd e same is = go e (subst (λ (a : App). MatchesRows a words rows) same is)
-  where
-    go : (e : NoRun) → MatchesRows word words rows → AreRefused rows Values Odd e → IsNoRunFor word words Values Odd e
-    go (no.Help _) entered refused = absurd refused
-    go (no.Usage _) entered refused = mistake word words Values entered.taken (λ held.
-        let same : held.rows ≡ rows = same_second (subcommand_of (tool word) words) word.top.name rows held.rows entered.matches held.entered.matches in
-        refused (subst Values same held.holds))
-    go no.Ring entered refused = record { rows = rows; entered = entered; holds = refused }
-    go no.Memory entered refused = tt
+pub refused_read : (word : App) (words : List Text) (rows : List Row) (Values Odd : List Row → Type 0) (e : NoRun)
+    → MatchesRows word words rows → AreRefused rows Values Odd e → IsNoRunFor word words Values Odd e
+refused_read word words rows Values Odd (no.Help _) entered refused = absurd refused
+refused_read word words rows Values Odd (no.Usage _) entered refused = mistake word words Values entered.taken (λ held.
+    let same : held.rows ≡ rows = same_second (subcommand_of (tool word) words) word.top.name rows held.rows entered.matches held.entered.matches in
+    refused (subst Values same held.holds))
+refused_read word words rows Values Odd no.Ring entered refused = record { rows = rows; entered = entered; holds = refused }
+refused_read word words rows Values Odd no.Memory entered refused = tt

@@ -1,32 +1,28 @@
 -- The log of a run, and why it is refused.
-use Rattle.std.proofs.Common.{◌≡◌, ◌∙◌, sym, ap, subst, Bool, true, false, List, Option, Some, codes}
+use Rattle.std.proofs.Common.{◌≡◌, ◌∙◌, sym, ap, subst, true, false, List, Option, Some, codes}
 use Rattle.std.proofs.lemmas.Bool.{false≢true}
 use Rattle.clap.specs.Words.{Row, Text, first_of}
-use Rattle.command_line.specs.Logs.{IsNoLog, IsOther, is_file, is_other}
+use Rattle.command_line.specs.Logs.{IsLog, IsNoLog, IsOther, is_file, is_other}
 
--- the log of the rows is no file
-pub no_file : (rows : List Row) (log : Option Text) (taken : Bool) → log ≡ first_of (codes "trace") rows → taken ≡ is_file log
-    → taken ≡ false → IsNoLog rows
-no_file rows log taken l is not other held = false≢true (sym not ∙ is ∙ ap is_file l ∙ held.names_file)
+module _ (rows : List Row) (file : Text) (log : Option Text) (named : first_of (codes "FILE") rows ≡ Some file)
+    (is : log ≡ first_of (codes "trace") rows) where
+  -- another file
+  pub is_log : is_other file log ≡ true → is_file log ≡ true → IsLog rows log
+  is_log other names =
+      record {
+        is = is;
+        names_file = subst (λ (o : Option Text). is_file o ≡ true) is names;
+        other = subst (λ (o : Option Text). IsOther (first_of (codes "FILE") rows) o) is
+            (subst (λ (o : Option Text). IsOther o log) (sym named) other);
+      }
 
--- the file that the rows name, and the other one
-other_of : (named asked : Option Text) (file : Text) (log : Option Text) → named ≡ Some file → log ≡ asked
-    → is_other file log ≡ true → IsOther named asked
-other_of named asked file log f l is =
-    subst (λ (o : Option Text). IsOther o asked) (sym f) (subst (λ (o : Option Text). is_other file o ≡ true) l is)
+  -- the file of the listing
+  pub not_other : is_other file log ≡ false → IsNoLog rows
+  not_other same any held =
+      let other : IsOther (first_of (codes "FILE") rows) log =
+      subst (λ (o : Option Text). IsOther (first_of (codes "FILE") rows) o) (sym is) held.other in
+      false≢true (sym same ∙ subst (λ (o : Option Text). IsOther o log) named other)
 
-one_of : (named asked : Option Text) (file : Text) (log : Option Text) → named ≡ Some file → log ≡ asked
-    → IsOther named asked → is_other file log ≡ true
-one_of named asked file log f l is =
-    subst (λ (o : Option Text). is_other file o ≡ true) (sym l) (subst (λ (o : Option Text). IsOther o asked) f is)
-
-pub is_another : (rows : List Row) (file : Text) (log : Option Text) (other : Bool) → first_of (codes "FILE") rows ≡ Some file
-    → log ≡ first_of (codes "trace") rows → other ≡ is_other file log → other ≡ true
-    → IsOther (first_of (codes "FILE") rows) (first_of (codes "trace") rows)
-is_another rows file log other f l is taken =
-    other_of (first_of (codes "FILE") rows) (first_of (codes "trace") rows) file log f l (sym is ∙ taken)
-
-pub not_another : (rows : List Row) (file : Text) (log : Option Text) (other : Bool) → first_of (codes "FILE") rows ≡ Some file
-    → log ≡ first_of (codes "trace") rows → other ≡ is_other file log → other ≡ false → IsNoLog rows
-not_another rows file log other f l is same any held =
-    false≢true (sym same ∙ is ∙ one_of (first_of (codes "FILE") rows) (first_of (codes "trace") rows) file log f l held.other)
+  -- no file
+  pub no_file : is_file log ≡ false → IsNoLog rows
+  no_file not any held = false≢true (sym not ∙ ap is_file is ∙ held.names_file)

@@ -1,5 +1,5 @@
 -- The command line, as clap reads it.
-use Rattle.std.specs.Prelude.{◌≡◌, Some, codes, true, false}
+use Rattle.std.specs.Prelude.{◌≡◌, List, [], ◌∷◌, Some, codes, true, false}
 use Rattle.clap.specs.Words.{App, Rule, Text, app_of, new_app, new_rule, rule_of}
 use Rattle.clap.specs.Words.{with_rule, with_subcommand}
 use Rattle.clap.specs.Simple.{on_top}
@@ -7,6 +7,10 @@ use Rattle.clap.specs.declared.builder.arg.Arg.{Arg}
 use Rattle.clap.specs.declared.builder.command.Command.{Command}
 use Rattle.clap.specs.declared.builder.command.Command.TheViews.{out-Command}
 use Rattle.clap.specs.declared.builder.action.ArgAction.TheVariants.{SetTrue}
+use Rattle.command_line.specs.declared.arguments.Argument.{Argument}
+use Rattle.command_line.specs.declared.arguments.Argument.TheVariants.{File, Valued, Flag}
+use Rattle.command_line.specs.declared.word.Word.{Word}
+use Rattle.command_line.specs.declared.word.Word.TheVariants.{Run, Chart, Commits, Check, Drive}
 
 -- the file of the listing
 abbrev pub file_rule : Rule
@@ -20,54 +24,98 @@ option_rule name = record (new_rule name) { long = Some name; value_names = 1 }
 abbrev pub flag_rule : Text → Rule
 flag_rule name = record (new_rule name) { long = Some name; action = Some SetTrue }
 
--- the file of the listing, and how much the unit holds
-abbrev pub sized : App → App
-sized app = with_rule (with_rule (with_rule app file_rule) (option_rule (codes "ruu-size"))) (option_rule (codes "lsq-size"))
+-- the arguments of `ruu run`
+abbrev pub run_rules : List Rule
+run_rules =
+    file_rule ∷ option_rule (codes "ruu-size") ∷ option_rule (codes "lsq-size") ∷ option_rule (codes "units")
+    ∷ option_rule (codes "bpred") ∷ option_rule (codes "turns") ∷ option_rule (codes "limit") ∷ flag_rule (codes "alone")
+    ∷ flag_rule (codes "progress") ∷ option_rule (codes "seed") ∷ option_rule (codes "shake") ∷ []
 
--- what runs the listing, and for how long
-abbrev pub bounded : App → App
-bounded app = with_rule (with_rule (with_rule (with_rule app
-    (option_rule (codes "units"))) (option_rule (codes "bpred"))) (option_rule (codes "turns"))) (option_rule (codes "limit"))
+-- those of `ruu commits`
+abbrev pub commits_rules : List Rule
+commits_rules =
+    file_rule ∷ option_rule (codes "ruu-size") ∷ option_rule (codes "lsq-size") ∷ option_rule (codes "bpred")
+    ∷ option_rule (codes "limit") ∷ option_rule (codes "seed") ∷ []
 
--- on how many threads it runs and how that is seen, and seeds of orders
-abbrev pub ordered : App → App
-ordered app = with_rule (with_rule (with_rule (with_rule app
-    (flag_rule (codes "alone"))) (flag_rule (codes "progress"))) (option_rule (codes "seed"))) (option_rule (codes "shake"))
+-- those of `ruu chart`
+abbrev pub chart_rules : List Rule
+chart_rules =
+    file_rule ∷ option_rule (codes "ruu-size") ∷ option_rule (codes "lsq-size") ∷ option_rule (codes "bpred")
+    ∷ option_rule (codes "limit") ∷ option_rule (codes "seed") ∷ option_rule (codes "trace") ∷ []
 
--- the predictor, the limit and the seed of a run whose turns are watched
-abbrev pub watched : App → App
-watched app = with_rule (with_rule (with_rule app
-    (option_rule (codes "bpred"))) (option_rule (codes "limit"))) (option_rule (codes "seed"))
+-- those of `ruu check`
+abbrev pub check_rules : List Rule
+check_rules = file_rule ∷ flag_rule (codes "all") ∷ []
+
+-- those of `ruu drive`
+abbrev pub drive_rules : List Rule
+drive_rules =
+    file_rule ∷ option_rule (codes "ruu-size") ∷ option_rule (codes "lsq-size") ∷ option_rule (codes "bpred")
+    ∷ option_rule (codes "first-tag") ∷ flag_rule (codes "quiet-prompt") ∷ flag_rule (codes "echo")
+    ∷ option_rule (codes "seed") ∷ option_rule (codes "steps") ∷ []
+
+-- with arguments in turn
+abbrev pub with_rules : App → List Rule → App
+with_rules app [] = app
+with_rules app (rule ∷ rules) = with_rules (with_rule app rule) rules
 
 -- with a version
 abbrev pub with_version : App → App
 with_version = on_top (λ s. record s { has_version = true })
 
+-- the command of a word with these arguments
+abbrev pub word_with : Text → List Rule → App
+word_with name rules = with_rules (with_version (new_app name)) rules
+
 -- `ruu run`
 abbrev pub run_word : App
-run_word = ordered (bounded (sized (with_version (new_app (codes "run")))))
+run_word = word_with (codes "run") run_rules
 
 -- `ruu chart`
 abbrev pub chart_word : App
-chart_word = with_rule (watched (sized (with_version (new_app (codes "chart"))))) (option_rule (codes "trace"))
+chart_word = word_with (codes "chart") chart_rules
 
 -- `ruu commits`
 abbrev pub commits_word : App
-commits_word = watched (sized (with_version (new_app (codes "commits"))))
+commits_word = word_with (codes "commits") commits_rules
 
 -- `ruu check`
 abbrev pub check_word : App
-check_word = with_rule (with_rule (with_version (new_app (codes "check"))) file_rule) (flag_rule (codes "all"))
-
--- how commands are told and chosen
-abbrev pub commanded : App → App
-commanded app = with_rule (with_rule (with_rule (with_rule app
-    (flag_rule (codes "quiet-prompt"))) (flag_rule (codes "echo"))) (option_rule (codes "seed"))) (option_rule (codes "steps"))
+check_word = word_with (codes "check") check_rules
 
 -- `ruu drive`
 abbrev pub drive_word : App
-drive_word = commanded (with_rule (with_rule (sized (with_version (new_app (codes "drive"))))
-    (option_rule (codes "bpred"))) (option_rule (codes "first-tag")))
+drive_word = word_with (codes "drive") drive_rules
+
+-- the text of a word
+abbrev pub name_of : Word → Text
+name_of Run = codes "run"
+name_of Chart = codes "chart"
+name_of Commits = codes "commits"
+name_of Check = codes "check"
+name_of Drive = codes "drive"
+
+-- the arguments of a word
+abbrev pub rules_of : Word → List Rule
+rules_of Run = run_rules
+rules_of Chart = chart_rules
+rules_of Commits = commits_rules
+rules_of Check = check_rules
+rules_of Drive = drive_rules
+
+-- the command of a word
+abbrev pub app_of_word : Word → App
+app_of_word Run = run_word
+app_of_word Chart = chart_word
+app_of_word Commits = commits_word
+app_of_word Check = check_word
+app_of_word Drive = drive_word
+
+-- what clap reads of an argument
+abbrev pub rule_of_argument : Argument → Rule
+rule_of_argument File = file_rule
+rule_of_argument (Valued name value help) = option_rule name.now
+rule_of_argument (Flag name help) = flag_rule name.now
 
 -- the program of a word: `ruu`, with this command alone
 abbrev pub tool : App → App
@@ -82,11 +130,3 @@ pub record IsArg (rule : Rule) (arg : Arg) : Type 0 where
 pub record IsCommand (app : App) (command : Command) : Type 0 where
   pub is : app_of command ≡ app
   pub local : (out-Command command).has_globals ≡ false
-
--- whatever the old command stands for, the new one stands for that with this change
-pub record Becomes (change : App → App) (old new : Command) : Type 0 where
-  pub changes : (app : App) → IsCommand app old → IsCommand (change app) new
-
--- whatever the command of a word stands for, this one stands for its program
-pub record ToolOf (word command : Command) : Type 0 where
-  pub is : (app : App) → IsCommand app word → app_of command ≡ tool app

@@ -1,7 +1,7 @@
 //! The entries of the matches, each read as what it stands for.
 ghost use Rattle.std.specs.Prelude.{◌≡◌, IfOk, IfErr, Some, None, codes};
 ghost use Rattle.command_line.specs.Values.{IsNumberFrom, IsNoNumberFrom, IsPredictor, IsNoPredictor};
-ghost use Rattle.command_line.specs.Values.{IsNoSeed, IsSeed, value_in};
+ghost use Rattle.command_line.specs.Values.{IsNoSeed, IsSeed, is_true, value_in};
 ghost use Rattle.command_line.specs.Reading.{IsUsage};
 
 use crate::refusals::{bad_number, usage};
@@ -10,10 +10,10 @@ use crate::{BranchPredictor, NoRun};
 use clap::ArgMatches;
 use std::alloc::Global;
 
-/// The file of the listing. A mistake names the command's help, here and below.
+/// The file of the listing. A mistake names the program's help, here and below.
 pub(crate) fn file<'a>(
     alloc: Global,
-    command: &str,
+    program: &str,
     matches: &ArgMatches<'a>,
 ) -> Result<&'a str, NoRun>
     ensures ok { IfOk result (λ file. value_in matches.now (codes "FILE") ≡ Some file.now) }
@@ -23,14 +23,24 @@ pub(crate) fn file<'a>(
     let text = matches.get_str("FILE");
     match text {
         Some(file) => Ok(file),
-        None => Err(usage(alloc, command, "there is no FILE")),
+        None => Err(usage(alloc, program, "there is no FILE")),
+    }
+}
+
+/// The flag was given.
+pub(crate) fn flag<'a>(matches: &ArgMatches<'a>, name: &str) -> bool
+    ensures { result ≡ is_true (value_in matches.now name.now) }
+{
+    match matches.get_str(name) {
+        Some(text) => text == "true",
+        None => false,
     }
 }
 
 /// The number of an option, if it is in its range.
 pub(crate) fn number<'a>(
     alloc: Global,
-    command: &str,
+    program: &str,
     matches: &ArgMatches<'a>,
     name: &str,
     least: u64,
@@ -46,14 +56,14 @@ pub(crate) fn number<'a>(
     let text = matches.get_str(name);
     match number_in(text, least, most, default) {
         Some(number) => Ok(number),
-        None => Err(bad_number(alloc, command, name, least, most)),
+        None => Err(bad_number(alloc, program, name, least, most)),
     }
 }
 
 /// The seed of an option, if it was given.
 pub(crate) fn seed<'a>(
     alloc: Global,
-    command: &str,
+    program: &str,
     matches: &ArgMatches<'a>,
     name: &str,
 ) -> Result<Option<u64>, NoRun>
@@ -64,14 +74,14 @@ pub(crate) fn seed<'a>(
     if matches.get_str(name).is_none() {
         return Ok(None);
     }
-    let seed = number(alloc, command, matches, name, 0, u64::MAX, 0)?;
+    let seed = number(alloc, program, matches, name, 0, u64::MAX, 0)?;
     Ok(Some(seed))
 }
 
 /// The predictor of `--bpred`.
 pub(crate) fn predictor<'a>(
     alloc: Global,
-    command: &str,
+    program: &str,
     matches: &ArgMatches<'a>,
 ) -> Result<BranchPredictor, NoRun>
     ensures ok { IfOk result (IsPredictor (value_in matches.now (codes "bpred"))) }
@@ -81,6 +91,6 @@ pub(crate) fn predictor<'a>(
     let text = matches.get_str("bpred");
     match predictor_in(text) {
         Some(predictor) => Ok(predictor),
-        None => Err(usage(alloc, command, "--bpred takes nottaken, taken or bimod")),
+        None => Err(usage(alloc, program, "--bpred takes nottaken, taken or bimod")),
     }
 }

@@ -13,7 +13,7 @@ use std::fmt;
 pub const REFUSED: u8 = 5;
 
 /// How a program ends: its exit status, and what standard error is told.
-#[derive(Clone, Copy, Debug, PartialEq, Eq)]
+#[derive(Clone, Copy)]
 pub struct Exit {
     pub status: u8,
     pub line: Line,
@@ -30,7 +30,7 @@ pub fn refused(refusal: Refusal) -> Exit
 }
 
 /// What standard error is told at the end of a program. Its `Display` is that line, without a line feed.
-#[derive(Clone, Copy, Debug, PartialEq, Eq)]
+#[derive(Clone, Copy, PartialEq, Eq)]
 pub enum Line {
     /// Nothing, not even an empty line.
     Nothing,
@@ -41,7 +41,7 @@ pub enum Line {
 }
 
 /// What a program wanted and did not get.
-#[derive(Clone, Copy, Debug, PartialEq, Eq)]
+#[derive(Clone, Copy, PartialEq, Eq)]
 pub enum Refusal {
     /// The file did not open.
     Open,

@@ -1,14 +1,13 @@
 //! What the words of a command line of `ruu` ask for, why they are refused, and how programs end.
 #![tactic(auto)]
 
+mod arguments;
 mod chosen;
-mod commands;
 mod ending;
 mod entered;
 mod entries;
 mod exit;
 mod no_run;
-mod options;
 mod program;
 mod progress;
 mod reading_chart;
@@ -22,9 +21,11 @@ mod request;
 mod ring;
 mod seeds;
 mod steps;
+mod tool;
 mod totals;
 mod trace;
 mod values;
+mod word;
 
 pub use chosen::{Chosen, choose};
 pub use ending::end;

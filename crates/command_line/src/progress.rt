@@ -7,7 +7,7 @@ use counts::Tally;
 use std::fmt;
 
 /// A tally of threads that run. Its `Display` is the line that tells it, without a line feed.
-#[derive(Clone, Copy, Debug, PartialEq, Eq)]
+#[derive(Clone, Copy)]
 pub struct Progress {
     pub tally: Tally,
 }

@@ -6,10 +6,10 @@ ghost use Rattle.command_line.specs.Reading.{AreRefused, IsNoRunFor};
 ghost use Rattle.command_line.specs.Rings.{HasOddRing};
 ghost use Rattle.command_line.specs.Tool.{chart_word};
 
-use crate::commands::chart;
 use crate::entered::entered;
 use crate::reading_watched::{values_of, watched};
 use crate::trace::log_of;
+use crate::word::Word;
 use crate::{Charted, NoRun};
 use clap::ArgMatches;
 use std::alloc::Global;
@@ -22,8 +22,7 @@ pub fn charted<'a, S: AsStr>(alloc: Global, words: &'a [S]) -> Result<Charted<'a
     ensures err { IfErr result
         (IsNoRunFor chart_word (map S.text words.entry.now) HasChart (HasOddRing HasChart)) }
 {
-    let command = chart(alloc)?;
-    let matches = entered(alloc, command, "chart", words)?;
+    let matches = entered(alloc, Word::Chart, words)?;
     read(alloc, &matches)
 }
 
@@ -33,8 +32,8 @@ fn read<'a>(alloc: Global, matches: &ArgMatches<'a>) -> Result<Charted<'a>, NoRu
     ensures err { IfErr result
         (AreRefused (rows_of (found_of matches.now)) HasChart (HasOddRing HasChart)) }
 {
-    let values = values_of(alloc, "chart", matches)?;
+    let values = values_of(alloc, "ruu chart", matches)?;
     let log = log_of(alloc, matches, values.file)?;
-    let run = watched(alloc, "chart", matches, values)?;
+    let run = watched(alloc, "ruu chart", matches, values)?;
     Ok(Charted { run, log })
 }

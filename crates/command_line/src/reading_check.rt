@@ -5,10 +5,9 @@ ghost use Rattle.command_line.specs.Check.{IsCheckedBy, IsCheckedIn, NamesFile};
 ghost use Rattle.command_line.specs.Reading.{AreRefused, IsNoRunFor, NoneOdd};
 ghost use Rattle.command_line.specs.Tool.{check_word};
 
-use crate::commands::check;
 use crate::entered::entered;
-use crate::entries::file;
-use crate::values::is_true;
+use crate::entries::{file, flag};
+use crate::word::Word;
 use crate::{Checked, NoRun};
 use clap::ArgMatches;
 use std::alloc::Global;
@@ -21,8 +20,7 @@ pub fn checked<'a, S: AsStr>(alloc: Global, words: &'a [S]) -> Result<Checked<'a
     ensures err { IfErr result
         (IsNoRunFor check_word (map S.text words.entry.now) NamesFile NoneOdd) }
 {
-    let command = check(alloc)?;
-    let matches = entered(alloc, command, "check", words)?;
+    let matches = entered(alloc, Word::Check, words)?;
     read(alloc, &matches)
 }
 
@@ -31,7 +29,7 @@ fn read<'a>(alloc: Global, matches: &ArgMatches<'a>) -> Result<Checked<'a>, NoRu
     ensures err { IfErr result
         (AreRefused (rows_of (found_of matches.now)) NamesFile NoneOdd) }
 {
-    let file = file(alloc, "check", matches)?;
-    let all = is_true(matches.get_str("all"));
+    let file = file(alloc, "ruu check", matches)?;
+    let all = flag(matches, "all");
     Ok(Checked { file, all })
 }

@@ -7,9 +7,9 @@ ghost use Rattle.command_line.specs.Rings.{HasOddRing};
 ghost use Rattle.command_line.specs.Tool.{commits_word};
 ghost use Rattle.command_line.specs.Watched.{HasWatchedRun, IsWatchedBy};
 
-use crate::commands::commits;
 use crate::entered::entered;
 use crate::reading_watched::{values_of, watched};
+use crate::word::Word;
 use crate::{NoRun, Watched};
 use clap::ArgMatches;
 use std::alloc::Global;
@@ -22,8 +22,7 @@ pub fn committed<'a, S: AsStr>(alloc: Global, words: &'a [S]) -> Result<Watched<
     ensures err { IfErr result (IsNoRunFor commits_word (map S.text words.entry.now)
         HasWatchedRun (HasOddRing HasWatchedRun)) }
 {
-    let command = commits(alloc)?;
-    let matches = entered(alloc, command, "commits", words)?;
+    let matches = entered(alloc, Word::Commits, words)?;
     read(alloc, &matches)
 }
 
@@ -33,6 +32,6 @@ fn read<'a>(alloc: Global, matches: &ArgMatches<'a>) -> Result<Watched<'a>, NoRu
     ensures err { IfErr result
         (AreRefused (rows_of (found_of matches.now)) HasWatchedRun (HasOddRing HasWatchedRun)) }
 {
-    let values = values_of(alloc, "commits", matches)?;
-    watched(alloc, "commits", matches, values)
+    let values = values_of(alloc, "ruu commits", matches)?;
+    watched(alloc, "ruu commits", matches, values)
 }

@@ -5,12 +5,11 @@ ghost use Rattle.command_line.specs.Drive.{CanBeDriven, IsDrivenBy, IsDrivenIn};
 ghost use Rattle.command_line.specs.Reading.{AreRefused, IsNoRunFor, NoneOdd};
 ghost use Rattle.command_line.specs.Tool.{drive_word};
 
-use crate::commands::drive;
 use crate::entered::entered;
-use crate::entries::{file, number, predictor};
+use crate::entries::{file, flag, number, predictor};
 use crate::refusals::usage;
 use crate::steps::steps_of;
-use crate::values::is_true;
+use crate::word::Word;
 use crate::{ByHand, NoRun, is_standard_input};
 use clap::ArgMatches;
 use instructions::Config;
@@ -24,8 +23,7 @@ pub fn driven<'a, S: AsStr>(alloc: Global, words: &'a [S]) -> Result<ByHand<'a>,
     ensures err { IfErr result
         (IsNoRunFor drive_word (map S.text words.entry.now) CanBeDriven NoneOdd) }
 {
-    let command = drive(alloc)?;
-    let matches = entered(alloc, command, "drive", words)?;
+    let matches = entered(alloc, Word::Drive, words)?;
     read(alloc, &matches)
 }
 
@@ -35,24 +33,24 @@ fn read<'a>(alloc: Global, matches: &ArgMatches<'a>) -> Result<ByHand<'a>, NoRun
     ensures err { IfErr result
         (AreRefused (rows_of (found_of matches.now)) CanBeDriven NoneOdd) }
 {
-    let file = file(alloc, "drive", matches)?;
+    let file = file(alloc, "ruu drive", matches)?;
     if is_standard_input(file) {
         return Err(usage(
             alloc,
-            "drive",
+            "ruu drive",
             "the commands come from standard input, and FILE cannot be -",
         ));
     }
-    let queue = number(alloc, "drive", matches, "lsq-size", 2, 32, 8)?;
-    let predictor = predictor(alloc, "drive", matches)?;
-    let first_tag = number(alloc, "drive", matches, "first-tag", 1, 268_435_454, 1)?;
-    let quiet_prompt = is_true(matches.get_str("quiet-prompt"));
-    let echo = is_true(matches.get_str("echo"));
+    let queue = number(alloc, "ruu drive", matches, "lsq-size", 2, 32, 8)?;
+    let predictor = predictor(alloc, "ruu drive", matches)?;
+    let first_tag = number(alloc, "ruu drive", matches, "first-tag", 1, 268_435_454, 1)?;
+    let quiet_prompt = flag(matches, "quiet-prompt");
+    let echo = flag(matches, "echo");
     let steps = steps_of(alloc, matches)?;
-    let ring = number(alloc, "drive", matches, "ruu-size", 2, 32, 16)?;
+    let ring = number(alloc, "ruu drive", matches, "ruu-size", 2, 32, 16)?;
     let queue = queue.min(ring);
     let Ok(config) = Config::new(ring, queue, 64, 1, first_tag, 1_000_000, 0xffff_ffff) else {
-        return Err(usage(alloc, "drive", "--ruu-size takes 2, 4, 8, 16 or 32"));
+        return Err(usage(alloc, "ruu drive", "--ruu-size takes 2, 4, 8, 16 or 32"));
     };
     Ok(ByHand {
         file,

@@ -6,16 +6,17 @@ ghost use Rattle.command_line.specs.Reading.{AreRefused, IsNoRunFor};
 ghost use Rattle.command_line.specs.Rings.{HasOddRing};
 ghost use Rattle.command_line.specs.Tool.{run_word};
 
-use crate::commands::run;
 use crate::entered::entered;
-use crate::entries::{file, number, predictor};
+use crate::entries::{file, flag, number, predictor};
 use crate::ring::with_ring;
 use crate::seeds::seeds_of;
-use crate::values::is_true;
+use crate::word::Word;
 use crate::{Asked, NoRun};
 use clap::ArgMatches;
 use std::alloc::Global;
 use std::convert::AsStr;
+
+const RUN: &str = "ruu run";
 
 /// The run that the words ask for, of which the first is the program's name. Where they are refused, `NoRun` has what
 /// to print, and `status` gives the exit status.
@@ -24,8 +25,7 @@ pub fn asked<'a, S: AsStr>(alloc: Global, words: &'a [S]) -> Result<Asked<'a>, N
     ensures err { IfErr result
         (IsNoRunFor run_word (map S.text words.entry.now) HasAskedRun (HasOddRing HasAskedRun)) }
 {
-    let command = run(alloc)?;
-    let matches = entered(alloc, command, "run", words)?;
+    let matches = entered(alloc, Word::Run, words)?;
     read(alloc, &matches)
 }
 
@@ -35,16 +35,16 @@ fn read<'a>(alloc: Global, matches: &ArgMatches<'a>) -> Result<Asked<'a>, NoRun>
     ensures err { IfErr result
         (AreRefused (rows_of (found_of matches.now)) HasAskedRun (HasOddRing HasAskedRun)) }
 {
-    let file = file(alloc, "run", matches)?;
-    let queue = number(alloc, "run", matches, "lsq-size", 2, 32, 8)?;
-    let units = number(alloc, "run", matches, "units", 1, 64, 2)?;
-    let predictor = predictor(alloc, "run", matches)?;
-    let turns = number(alloc, "run", matches, "turns", 1, 0xffff_ffff, 0xffff_ffff)?;
-    let limit = number(alloc, "run", matches, "limit", 0, 0xffff_ffff, 1_000_000)?;
-    let alone = is_true(matches.get_str("alone"));
-    let progress = is_true(matches.get_str("progress"));
+    let file = file(alloc, RUN, matches)?;
+    let queue = number(alloc, RUN, matches, "lsq-size", 2, 32, 8)?;
+    let units = number(alloc, RUN, matches, "units", 1, 64, 2)?;
+    let predictor = predictor(alloc, RUN, matches)?;
+    let turns = number(alloc, RUN, matches, "turns", 1, 0xffff_ffff, 0xffff_ffff)?;
+    let limit = number(alloc, RUN, matches, "limit", 0, 0xffff_ffff, 1_000_000)?;
+    let alone = flag(matches, "alone");
+    let progress = flag(matches, "progress");
     let seeds = seeds_of(alloc, matches, alone)?;
-    let config = with_ring(alloc, "run", matches, queue, units, limit, turns)?;
+    let config = with_ring(alloc, RUN, matches, queue, units, limit, turns)?;
     Ok(Asked {
         file,
         config,

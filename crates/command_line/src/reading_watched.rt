@@ -24,18 +24,18 @@ pub(crate) struct Values<'a> {
 /// The values that the matches hold, and the defaults where they hold nothing.
 pub(crate) fn values_of<'a>(
     alloc: Global,
-    command: &str,
+    program: &str,
     matches: &ArgMatches<'a>,
 ) -> Result<Values<'a>, NoRun>
     ensures ok { IfOk result (AreValues (rows_of (found_of matches.now))) }
     ensures usage { IfErr result IsUsage }
     ensures err { IfErr result (λ _. ¬ (HasWatchedRun (rows_of (found_of matches.now)))) }
 {
-    let file = file(alloc, command, matches)?;
-    let queue = number(alloc, command, matches, "lsq-size", 2, 32, 8)?;
-    let predictor = predictor(alloc, command, matches)?;
-    let limit = number(alloc, command, matches, "limit", 0, 0xffff_ffff, 1_000_000)?;
-    let seed = seed(alloc, command, matches, "seed")?;
+    let file = file(alloc, program, matches)?;
+    let queue = number(alloc, program, matches, "lsq-size", 2, 32, 8)?;
+    let predictor = predictor(alloc, program, matches)?;
+    let limit = number(alloc, program, matches, "limit", 0, 0xffff_ffff, 1_000_000)?;
+    let seed = seed(alloc, program, matches, "seed")?;
     Ok(Values {
         file,
         queue,
@@ -48,7 +48,7 @@ pub(crate) fn values_of<'a>(
 /// The run with these values and the ring of the matches.
 pub(crate) fn watched<'a>(
     alloc: Global,
-    command: &str,
+    program: &str,
     matches: &ArgMatches<'a>,
     values: Values<'a>,
 ) -> Result<Watched<'a>, NoRun>
@@ -63,7 +63,7 @@ pub(crate) fn watched<'a>(
         limit,
         seed,
     } = values;
-    let config = with_ring(alloc, command, matches, queue, 2, limit, 0xffff_ffff)?;
+    let config = with_ring(alloc, program, matches, queue, 2, limit, 0xffff_ffff)?;
     Ok(Watched {
         file,
         config,

@@ -3,7 +3,7 @@ ghost use Rattle.clap.specs.Words.{kind_of};
 ghost use Rattle.command_line.specs.Reading.{IsRefusalOf, IsUsage};
 
 use crate::NoRun;
-use crate::options::VERSION;
+use crate::tool::VERSION;
 use clap::Error;
 use clap::error::ErrorKind;
 use std::alloc::Global;
@@ -26,12 +26,12 @@ pub(crate) fn refused(alloc: Global, error: &Error) -> NoRun
     }
 }
 
-/// `what` is wrong with the words of a command, in the form of `clap`'s own texts.
-pub(crate) fn usage(alloc: Global, command: &str, what: &str) -> NoRun
+/// `what` is wrong with the words of a program, in the form of `clap`'s own texts.
+pub(crate) fn usage(alloc: Global, program: &str, what: &str) -> NoRun
     ensures { IsUsage result }
 {
     let text = format!(in alloc;
-        "error: {what}\n\nFor more information, try 'ruu {command} --help'.\n"
+        "error: {what}\n\nFor more information, try '{program} --help'.\n"
     );
     match text {
         Ok(text) => NoRun::Usage(text),
@@ -39,24 +39,12 @@ pub(crate) fn usage(alloc: Global, command: &str, what: &str) -> NoRun
     }
 }
 
-/// The words name none of the commands.
-pub(crate) fn no_command(alloc: Global) -> NoRun
-    ensures { IsUsage result }
-{
-    match format!(in alloc;
-        "error: there is no command\n\nFor more information, try 'ruu --help'.\n"
-    ) {
-        Ok(text) => NoRun::Usage(text),
-        Err(_) => NoRun::Memory,
-    }
-}
-
 /// The value of an option is no number of its range.
-pub(crate) fn bad_number(alloc: Global, command: &str, name: &str, least: u64, most: u64) -> NoRun
+pub(crate) fn bad_number(alloc: Global, program: &str, name: &str, least: u64, most: u64) -> NoRun
     ensures { IsUsage result }
 {
     match format!(in alloc; "--{name} takes a number from {least} to {most}") {
-        Ok(text) => usage(alloc, command, text.as_str()),
+        Ok(text) => usage(alloc, program, text.as_str()),
         Err(_) => NoRun::Memory,
     }
 }

@@ -13,7 +13,7 @@ use std::alloc::Global;
 /// last, since a mistake elsewhere comes before it.
 pub(crate) fn with_ring<'a>(
     alloc: Global,
-    command: &str,
+    program: &str,
     matches: &ArgMatches<'a>,
     queue: u64,
     units: u64,
@@ -25,7 +25,7 @@ pub(crate) fn with_ring<'a>(
         queue units limit turns) }
     ensures err { IfErr result (IsBadRing (value_in matches.now (codes "ruu-size"))) }
 {
-    let ring = number(alloc, command, matches, "ruu-size", 0, u64::MAX, 16)?;
+    let ring = number(alloc, program, matches, "ruu-size", 0, u64::MAX, 16)?;
     match Config::new(ring, queue.min(ring), units, 1, 1, limit, turns) {
         Ok(config) => Ok(config),
         Err(_) => Err(NoRun::Ring),

@@ -30,13 +30,13 @@ pub(crate) fn seeds_of<'a>(
     ensures usage { IfErr result IsUsage }
     ensures err { IfErr result (λ _. AreNoSeeds (rows_of (found_of matches.now))) }
 {
-    let turns = seed(alloc, "run", matches, "seed")?;
-    let shake = seed(alloc, "run", matches, "shake")?;
+    let turns = seed(alloc, "ruu run", matches, "seed")?;
+    let shake = seed(alloc, "ruu run", matches, "shake")?;
     if !alone && turns.is_some() {
-        return Err(usage(alloc, "run", "--seed needs --alone"));
+        return Err(usage(alloc, "ruu run", "--seed needs --alone"));
     }
     if alone && shake.is_some() {
-        return Err(usage(alloc, "run", "--shake cannot stand with --alone"));
+        return Err(usage(alloc, "ruu run", "--shake cannot stand with --alone"));
     }
     Ok(Seeds { turns, shake })
 }

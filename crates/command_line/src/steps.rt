@@ -24,11 +24,11 @@ pub(crate) fn steps_of<'a>(alloc: Global, matches: &ArgMatches<'a>) -> Result<St
     ensures usage { IfErr result IsUsage }
     ensures err { IfErr result (λ _. AreNoSteps (rows_of (found_of matches.now))) }
 {
-    let seed = seed(alloc, "drive", matches, "seed")?;
-    let count = number(alloc, "drive", matches, "steps", 1, 1_000_000, 400)?;
+    let seed = seed(alloc, "ruu drive", matches, "seed")?;
+    let count = number(alloc, "ruu drive", matches, "steps", 1, 1_000_000, 400)?;
     let steps = matches.get_str("steps");
     if seed.is_none() && steps.is_some() {
-        return Err(usage(alloc, "drive", "--steps needs --seed"));
+        return Err(usage(alloc, "ruu drive", "--steps needs --seed"));
     }
     Ok(Steps { seed, count })
 }

@@ -1,7 +1,7 @@
 //! What the text of an option stands for.
-ghost use Rattle.std.specs.Prelude.{◌≡◌, IfSome, IfNone};
+ghost use Rattle.std.specs.Prelude.{IfSome, IfNone};
 ghost use Rattle.command_line.specs.Values.{IsNumberFrom, IsNoNumberFrom, IsPredictor, IsNoPredictor};
-ghost use Rattle.command_line.specs.Values.{text_behind, predictor_word, is_true};
+ghost use Rattle.command_line.specs.Values.{text_behind};
 
 use crate::BranchPredictor;
 
@@ -20,16 +20,6 @@ pub(crate) fn number_in(text: Option<&str>, least: u64, most: u64, default: u64)
     Some(number)
 }
 
-fn word_of(predictor: BranchPredictor) -> &'static str
-    ensures { result.now ≡ predictor_word predictor }
-{
-    match predictor {
-        BranchPredictor::NotTaken => "nottaken",
-        BranchPredictor::Taken => "taken",
-        BranchPredictor::Bimod => "bimod",
-    }
-}
-
 /// The predictor that the text names, or the default without one.
 pub(crate) fn predictor_in(text: Option<&str>) -> Option<BranchPredictor>
     ensures some { IfSome result (IsPredictor (text_behind text.entry)) }
@@ -38,24 +28,10 @@ pub(crate) fn predictor_in(text: Option<&str>) -> Option<BranchPredictor>
     let Some(text) = text else {
         return Some(BranchPredictor::Bimod);
     };
-    if text == word_of(BranchPredictor::NotTaken) {
-        return Some(BranchPredictor::NotTaken);
-    }
-    if text == word_of(BranchPredictor::Taken) {
-        return Some(BranchPredictor::Taken);
-    }
-    if text == word_of(BranchPredictor::Bimod) {
-        return Some(BranchPredictor::Bimod);
-    }
-    None
-}
-
-/// The flag was given.
-pub(crate) fn is_true(text: Option<&str>) -> bool
-    ensures { result ≡ is_true (text_behind text.entry) }
-{
     match text {
-        Some(text) => text == "true",
-        None => false,
+        "nottaken" => Some(BranchPredictor::NotTaken),
+        "taken" => Some(BranchPredictor::Taken),
+        "bimod" => Some(BranchPredictor::Bimod),
+        _ => None,
     }
 }

@@ -1,10 +1,8 @@
 use Rattle.std.proofs.Common.{◌∙◌, sym, ap, subst, codes, refl}
 use Rattle.clap.specs.Words.{found_of, rows_of}
-use Rattle.clap.proofs.WalkLemmas.{first_value-rows}
 use Rattle.instructions.specs.Settings.{Settings}
 use Rattle.command_line.specs.declared.request.ByHand.{ByHand}
 use Rattle.command_line.specs.Drive.{IsDrivenBy}
-use Rattle.command_line.specs.Values.{is_true}
 use Rattle.command_line.proofs.reading_drive.read.Goals as goal
 
 pub returns-clause-ok : goal.returns-clause-ok
@@ -23,8 +21,8 @@ returns-clause-ok c =
       file = c.in_ok-file.file;
       config = s;
       predictor = c.in_ok-predictor.predictor;
-      quiet_prompt = c.is_true-quiet_prompt.result;
-      echo = c.is_true-echo.result;
+      quiet_prompt = c.flag-quiet_prompt.result;
+      echo = c.flag-echo.result;
       seed = c.in_ok-steps.steps.seed;
       steps = c.in_ok-steps.steps.count;
     } in
@@ -39,8 +37,8 @@ returns-clause-ok c =
       };
       predictor = c.in_ok-predictor.ensures.ok;
       first_tag = c.in_ok-first_tag.ensures.ok;
-      quiet_prompt = c.is_true-quiet_prompt.ensures ∙ ap is_true (c.get_str.ensures ∙ first_value-rows found (codes "quiet-prompt"));
-      echo = c.is_true-echo.ensures ∙ ap is_true (c.get_str-2.ensures ∙ first_value-rows found (codes "echo"));
+      quiet_prompt = c.flag-quiet_prompt.ensures;
+      echo = c.flag-echo.ensures;
       steps = c.in_ok-steps.ensures.ok;
       others = record { units = refl; one_place = refl; limit = refl; turns = refl; valid = c.in-Ok.ensures.valid };
     } in

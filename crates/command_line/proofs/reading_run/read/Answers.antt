@@ -1,16 +1,15 @@
-use Rattle.std.proofs.Common.{◌∙◌, sym, ap, subst, codes}
+use Rattle.std.proofs.Common.{sym, subst, codes}
 use Rattle.std.proofs.lemmas.Result.{err_from_is_err_and}
 use Rattle.clap.specs.Words.{found_of, first_of, rows_of}
-use Rattle.clap.proofs.WalkLemmas.{first_value-rows}
 use Rattle.command_line.specs.Run.{HasAskedRun}
 use Rattle.command_line.specs.Rings.{greatest}
-use Rattle.command_line.specs.Values.{IsNumberFrom, is_true}
+use Rattle.command_line.specs.Values.{IsNumberFrom}
 use Rattle.command_line.proofs.OddRings.{bad_ring, cut_sizes, odd_sizes}
 use Rattle.command_line.proofs.reading_run.read.Goals as goal
 
 pub seeds_of-requires : goal.seeds_of-requires
 seeds_of-requires c =
-    record { alone = c.is_true-alone.ensures ∙ ap is_true (c.get_str.ensures ∙ first_value-rows (found_of c.args.matches.now) (codes "alone")) }
+    record { alone = c.flag-alone.ensures }
 
 pub returns-in_err-config-clause-err : goal.returns-in_err-config-clause-err
 returns-in_err-config-clause-err c =
@@ -43,7 +42,7 @@ returns-clause-ok c =
       units = subst (IsNumberFrom 1 64 2 (first_of (codes "units") (rows_of found))) (sym is.units_are) c.in_ok-units.ensures.ok;
       predictor = c.in_ok-predictor.ensures.ok;
       turns = subst (IsNumberFrom 1 greatest greatest (first_of (codes "turns") (rows_of found))) (sym is.turns_are) c.in_ok-turns.ensures.ok;
-      alone = c.is_true-alone.ensures ∙ ap is_true (c.get_str.ensures ∙ first_value-rows found (codes "alone"));
-      progress = c.is_true-progress.ensures ∙ ap is_true (c.get_str-2.ensures ∙ first_value-rows found (codes "progress"));
+      alone = c.flag-alone.ensures;
+      progress = c.flag-progress.ensures;
       seeds = c.in_ok-seeds.ensures.ok;
     }

@@ -1,7 +1,7 @@
 use Rattle.std.proofs.Common.{◌∙◌, ap}
 use Rattle.clap.specs.Simple.{app_of_fields}
 use Rattle.command_line.specs.Tool.{with_version}
-use Rattle.command_line.proofs.options.headed.Goals as goal
+use Rattle.command_line.proofs.tool.headed.Goals as goal
 
 pub returns : goal.returns
 returns c =
