@@ -1,5 +1,5 @@
 -- Texts that grow.
-use Rattle.std.proofs.Common.{◌≡◌, ◌++◌, ℕ, List, arith}
+use Rattle.std.proofs.Common.{◌≡◌, ◌++◌, ℕ, List, append_assoc, arith}
 use Rattle.std.proofs.lemmas.Grind.{common_steps}
 
 -- three pieces behind a text
@@ -7,7 +7,9 @@ pub three_behind : (old a b c first second third : List ℕ) → first ≡ old +
     → third ≡ old ++ (a ++ (b ++ c))
 three_behind old a b c first second third one two three = grind (arith, common_steps)
 
--- five pieces behind a text
-pub five_behind : (old a b c d e first second third fourth fifth : List ℕ) → first ≡ old ++ a → second ≡ first ++ b
-    → third ≡ second ++ c → fourth ≡ third ++ d → fifth ≡ fourth ++ e → fifth ≡ old ++ (a ++ (b ++ (c ++ (d ++ e))))
-five_behind old a b c d e first second third fourth fifth one two three four five = grind (arith, common_steps)
+-- a place with what is said there, and a quote behind it
+pub placed : (old file a line b column c severity sentence end quote first second third : List ℕ) → first ≡ old ++ file
+    → second ≡ first ++ (a ++ (line ++ (b ++ (column ++ (c ++ (severity ++ (sentence ++ end)))))))
+    → third ≡ second ++ quote
+    → third ≡ old ++ ((file ++ (a ++ (line ++ (b ++ (column ++ c))))) ++ (severity ++ (sentence ++ (end ++ quote))))
+placed old file a line b column c severity sentence end quote first second third one two three = rw (three, two, one) (simp append_assoc)

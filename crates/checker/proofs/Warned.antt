@@ -1,7 +1,10 @@
 -- Warnings, one behind the other.
 use Rattle.std.proofs.Common.{◌≡◌, ◌++◌, ℕ, List, [], ◌∷◌, subst}
 use Rattle.instructions.specs.Programs.{Program}
-use Rattle.checker.specs.Warnings.{Warned, IsWarranted, AreWarnings, AreWarned, warning_text}
+use Rattle.checker.specs.declared.parts.Part.{Part}
+use Rattle.checker.specs.declared.warnings.Warning.{Warning}
+use Rattle.checker.specs.declared.warnings.Warning.TheVariants.{NeverUsed, Unreached, PastEnd}
+use Rattle.checker.specs.Warnings.{Applies, Warned, IsOfInstruction, IsWarranted, AreWarnings, AreWarned, StandsOn, warning_text}
 
 -- one warning
 pub one_warned : (file bytes : List ℕ) (P : Program) (w : Warned) (old new : List ℕ) → IsWarranted bytes P w
@@ -17,3 +20,10 @@ joined file bytes P (w ∷ ws) vs old text new first second = (first.0, joined f
 pub all_warned : (file bytes : List ℕ) (P : Program) (old text new : List ℕ) → AreWarned file bytes P old text
     → AreWarned file bytes P text new → AreWarned file bytes P old new
 all_warned file bytes P old text new first second = (first.0 ++ second.0, joined file bytes P first.0 second.0 old text new first.1 second.1)
+
+-- the warning of an instruction is one of its line
+pub of_instruction : (bytes : List ℕ) (P : Program) (k n : ℕ) (line : List ℕ) (part : Part) (w : Warning) → StandsOn bytes k n
+    → IsOfInstruction P k w → Applies bytes P n line part w
+of_instruction bytes P k n line part NeverUsed stands is = absurd is
+of_instruction bytes P k n line part Unreached stands is = (k, (stands, is))
+of_instruction bytes P k n line part PastEnd stands is = (k, (stands, is))

@@ -49,6 +49,12 @@ AreOperandsOf ls map = (name : List ℕ) → has_key map name ≡ stands_in (all
 abbrev pub StandsOn : List ℕ → (k n : ℕ) → Type 0
 StandsOn bytes k n = slice_get (instruction_lines bytes) k ≡ Some n
 
+-- the warning is true of instruction k
+abbrev pub IsOfInstruction : Program → (k : ℕ) → Warning → Type 0
+IsOfInstruction P k NeverUsed = ⊥
+IsOfInstruction P k Unreached = IsUnreached P k
+IsOfInstruction P k PastEnd = may_run_past_end P k ≡ true
+
 -- the warning is true of a part of line n: the label is no operand, or no run reaches the line's instruction, or a run can
 -- go on from it past the last one
 abbrev pub Applies : (bytes : List ℕ) → Program → (n : ℕ) → (line : List ℕ) → Part → Warning → Type 0

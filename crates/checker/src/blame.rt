@@ -1,5 +1,5 @@
 //! The part of a line that is at fault.
-ghost use Rattle.std.specs.Prelude.{◌≤◌, ◌<◌, IfOk, IfSome};
+ghost use Rattle.std.specs.Prelude.{◌≤◌, ◌<◌, IfSome};
 ghost use Rattle.checker.specs.Parts.{IsPartOf, LiesIn};
 
 mod numbers;
@@ -15,7 +15,6 @@ use numbers::bad_number;
 use operands::bad_operands;
 use registers::bad_register;
 use splitting::last_operand;
-use std::alloc::{AllocError, Global};
 
 /// The most bytes of a character.
 const MOST_BYTES: usize = 4;
@@ -67,8 +66,8 @@ fn double_label(labels: &Labels<'_>, line: &[u8], code: Part, number: u64) -> Pa
     code
 }
 
-// The place of `;` or `//`, with which a comment of another language begins.
-fn other_comment(line: &[u8], part: Part) -> Option<usize>
+/// The place of `;` or `//`, with which a comment of another language begins.
+pub(crate) fn other_comment(line: &[u8], part: Part) -> Option<usize>
     requires { IsPartOf line.now part }
     ensures { IfSome result (λ at. (part.from ≤ at) × (at < part.to)) }
 {
@@ -96,27 +95,22 @@ fn without_comment(line: &[u8], statement: Part, part: Part) -> Part
 }
 
 /// The part of a line that has a fault, as far as that can be told apart.
-pub(crate) fn part_at_fault(
-    alloc: Global,
-    labels: &Labels<'_>,
-    line: &[u8],
-    fault: TextFault,
-) -> Result<Part, AllocError>
-    ensures { IfOk result (IsPartOf line.now) }
+pub(crate) fn part_at_fault(labels: &Labels<'_>, line: &[u8], fault: TextFault) -> Part
+    ensures { IsPartOf line.now result }
 {
     let code = code(line);
     let statement = statement(line, code);
     let word = word(line, statement);
     let operands = operands(line, statement);
     let part = match fault.kind {
-        FaultKind::NotAscii => return Ok(odd_character(line, code)),
-        FaultKind::DoubleLabel => return Ok(double_label(labels, line, code, fault.line)),
+        FaultKind::NotAscii => return odd_character(line, code),
+        FaultKind::DoubleLabel => return double_label(labels, line, code, fault.line),
         FaultKind::UnknownOp => word,
         FaultKind::BadOperands => bad_operands(line, word, operands),
-        FaultKind::BadRegister => bad_register(alloc, line, word, operands)?,
+        FaultKind::BadRegister => bad_register(line, word, operands),
         FaultKind::BadNumber => bad_number(line, word, operands),
         FaultKind::UnknownLabel => last_operand(line, operands),
         FaultKind::TooLong | FaultKind::Memory => statement,
     };
-    Ok(without_comment(line, statement, part))
+    without_comment(line, statement, part)
 }

@@ -9,7 +9,7 @@ use std::alloc::{AllocError, Global};
 use std::collections::BTreeMap;
 
 /// The place of a label: its line, counted from 1, and the byte of the line at which it begins.
-#[derive(Clone, Copy, PartialEq, Eq)]
+#[derive(Clone, Copy)]
 pub(crate) struct Place {
     pub line: u64,
     pub from: usize,
@@ -45,12 +45,10 @@ impl<'a> Labels<'a> {
     pub fn is_double(&self, line: &[u8], name: Part, number: u64) -> bool
         requires { IsPartOf line.now name }
     {
-        let place = Place {
-            line: number,
-            from: name.from,
-        };
-        self.first(&line[name.from..name.to])
-            .is_some_and(|first| first != place)
+        match self.first(&line[name.from..name.to]) {
+            Some(first) => first.line != number || first.from != name.from,
+            None => false,
+        }
     }
 }
 

@@ -4,7 +4,7 @@ ghost use Rattle.std.specs.Option.{option_map};
 ghost use Rattle.lexical.specs.Line.{lines_of};
 ghost use Rattle.checker.specs.Diagnostics.{AreExplained, IsExplained, IsExplanationBehind};
 ghost use Rattle.checker.specs.Lines.{numbered_line};
-ghost use Rattle.checker.specs.Diagnostics.{remedy_line, form_note, has_form, sentence};
+ghost use Rattle.checker.specs.Diagnostics.{remedy_line, form_note, sentence};
 
 use super::blame::part_at_fault;
 use super::clearing::Labels;
@@ -56,35 +56,27 @@ fn sentence(kind: FaultKind) -> &'static str
     }
 }
 
-// Whether the forms of the operation are shown with a fault.
-fn has_form(kind: FaultKind) -> bool
-    ensures { result ≡ has_form kind }
-{
-    matches!(
-        kind,
-        FaultKind::BadRegister | FaultKind::BadNumber | FaultKind::BadOperands
-    )
-}
-
 // Adds the forms of the operation of a line, where they are shown with its fault.
 fn push_form(text: &mut Vec<u8>, kind: FaultKind, line: &[u8]) -> Result<(), AllocError>
     ensures { OnOk result (text.new.items ≡ text.old.items ++ form_note kind line.now) }
 {
-    if has_form(kind) {
-        push_forms(text, word_in(line))?;
+    match kind {
+        FaultKind::BadRegister | FaultKind::BadNumber | FaultKind::BadOperands => {
+            push_forms(text, word_in(line))
+        },
+        _ => Ok(()),
     }
-    Ok(())
 }
 
 // Adds a remedy in a line of its own, if one is known.
 fn push_remedy(text: &mut Vec<u8>, remedy: &[u8]) -> Result<(), AllocError>
     ensures { OnOk result (text.new.items ≡ text.old.items ++ remedy_line remedy.now) }
 {
-    if !remedy.is_empty() {
-        push_bytes(text, Layer::Line, remedy)?;
-        text.push(b'\n')?;
+    if remedy.is_empty() {
+        return Ok(());
     }
-    Ok(())
+    push_bytes(text, Layer::Line, remedy)?;
+    text.extend_from_slice(b"\n")
 }
 
 // Adds the diagnostic of a fault in a line of the listing.
@@ -104,7 +96,7 @@ fn push_line(
         number: fault.line,
         line,
     };
-    let part = part_at_fault(alloc, labels, line, fault)?;
+    let part = part_at_fault(labels, line, fault);
     let remedy = remedy(alloc, source.bytes, labels, line, fault)?;
     push_spot(alloc, text, spot, part, ERROR, sentence(fault.kind))?;
     push_form(text, fault.kind, line)?;
@@ -121,8 +113,7 @@ fn push_whole(text: &mut Vec<u8>, file: &[u8], fault: TextFault) -> Result<(), A
     text.extend_from_slice(b": ")?;
     text.extend_from_slice(ERROR.as_bytes())?;
     text.extend_from_slice(sentence(fault.kind).as_bytes())?;
-    text.push(b'\n')?;
-    Ok(())
+    text.extend_from_slice(b"\n")
 }
 
 // Adds the diagnostic of a fault.

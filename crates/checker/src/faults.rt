@@ -1,7 +1,7 @@
 //! The faults of a listing of which there are diagnostics.
-ghost use Rattle.std.specs.Prelude.{◌≡◌, IfOk};
+ghost use Rattle.std.specs.Prelude.{◌≡◌, Err, IfNone, IfOk, IfSome};
 ghost use Rattle.isa.specs.Listing.{listing};
-ghost use Rattle.checker.specs.Faults.{AreFaults, AreChosen, most_faults};
+ghost use Rattle.checker.specs.Faults.{AreFaults, AreChosen, IsGood, most_faults};
 
 use super::clearing::{Labels, cleared};
 use isa::{FaultKind, TextFault, parse};
@@ -10,6 +10,19 @@ use std::alloc::{AllocError, Global};
 /// The most faults of a listing that are shown.
 const MOST_FAULTS: usize = 200;
 
+// The fault of a listing, if it has one.
+fn first_fault(alloc: Global, bytes: &[u8]) -> Result<Option<TextFault>, AllocError>
+    ensures good { IfOk result (λ found. IfNone found (IsGood (listing bytes.now))) }
+    ensures fault { IfOk result (λ found. IfSome found (λ fault.
+        listing bytes.now ≡ Err (fault.line, fault.kind))) }
+{
+    match parse(alloc, bytes) {
+        Ok(_) => Ok(None),
+        Err(fault) if fault.kind == FaultKind::Memory => Err(AllocError),
+        Err(fault) => Ok(Some(fault)),
+    }
+}
+
 // The faults that are found in turn, where the line of each one is cleared before the next is looked for.
 fn faults(alloc: Global, bytes: &[u8], labels: &Labels<'_>) -> Result<Vec<TextFault>, AllocError>
     ensures { IfOk result (λ found. AreFaults most_faults bytes.now found.items) }
@@ -17,10 +30,8 @@ fn faults(alloc: Global, bytes: &[u8], labels: &Labels<'_>) -> Result<Vec<TextFa
     let mut found = Vec::new(alloc);
     let mut text = bytes.to_vec(alloc)?;
     'faults: while found.len() < MOST_FAULTS {
-        let fault = match parse(alloc, text.as_slice()) {
-            Ok(_) => return Ok(found),
-            Err(fault) if fault.kind == FaultKind::Memory => return Err(AllocError),
-            Err(fault) => fault,
+        let Some(fault) = first_fault(alloc, text.as_slice())? else {
+            return Ok(found);
         };
         found.push(fault)?;
         match cleared(alloc, text.as_slice(), labels, fault.line)? {

@@ -3,7 +3,7 @@ ghost use Rattle.std.specs.Prelude.{◌≡◌, ◌∷◌, ◌++◌, [], false, m
 ghost use Rattle.isa.specs.Forms.{form_text, form_view, has_word};
 ghost use Rattle.checker.specs.Forms.{alternatives, lead, word_note};
 
-use isa::{Form, Operands, directive_text, forms};
+use isa::{Form, Operands, directive_text, form_of, forms};
 use std::alloc::AllocError;
 
 // The words before a form: the beginning of the sentence before the first one.
@@ -21,8 +21,7 @@ fn push_form(text: &mut Vec<u8>, began: bool, form: &Form) -> Result<(), AllocEr
     text.extend_from_slice(lead(began).as_bytes())?;
     text.extend_from_slice(form.word.as_bytes())?;
     text.push(b' ')?;
-    text.extend_from_slice(form.operands.text().as_bytes())?;
-    Ok(())
+    text.extend_from_slice(form.operands.text().as_bytes())
 }
 
 // Adds the forms of a table that have the word, in a line of their own.
@@ -51,8 +50,7 @@ fn push_directive(text: &mut Vec<u8>, form: &str) -> Result<(), AllocError>
 {
     text.extend_from_slice(lead(false).as_bytes())?;
     text.extend_from_slice(form.as_bytes())?;
-    text.extend_from_slice(b".\n")?;
-    Ok(())
+    text.extend_from_slice(b".\n")
 }
 
 /// Adds a line with the forms of a word, in letters of either case, if it has some.
@@ -65,10 +63,10 @@ pub(crate) fn push_forms(text: &mut Vec<u8>, word: &[u8]) -> Result<(), AllocErr
     }
 }
 
-/// Whether a form of the word has an offset with a register.
+/// Whether a form of the word has an offset with a register: such a form has two operands.
 pub(crate) fn has_offset(word: &[u8]) -> bool {
-    let has_offset = |form: &Form| matches!(form.operands, Operands::Load | Operands::Store);
-    forms()
-        .iter()
-        .any(|form| form.has_word(word) && has_offset(form))
+    match form_of(word, 2) {
+        Ok(form) => matches!(form.operands, Operands::Load | Operands::Store),
+        Err(_) => false,
+    }
 }

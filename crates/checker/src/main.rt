@@ -12,7 +12,6 @@ mod lines;
 mod parts;
 mod quoting;
 mod reach;
-mod registers;
 mod remedies;
 mod spot;
 mod statements;

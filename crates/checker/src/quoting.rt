@@ -35,14 +35,11 @@ fn hex_digit(n: u8) -> u8
     if n < 10 { b'0' + n } else { b'a' - 10 + n }
 }
 
-// Adds the escape of a byte: `\x` and two hexadecimal digits.
-fn push_escape(text: &mut Vec<u8>, byte: u8) -> Result<(), AllocError>
-    ensures { OnOk result (text.new.items ≡ text.old.items ++ escape byte) }
+// The escape of a byte: `\x` and two hexadecimal digits.
+fn escape(byte: u8) -> [u8; 4]
+    ensures { result ≡ escape byte }
 {
-    text.extend_from_slice(b"\\x")?;
-    text.push(hex_digit(byte / 16))?;
-    text.push(hex_digit(byte % 16))?;
-    Ok(())
+    [b'\\', b'x', hex_digit(byte / 16), hex_digit(byte % 16)]
 }
 
 // Adds a byte as it is shown on a layer.
@@ -50,18 +47,19 @@ fn push_byte(text: &mut Vec<u8>, layer: Layer, byte: u8) -> Result<(), AllocErro
     ensures { OnOk result (text.new.items ≡ text.old.items ++ on_layer layer byte) }
 {
     let plain = is_plain(byte);
-    match layer {
-        Layer::Line if plain => text.push(byte)?,
-        Layer::Line => push_escape(text, byte)?,
-        Layer::Blank if byte == b'\t' => text.push(byte)?,
-        Layer::Blank if plain => text.push(b' ')?,
-        Layer::Blank => text.extend_from_slice(b"    ")?,
-        Layer::Mark if plain => text.push(b'^')?,
-        Layer::Mark => text.extend_from_slice(b"^^^^")?,
-        Layer::Name if is_in_name(byte) => text.push(byte)?,
-        Layer::Name => push_escape(text, byte)?,
-    }
-    Ok(())
+    let itself = [byte];
+    let escape = escape(byte);
+    let shown: &[u8] = match layer {
+        Layer::Line if plain => &itself,
+        Layer::Blank if byte == b'\t' => &itself,
+        Layer::Blank if plain => b" ",
+        Layer::Blank => b"    ",
+        Layer::Mark if plain => b"^",
+        Layer::Mark => b"^^^^",
+        Layer::Name if is_in_name(byte) => &itself,
+        Layer::Line | Layer::Name => &escape,
+    };
+    text.extend_from_slice(shown)
 }
 
 /// Adds each byte as it is shown on a layer.
@@ -79,8 +77,7 @@ fn push_three(text: &mut Vec<u8>, left_out: bool, character: u8) -> Result<(), A
     ensures { OnOk result (text.new.items ≡ text.old.items ++ three_if left_out character) }
 {
     if left_out {
-        let end = text.len() + 3;
-        text.resize(end, character)?;
+        return text.extend_from_slice(&[character; 3]);
     }
     Ok(())
 }
@@ -105,8 +102,7 @@ fn push_line(text: &mut Vec<u8>, line: &[u8], kept: Part) -> Result<(), AllocErr
 {
     push_three(text, 0 < kept.from, b'.')?;
     push_bytes(text, Layer::Line, &line[kept.from..kept.to])?;
-    push_three(text, kept.to < line.len(), b'.')?;
-    Ok(())
+    push_three(text, kept.to < line.len(), b'.')
 }
 
 // Adds the mark of a part without bytes, which is the place of something that is missing.
@@ -129,8 +125,7 @@ fn push_mark(text: &mut Vec<u8>, line: &[u8], kept: Part, part: Part) -> Result<
     push_three(text, 0 < kept.from, b' ')?;
     push_bytes(text, Layer::Blank, &line[kept.from..part.from])?;
     push_bytes(text, Layer::Mark, &line[part.from..part.to.min(kept.to)])?;
-    push_caret(text, part)?;
-    Ok(())
+    push_caret(text, part)
 }
 
 /// Adds a line, and below it a mark under the part.
@@ -143,6 +138,5 @@ pub(crate) fn push_quote(text: &mut Vec<u8>, line: &[u8], part: Part) -> Result<
     push_line(text, line, kept)?;
     text.push(b'\n')?;
     push_mark(text, line, kept, part)?;
-    text.push(b'\n')?;
-    Ok(())
+    text.extend_from_slice(b"\n")
 }

@@ -6,38 +6,46 @@ mod lists;
 mod numbers;
 mod operands;
 mod registers;
-mod templates;
+mod sentences;
 mod words;
 
+use super::blame::other_comment;
 use super::clearing::Labels;
-use super::statements::statement_in;
+use super::parts::code;
+use super::statements::{Statement, statement_in};
 use isa::{FaultKind, TextFault};
 use lexical::before_comment;
+use sentences::{Remedy, filled, said};
 use std::alloc::{AllocError, Global};
 
 // The first bytes of an executable.
 const EXECUTABLE: &[u8] = b"\x7fELF";
 
-/// Texts, one behind the other.
-pub(crate) fn joined(alloc: Global, texts: &[&[u8]]) -> Result<Vec<u8>, AllocError> {
-    let mut all = Vec::new(alloc);
-    for text in texts {
-        all.extend_from_slice(text)?;
-    }
-    Ok(all)
-}
-
-/// No remedy: a text without a byte.
-pub(crate) fn nothing(alloc: Global) -> Result<Vec<u8>, AllocError> {
-    Ok(Vec::new(alloc))
-}
-
-// Whether a comment of another language begins in the code.
-fn has_other_comment(code: &[u8]) -> bool {
-    (0..code.len()).any(|at| {
-        code.get(at..)
-            .is_some_and(|rest| rest.starts_with(b";") || rest.starts_with(b"//"))
-    })
+// The remedy of the fault of a line, if one is known.
+fn found<'a>(
+    bytes: &'a [u8],
+    labels: &Labels<'_>,
+    line: &'a [u8],
+    statement: &Statement<'a>,
+    fault: TextFault,
+) -> Option<Remedy<'a>> {
+    let code_text = before_comment(line);
+    let has_other_comment = other_comment(line, code(line)).is_some();
+    let sentence = match fault.kind {
+        FaultKind::NotAscii if bytes.starts_with(EXECUTABLE) => {
+            "This is an executable: './ruu listing FILE' writes its listing."
+        },
+        FaultKind::NotAscii => characters::sentence(code_text)?,
+        FaultKind::DoubleLabel => return labels::double(labels, line, fault.line),
+        FaultKind::UnknownLabel => return labels::unknown(bytes, statement),
+        FaultKind::TooLong | FaultKind::Memory => return None,
+        _ if has_other_comment => "A comment begins with #.",
+        FaultKind::UnknownOp => return words::remedy(code_text, statement),
+        FaultKind::BadOperands => return operands::of_other_kind(statement),
+        FaultKind::BadRegister => return registers::bad_register(statement),
+        FaultKind::BadNumber => return numbers::bad_number(statement),
+    };
+    Some(said(sentence))
 }
 
 /// The remedy of the fault of a line; a text without a byte where none is known.
@@ -48,21 +56,9 @@ pub(crate) fn remedy(
     line: &[u8],
     fault: TextFault,
 ) -> Result<Vec<u8>, AllocError> {
-    let code = before_comment(line);
     let statement = statement_in(line);
-    match fault.kind {
-        FaultKind::NotAscii if bytes.starts_with(EXECUTABLE) => joined(
-            alloc,
-            &[b"This is an executable: './ruu listing FILE' writes its listing."],
-        ),
-        FaultKind::NotAscii => characters::remedy(alloc, code),
-        FaultKind::DoubleLabel => labels::double(alloc, labels, line, fault.line),
-        FaultKind::UnknownLabel => labels::unknown(alloc, bytes, &statement),
-        FaultKind::TooLong | FaultKind::Memory => nothing(alloc),
-        _ if has_other_comment(code) => joined(alloc, &[b"A comment begins with #."]),
-        FaultKind::UnknownOp => words::remedy(alloc, code, &statement),
-        FaultKind::BadOperands => operands::of_other_kind(alloc, &statement),
-        FaultKind::BadRegister => registers::bad_register(alloc, &statement),
-        FaultKind::BadNumber => numbers::bad_number(alloc, &statement),
+    match found(bytes, labels, line, &statement, fault) {
+        Some(remedy) => filled(alloc, &remedy, &statement),
+        None => Ok(Vec::new(alloc)),
     }
 }

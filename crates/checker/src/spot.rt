@@ -1,7 +1,7 @@
 //! The place of what is told, in the form to which editors jump, and the line with its mark.
 ghost use Rattle.std.specs.Prelude.{◌≡◌, ◌++◌, OnOk};
 ghost use Rattle.checker.specs.Parts.{IsPartOf};
-ghost use Rattle.checker.specs.Spots.{place, spot_text};
+ghost use Rattle.checker.specs.Spots.{spot_text};
 
 use super::parts::Part;
 use super::quoting::{Layer, push_bytes, push_quote};
@@ -15,26 +15,8 @@ pub(crate) struct Spot<'a> {
     pub line: &'a [u8],
 }
 
-// Adds `FILE:LINE:COLUMN: `, where lines and columns are counted from 1.
-fn push_place(
-    alloc: Global,
-    text: &mut Vec<u8>,
-    spot: Spot<'_>,
-    part: Part,
-) -> Result<(), AllocError>
-    requires { IsPartOf spot.line.now part }
-    ensures { OnOk result (text.new.items
-        ≡ text.old.items ++ place spot.entry.file.now spot.entry.number part.from) }
-{
-    let number = spot.number;
-    let column = part.from + 1;
-    push_bytes(text, Layer::Name, spot.file)?;
-    let there = format!(in alloc; ":{number}:{column}: ")?;
-    text.extend_from_slice(there.as_bytes())?;
-    Ok(())
-}
-
-/// Adds the place of a part, the severity, a sentence, and the line with a mark under the part.
+/// Adds `FILE:LINE:COLUMN: `, where lines and columns are counted from 1, the severity, a sentence, and the line with
+/// a mark under the part.
 pub(crate) fn push_spot(
     alloc: Global,
     text: &mut Vec<u8>,
@@ -48,10 +30,11 @@ pub(crate) fn push_spot(
         ++ spot_text spot.entry.file.now spot.entry.number spot.entry.line.now part severity.now
         sentence.now) }
 {
-    push_place(alloc, text, spot, part)?;
-    text.extend_from_slice(severity.as_bytes())?;
-    text.extend_from_slice(sentence.as_bytes())?;
-    text.push(b'\n')?;
+    let number = spot.number;
+    let column = part.from + 1;
+    push_bytes(text, Layer::Name, spot.file)?;
+    let said = format!(in alloc; ":{number}:{column}: {severity}{sentence}\n")?;
+    text.extend_from_slice(said.as_bytes())?;
     push_quote(text, spot.line, part)?;
     Ok(())
 }

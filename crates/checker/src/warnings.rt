@@ -1,11 +1,11 @@
 //! Warnings of a listing without a fault.
-ghost use Rattle.std.specs.Prelude.{◌≡◌, ◌<◌, length, IfOk, OnOk, Some, slice_get, true};
+ghost use Rattle.std.specs.Prelude.{◌≡◌, ◌<◌, length, IfOk, IfSome, OnOk, Some, slice_get, true};
 ghost use Rattle.lexical.specs.Line.{lines_of};
 ghost use Rattle.isa.specs.Listing.{instruction_lines};
 ghost use Rattle.checker.specs.Lines.{numbered_line};
 ghost use Rattle.checker.specs.Parts.{IsPartOf};
 ghost use Rattle.checker.specs.Reach.{IsClosedSet, may_run_past_end};
-ghost use Rattle.checker.specs.Warnings.{AreOperandsOf, AreWarned, Applies, StandsOn, said};
+ghost use Rattle.checker.specs.Warnings.{AreOperandsOf, AreWarned, Applies, IsOfInstruction, said};
 
 mod operands;
 
@@ -114,37 +114,24 @@ fn push_labels(
     Ok(())
 }
 
-// Warns of instruction k, where it is the first of some that no path reaches, or where a run can go on from it past the
-// last one.
-fn push_instruction(
-    alloc: Global,
-    text: &mut Vec<u8>,
-    good: &Good<'_>,
-    spot: Spot<'_>,
-    k: usize,
-) -> Result<(), AllocError>
-    requires file { spot.file.now ≡ good.now.file.now }
-    requires line { numbered_line spot.number (lines_of good.now.bytes.now) ≡ Some spot.line.now }
+// The warning of instruction k, if there is one: where it is the first of some that no path reaches, or where a run can
+// go on from it past the last one.
+fn warning_at(good: &Good<'_>, k: usize) -> Option<Warning>
     requires inside { k < length good.now.program.now.code }
     requires size { length good.now.reached.now ≡ length good.now.program.now.code }
     requires closed { good.now.is_closed ≡ true →
         IsClosedSet good.now.program.now good.now.reached.now }
-    requires stands { StandsOn good.now.bytes.now k spot.number }
-    ensures { OnOk result (AreWarned good.now.file.now good.now.bytes.now good.now.program.now
-        text.old.items text.new.items) }
+    ensures { IfSome result (IsOfInstruction good.now.program.now k) }
 {
-    let part = statement(spot.line, code(spot.line));
+    let is_first = k == 0 || good.reached[k - 1];
     if good.reached[k] {
         if may_run_past_end(good.program, k) {
-            push_warning(alloc, text, good, spot, part, Warning::PastEnd)?;
+            return Some(Warning::PastEnd);
         }
-        return Ok(());
+    } else if good.is_closed && is_first {
+        return Some(Warning::Unreached);
     }
-    let is_first = k == 0 || good.reached[k - 1];
-    if good.is_closed && is_first {
-        push_warning(alloc, text, good, spot, part, Warning::Unreached)?;
-    }
-    Ok(())
+    None
 }
 
 // Whether instruction k stands on a line.
@@ -174,12 +161,14 @@ fn push_numbered(
     ensures { IfOk result (λ _. AreWarned good.now.file.now good.now.bytes.now good.now.program.now
         text.old.items text.new.items) }
 {
-    let stands = stands_on(good.lines, k, spot.number);
-    if stands && k < good.program.len() {
-        push_instruction(alloc, text, good, spot, k)?;
-        return Ok(k + 1);
+    if !stands_on(good.lines, k, spot.number) || k >= good.program.len() {
+        return Ok(k);
     }
-    Ok(k)
+    if let Some(warning) = warning_at(good, k) {
+        let part = statement(spot.line, code(spot.line));
+        push_warning(alloc, text, good, spot, part, warning)?;
+    }
+    Ok(k + 1)
 }
 
 // Warns of each line in turn.

@@ -3,7 +3,7 @@ ghost use Rattle.std.specs.Prelude.{◌≤◌, IfSome};
 ghost use Rattle.checker.specs.Parts.{IsPartOf, LiesIn};
 
 use super::super::parts::{Part, find, trimmed};
-use super::splitting::{from_operand, how_many, next_operand, offset_in, register_in};
+use super::splitting::{from_operand, how_many, next_operand, offset_in, register_part};
 use isa::{Slot, directive_text, form_of, forms};
 use lexical::{begins_number, first_is, is_blank, is_name};
 
@@ -22,7 +22,7 @@ fn other_address(line: &[u8], operand: Part) -> Option<Part>
     if !front.is_empty() && !begins_number(front) {
         return Some(offset);
     }
-    let register = register_in(line, operand);
+    let register = register_part(line, operand);
     if first_is(&line[register.from..register.to], b'$') {
         None
     } else {

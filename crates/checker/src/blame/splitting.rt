@@ -92,7 +92,7 @@ pub(crate) fn offset_in(line: &[u8], operand: Part) -> Part
 
 /// The register of an operand `offset(register)`: all behind its first parenthesis but the last byte, which is the
 /// closing one.
-pub(crate) fn register_in(line: &[u8], operand: Part) -> Part
+pub(crate) fn register_part(line: &[u8], operand: Part) -> Part
     requires { IsPartOf line.now operand }
     ensures { LiesIn operand result }
 {

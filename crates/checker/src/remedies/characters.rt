@@ -1,22 +1,18 @@
 //! Remedies of characters that are not allowed before a comment.
 
-use super::{joined, nothing};
 use lexical::is_plain;
-use std::alloc::{AllocError, Global};
 
-/// A character that is often copied from elsewhere: its bytes, its name, and the remedy.
+/// A character that is often copied from elsewhere: its bytes, and the remedy.
 struct Character {
     bytes: &'static [u8],
-    name: &'static str,
-    instead: &'static str,
+    sentence: &'static str,
 }
 
 macro_rules! character {
     ($bytes:literal, $name:literal, $instead:literal) => {
         Character {
             bytes: $bytes,
-            name: $name,
-            instead: $instead,
+            sentence: concat!("The character is ", $name, ": ", $instead, "."),
         }
     };
 }
@@ -73,27 +69,13 @@ static CHARACTERS: [Character; 28] = [
 ];
 
 /// The name of the first character that is not allowed before a comment, and its remedy.
-pub(crate) fn remedy(alloc: Global, code: &[u8]) -> Result<Vec<u8>, AllocError> {
-    let Some(at) = code.iter().position(|byte| !is_plain(*byte)) else {
-        return nothing(alloc);
-    };
+pub(crate) fn sentence(code: &[u8]) -> Option<&'static str> {
+    let at = code.iter().position(|byte| !is_plain(*byte))?;
     let (_, odd) = code.split_at(at);
     for character in &CHARACTERS {
         if odd.starts_with(character.bytes) {
-            return joined(
-                alloc,
-                &[
-                    b"The character is ",
-                    character.name.as_bytes(),
-                    b": ",
-                    character.instead.as_bytes(),
-                    b".",
-                ],
-            );
+            return Some(character.sentence);
         }
     }
-    joined(
-        alloc,
-        &[b"Letters and signs beyond ASCII stand in a comment alone."],
-    )
+    Some("Letters and signs beyond ASCII stand in a comment alone.")
 }

@@ -3,81 +3,36 @@
 use super::super::clearing::Labels;
 use super::super::parts::{code, label_at};
 use super::super::statements::Statement;
-use super::templates::short;
+use super::sentences::Remedy;
 use super::words::is_one_away;
-use super::{joined, nothing};
 use lexical::{before_comment, next_label, next_line};
-use std::alloc::{AllocError, Global};
 
-// A label of a line, which is counted from 1.
-#[derive(Clone, Copy)]
-struct Found<'a> {
-    name: &'a [u8],
-    number: u64,
+// A sentence with the place of a label.
+fn standing<'a>(sentence: &'static str, name: &'a [u8], line: u64) -> Remedy<'a> {
+    Remedy {
+        sentence,
+        text: name,
+        numbers: [line.cast_signed(), 0],
+    }
 }
 
 /// The remedy of a label that stands twice: the line of the first place.
-pub(crate) fn double(
-    alloc: Global,
-    labels: &Labels<'_>,
-    line: &[u8],
-    number: u64,
-) -> Result<Vec<u8>, AllocError> {
+pub(crate) fn double<'a>(labels: &Labels<'_>, line: &'a [u8], number: u64) -> Option<Remedy<'a>> {
     let mut rest = code(line);
     while let Some((part, behind)) = label_at(line, rest) {
         let name = &line[part.from..part.to];
         match labels.first(name) {
             Some(first) if labels.is_double(line, part, number) => {
-                return stands(
-                    alloc,
-                    b"",
-                    Found {
-                        name,
-                        number: first.line,
-                    },
-                    b" first",
-                );
+                return Some(standing("@4 stands first in line @6.", name, first.line));
             },
             _ => rest = behind,
         }
     }
-    nothing(alloc)
+    None
 }
 
-// A sentence with the line of a label.
-fn stands(
-    alloc: Global,
-    before: &'static [u8],
-    found: Found<'_>,
-    behind: &'static [u8],
-) -> Result<Vec<u8>, AllocError> {
-    let number = found.number;
-    let at = format!(in alloc; " in line {number}.")?;
-    let mut text = before.to_vec(alloc)?;
-    text.extend_from_slice(short(found.name))?;
-    text.extend_from_slice(b" stands")?;
-    text.extend_from_slice(behind)?;
-    text.extend_from_slice(at.as_bytes())?;
-    Ok(text)
-}
-
-// The ways in which a label resembles a name.
-#[derive(Clone, Copy)]
-enum Likeness {
-    InAnyCase,
-    OneAway,
-}
-
-// Whether a label resembles a name.
-fn is_like(likeness: Likeness, label: &[u8], name: &[u8]) -> bool {
-    match likeness {
-        Likeness::InAnyCase => label.eq_ignore_ascii_case(name),
-        Likeness::OneAway => is_one_away(label, name),
-    }
-}
-
-// The first label that resembles a name.
-fn first_like<'a>(bytes: &'a [u8], name: &[u8], likeness: Likeness) -> Option<Found<'a>> {
+// The first label that is a name in letters of either case, or else is one edit away from it, with its line.
+fn first_like<'a>(bytes: &'a [u8], name: &[u8], is_in_any_case: bool) -> Option<(&'a [u8], u64)> {
     let mut number = 0u64;
     let mut rest = Some(bytes);
     while let Some(text) = rest {
@@ -85,11 +40,13 @@ fn first_like<'a>(bytes: &'a [u8], name: &[u8], likeness: Likeness) -> Option<Fo
         number = number.wrapping_add(1);
         let mut code = before_comment(line);
         while let Some((label, behind)) = next_label(code) {
-            if is_like(likeness, label, name) {
-                return Some(Found {
-                    name: label,
-                    number,
-                });
+            let is_like = if is_in_any_case {
+                label.eq_ignore_ascii_case(name)
+            } else {
+                is_one_away(label, name)
+            };
+            if is_like {
+                return Some((label, number));
             }
             code = behind;
         }
@@ -99,22 +56,20 @@ fn first_like<'a>(bytes: &'a [u8], name: &[u8], likeness: Likeness) -> Option<Fo
 }
 
 /// The remedy of a label that stands nowhere: one that differs in the case of its letters, or in one letter.
-pub(crate) fn unknown(
-    alloc: Global,
-    bytes: &[u8],
-    statement: &Statement<'_>,
-) -> Result<Vec<u8>, AllocError> {
+pub(crate) fn unknown<'a>(bytes: &'a [u8], statement: &Statement<'_>) -> Option<Remedy<'a>> {
     let [first, second, third] = statement.operands;
     let name = match statement.count {
         1 => first,
         2 => second,
         _ => third,
     };
-    if let Some(found) = first_like(bytes, name, Likeness::InAnyCase) {
-        return stands(alloc, b"The case of letters counts: ", found, b"");
+    if let Some((label, line)) = first_like(bytes, name, true) {
+        return Some(standing(
+            "The case of letters counts: @4 stands in line @6.",
+            label,
+            line,
+        ));
     }
-    match first_like(bytes, name, Likeness::OneAway) {
-        Some(found) => stands(alloc, b"", found, b""),
-        None => nothing(alloc),
-    }
+    let (label, line) = first_like(bytes, name, false)?;
+    Some(standing("@4 stands in line @6.", label, line))
 }

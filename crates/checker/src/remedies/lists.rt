@@ -1,95 +1,60 @@
-//! The tables of remedies.
+//! The tables of remedies. In a sentence @1, @2 and @3 are the operands.
 
-use super::templates::Row;
+/// A word, and the text that belongs to it.
+pub(crate) type Row = (&'static str, &'static str);
 
-/// The instructions to write for an operation of other assemblers: @1, @2 and @3 are its operands.
-pub(crate) static OPERATIONS: [Row; 40] = [
-    ("move", "addu @1,@2,$zero"),
-    ("b", "beq $zero,$zero,@1"),
-    ("bal", "jal @1"),
-    ("beqz", "beq @1,$zero,@2"),
-    ("bnez", "bne @1,$zero,@2"),
-    ("blt", "slt $at,@1,@2 and then bne $at,$zero,@3"),
-    ("bge", "slt $at,@1,@2 and then beq $at,$zero,@3"),
-    ("bgt", "slt $at,@2,@1 and then bne $at,$zero,@3"),
-    ("ble", "slt $at,@2,@1 and then beq $at,$zero,@3"),
-    ("bltu", "sltu $at,@1,@2 and then bne $at,$zero,@3"),
-    ("bgeu", "sltu $at,@1,@2 and then beq $at,$zero,@3"),
-    ("bgtu", "sltu $at,@2,@1 and then bne $at,$zero,@3"),
-    ("bleu", "sltu $at,@2,@1 and then beq $at,$zero,@3"),
-    ("mul", "mult @2,@3 and then mflo @1"),
-    ("mulo", "mult @2,@3 and then mflo @1"),
-    ("rem", "div @2,@3 and then mfhi @1"),
-    ("remu", "divu @2,@3 and then mfhi @1"),
-    ("not", "nor @1,@2,$zero"),
-    ("neg", "sub @1,$zero,@2"),
-    ("negu", "subu @1,$zero,@2"),
-    ("seq", "xor @1,@2,@3 and then sltiu @1,@1,1"),
-    ("sne", "xor @1,@2,@3 and then sltu @1,$zero,@1"),
-    ("sgt", "slt @1,@3,@2"),
-    ("sgtu", "sltu @1,@3,@2"),
-    ("sge", "slt @1,@2,@3 and then xori @1,@1,1"),
-    ("sgeu", "sltu @1,@2,@3 and then xori @1,@1,1"),
-    ("sle", "slt @1,@3,@2 and then xori @1,@1,1"),
-    ("sleu", "sltu @1,@3,@2 and then xori @1,@1,1"),
-    ("ret", "jr $ra"),
-    ("call", "jal @1"),
-    ("jmp", "j @1"),
-    ("mov", "addu @1,@2,$zero"),
-    ("push", "addiu $sp,$sp,-4 and then sw @1,0($sp)"),
-    ("pop", "lw @1,0($sp) and then addiu $sp,$sp,4"),
-    ("halt", "break"),
-    ("exit", "break"),
-    ("lwu", "lw @1,@2"),
-    ("dec", "addiu @1,@1,-1"),
-    ("inc", "addiu @1,@1,1"),
-    ("clear", "addu @1,$zero,$zero"),
-];
+/// The text of a word, by the first row that has the word in letters of either case.
+pub(crate) fn row_of(table: &[Row], word: &[u8]) -> Option<&'static str> {
+    for row in table {
+        if row.0.as_bytes().eq_ignore_ascii_case(word) {
+            return Some(row.1);
+        }
+    }
+    None
+}
 
-/// The instructions to write for operations where one of the operands is a number.
-pub(crate) static WITH_NUMBER: [Row; 14] = [
-    ("blt", "slti $at,@1,@2 and then bne $at,$zero,@3"),
-    ("bge", "slti $at,@1,@2 and then beq $at,$zero,@3"),
-    ("bltu", "sltiu $at,@1,@2 and then bne $at,$zero,@3"),
-    ("bgeu", "sltiu $at,@1,@2 and then beq $at,$zero,@3"),
-    (
-        "bgt",
-        "addiu $at,$zero,@2 and then slt $at,$at,@1 and then bne $at,$zero,@3",
-    ),
-    (
-        "ble",
-        "addiu $at,$zero,@2 and then slt $at,$at,@1 and then beq $at,$zero,@3",
-    ),
-    (
-        "bgtu",
-        "addiu $at,$zero,@2 and then sltu $at,$at,@1 and then bne $at,$zero,@3",
-    ),
-    (
-        "bleu",
-        "addiu $at,$zero,@2 and then sltu $at,$at,@1 and then beq $at,$zero,@3",
-    ),
-    (
-        "mul",
-        "addiu $at,$zero,@3 and then mult @2,$at and then mflo @1",
-    ),
-    (
-        "rem",
-        "addiu $at,$zero,@3 and then div @2,$at and then mfhi @1",
-    ),
-    (
-        "div",
-        "addiu $at,$zero,@3 and then div @2,$at and then mflo @1",
-    ),
-    (
-        "mult",
-        "addiu $at,$zero,@3 and then mult @2,$at and then mflo @1",
-    ),
-    ("beq", "addiu $at,$zero,@2 and then beq @1,$at,@3"),
-    ("bne", "addiu $at,$zero,@2 and then bne @1,$at,@3"),
-];
-
-/// The remedies of directives and operations that no instruction replaces.
-pub(crate) static OTHERS: [Row; 33] = [
+/// The remedies of operations of other assemblers and of directives.
+pub(crate) static WORDS: [Row; 73] = [
+    ("move", "Write addu @1,@2,$zero."),
+    ("b", "Write beq $zero,$zero,@1."),
+    ("bal", "Write jal @1."),
+    ("beqz", "Write beq @1,$zero,@2."),
+    ("bnez", "Write bne @1,$zero,@2."),
+    ("blt", "Write slt $at,@1,@2 and then bne $at,$zero,@3."),
+    ("bge", "Write slt $at,@1,@2 and then beq $at,$zero,@3."),
+    ("bgt", "Write slt $at,@2,@1 and then bne $at,$zero,@3."),
+    ("ble", "Write slt $at,@2,@1 and then beq $at,$zero,@3."),
+    ("bltu", "Write sltu $at,@1,@2 and then bne $at,$zero,@3."),
+    ("bgeu", "Write sltu $at,@1,@2 and then beq $at,$zero,@3."),
+    ("bgtu", "Write sltu $at,@2,@1 and then bne $at,$zero,@3."),
+    ("bleu", "Write sltu $at,@2,@1 and then beq $at,$zero,@3."),
+    ("mul", "Write mult @2,@3 and then mflo @1."),
+    ("mulo", "Write mult @2,@3 and then mflo @1."),
+    ("rem", "Write div @2,@3 and then mfhi @1."),
+    ("remu", "Write divu @2,@3 and then mfhi @1."),
+    ("not", "Write nor @1,@2,$zero."),
+    ("neg", "Write sub @1,$zero,@2."),
+    ("negu", "Write subu @1,$zero,@2."),
+    ("seq", "Write xor @1,@2,@3 and then sltiu @1,@1,1."),
+    ("sne", "Write xor @1,@2,@3 and then sltu @1,$zero,@1."),
+    ("sgt", "Write slt @1,@3,@2."),
+    ("sgtu", "Write sltu @1,@3,@2."),
+    ("sge", "Write slt @1,@2,@3 and then xori @1,@1,1."),
+    ("sgeu", "Write sltu @1,@2,@3 and then xori @1,@1,1."),
+    ("sle", "Write slt @1,@3,@2 and then xori @1,@1,1."),
+    ("sleu", "Write sltu @1,@3,@2 and then xori @1,@1,1."),
+    ("ret", "Write jr $ra."),
+    ("call", "Write jal @1."),
+    ("jmp", "Write j @1."),
+    ("mov", "Write addu @1,@2,$zero."),
+    ("push", "Write addiu $sp,$sp,-4 and then sw @1,0($sp)."),
+    ("pop", "Write lw @1,0($sp) and then addiu $sp,$sp,4."),
+    ("halt", "Write break."),
+    ("exit", "Write break."),
+    ("lwu", "Write lw @1,@2."),
+    ("dec", "Write addiu @1,@1,-1."),
+    ("inc", "Write addiu @1,@1,1."),
+    ("clear", "Write addu @1,$zero,$zero."),
     (
         ".data",
         "There are no sections: leave it out. .space and .word may stand anywhere.",
@@ -170,40 +135,82 @@ pub(crate) static OTHERS: [Row; 33] = [
     ),
 ];
 
-/// What stands for an operation with so many operands.
+/// The remedies of operations where one of the operands is a number.
+pub(crate) static WITH_NUMBER: [Row; 14] = [
+    ("blt", "Write slti $at,@1,@2 and then bne $at,$zero,@3."),
+    ("bge", "Write slti $at,@1,@2 and then beq $at,$zero,@3."),
+    ("bltu", "Write sltiu $at,@1,@2 and then bne $at,$zero,@3."),
+    ("bgeu", "Write sltiu $at,@1,@2 and then beq $at,$zero,@3."),
+    (
+        "bgt",
+        "Write addiu $at,$zero,@2 and then slt $at,$at,@1 and then bne $at,$zero,@3.",
+    ),
+    (
+        "ble",
+        "Write addiu $at,$zero,@2 and then slt $at,$at,@1 and then beq $at,$zero,@3.",
+    ),
+    (
+        "bgtu",
+        "Write addiu $at,$zero,@2 and then sltu $at,$at,@1 and then bne $at,$zero,@3.",
+    ),
+    (
+        "bleu",
+        "Write addiu $at,$zero,@2 and then sltu $at,$at,@1 and then beq $at,$zero,@3.",
+    ),
+    (
+        "mul",
+        "Write addiu $at,$zero,@3 and then mult @2,$at and then mflo @1.",
+    ),
+    (
+        "rem",
+        "Write addiu $at,$zero,@3 and then div @2,$at and then mfhi @1.",
+    ),
+    (
+        "div",
+        "Write addiu $at,$zero,@3 and then div @2,$at and then mflo @1.",
+    ),
+    (
+        "mult",
+        "Write addiu $at,$zero,@3 and then mult @2,$at and then mflo @1.",
+    ),
+    ("beq", "Write addiu $at,$zero,@2 and then beq @1,$at,@3."),
+    ("bne", "Write addiu $at,$zero,@2 and then bne @1,$at,@3."),
+];
+
+/// The remedy of an operation with so many operands.
 pub(crate) struct Counted {
     pub word: &'static str,
     pub count: usize,
-    pub instead: &'static str,
+    pub sentence: &'static str,
 }
 
 macro_rules! counted {
-    ($word:literal, $count:literal, $instead:literal) => {
+    ($word:literal, $count:literal, $sentence:literal) => {
         Counted {
             word: $word,
             count: $count,
-            instead: $instead,
+            sentence: $sentence,
         }
     };
 }
 
 pub(crate) static COUNTS: [Counted; 16] = [
-    counted!("div", 3, "div @2,@3 and then mflo @1"),
-    counted!("divu", 3, "divu @2,@3 and then mflo @1"),
-    counted!("mult", 3, "mult @2,@3 and then mflo @1"),
-    counted!("multu", 3, "multu @2,@3 and then mflo @1"),
-    counted!("break", 1, "break"),
-    counted!("jr", 0, "jr $ra"),
-    counted!("addu", 2, "addu @1,@1,@2"),
-    counted!("add", 2, "add @1,@1,@2"),
-    counted!("subu", 2, "subu @1,@1,@2"),
-    counted!("sub", 2, "sub @1,@1,@2"),
-    counted!("addiu", 2, "addiu @1,@1,@2"),
-    counted!("addi", 2, "addi @1,@1,@2"),
-    counted!("and", 2, "and @1,@1,@2"),
-    counted!("or", 2, "or @1,@1,@2"),
-    counted!("sll", 2, "sll @1,@1,@2"),
-    counted!("srl", 2, "srl @1,@1,@2"),
+    counted!("div", 3, "Write div @2,@3 and then mflo @1."),
+    counted!("divu", 3, "Write divu @2,@3 and then mflo @1."),
+    counted!("mult", 3, "Write mult @2,@3 and then mflo @1."),
+    counted!("multu", 3, "Write multu @2,@3 and then mflo @1."),
+    counted!("break", 1, "Write break."),
+    counted!("jr", 0, "Write jr $ra."),
+    counted!("addu", 2, "Write addu @1,@1,@2."),
+    counted!("add", 2, "Write add @1,@1,@2."),
+    counted!("subu", 2, "Write subu @1,@1,@2."),
+    counted!("sub", 2, "Write sub @1,@1,@2."),
+    counted!("addiu", 2, "Write addiu @1,@1,@2."),
+    counted!("addi", 2, "Write addi @1,@1,@2."),
+    counted!("and", 2, "Write and @1,@1,@2."),
+    counted!("or", 2, "Write or @1,@1,@2."),
+    counted!("sll", 2, "Write sll @1,@1,@2."),
+    counted!("srl", 2, "Write srl @1,@1,@2."),
 ];
 
 /// An operation on registers, and the one whose last operand is a number.

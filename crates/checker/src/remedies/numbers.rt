@@ -1,12 +1,9 @@
 //! Remedies of numbers, and of operations with one.
 
 use super::super::statements::Statement;
-use super::lists::{NUMBERED, WITH_NUMBER};
-use super::templates::{row_of, short, written};
-use super::words::loading;
-use super::{joined, nothing};
+use super::lists::{NUMBERED, WITH_NUMBER, row_of};
+use super::sentences::{Remedy, naming, said};
 use lexical::{begins_number, number_in};
-use std::alloc::{AllocError, Global};
 
 /// The operation that differs from this one in its last operand alone: a number, or a register.
 pub(crate) fn other_form(word: &[u8], is_number: bool) -> Option<&'static str> {
@@ -23,7 +20,7 @@ pub(crate) fn other_form(word: &[u8], is_number: bool) -> Option<&'static str> {
     None
 }
 
-/// The instructions to write for an operation of three operands of which one is a number.
+/// The sentence for an operation of three operands of which one is a number.
 pub(crate) fn with_number(statement: &Statement<'_>) -> Option<&'static str> {
     let [_, second, third] = statement.operands;
     let is_one = begins_number(second) || begins_number(third);
@@ -35,25 +32,74 @@ pub(crate) fn with_number(statement: &Statement<'_>) -> Option<&'static str> {
 }
 
 /// The remedy of a number that is subtracted: an addition of its negative.
-pub(crate) fn less(alloc: Global, statement: &Statement<'_>) -> Result<Vec<u8>, AllocError> {
-    let [first, second, number] = statement.operands;
-    let (sign, digits): (&'static str, &[u8]) = match number {
-        [b'-', rest @ ..] => ("", rest),
-        [b'+', rest @ ..] => ("-", rest),
-        rest => ("-", rest),
+pub(crate) fn less<'a>(statement: &Statement<'a>) -> Remedy<'a> {
+    let [_, _, number] = statement.operands;
+    let (is_negative, digits): (bool, &[u8]) = match number {
+        [b'-', rest @ ..] => (true, rest),
+        [b'+', rest @ ..] => (false, rest),
+        rest => (false, rest),
     };
-    let is_unsigned = statement
-        .word
-        .last()
-        .is_some_and(|last| last.eq_ignore_ascii_case(&b'u'));
-    let word = if is_unsigned { "addiu" } else { "addi" };
-    let template = format!(in alloc; "{word} @1,@2,{sign}@3")?;
-    let negative = Statement {
-        word: statement.word,
-        count: statement.count,
-        operands: [first, second, digits],
+    let sentence = match (statement.word.last(), is_negative) {
+        (Some(b'u' | b'U'), true) => "Write addiu @1,@2,@4.",
+        (Some(b'u' | b'U'), false) => "Write addiu @1,@2,-@4.",
+        (_, true) => "Write addi @1,@2,@4.",
+        (_, false) => "Write addi @1,@2,-@4.",
     };
-    written(alloc, template.as_str(), &negative)
+    naming(sentence, digits)
+}
+
+/// How a number is put into a register: into the first operand, or into $at for the operation that is the text.
+#[derive(Clone, Copy)]
+pub(crate) struct Load {
+    pub into: &'static str,
+    pub behind: &'static str,
+    pub numbers: [i64; 2],
+}
+
+/// The instructions that put a number into a register.
+pub(crate) fn loading(value: u32) -> Load {
+    let (high, low) = (i64::from(value >> 16), i64::from(value & 0xffff));
+    let signed = i64::from(value.cast_signed());
+    if -32768 <= signed && signed <= 32767 {
+        Load {
+            into: "Write addiu @1,$zero,@6.",
+            behind: "Write addiu $at,$zero,@6 and then @4 @1,@2,$at.",
+            numbers: [signed, 0],
+        }
+    } else if high == 0 {
+        Load {
+            into: "Write ori @1,$zero,@6.",
+            behind: "Write ori $at,$zero,@6 and then @4 @1,@2,$at.",
+            numbers: [low, 0],
+        }
+    } else if low == 0 {
+        Load {
+            into: "Write lui @1,@6.",
+            behind: "Write lui $at,@6 and then @4 @1,@2,$at.",
+            numbers: [high, 0],
+        }
+    } else {
+        Load {
+            into: "Write lui @1,@6 and then ori @1,@1,@7.",
+            behind: "Write lui $at,@6 and then ori $at,$at,@7 and then @4 @1,@2,$at.",
+            numbers: [high, low],
+        }
+    }
+}
+
+// The remedy of a number that does not fit: instructions that put the number into a register. A shift has no such
+// number.
+fn too_large(statement: &Statement<'_>, value: u32) -> Option<Remedy<'static>> {
+    let other = other_form(statement.word, false)?.as_bytes();
+    if statement.count != 3 || other.ends_with(b"v") {
+        return None;
+    }
+    let load = loading(value);
+    Some(Remedy {
+        sentence: load.behind,
+        text: other,
+        numbers: load.numbers,
+    })
 }
 
 // The digits of a number behind its leading zeros.
@@ -68,34 +114,21 @@ fn without_zeros(number: &[u8]) -> &[u8] {
     rest
 }
 
-// The remedy of a number that does not fit: instructions that put the number into a register.
-fn too_large(alloc: Global, statement: &Statement<'_>, value: u32) -> Result<Vec<u8>, AllocError> {
-    let word = statement.word;
-    let loaded = loading(alloc, "$at", value)?;
-    let is_shift = [b"sll", b"srl", b"sra"]
-        .into_iter()
-        .any(|shift| word.eq_ignore_ascii_case(shift));
-    match other_form(word, false) {
-        Some(other) if !is_shift && statement.count == 3 => {
-            let template = format!(in alloc; "{loaded} and then {other} @1,@2,$at")?;
-            written(alloc, template.as_str(), statement)
-        },
-        _ => nothing(alloc),
-    }
+// The remedy of a number of bytes that is no multiple of 4: the next one.
+fn space(number: &[u8]) -> Option<Remedy<'static>> {
+    let whole = (number_in(number, 0, 65532)? | 3).wrapping_add(1);
+    Some(Remedy {
+        sentence: "Write .space @6.",
+        text: b"",
+        numbers: [i64::from(whole), 0],
+    })
 }
 
 /// The remedy of a number that is none, or out of its range.
-pub(crate) fn bad_number(alloc: Global, statement: &Statement<'_>) -> Result<Vec<u8>, AllocError> {
+pub(crate) fn bad_number<'a>(statement: &Statement<'a>) -> Option<Remedy<'a>> {
     let [first, second, third] = statement.operands;
     if statement.word.eq_ignore_ascii_case(b".space") {
-        return match number_in(first, 0, 65532) {
-            Some(n) => {
-                let whole = (n | 3).wrapping_add(1);
-                let said = format!(in alloc; "Write .space {whole}.")?;
-                Ok(said.into_bytes())
-            },
-            None => nothing(alloc),
-        };
+        return space(first);
     }
     let last = match statement.count {
         1 => first,
@@ -104,16 +137,10 @@ pub(crate) fn bad_number(alloc: Global, statement: &Statement<'_>) -> Result<Vec
     };
     let bare = without_zeros(last);
     if bare.len() < last.len() && number_in(bare, 0, 0xffff_ffff).is_some() {
-        return joined(
-            alloc,
-            &[b"There are no octal numbers: write ", short(bare), b"."],
-        );
+        return Some(naming("There are no octal numbers: write @4.", bare));
     }
     if last.contains(&b'.') {
-        return joined(alloc, &[b"There are no fractions."]);
+        return Some(said("There are no fractions."));
     }
-    match number_in(last, 0x8000_0000, 0xffff_ffff) {
-        Some(value) => too_large(alloc, statement, value),
-        None => nothing(alloc),
-    }
+    too_large(statement, number_in(last, 0x8000_0000, 0xffff_ffff)?)
 }

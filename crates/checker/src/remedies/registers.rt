@@ -1,45 +1,52 @@
 //! Remedies of registers.
 
-use super::super::registers::is_register;
 use super::super::statements::Statement;
-use super::{joined, nothing};
+use super::sentences::{Remedy, naming, said};
+use isa::register_in;
 use lexical::is_name;
-use std::alloc::{AllocError, Global};
 
-/// The register that an operand names, where only its `$` is missing.
-pub(crate) fn without_dollar(alloc: Global, operand: &[u8]) -> Result<Option<Vec<u8>>, AllocError> {
-    let register = joined(alloc, &[b"$", operand])?;
-    let is_named = is_name(operand) && is_register(alloc, register.as_slice())?;
-    Ok(if is_named { Some(register) } else { None })
+// The most bytes of a register's name behind its `$`.
+const MOST_BYTES: usize = 4;
+
+// Whether a name is that of a register, behind a `$`: as it stands, or in lower case.
+fn is_named(name: &[u8], is_lowered: bool) -> bool {
+    if name.len() > MOST_BYTES {
+        return false;
+    }
+    let mut register = [b'$'; MOST_BYTES + 1];
+    for at in 0..name.len() {
+        register[at + 1] = if is_lowered {
+            name[at].to_ascii_lowercase()
+        } else {
+            name[at]
+        };
+    }
+    register_in(&register[0..name.len() + 1]).is_ok()
+}
+
+/// The remedy of an operand that names a register, where only its `$` is missing.
+pub(crate) fn without_dollar(operand: &[u8]) -> Option<Remedy<'_>> {
+    if is_name(operand) && is_named(operand, false) {
+        return Some(naming("A register begins with $: write $@4.", operand));
+    }
+    None
 }
 
 /// The remedy of a register that there is not.
-pub(crate) fn bad_register(
-    alloc: Global,
-    statement: &Statement<'_>,
-) -> Result<Vec<u8>, AllocError> {
+pub(crate) fn bad_register<'a>(statement: &Statement<'a>) -> Option<Remedy<'a>> {
     for text in statement.operands {
-        let mut lower = text.to_vec(alloc)?;
-        lower.make_ascii_lowercase();
-        if lower.as_slice() != text && is_register(alloc, lower.as_slice())? {
-            return joined(
-                alloc,
-                &[
-                    b"Names of registers are in lower case: write ",
-                    lower.as_slice(),
-                    b".",
-                ],
-            );
+        let [b'$', name @ ..] = text else {
+            continue;
+        };
+        if is_named(name, true) && register_in(text).is_err() {
+            return Some(naming("Names of registers are in lower case: write @5.", text));
         }
-        if text.starts_with(b"$f") && !text.eq_ignore_ascii_case(b"$fp") {
-            return joined(alloc, &[b"There are no registers of floating point."]);
+        if name.starts_with(b"f") && !name.eq_ignore_ascii_case(b"fp") {
+            return Some(said("There are no registers of floating point."));
         }
-        if text.eq_ignore_ascii_case(b"$lo") || text.eq_ignore_ascii_case(b"$hi") {
-            return joined(
-                alloc,
-                &[b"LO and HI are read by mflo and mfhi, and written by mtlo and mthi."],
-            );
+        if name.eq_ignore_ascii_case(b"lo") || name.eq_ignore_ascii_case(b"hi") {
+            return Some(said("LO and HI are read by mflo and mfhi, and written by mtlo and mthi."));
         }
     }
-    nothing(alloc)
+    None
 }

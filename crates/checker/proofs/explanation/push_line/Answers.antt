@@ -6,7 +6,7 @@ use Rattle.checker.proofs.explanation.push_line.Goals as goal
 
 pub returns : goal.returns
 returns c =
-    let part = c.in_ok-part.part in
+    let part = c.part_at_fault-part.result in
     let remedy = c.as_slice.result.now in
     let line = c.args.line.now in
     let kind = c.args.fault.kind in
@@ -17,5 +17,5 @@ returns c =
       rest = spot ++ (form_note kind line ++ remedy_line remedy);
       is = three_behind c.args.text.now.items spot (form_note kind line) (remedy_line remedy) c.push_spot.new.text.items
           c.push_form.new.text.items c.push_remedy.new.text.items worded c.in_ok-push_form.ensures c.in_ok-push_remedy.ensures;
-      explains = (part, (remedy, (c.in_ok-part.ensures, refl)));
+      explains = (part, (remedy, (c.part_at_fault-part.ensures, refl)));
     }

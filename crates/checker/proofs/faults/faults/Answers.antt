@@ -9,28 +9,28 @@ faults-init c =
     let same : c.in_ok-text.text.items ≡ c.args.bytes.now = search rules in
     rw c.new-found.ensures.items (begins c.args.bytes.now c.in_ok-text.text.items same)
 
-pub returns-in-Ok : goal.returns-in-Ok
-returns-in-Ok c =
+pub returns-in_default : goal.returns-in_default
+returns-in_default c =
     let few : length c.faults.found.items < 200 = search rules in
-    let good : IsGood (listing c.faults.text.items) = (c.in-Ok.field-0, rw c.as_slice.ensures.value at c.in-Ok.ensures.ok) in
+    let good : IsGood (listing c.faults.text.items) = rw (c.in_default.is, c.as_slice.ensures.value) at c.in_ok-fault.ensures.good in
     ends_good c.args.bytes.now c.faults.text.items c.faults.found.items c.faults.invariant few good
 
 pub faults-preserved : goal.faults-preserved
 faults-preserved c =
-    let fault = c.in-Err.fault in
+    let fault = c.in-Some.fault in
     let few : length c.faults.found.items < 200 = search rules in
     let is : listing c.faults.text.items ≡ Err (fault.line, fault.kind) =
-    rw c.as_slice.ensures.value at (c.in-Err.ensures.fault (search rules)) in
-    let cleared : IsCleared fault.line c.faults.text.items c.in-Some.better.items = search rules in
+    rw (c.in-Some.is, c.as_slice.ensures.value) at c.in_ok-fault.ensures.fault in
+    let cleared : IsCleared fault.line c.faults.text.items c.in-Some-2.better.items = search rules in
     rw c.in_ok-push.ensures.items
-    (goes_on c.args.bytes.now c.faults.text.items c.in-Some.better.items c.faults.found.items fault c.faults.invariant few is cleared)
+    (goes_on c.args.bytes.now c.faults.text.items c.in-Some-2.better.items c.faults.found.items fault c.faults.invariant few is cleared)
 
 pub returns-in-None : goal.returns-in-None
 returns-in-None c =
-    let fault = c.in-Err.fault in
+    let fault = c.in-Some.fault in
     let few : length c.faults.found.items < 200 = search rules in
     let is : listing c.faults.text.items ≡ Err (fault.line, fault.kind) =
-    rw c.as_slice.ensures.value at (c.in-Err.ensures.fault (search rules)) in
+    rw (c.in-Some.is, c.as_slice.ensures.value) at c.in_ok-fault.ensures.fault in
     let none : is_line fault.line c.faults.text.items ≡ false = search rules in
     rw c.in_ok-push.ensures.items
     (ends_nowhere c.args.bytes.now c.faults.text.items c.faults.found.items fault c.faults.invariant few is none)
