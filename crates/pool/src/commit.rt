@@ -13,7 +13,7 @@ use back::{Back, Naming};
 use counts::CountSeat;
 use hints::Ring;
 use instructions::Ending;
-use std::marker::{Model, PhantomData};
+use std::marker::Model;
 use std::sync::Wait;
 use workers::{Bounds, RunState, Turns};
 
@@ -29,8 +29,8 @@ pub(crate) enum Why {
 }
 
 /// The commit side of a run: the back, the seat that it counts with, its turns, and how the run has ended.
-pub(crate) struct Committer<J: Naming, K: Bounds + Ring> {
-    back: Back<J>,
+pub(crate) struct Committer<K: Naming + Bounds + Ring> {
+    back: Back<K>,
     count: CountSeat,
     limit: u32,
     turns: Turns,
@@ -39,10 +39,9 @@ pub(crate) struct Committer<J: Naming, K: Bounds + Ring> {
     // the term is over
     over: Result<Why, Refusal>,
     last_term: Option<TermRecord>,
-    bounds: PhantomData<K>,
 }
 
-impl<J: Naming, K: Bounds + Ring> Model for Committer<J, K> {
+impl<K: Naming + Bounds + Ring> Model for Committer<K> {
     ghost use Rattle.pool.specs.Committing.{IsCommitter, TheCommitter, committer_of};
 
     ghost Value = { TheCommitter };
@@ -54,14 +53,14 @@ impl<J: Naming, K: Bounds + Ring> Model for Committer<J, K> {
         c.count c.limit };
 }
 
-impl<J: Naming, K: Bounds + Ring> Committer<J, K> {
+impl<K: Naming + Bounds + Ring> Committer<K> {
     ghost use Rattle.std.specs.Prelude.{◌≡◌, Err, IfErr, None};
     ghost use Rattle.pool.specs.Committing.{HasCounted, committer_of};
     ghost use Rattle.pool.specs.Ended.{HasRun};
     ghost use Rattle.workers.specs.Turns.{untaken};
     ghost use Rattle.inorder.specs.History.{renewals as renewals_in};
 
-    pub(crate) fn new(back: Back<J>, count: CountSeat, limit: u32, turns: u32) -> Self
+    pub(crate) fn new(back: Back<K>, count: CountSeat, limit: u32, turns: u32) -> Self
         requires count { HasCounted K.counts back count }
         requires none { renewals_in back.seen ≡ 0 }
         requires limit { limit ≡ (K.config).limit }
@@ -78,14 +77,13 @@ impl<J: Naming, K: Bounds + Ring> Committer<J, K> {
             renewals: 0,
             over: Err(Refusal::Thread),
             last_term: None,
-            bounds: PhantomData,
         }
     }
 
     /// How the run ended, where all other threads have ended. A run of which not all threads could be started is
     /// refused.
     pub(crate) fn end<R: Wait>(self, wait: &R, state: &RunState<K>) -> RunInTurns
-        ensures run { HasRun J.program K.config result }
+        ensures run { HasRun K.program K.config result }
         ensures refused { IfErr self.over (λ refusal. result.run ≡ Run.Refused refusal) }
         ensures ran { result.ran ≡ record { turns = self.turns; last = self.last } }
     {
@@ -97,7 +95,6 @@ impl<J: Naming, K: Bounds + Ring> Committer<J, K> {
             renewals: _,
             over,
             last_term,
-            bounds: _,
         } = self;
         let end = back.end(wait);
         let tally = state.counts.read(&mut count);

@@ -168,6 +168,7 @@ pub(crate) fn dispatch<K: Bounds + Ring, P: Predictor + Drop, G, R: Wait>(
     let has_ended = take_turns(shared, &mut front, &mut gathered, &mut turns);
     let count = gathered.end(&shared.state.counts);
     if !has_ended {
+        drop(front);
         return None;
     }
     shared.state.end_term();

@@ -3,7 +3,7 @@ use counts::Tally;
 use instructions::End;
 
 /// A resource that a run could not have.
-#[derive(Clone, Copy, Debug, PartialEq, Eq)]
+#[derive(Clone, Copy)]
 pub enum Refusal {
     Memory,
     /// A thread could not be started.

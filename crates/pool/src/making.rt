@@ -40,26 +40,30 @@ pub(crate) fn make_state<K: Bounds + Ring>(
 }
 
 /// Makes the commit side of a run, its first term, and its first snapper.
-pub(crate) fn make<J: Naming, K: Bounds + Ring, P: Predictor + Drop, G, R>(
+pub(crate) fn make<K: Naming + Bounds + Ring, P: Predictor + Drop, G, R>(
     run: &RunShared<'_, G, R>,
     state: &RunState<K>,
     count: CountSeat,
     predictor: P,
-) -> Result<(Committer<J, K>, Term<P>, Snapper<J>), Memory>
+) -> Result<(Committer<K>, Term<P>, Snapper<K>), Memory>
     requires count { count ≡ record { of = K.counts; shares = all_parts; seen = [] } }
-    requires program { run.now.program.now ≡ J.program }
+    requires program { run.now.program.now ≡ K.program }
     requires config { run.now.config.now ≡ K.config }
     ensures begins { IfOk result (λ made. MayBegin K.counts K.config made.0 made.1) }
     ensures turns { IfOk result (λ made. made.1.dispatcher.turns ≡ untaken (K.config).turns) }
 {
     let (config, program) = (run.config, run.program);
     let (core, front, seat, unit) = Core::make(run.alloc, program, config)?;
-    let (back, snapper) = Back::<J>::new(run.alloc, &core, seat, program, config).map_err(
-        |refused| refused.0,
-    )?;
+    let (back, snapper) = match Back::<K>::new(run.alloc, &core, seat, program, config) {
+        Ok(made) => made,
+        Err((memory, _seat)) => {
+            drop(core);
+            return Err(memory);
+        }
+    };
     let (back_count, workers) = state.counts.split_worker(count);
     let (front_count, unit_count) = state.counts.split_workers(workers);
-    let committer = Committer::<J, K>::new(back, back_count, config.limit(), config.turns());
+    let committer = Committer::<K>::new(back, back_count, config.limit(), config.turns());
     let dispatcher = Dispatcher {
         seat: front,
         begin: Begin::Fresh(predictor),

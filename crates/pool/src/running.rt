@@ -27,8 +27,7 @@ use workers::{Bounds, Gate, RunState, Turns};
 // Starts the snapshot threads, runs all terms, and returns when each thread has ended.
 fn run_in_threads<
     'x,
-    J: Naming + Send + Sync,
-    K: Bounds + Ring + Send + Sync,
+    K: Naming + Bounds + Ring + Send + Sync,
     P: Predictor + Drop + Send,
     G: Gate + Sync,
     R: Threads + Wait + Sync,
@@ -36,8 +35,8 @@ fn run_in_threads<
     run: &'x RunShared<'x, G, R>,
     state: &'x RunState<K>,
     term: Term<P>,
-    snapper: Snapper<J>,
-    committer: &'x mut Committer<J, K>,
+    snapper: Snapper<K>,
+    committer: &'x mut Committer<K>,
 )
     requires config { run.now.config.now ≡ K.config }
     requires begins { MayBegin state.now.counts K.config committer.old term }
@@ -51,18 +50,40 @@ fn run_in_threads<
         {
             let (wait, gate) = (run.wait, run.gate);
             let places = run.config.places();
-            if let Some(places) = start_snappers(scope, wait, state, gate, places, snapper) {
-                run_terms(run, state, &places, term, committer);
+            match start_snappers(scope, wait, state, gate, places, snapper) {
+                Some(places) => run_terms(run, state, &places, term, committer),
+                None => drop(term),
             }
             state.end_run();
         },
     )
 }
 
-// Makes a run, runs it in threads, and answers how it ended when each thread has.
+// Makes the sides of a run, runs it in threads, and answers how it ended when each has.
+fn run_with<
+    K: Naming + Bounds + Ring + Send + Sync,
+    P: Predictor + Drop + Send,
+    G: Gate + Sync,
+    R: Threads + Wait + Sync,
+>(
+    run: &RunShared<'_, G, R>,
+    state: &RunState<K>,
+    count: CountSeat,
+    predictor: P,
+) -> Result<RunInTurns, Memory>
+    requires count { count ≡ record { of = K.counts; shares = all_parts; seen = [] } }
+    requires program { run.now.program.now ≡ K.program }
+    requires config { run.now.config.now ≡ K.config }
+    ensures { IfOk result (HasRun K.program K.config) }
+{
+    let (mut committer, term, snapper) = make::<K, P, G, R>(run, state, count, predictor)?;
+    run_in_threads(&*run, state, term, snapper, &mut committer);
+    Ok(committer.end(run.wait, state))
+}
+
+// Makes the state of a run, and carries it out. A large value is dropped by a call, which is one step of the proof.
 fn run_named<
-    J: Naming + Send + Sync,
-    K: Bounds + Ring + Send + Sync,
+    K: Naming + Bounds + Ring + Send + Sync,
     P: Predictor + Drop + Send,
     G: Gate + Sync,
     R: Threads + Wait + Sync,
@@ -74,15 +95,15 @@ fn run_named<
 ) -> Result<RunInTurns, Memory>
     requires counts { counts ≡ K.counts }
     requires count { count ≡ record { of = counts; shares = all_parts; seen = [] } }
-    requires program { run.now.program.now ≡ J.program }
+    requires program { run.now.program.now ≡ K.program }
     requires config { run.now.config.now ≡ K.config }
     requires ring { run.now.config.now.ring ≡ K.ring }
-    ensures { IfOk result (HasRun J.program K.config) }
+    ensures { IfOk result (HasRun K.program K.config) }
 {
     let state = make_state::<K>(run.alloc, run.config, counts)?;
-    let (mut committer, term, snapper) = make::<J, K, P, G, R>(run, &state, count, predictor)?;
-    run_in_threads(&*run, &state, term, snapper, &mut committer);
-    Ok(committer.end(run.wait, &state))
+    let ran = run_with::<K, P, G, R>(run, &state, count, predictor);
+    drop(state);
+    ran
 }
 
 // The answer of a run for which memory is wanting before a thread has begun.
@@ -123,7 +144,7 @@ pub fn run_in_turns<'x, P: Predictor + Drop + Send, G: Gate + Sync, R: Threads +
         config,
         gate,
     };
-    match run_named::<Brand, Brand, P, G, R>(&run, counts, count, predictor) {
+    match run_named::<Brand, P, G, R>(&run, counts, count, predictor) {
         Ok(run) => run,
         Err(_) => wants_memory(config),
     }

@@ -38,8 +38,7 @@ impl Places {
 fn start_snapper<
     's,
     E: 's,
-    K: Bounds + Ring + Send + Sync + 's,
-    J: Naming + Send + Sync + 's,
+    K: Naming + Bounds + Ring + Send + Sync + 's,
     G: Gate + Sync + 's,
     R: Wait + Sync + 's,
 >(
@@ -48,7 +47,7 @@ fn start_snapper<
     state: &'s RunState<K>,
     gate: &'s G,
     place: u32,
-    snapper: Snapper<J>,
+    snapper: Snapper<K>,
 ) -> bool {
     scope
         .spawn(move || watch(wait, state, gate, place, snapper))
@@ -59,8 +58,7 @@ fn start_snapper<
 pub(crate) fn start_snappers<
     's,
     E: 's,
-    K: Bounds + Ring + Send + Sync + 's,
-    J: Naming + Send + Sync + 's,
+    K: Naming + Bounds + Ring + Send + Sync + 's,
     G: Gate + Sync + 's,
     R: Wait + Sync + 's,
 >(
@@ -69,7 +67,7 @@ pub(crate) fn start_snappers<
     state: &'s RunState<K>,
     gate: &'s G,
     places: u32,
-    mut first: Snapper<J>,
+    mut first: Snapper<K>,
 ) -> Option<Places>
     requires { 1 ≤ places }
     ensures { IfSome result (λ started. started ≡ places) }

@@ -34,8 +34,7 @@ pub(crate) struct Term<P: Predictor + Drop> {
 fn commit_in_threads<
     'x,
     'c,
-    J: Naming,
-    K: Bounds + Ring + Send + Sync,
+    K: Naming + Bounds + Ring + Send + Sync,
     P: Predictor + Drop + Send,
     G: Gate + Sync,
     R: Threads + Wait + Sync,
@@ -45,8 +44,8 @@ fn commit_in_threads<
     dispatcher: Dispatcher<P>,
     unit: UnitSeat,
     count: WorkerSeat,
-    committer: &'c mut Committer<J, K>,
-) -> (&'c mut Committer<J, K>, Option<(Dispatcher<P>, UnitSeat)>)
+    committer: &'c mut Committer<K>,
+) -> (&'c mut Committer<K>, Option<(Dispatcher<P>, UnitSeat)>)
     requires owned { AreAt shared.now.core.now shared.now.state.now.counts dispatcher unit count }
     requires places { places.now ≡ (K.config).places }
     requires commits { MayCommit shared.now.core.now committer.old }
@@ -57,7 +56,7 @@ fn commit_in_threads<
     thread::scope(
         thread::scope_env(),
         shared.wait,
-        move |scope| -> (&mut Committer<J, K>, Option<(Dispatcher<P>, UnitSeat)>)
+        move |scope| -> (&mut Committer<K>, Option<(Dispatcher<P>, UnitSeat)>)
             requires owned { AreAt shared.now.core.now shared.now.state.now.counts
                 dispatcher unit count }
             requires places { places.now ≡ (K.config).places }
@@ -90,8 +89,7 @@ fn commit_in_threads<
 // Runs one term, and answers the next one where the core was renewed.
 fn run_term<
     'c,
-    J: Naming,
-    K: Bounds + Ring + Send + Sync,
+    K: Naming + Bounds + Ring + Send + Sync,
     P: Predictor + Drop + Send,
     G: Gate + Sync,
     R: Threads + Wait + Sync,
@@ -100,8 +98,8 @@ fn run_term<
     state: &RunState<K>,
     places: &Places,
     term: Term<P>,
-    committer: &'c mut Committer<J, K>,
-) -> (&'c mut Committer<J, K>, Option<Term<P>>)
+    committer: &'c mut Committer<K>,
+) -> (&'c mut Committer<K>, Option<Term<P>>)
     requires places { places.now ≡ (K.config).places }
     requires begins { MayBegin state.now.counts K.config committer.old term }
     ensures begins { IfSome result.1 (MayBegin state.now.counts K.config result.0.now) }
@@ -126,6 +124,7 @@ fn run_term<
         &shared, places, dispatcher, unit, unit_count, committer,
     );
     let Some((dispatcher, unit)) = returned else {
+        drop(core);
         return (committer, None);
     };
     let term = Term {
@@ -140,8 +139,7 @@ fn run_term<
 
 /// Runs one term after another, until the run is over.
 pub(crate) fn run_terms<
-    J: Naming,
-    K: Bounds + Ring + Send + Sync,
+    K: Naming + Bounds + Ring + Send + Sync,
     P: Predictor + Drop + Send,
     G: Gate + Sync,
     R: Threads + Wait + Sync,
@@ -150,7 +148,7 @@ pub(crate) fn run_terms<
     state: &RunState<K>,
     places: &Places,
     first: Term<P>,
-    committer: &mut Committer<J, K>,
+    committer: &mut Committer<K>,
 )
     requires places { places.now ≡ (K.config).places }
     requires begins { MayBegin state.now.counts K.config committer.old first }
@@ -165,4 +163,5 @@ pub(crate) fn run_terms<
             None => return,
         }
     }
+    drop(term);
 }

@@ -7,26 +7,26 @@ use std::sync::Wait;
 use workers::{Bounds, Gate, RunState};
 
 // Nothing but snapshots of the program is passed to the gate.
-fn pass_snapshot<J: Naming, G: Gate>(gate: &G, place: u32, snap: &Snap)
-    requires { IsSnapshotOf J.program snap.now }
+fn pass_snapshot<K: Naming, G: Gate>(gate: &G, place: u32, snap: &Snap)
+    requires { IsSnapshotOf K.program snap.now }
 {
     gate.seen(place, snap);
 }
 
 /// Takes snapshots and passes them to the gate, once at least: the first at once, and one more each time that a
 /// snapshot was shown, or the run is over.
-pub(crate) fn watch<K: Bounds + Ring, J: Naming, G: Gate, R: Wait>(
+pub(crate) fn watch<K: Naming + Bounds + Ring, G: Gate, R: Wait>(
     wait: &R,
     state: &RunState<K>,
     gate: &G,
     place: u32,
-    mut snapper: Snapper<J>,
+    mut snapper: Snapper<K>,
 ) {
     for _ in 0..state.turns {
         let news = state.news();
         let has_ended = state.has_run_ended();
         if let Ok(snap) = snapper.take() {
-            pass_snapshot::<J, G>(gate, place, &snap);
+            pass_snapshot::<K, G>(gate, place, &snap);
         }
         if has_ended {
             break;

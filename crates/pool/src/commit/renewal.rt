@@ -20,7 +20,7 @@ use station::{Core, FrontSeat, UnitSeat};
 use std::alloc::Global;
 use workers::{Bounds, RunState};
 
-impl<J: Naming, K: Bounds + Ring> Committer<J, K> {
+impl<K: Naming + Bounds + Ring> Committer<K> {
     // Renews the core of a commit side that is owned. Without memory core and seats are lost, and the back is at the old
     // core again.
     fn renewed(
@@ -48,7 +48,6 @@ impl<J: Naming, K: Bounds + Ring> Committer<J, K> {
             mut renewals,
             mut over,
             last_term,
-            bounds,
         } = self;
         let (alloc, state, core, front, unit) = parts;
         let (seat, still) = back.leave();
@@ -59,7 +58,10 @@ impl<J: Naming, K: Bounds + Ring> Committer<J, K> {
                 over = Err(Refusal::Thread);
                 (still.enter(seat), Some((core, front, unit)))
             }
-            Err(refused) => (still.enter_again(refused.3), None),
+            Err(refused) => {
+                drop(refused.1);
+                (still.enter_again(refused.3), None)
+            }
         };
         let committer = Committer {
             back,
@@ -69,7 +71,6 @@ impl<J: Naming, K: Bounds + Ring> Committer<J, K> {
             renewals,
             over,
             last_term,
-            bounds,
         };
         (committer, now)
     }

@@ -50,7 +50,7 @@ enum Turned {
     Over(Why),
 }
 
-impl<J: Naming, K: Bounds + Ring> Committer<J, K> {
+impl<K: Naming + Bounds + Ring> Committer<K> {
     // Shows the state, and passes the tally until then to the gate.
     fn show<G: Gate, R: Wait>(&mut self, shared: &TermShared<'_, K, G, R>) -> Result<(), Memory>
         ensures back { IsSameBack self.old.back (record self.new.back

@@ -24,8 +24,8 @@ returns-in-Ok-Stop-clause-run g c =
     let times = whole tally.renewals _ _ i.renewals (c.read-tally.ensures.exact Renewals has.all_renewals) has.renewals c.self.invariant.times (search rules) in
     let over = has_stopped i.back.ended c.in-Ok-Stop.field-0-1 (sym c.end-end.ensures.outcome ∙ c.in-Ok-Stop.is-1) in
     rw c.of-in-Ok-Stop.ensures
-    (subst (λ (ran : TheRan). HasRun g.J.Naming.program g.K.Bounds.config (record { run = Ended end tally; ran = ran })) (sym c.of-ran.ensures)
-    (ended g.J.Naming.program g.K.Bounds.counts g.K.Bounds.config i.back i.turns i.renewals c.in-Ok-Stop.field-0-0 i.last_term i.count i.limit
+    (subst (λ (ran : TheRan). HasRun g.K.Naming.program g.K.Bounds.config (record { run = Ended end tally; ran = ran })) (sym c.of-ran.ensures)
+    (ended g.K.Naming.program g.K.Bounds.counts g.K.Bounds.config i.back i.turns i.renewals c.in-Ok-Stop.field-0-0 i.last_term i.count i.limit
     committer end tally c.end-end.ensures.in_order count retires times
     c.in-Ok-Stop.field-0-1 c.in-Ok-Stop.is-1 over))
 
@@ -42,7 +42,7 @@ returns-clause-run g c =
     let times = whole tally.renewals _ _ i.renewals (c.read-tally.ensures.exact Renewals has.all_renewals) has.renewals c.self.invariant.times (search rules) in
     let going = has_not_stopped i.back.ended (sym c.end-end.ensures.outcome ∙ c.in-Ok-Limit.is-1) in
     rw c.of-in-Ok-Limit.ensures
-    (subst (λ (ran : TheRan). HasRun g.J.Naming.program g.K.Bounds.config (record { run = LimitReached end tally; ran = ran })) (sym c.of-ran.ensures)
-    (limit_reached g.J.Naming.program g.K.Bounds.counts g.K.Bounds.config i.back i.turns i.renewals c.in-Ok-Limit.field-0-0 i.last_term i.count i.limit
+    (subst (λ (ran : TheRan). HasRun g.K.Naming.program g.K.Bounds.config (record { run = LimitReached end tally; ran = ran })) (sym c.of-ran.ensures)
+    (limit_reached g.K.Naming.program g.K.Bounds.counts g.K.Bounds.config i.back i.turns i.renewals c.in-Ok-Limit.field-0-0 i.last_term i.count i.limit
     committer end tally c.end-end.ensures.in_order count retires times
     c.in-Ok-Limit.is-1 going))

@@ -9,7 +9,7 @@ use Rattle.pool.specs.Committing.{IsUnderWay, TheCommitter, committer_of}
 use Rattle.pool.proofs.Committers.{refused, renewed}
 use Rattle.pool.proofs.Renewed.{entered, may_again, renews_once}
 use Rattle.pool.proofs.commit.Committer.renewed.Given.{Over}
-use Rattle.pool.proofs.commit.Committer.renewed.Goals.{After-leave-seat, In-Err, in-Ok, in-Err}
+use Rattle.pool.proofs.commit.Committer.renewed.Goals.{After-drop, After-leave-seat, in-Ok, in-Err}
 use Rattle.pool.proofs.commit.Committer.renewed.Goals as goal
 
 pub renew-requires-clause-goes_on : goal.renew-requires-clause-goes_on
@@ -19,7 +19,7 @@ renew-requires-clause-goes_on g c =
     subst (λ (z : TheCore × List Entry). HasNoStop (unit_of z.0.program z.0.sizes z.1)) (λ i. (is i, sym left.seen i)) left.no_stop
 
 -- Where the renewal was refused, the back may enter the core that it left
-again : (g : Over) (c : In-Err g) → BackMayEnterAgain c.leave-seat.result.1.core c.leave-seat.result.1.seen c.in-Err.refused.3
+again : (g : Over) (c : After-drop g) → BackMayEnterAgain c.leave-seat.result.1.core c.leave-seat.result.1.seen c.in-Err.refused.3
 again g c =
     let left = c.leave-seat.ensures in
     let is = ap (λ (k : TheCommitter). k.back.core) c.self.view_is ∙ c.requires.core in
