@@ -196,7 +196,8 @@ impl<'a> Pipeline<'a> {
     }
 
     /// Lets the next instruction, and runs it as far as it comes, where the predictor is to be told of who has left its
-    /// station, which is this one. Answers whether it has completed. One that computes a value takes a way of its own, compiled apart.
+    /// station, which is this one. Answers whether it has completed. One that computes a value takes a way of its own,
+    /// compiled apart.
     #[inline(always)]
     pub fn enters_behind<P: Predictor>(
         &self,
