@@ -6,7 +6,7 @@ use Rattle.clap.proofs.OnLiterals.{clap_on_literals}
 use Rattle.clap.specs.declared.builder.arg.Arg.{Arg}
 use Rattle.clap.specs.declared.builder.command.Command.{Command}
 use Rattle.clap.specs.declared.builder.command.Command.TheViews.{out-Command}
-use Rattle.command_line.specs.Tool.{IsArg, IsCommand, app_of_word, name_of, rule_of_argument, rules_of, tool, with_rules, with_version, word_with}
+use Rattle.command_line.specs.Tool.{IsArg, IsCommand, app_of_word, spelling_of, rule_of_argument, rules_of, tool, with_rules, with_version, word_with}
 use Rattle.command_line.specs.declared.arguments.Argument.{Argument}
 use Rattle.command_line.specs.declared.word.Word.{Word}
 use Rattle.command_line.specs.declared.word.Word.TheVariants.{Run, Chart, Commits, Check, Drive}
@@ -43,20 +43,20 @@ pub program_is : (word : App) (top command new : Command) → app_of top ≡ wit
 program_is word top command new is built adds = adds.shape built.local ∙ ap₂ with_subcommand is (ap (λ (a : App). a.top) built.is)
 
 -- the command of a word is built from the word's page
-pub word_is : (word : Word) (name : Text) (rules : List Rule) (headed : App) (command : Command) → name ≡ name_of word
+pub word_is : (word : Word) (name : Text) (rules : List Rule) (headed : App) (command : Command) → name ≡ spelling_of word
     → rules ≡ rules_of word → headed ≡ with_version (new_app name) → IsCommand (with_rules headed rules) command
     → IsCommand (app_of_word word) command
 word_is word name rules headed command named ruled is built =
     subst (λ (app : App). IsCommand app command) (ap₂ with_rules (is ∙ ap (λ (n : Text). with_version (new_app n)) named) ruled ∙ same word) built
   where
-    same : (word : Word) → word_with (name_of word) (rules_of word) ≡ app_of_word word
+    same : (word : Word) → word_with (spelling_of word) (rules_of word) ≡ app_of_word word
     same Run = refl
     same Chart = refl
     same Commits = refl
     same Check = refl
     same Drive = refl
 
-pub has_name : (word : Word) → (app_of_word word).top.name ≡ name_of word
+pub has_name : (word : Word) → (app_of_word word).top.name ≡ spelling_of word
 has_name Run = refl
 has_name Chart = refl
 has_name Commits = refl

@@ -88,12 +88,12 @@ abbrev pub drive_word : App
 drive_word = word_with (codes "drive") drive_rules
 
 -- the text of a word
-abbrev pub name_of : Word → Text
-name_of Run = codes "run"
-name_of Chart = codes "chart"
-name_of Commits = codes "commits"
-name_of Check = codes "check"
-name_of Drive = codes "drive"
+abbrev pub spelling_of : Word → Text
+spelling_of Run = codes "run"
+spelling_of Chart = codes "chart"
+spelling_of Commits = codes "commits"
+spelling_of Check = codes "check"
+spelling_of Drive = codes "drive"
 
 -- the arguments of a word
 abbrev pub rules_of : Word → List Rule

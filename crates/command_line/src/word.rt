@@ -1,6 +1,6 @@
 //! The words of the programs, each with its page of help and its arguments.
 ghost use Rattle.std.specs.Prelude.{◌≡◌, map};
-ghost use Rattle.command_line.specs.Tool.{name_of, rule_of_argument, rules_of};
+ghost use Rattle.command_line.specs.Tool.{spelling_of, rule_of_argument, rules_of};
 
 use crate::arguments::Argument;
 
@@ -25,7 +25,7 @@ pub(crate) struct Page {
 
 /// The page of a word.
 pub(crate) fn page_of(word: Word) -> Page
-    ensures name { result.name.now ≡ name_of word }
+    ensures name { result.name.now ≡ spelling_of word }
     ensures arguments { map rule_of_argument result.arguments.now ≡ rules_of word }
 {
     match word {

@@ -80,10 +80,12 @@ module _ {S : Type 0} (Predicts : S → ℕ → Instr → ℕ → S → Type 0) 
       }
 
   -- so does one that makes a step
-  pub plain_makes : (b later : BenchFields S) (step : Step) (answer : Turn) → IsPlain answer → MovesAs b.pipeline (Some (named step)) answer later.pipeline →
-      later.predictor ≡ b.predictor → Makes Predicts Learns b step answer later
-  plain_makes b later step answer p m e U r s =
-      let x = m U r s in
+  pub plain_makes : (b later : BenchFields S) (asked step : Step) (answer : Turn) → asked ≡ step → IsPlain answer →
+      MovesAs b.pipeline (Some (named step)) answer later.pipeline → later.predictor ≡ b.predictor → Makes Predicts Learns b asked answer later
+  plain_makes b later asked step answer is p m e U r s =
+      let moves : MovesAs b.pipeline (Some (named asked)) answer later.pipeline =
+      subst (λ s. MovesAs b.pipeline (Some (named s)) answer later.pipeline) (sym is) m in
+      let x = moves U r s in
       record {
         made = record {
           unit = x.unit;
