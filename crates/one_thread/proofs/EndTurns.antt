@@ -1,42 +1,25 @@
 -- The turns Retired, Halved and Over are steps of the unit.
-use Rattle.std.proofs.Common.{◌≡◌, Bool, true, false, List, [], ◌∷◌, ◌++◌, length, Option, Some, None, refl, sym, ap, ◌∙◌, subst}
-use Rattle.std.proofs.Common.{arith}
+use Rattle.std.proofs.Common.{◌≡◌, Bool, true, false, length, Option, Some, None, refl, sym, ap, ◌∙◌, subst}
 use Rattle.std.specs.Prelude.{is_some, slice_get}
-use Rattle.std.specs.List.{AllByRecursion}
 use Rattle.instructions.specs.Instruction.{is_first_half}
 use Rattle.instructions.specs.Programs.{Program}
-use Rattle.instructions.specs.declared.op.Half.TheVariants.{Low}
 use Rattle.instructions.specs.declared.stop.Stop.{Stop}
 use Rattle.instructions.specs.declared.stop.Stop.TheVariants.{BadPc}
-use Rattle.inorder.specs.Steps.{IsNoRetiredStop}
-use Rattle.inorder.specs.Tenants.{Tenant, is_first}
-use Rattle.inorder.specs.Tenants.{stands_on_path}
 use Rattle.inorder.specs.Unit.{Sizes, UpdateUnit}
-use Rattle.inorder.proofs.Commits.{live_not}
-use Rattle.inorder.proofs.Halves.{first_low}
-use Rattle.inorder.proofs.Sound.{IsSound}
 use Rattle.inorder.specs.Moves.{IsReached}
-use Rattle.inorder.specs.Still.{AreStill}
-use Rattle.inorder.proofs.OneCaller.Middle.{all_from, sound_from}
-use Rattle.inorder.proofs.OneCaller.Sequences.{sound_of}
 use Rattle.one_thread.specs.declared.bench.Turn.{Turn}
 use Rattle.one_thread.specs.declared.bench.Turn.TheVariants.{Halved, Over, Retired}
 use Rattle.one_thread.specs.declared.pipeline.Pipeline.{Pipeline}
 use Rattle.one_thread.specs.declared.station.Stage.{Stage}
 use Rattle.one_thread.specs.declared.station.Stage.TheVariants.{Open as Opens, Addr as HasAddr, Done as IsDone, Miss as Misses, Stops}
 use Rattle.one_thread.specs.declared.station.Station.{Station}
-use Rattle.one_thread.specs.Ahead.{low_of, waiting_half}
 use Rattle.one_thread.specs.Leaves.{HasEnded, LeavesTo, OldestHasEnded, PassesTo, RetiresTo}
 use Rattle.one_thread.specs.Notes.{miss_in}
-use Rattle.one_thread.specs.StandsFor.{OverIs, StandsFor, StandsForSome, sizes}
+use Rattle.one_thread.specs.StandsFor.{StandsFor, StandsForSome, sizes}
 use Rattle.one_thread.specs.Turns.{Falls, Nowhere, Now}
-use Rattle.one_thread.specs.Window.{half_in, window}
-use Rattle.one_thread.proofs.Found.{Found, found}
 use Rattle.one_thread.proofs.Known.{cannot_let, nobody_claims, nobody_loads}
 use Rattle.one_thread.proofs.Tests.{no_miss}
 use Rattle.one_thread.proofs.Turns.{none_in}
-use Rattle.one_thread.proofs.Waiting.{low_if, low_over, none_low}
-use Rattle.one_thread.proofs.Windows.{half_worth}
 use Rattle.one_thread.specs.Notes.{settled_at}
 use Rattle.one_thread.specs.Choices.{step_made}
 use Rattle.one_thread.specs.Possible.{ToRetire}
@@ -46,6 +29,7 @@ use Rattle.one_thread.specs.declared.bench.Turn.TheVariants.{Let, Loaded, Ran, R
 use Rattle.one_thread.proofs.CanLeave.{Refused, refused_settles}
 use Rattle.one_thread.proofs.Leaving.{leave, nowhere_turn}
 use Rattle.one_thread.proofs.Moved.{MovesAs}
+use Rattle.one_thread.proofs.Whole.{first_alone}
 
 -- The oldest retires, whatever else is possible
 
@@ -108,50 +92,6 @@ retires_turn b later answer h f to = go (slice_get b.window 0) refl to
           does = (d.does, end_first b.program.now (sizes b) U d.unit BadPc d.does (refused_is b U f r s));
         }))
     go (Some w) e l = first (leave b later answer w h f.none e (refused_settles b h f w e) l)
-
--- a first half that leaves finds nothing that waits
-first_alone : (b : Pipeline) (w : Station) → StandsForSome b → b.over ≡ None → slice_get b.window 0 ≡ Some w → is_first_half w.instr.op w.half ≡ true → b.low ≡ None
-first_alone b w h none e q = go (found P U 0 w (ap (λ W. slice_get W 0) (sym h.stands.window) ∙ e))
-  where
-    P : Program
-    P = b.program.now
-
-    U : List Tenant
-    U = h.unit.tenants
-
-    sound' : IsSound P U
-    sound' = sound_of P (sizes b) h.unit h.reached
-
-    over' : AllByRecursion IsNoRetiredStop U × AreStill U
-    over' = subst (OverIs U) none h.stands.over
-
-    go : Found P U 0 w → b.low ≡ None
-    go d = h.stands.low ∙ before ∙ none_low (low_of P d.ts) waits
-      where
-        s : IsSound P (d.ys ++ d.t ∷ d.ts)
-        s = subst (IsSound P) d.split sound'
-
-        at : IsSound P (d.t ∷ d.ts)
-        at = sound_from P d.ys (d.t ∷ d.ts) s
-
-        stops : AllByRecursion IsNoRetiredStop (d.t ∷ d.ts)
-        stops = all_from IsNoRetiredStop d.ys (d.t ∷ d.ts) (subst (AllByRecursion IsNoRetiredStop) d.split over'.0)
-
-        is : is_first P d.t ≡ true
-        is = ap (λ x. is_first_half x.instr.op x.half) d.station ∙ q
-
-        before : low_of P U ≡ low_of P d.ts
-        before = ap (low_of P) d.split ∙ low_over P d.t d.t d.ts d.ys d.live s ∙ low_if P d.t d.ts false (live_not d.t d.live)
-
-        waits : waiting_half (low_of P d.ts) ≡ Low
-        waits =
-            sym (half_worth P d.ts at.1 stops.1 ∙ ap (half_in (low_of P d.ts)) (nil (window P d.ts) (sym d.place)))
-            ∙ sym (at.0.placed (ap stands_on_path d.live)).half
-            ∙ first_low P d.t is
-          where
-            nil : (xs : List Station) → length xs ≡ 0 → xs ≡ []
-            nil [] z = refl
-            nil (x ∷ xs) z = absurd (omega (arith, z))
 
 pub retires_falls : (b later : Pipeline) (answer : Turn) → StandsForSome b → b.over ≡ None →
     OldestHasEnded (length b.committed.memory) (slice_get b.window 0) → RetiresTo b (slice_get b.window 0) answer later →

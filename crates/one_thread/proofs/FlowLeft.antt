@@ -27,6 +27,7 @@ use Rattle.one_thread.specs.declared.station.Station.{Station}
 use Rattle.one_thread.proofs.Completions.{instr_is, low_destination, some_there}
 use Rattle.one_thread.proofs.FlowOut.{HasLeft, IsOldest, fills, left_flow, left_less, left_registers, left_runs, left_shorter, oldest_counted, oldest_is, stuck_in}
 use Rattle.one_thread.proofs.FlowPassed.{answer_by, passed_from, passed_shows}
+use Rattle.one_thread.proofs.Whole.{whole_alone}
 use Rattle.one_thread.proofs.Kept.{given_back, kept_less, memory_same, undone, value_written}
 use Rattle.one_thread.proofs.Untold.{oldest_untold}
 
@@ -191,6 +192,13 @@ module _ (b : Pipeline) (flow : Flow) (c : Completed) (flows : Flows b flow) (is
   counted_few stuck =
       subst (λ k. k ≤ flow.accesses) counted.accesses
       (oldest_counted (in_order b flow) flow one c (record { flows = flows.flows; stuck = stuck_in b flow stuck; is = is; instr = found.1 }))
+
+  -- nothing waits for LO
+  pub counted_alone : IsStuck b flow → b.low ≡ None
+  counted_alone stuck =
+      let x = in_order b flow in
+      let here : IsOldest x flow one c = record { flows = flows.flows; stuck = stuck_in b flow stuck; is = is; instr = found.1 } in
+      whole_alone (filled x (window_of x flow)) (station_by one c) flows.flows.unit flows.flows.flowing.goes_on (oldest_is x flow one c here) counted.whole
 
   pub gone_counted : (later : Pipeline) (after : Flow) → IsStuck b flow → after.ring ≡ record flow.ring { completed = drop 1 flow.ring.completed; oldest = slot_in flow.ring.size flow.ring.oldest 1 } →
       after.accesses ≡ flow.accesses - n → after.from ≡ length after.ring.completed → after ≡ record flow { ring = after.ring; accesses = after.accesses; from = after.from } →

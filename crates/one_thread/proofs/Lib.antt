@@ -12,6 +12,7 @@ pub mod Accesses
 pub mod Entries
 pub mod LookBack
 pub mod Walk
+pub mod Whole
 pub mod Reopened
 pub mod Ring
 pub mod Noted

@@ -1,5 +1,5 @@
 -- What is kept of a decoded instruction.
-use Rattle.std.specs.Prelude.{◌≡◌, ◌≤◌, ℕ, List, length, Some, if◌then◌else◌}
+use Rattle.std.specs.Prelude.{◌≡◌, ◌≤◌, ℕ, List, length, Some, false, if◌then◌else◌}
 use Rattle.instructions.specs.Instruction.{destination, first_of, is_access, is_branch, is_pair, kind, second_of}
 use Rattle.instructions.specs.Programs.{Program, instr_at}
 use Rattle.instructions.specs.declared.instr.Instr.{Instr}
@@ -44,3 +44,7 @@ pub record HasInstr (code : List Instr) (pc : ℕ) : Type 0 where
   pub decoded : IsDecoded code program
   pub instr : Instr
   pub is : instr_at program pc ≡ Some instr
+
+-- The instruction at this address is no pair
+abbrev pub IsWhole : List Instr → ℕ → Type 0
+IsWhole code pc = (P : Program) (i : Instr) → IsDecoded code P → instr_at P pc ≡ Some i → is_pair i.op ≡ false

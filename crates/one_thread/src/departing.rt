@@ -27,8 +27,8 @@ impl<'a> Pipeline<'a> {
         retire(&mut self.committed, &mut self.low, flow, instr, &oldest)
     }
 
-    // Retires the oldest instruction, which leaves with so many accesses and goes on at `next`. Answers what a predictor
-    // is to be told.
+    // Retires the oldest instruction, which is no half: it leaves with so many accesses and goes on at `next`. Answers
+    // what a predictor is to be told.
     #[inline(always)]
     fn departs_counted(
         &mut self,
@@ -44,7 +44,7 @@ impl<'a> Pipeline<'a> {
         ensures departed { OldestRetired self.old flow.old result self.new flow.new }
         ensures more { self.old.committed.count ≤ self.new.committed.count }
     {
-        retire_counted(&mut self.committed, &mut self.low, flow, accesses, next);
+        retire_counted(&mut self.committed, flow, accesses, next);
         told
     }
 

@@ -1,7 +1,7 @@
 //! An instruction enters a flow: it is let, and runs as far as it comes.
 ghost use Rattle.std.specs.Prelude.{⊤, ◌≡◌, ◌<◌, suc, length, slice_get, slice_set, IsFalse, IsTrue, None, Some};
 ghost use Rattle.instructions.specs.declared.op.Half.TheVariants.{Low};
-ghost use Rattle.one_thread.specs.Decoding.{HasInstr, IsDecoded};
+ghost use Rattle.one_thread.specs.Decoding.{HasInstr, IsDecoded, IsWhole};
 ghost use Rattle.one_thread.specs.Flow.{CanEnter, Flows, HasEntered, HasPlace, IsLast, IsPlaced, Upcoming, enters_as, in_order};
 ghost use Rattle.one_thread.specs.Givers.{Chosen};
 
@@ -163,15 +163,16 @@ impl<'a> Pipeline<'a> {
     #[inline(always)]
     fn is_half(&self, flow: &Flow) -> bool
         requires { HasInstr self.now.code.items flow.now.future.pc }
-        ensures { IsFalse result → flow.now.half ≡ Low }
+        ensures { IsFalse result → IsWhole self.now.code.items flow.now.future.pc }
     {
-        flow.half != Half::Low || fetch_known(self.code.as_slice(), flow.future.pc).is_pair()
+        fetch_known(self.code.as_slice(), flow.future.pc).is_pair()
     }
 
     // Whether the next instruction computes one value.
     #[inline(always)]
     fn is_plain(&self, flow: &Flow) -> bool
         requires { HasInstr self.now.code.items flow.now.future.pc }
+        ensures { IsTrue result → IsWhole self.now.code.items flow.now.future.pc }
     {
         fetch_known(self.code.as_slice(), flow.future.pc).is_plain()
     }
@@ -212,7 +213,7 @@ impl<'a> Pipeline<'a> {
             suc (length flow.old.ring.completed)) ⊤ }
         ensures order { in_order self.now flow.new ≡ in_order self.now flow.old }
     {
-        if flow.half == Half::Low && self.is_plain(flow) {
+        if self.is_plain(flow) {
             return self.runs_next(predictor, flow, left, station, Half::Low, true);
         }
         if self.is_half(flow) {

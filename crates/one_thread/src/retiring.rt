@@ -138,15 +138,9 @@ pub fn retire(
     leaver_of(instr, oldest.half, oldest.pc, oldest.next)
 }
 
-/// The oldest instruction leaves, with so many accesses, and is counted.
+/// The oldest instruction leaves, with so many accesses, and is counted, where nothing waits for LO.
 #[inline(always)]
-pub fn retire_counted(
-    committed: &mut Committed,
-    low: &mut Option<u32>,
-    flow: &mut Flow,
-    accesses: usize,
-    next: u32,
-)
+pub fn retire_counted(committed: &mut Committed, flow: &mut Flow, accesses: usize, next: u32)
     requires count { committed.old.count < 2 ^ 64 - 1 }
     requires some { 0 < length flow.old.ring.completed }
     requires counted { accesses ≤ flow.old.accesses }
@@ -165,8 +159,7 @@ pub fn retire_counted(
       pc = next;
       count = suc committed.old.count;
     } }
-    ensures low { low.new ≡ None }
 {
     flow.leaves(accesses);
-    count(committed, low, next);
+    committed.advance(Reg::ZERO, 0, next);
 }

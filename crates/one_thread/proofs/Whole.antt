@@ -1,0 +1,161 @@
+-- What comes behind a first half is its second: an instruction that is no pair finds nothing that waits for LO.
+use Rattle.std.proofs.Common.{◌≡◌, ℕ, Bool, true, false, cond, List, [], ◌∷◌, ◌++◌, length, Option, Some, None, refl, sym, ap, ◌∙◌, subst, arith}
+use Rattle.std.specs.Prelude.{slice_get}
+use Rattle.std.specs.List.{AllByRecursion}
+use Rattle.instructions.specs.Instruction.{is_first_half, is_low, is_pair}
+use Rattle.instructions.specs.Programs.{Program, instr_at}
+use Rattle.instructions.specs.declared.instr.Instr.{Instr}
+use Rattle.instructions.specs.declared.op.Half.{Half}
+use Rattle.instructions.specs.declared.op.Half.TheVariants.{High, Low}
+use Rattle.inorder.specs.Still.{AreStill}
+use Rattle.inorder.specs.Steps.{IsNoRetiredStop}
+use Rattle.inorder.specs.Tenants.{Tenant, behind, behind_by, instr, is_first, on_path, stands_on_path}
+use Rattle.inorder.specs.Unit.{front_half, front_pc, half_after}
+use Rattle.inorder.proofs.Basics.{fetched_at}
+use Rattle.inorder.proofs.Commits.{live_not}
+use Rattle.inorder.proofs.Halves.{first_low}
+use Rattle.inorder.proofs.Pairs.{and_left, first_half_computes}
+use Rattle.inorder.proofs.Sound.{GoesOn, IsInPlace, IsSound}
+use Rattle.inorder.proofs.OneCaller.Middle.{all_from, sound_from}
+use Rattle.inorder.proofs.OneCaller.Sequences.{sound_of}
+use Rattle.one_thread.specs.Ahead.{low_of, waiting_half}
+use Rattle.one_thread.specs.Decoding.{IsDecoded, IsWhole}
+use Rattle.one_thread.specs.Flow.{IsPlaced, filled, in_order, window_of}
+use Rattle.one_thread.specs.StandsFor.{OverIs, StandsForSome, sizes}
+use Rattle.one_thread.specs.Window.{half_in, next_in, window}
+use Rattle.one_thread.specs.declared.flow.Flow.{Flow}
+use Rattle.one_thread.specs.declared.pipeline.Pipeline.{Pipeline}
+use Rattle.one_thread.specs.declared.station.Station.{Station}
+use Rattle.one_thread.proofs.Found.{Found, found}
+use Rattle.one_thread.proofs.Waiting.{low_if, low_over, none_low}
+use Rattle.one_thread.proofs.Windows.{front_worth, half_worth}
+
+-- A pair stands where the path goes on
+
+record PairAt (P : Program) (pc : ℕ) : Type 0 where
+  pub instr : Instr
+  pub is : instr_at P pc ≡ Some instr
+  pub pair : is_pair instr.op ≡ true
+
+behind_first : (P : Program) (ts : List Tenant) → IsSound P ts → front_half P ts ≡ High → PairAt P (front_pc ts)
+behind_first P [] s e = absurd (cc)
+behind_first P (t ∷ ts) s e = go (on_path t) refl (behind_first P ts s.1)
+  where
+    half_if : (b : Bool) → on_path t ≡ b → front_half P (t ∷ ts) ≡ cond b (half_after (is_first P t)) (front_half P ts)
+    half_if b on = ap (λ x. cond x (half_after (is_first P t)) (front_half P ts)) on
+
+    first : (f : Bool) → is_first P t ≡ f → on_path t ≡ true → half_after f ≡ High → PairAt P (front_pc (t ∷ ts))
+    first false g on high = absurd (cc)
+    first true g on high =
+        let k = first_half_computes (instr P t).op t.half g in
+        let n : t.next ≡ behind P t = subst (λ x. GoesOn x (behind P t) t.next) k s.0.own.goes_on in
+        let same : front_pc (t ∷ ts) ≡ t.pc = ap (λ b. cond b t.next (front_pc ts)) on ∙ n ∙ ap (λ b. behind_by b t.pc) g in
+        record {
+          instr = instr P t;
+          is = ap (instr_at P) (same ∙ s.0.own.place) ∙ fetched_at P t.index s.0.own.inside;
+          pair = and_left (is_pair (instr P t).op) (is_low t.half) g;
+        }
+
+    go : (b : Bool) → on_path t ≡ b → (front_half P ts ≡ High → PairAt P (front_pc ts)) → PairAt P (front_pc (t ∷ ts))
+    go true on more = first (is_first P t) refl on (sym (half_if true on) ∙ e)
+    go false on more = subst (PairAt P) (sym (ap (λ b. cond b t.next (front_pc ts)) on)) (more (sym (half_if false on) ∙ e))
+
+whole_behind : (P : Program) (ts : List Tenant) (i : Instr) → IsSound P ts → instr_at P (front_pc ts) ≡ Some i → is_pair i.op ≡ false → front_half P ts ≡ Low
+whole_behind P ts i s at whole = go (front_half P ts) refl
+  where
+    go : (h : Half) → front_half P ts ≡ h → h ≡ Low
+    go Low e = refl
+    go High e =
+        let p = behind_first P ts s e in
+        let same : Some p.instr ≡ Some i = sym p.is ∙ at in
+        let no : true ≡ false = sym p.pair ∙ ap (λ o. pair_of o) same ∙ whole in absurd (cc)
+      where
+        pair_of : Option Instr → Bool
+        pair_of None = false
+        pair_of (Some x) = is_pair x.op
+
+-- The oldest tenant
+
+-- one that is no second half finds nothing that waits
+alone : (b : Pipeline) (w : Station) → StandsForSome b → b.over ≡ None → slice_get b.window 0 ≡ Some w →
+    ((t : Tenant) (ts : List Tenant) → is_first b.program.now t ≡ is_first_half w.instr.op w.half → instr b.program.now t ≡ w.instr →
+    IsSound b.program.now (t ∷ ts) → IsInPlace b.program.now ts t → t.half ≡ Low) → b.low ≡ None
+alone b w h none e low = go (found P U 0 w (ap (λ W. slice_get W 0) (sym h.stands.window) ∙ e))
+  where
+    P : Program
+    P = b.program.now
+
+    U : List Tenant
+    U = h.unit.tenants
+
+    sound' : IsSound P U
+    sound' = sound_of P (sizes b) h.unit h.reached
+
+    over' : AllByRecursion IsNoRetiredStop U × AreStill U
+    over' = subst (OverIs U) none h.stands.over
+
+    go : Found P U 0 w → b.low ≡ None
+    go d = h.stands.low ∙ before ∙ none_low (low_of P d.ts) waits
+      where
+        s : IsSound P (d.ys ++ d.t ∷ d.ts)
+        s = subst (IsSound P) d.split sound'
+
+        at : IsSound P (d.t ∷ d.ts)
+        at = sound_from P d.ys (d.t ∷ d.ts) s
+
+        placed : IsInPlace P d.ts d.t
+        placed = at.0.placed (ap stands_on_path d.live)
+
+        stops : AllByRecursion IsNoRetiredStop (d.t ∷ d.ts)
+        stops = all_from IsNoRetiredStop d.ys (d.t ∷ d.ts) (subst (AllByRecursion IsNoRetiredStop) d.split over'.0)
+
+        before : low_of P U ≡ low_of P d.ts
+        before = ap (low_of P) d.split ∙ low_over P d.t d.t d.ts d.ys d.live s ∙ low_if P d.t d.ts false (live_not d.t d.live)
+
+        waits : waiting_half (low_of P d.ts) ≡ Low
+        waits =
+            sym (half_worth P d.ts at.1 stops.1 ∙ ap (half_in (low_of P d.ts)) (nil (window P d.ts) (sym d.place)))
+            ∙ sym placed.half
+            ∙ low d.t d.ts (ap (λ x. is_first_half x.instr.op x.half) d.station) (ap (λ x. x.instr) d.station) at placed
+          where
+            nil : (xs : List Station) → length xs ≡ 0 → xs ≡ []
+            nil [] z = refl
+            nil (x ∷ xs) z = absurd (omega (arith, z))
+
+-- a first half that leaves
+pub first_alone : (b : Pipeline) (w : Station) → StandsForSome b → b.over ≡ None → slice_get b.window 0 ≡ Some w → is_first_half w.instr.op w.half ≡ true → b.low ≡ None
+first_alone b w h none e q = alone b w h none e (λ t ts same is s p. first_low b.program.now t (same ∙ q))
+
+-- an instruction that is no pair
+pub whole_alone : (b : Pipeline) (w : Station) → StandsForSome b → b.over ≡ None → slice_get b.window 0 ≡ Some w → is_pair w.instr.op ≡ false → b.low ≡ None
+whole_alone b w h none e q =
+    alone b w h none e (λ t ts same is s p.
+    let P = b.program.now in
+    let here : instr_at P (front_pc ts) ≡ Some (instr P t) = ap (instr_at P) (sym p.pc ∙ s.0.own.place) ∙ fetched_at P t.index s.0.own.inside in
+    p.half ∙ whole_behind P ts (instr P t) s.1 here (ap (λ i. is_pair i.op) is ∙ q))
+
+-- The next instruction of a flow
+
+pub whole_next : (b : Pipeline) (flow : Flow) → IsPlaced b flow → IsWhole b.code.items flow.future.pc → flow.half ≡ Low
+whole_next b flow placed whole =
+    let before = placed.before in
+    let x = in_order before flow in
+    let P = x.program.now in
+    let f = placed.flows.flows in
+    let unit = f.unit in
+    let U = unit.unit.tenants in
+    let W = window_of x flow in
+    let sound : IsSound P U = sound_of P (sizes (filled x W)) unit.unit unit.reached in
+    let over : AllByRecursion IsNoRetiredStop U × AreStill U = subst (OverIs U) f.flowing.goes_on unit.stands.over in
+    let pc : front_pc U ≡ flow.future.pc =
+    front_worth P U sound over.0
+    ∙ ap (λ c. next_in c.pc (window P U)) (sym unit.stands.committed)
+    ∙ ap (next_in x.committed.pc) (sym unit.stands.window)
+    ∙ sym f.flowing.foresees.path in
+    let half : flow.half ≡ front_half P U =
+    f.flowing.half
+    ∙ ap (half_in x.low) unit.stands.window
+    ∙ ap (λ l. half_in l (window P U)) unit.stands.low
+    ∙ sym (half_worth P U sound over.0) in
+    half ∙ whole_behind P U placed.can.instr sound (ap (instr_at P) pc ∙ placed.can.is)
+    (whole P placed.can.instr (subst (λ c. IsDecoded c P) (sym (ap (λ (p : Pipeline). p.code.items) placed.rest)) unit.code) placed.can.is)
