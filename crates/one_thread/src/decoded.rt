@@ -4,7 +4,7 @@ ghost use Rattle.instructions.specs.declared.op.Half.{Half};
 ghost use Rattle.instructions.specs.declared.op.Kind.TheVariants.{Computes};
 ghost use Rattle.instructions.specs.Instruction.{destination as destination_of, first_of, fixed_next as fixed_next_of, fixed_next_by, is_access as is_access_of, is_first_half as first_half, is_pair as is_pair_of, kind as kind_of, pc_plus_4 as pc_plus_4_of, second_of};
 ghost use Rattle.inorder.specs.Unit.{half_after};
-ghost use Rattle.one_thread.specs.Decoding.{goes_of as goes_in};
+ghost use Rattle.one_thread.specs.Decoding.{goes_of as goes_in, leaves_by};
 ghost use Rattle.one_thread.specs.Kept.{LeavesAs};
 ghost use Rattle.one_thread.specs.Window.{access_of};
 
@@ -36,6 +36,7 @@ pub struct Decoded {
     low: Reg,
     high: Reg,
     goes: Goes,
+    leaves: Leaves,
 }
 
 impl Model for Decoded {
@@ -69,6 +70,18 @@ fn goes_of(op: Op) -> Goes
     }
 }
 
+// What there is to do when an instruction leaves.
+fn leaves_of(goes: Goes, kind: Kind, pair: bool) -> Leaves
+    ensures { result ≡ leaves_by goes kind pair }
+{
+    match (goes, kind) {
+        (Goes::Plain | Goes::To, _) => Leaves::Nothing,
+        (Goes::Behind, Kind::Loads) => Leaves::Load,
+        (Goes::Varies, _) if !pair => Leaves::Told,
+        _ => Leaves::Any,
+    }
+}
+
 /// 1 for an instruction that reaches memory, else 0.
 pub fn access(instr: &Decoded) -> usize
     ensures value { result ≡ access_of instr.now }
@@ -82,16 +95,18 @@ impl Decoded {
         ensures { result ≡ instr }
     {
         let op = instr.op();
+        let (goes, kind, pair) = (goes_of(op), op.kind(), op.is_pair());
         Decoded {
             instr,
-            kind: op.kind(),
+            kind,
             access: op.is_access(),
-            pair: op.is_pair(),
+            pair,
             first: instr.first(),
             second: instr.second(),
             low: instr.destination(Half::Low),
             high: instr.destination(Half::High),
-            goes: goes_of(op),
+            goes,
+            leaves: leaves_of(goes, kind, pair),
         }
     }
 
@@ -132,12 +147,7 @@ impl Decoded {
     pub(crate) fn leaves(&self) -> Leaves
         ensures { LeavesAs result self.now }
     {
-        match (self.goes, self.kind) {
-            (Goes::Plain | Goes::To, _) => Leaves::Nothing,
-            (Goes::Behind, Kind::Loads) => Leaves::Load,
-            (Goes::Varies, _) if !self.pair => Leaves::Told,
-            _ => Leaves::Any,
-        }
+        self.leaves
     }
 
     /// The operation is a load or store.
