@@ -1,5 +1,5 @@
 -- What is kept of a decoded instruction.
-use Rattle.std.specs.Prelude.{◌≡◌, ◌≤◌, ℕ, Bool, List, length, Some, false, true, if◌then◌else◌}
+use Rattle.std.specs.Prelude.{◌≡◌, ◌≤◌, ℕ, List, length, Some, false, if◌then◌else◌}
 use Rattle.instructions.specs.Instruction.{destination, first_of, is_access, is_branch, is_pair, kind, second_of}
 use Rattle.instructions.specs.Programs.{Program, instr_at}
 use Rattle.instructions.specs.declared.instr.Instr.{Instr}
@@ -12,7 +12,7 @@ use Rattle.one_thread.specs.declared.completed_ring.Leaves.{Leaves}
 use Rattle.one_thread.specs.declared.completed_ring.Leaves.TheVariants.{Any, Load, Nothing, Told}
 use Rattle.one_thread.specs.declared.decoded.Decoded.TheInside.{Inside}
 use Rattle.one_thread.specs.declared.decoded.Goes.{Goes}
-use Rattle.one_thread.specs.declared.decoded.Goes.TheVariants.{Behind, Plain, To, Varies}
+use Rattle.one_thread.specs.declared.decoded.Goes.TheVariants.{Behind, Pair, Plain, To, Varies}
 
 -- Where an operation goes on, as far as it tells
 abbrev pub goes_of : Op → Goes
@@ -20,16 +20,16 @@ goes_of J = To
 goes_of Jal = To
 goes_of Jr = Varies
 goes_of Jalr = Varies
-goes_of op = if is_branch op then Varies else (if is_pair op then Varies else (if is_access (kind op) then Behind else Plain))
+goes_of op = if is_branch op then Varies else (if is_pair op then Pair else (if is_access (kind op) then Behind else Plain))
 
--- What there is to do when an instruction leaves, by where it goes on, its kind and whether it is a pair
-abbrev pub leaves_by : Goes → Kind → Bool → Leaves
-leaves_by Plain k pair = Nothing
-leaves_by To k pair = Nothing
-leaves_by Behind Loads pair = Load
-leaves_by Behind k pair = Any
-leaves_by Varies k false = Told
-leaves_by Varies k true = Any
+-- What there is to do when an instruction leaves, by where it goes on and its kind
+abbrev pub leaves_by : Goes → Kind → Leaves
+leaves_by Plain k = Nothing
+leaves_by To k = Nothing
+leaves_by Behind Loads = Load
+leaves_by Behind k = Any
+leaves_by Varies k = Told
+leaves_by Pair k = Any
 
 -- An instruction, and what is asked of it
 abbrev pub decode : Instr → Inside
@@ -38,13 +38,12 @@ decode i =
       instr = i;
       kind = kind i.op;
       access = is_access (kind i.op);
-      pair = is_pair i.op;
       first = first_of i;
       second = second_of i;
       low = destination i Low;
       high = destination i High;
       goes = goes_of i.op;
-      leaves = leaves_by (goes_of i.op) (kind i.op) (is_pair i.op);
+      leaves = leaves_by (goes_of i.op) (kind i.op);
     }
 
 -- These are the decoded instructions of a program

@@ -20,8 +20,10 @@ pub enum Goes {
     /// A load or store, behind which the path goes on.
     Behind,
     To,
-    /// A predictor is asked, or the half tells.
+    /// A predictor is asked.
     Varies,
+    /// The half tells.
+    Pair,
 }
 
 /// An instruction, with what its window, its claim and its retirement ask of it, found out once.
@@ -30,7 +32,6 @@ pub struct Decoded {
     instr: Instr,
     kind: Kind,
     access: bool,
-    pair: bool,
     first: Reg,
     second: Reg,
     low: Reg,
@@ -64,20 +65,21 @@ fn goes_of(op: Op) -> Goes
     match op {
         Op::J | Op::Jal => Goes::To,
         Op::Jr | Op::Jalr => Goes::Varies,
-        op if op.is_branch() || op.is_pair() => Goes::Varies,
+        op if op.is_branch() => Goes::Varies,
+        op if op.is_pair() => Goes::Pair,
         op if op.is_access() => Goes::Behind,
         _ => Goes::Plain,
     }
 }
 
 // What there is to do when an instruction leaves.
-fn leaves_of(goes: Goes, kind: Kind, pair: bool) -> Leaves
-    ensures { result ≡ leaves_by goes kind pair }
+fn leaves_of(goes: Goes, kind: Kind) -> Leaves
+    ensures { result ≡ leaves_by goes kind }
 {
     match (goes, kind) {
         (Goes::Plain | Goes::To, _) => Leaves::Nothing,
         (Goes::Behind, Kind::Loads) => Leaves::Load,
-        (Goes::Varies, _) if !pair => Leaves::Told,
+        (Goes::Varies, _) => Leaves::Told,
         _ => Leaves::Any,
     }
 }
@@ -95,18 +97,17 @@ impl Decoded {
         ensures { result ≡ instr }
     {
         let op = instr.op();
-        let (goes, kind, pair) = (goes_of(op), op.kind(), op.is_pair());
+        let (goes, kind) = (goes_of(op), op.kind());
         Decoded {
             instr,
             kind,
             access: op.is_access(),
-            pair,
             first: instr.first(),
             second: instr.second(),
             low: instr.destination(Half::Low),
             high: instr.destination(Half::High),
             goes,
-            leaves: leaves_of(goes, kind, pair),
+            leaves: leaves_of(goes, kind),
         }
     }
 
@@ -175,14 +176,14 @@ impl Decoded {
     pub(crate) fn is_pair(&self) -> bool
         ensures { result ≡ is_pair_of self.now.op }
     {
-        self.pair
+        matches!(self.goes, Goes::Pair)
     }
 
     /// This half is the first of two.
     pub(crate) fn is_first_half(&self, half: Half) -> bool
         ensures { result ≡ first_half self.now.op half }
     {
-        self.pair && half == Half::Low
+        self.is_pair() && half == Half::Low
     }
 
     /// The half that comes behind one: behind a first half its second.
@@ -213,9 +214,9 @@ impl Decoded {
         match self.goes {
             Goes::Plain | Goes::Behind => Some(pc_plus_4(pc)),
             Goes::To => Some(self.instr.number),
-            Goes::Varies if self.is_first_half(half) => Some(pc),
-            Goes::Varies if self.pair => Some(pc_plus_4(pc)),
             Goes::Varies => None,
+            Goes::Pair if half == Half::Low => Some(pc),
+            Goes::Pair => Some(pc_plus_4(pc)),
         }
     }
 }
