@@ -45,7 +45,9 @@ def seconds(words):
 
 
 def of_unit(given, listing):
-    return seconds(command(given, listing, 0xFFFF_FFFF)) - seconds(command(given, listing, 1))
+    """The least processor time of several whole runs, less the least of those that only read the listing."""
+    wholes, readings = zip(*[[seconds(command(given, listing, limit)) for limit in (0xFFFF_FFFF, 1)] for _ in range(RUNS)])
+    return min(wholes) - min(readings)
 
 
 def of_c(given, name):
@@ -70,7 +72,7 @@ def measure(given, name):
         sys.exit(f"{name}: the interpreter counts otherwise")
     limit = min(count, given.limit)
     each = (instructions(given, listing, limit) - instructions(given, listing, 1)) / (limit - 1)
-    unit = min(of_unit(given, listing) for _ in range(RUNS))
+    unit = of_unit(given, listing)
     plain = min(float(of_c(given, name)[3]) for _ in range(RUNS))
     print(f"{name:16} {each:7.1f} instructions {unit * 1e9 / count:7.1f} ns   C {plain * 1e9 / count:6.2f} ns   ratio {unit / plain:6.2f}", flush=True)
     return each, unit / plain

@@ -7,7 +7,7 @@
 #     benchmarks/real.sh FOLDER [--ring N] [--queue N] [--limit N]
 #
 # Instructions are counted up to a limit (1,000,000): those of a run up to it, less those of a run of one instruction,
-# which reads and decodes the listing too. Times are the least of five whole runs in turn, without reading the listing.
+# which reads and decodes the listing too. Times are the least of five whole runs, less the least of five of one instruction.
 set -eu
 here=$(cd "$(dirname "$0")" && pwd)
 folder=$(realpath "${1:?the folder of the listings}")
