@@ -23,7 +23,6 @@ use Rattle.one_thread.proofs.Stores.{stores_more}
 
 pub record HasJoined (flow after : Flow) (i : Instr) (c : Completed) (content : ℕ) : Type 0 where
   pub completed : after.ring.completed ≡ flow.ring.completed ++ c ∷ []
-  pub from : after.from ≡ flow.from
   pub last : after.last ≡ flow.last
   pub stores : after.ring.stores ≡ with_entry flow.ring.stores (store_with (station_by i c) content)
   pub held : after.held ≡ flow.held
@@ -66,12 +65,7 @@ module _ (b : Pipeline) (flow after : Flow) (i : Instr) (c : Completed) (content
             ∙ sym (ap (λ l. accesses l (length l)) all);
       }
 
--- how many have completed for good does not matter
-pub flowing_from : (b : Pipeline) (flow : Flow) (n : ℕ) → IsFlowing b flow → IsFlowing b (record flow { from = n })
-flowing_from b flow n h =
-    record { goes_on = h.goes_on; there = h.there; completed = h.completed; foresees = h.foresees; half = h.half; stores = h.stores; accesses = h.accesses }
-
--- nor who has left which station
+-- who has left which station does not matter
 pub flowing_later : (b later : Pipeline) (flow : Flow) → later ≡ record b { leavers = later.leavers } → IsFlowing b flow → IsFlowing later flow
 flowing_later b later flow rest h =
     subst (λ (p : Pipeline). IsFlowing p flow) (sym rest)

@@ -40,10 +40,10 @@ module _ (b : Pipeline) (flow after : Flow) (i : Instr) (c : Completed) (content
       j.held
       ∙ ap (λ n. record (in_order b flow) { oldest = n }) j.oldest
 
-  pub joins_flows : (n : ℕ) → registers ≡ registers_of (in_order b flow) → flow.ring.size ≡ b.ring → IsFlow (in_order b flow) (record after { from = n }) → Flows b (record after { from = n })
-  joins_flows n same size f =
+  pub joins_flows : registers ≡ registers_of (in_order b flow) → flow.ring.size ≡ b.ring → IsFlow (in_order b flow) after → Flows b after
+  joins_flows same size f =
       record {
-        flows = subst (λ (q : Pipeline). IsFlow q (record after { from = n })) (sym joins_in_order) f;
+        flows = subst (λ (q : Pipeline). IsFlow q after) (sym joins_in_order) f;
         kept = subst (λ l. HaveKept b.program.now l after.ring.completed after.future.values) (same ∙ ap registers_of (sym joins_in_order)) joins_kept;
         size = j.size ∙ size;
       }
@@ -59,10 +59,10 @@ module _ (b : Pipeline) (flow : Flow) (h : HaveKept b.program.now (registers_of 
       (ap (with_held b.low flow.held) (undone b.program.now (registers_of b) flow.ring.completed flow.future.values h) ∙ held_back b.low flow.held b.committed.registers held)
       ∙ ap (λ n. record b { oldest = n }) oldest
 
-  pub begins : (n : ℕ) → IsFlow b (record flow { from = n }) → Flows b (record flow { from = n })
-  begins n f =
+  pub begins : IsFlow b flow → Flows b flow
+  begins f =
       record {
-        flows = subst (λ (q : Pipeline). IsFlow q (record flow { from = n })) (sym begins_in_order) f;
+        flows = subst (λ (q : Pipeline). IsFlow q flow) (sym begins_in_order) f;
         kept = subst (λ (q : Pipeline). HaveKept b.program.now (registers_of q) flow.ring.completed flow.future.values) (sym begins_in_order) h;
         size = size;
       }

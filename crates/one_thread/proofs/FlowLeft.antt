@@ -1,5 +1,5 @@
 -- The oldest instruction of a flow leaves, and what the flow keeps stands for its registers.
-use Rattle.std.proofs.Common.{◌≡◌, ◌≤◌, ℕ, suc, ◌+◌, ◌-◌, ◌%◌, Bool, true, false, cond, ◌&&◌, List, length, drop, Option, Some, None, refl, sym, ap, ◌∙◌, subst}
+use Rattle.std.proofs.Common.{◌≡◌, ◌≤◌, ℕ, suc, ◌+◌, ◌-◌, ◌%◌, Bool, true, false, cond, ◌&&◌, List, drop, Option, Some, None, refl, sym, ap, ◌∙◌, subst}
 use Rattle.std.specs.Prelude.{slice_get, slice_set, unwrap_or}
 use Rattle.instructions.specs.Instruction.{destination, is_first_half, is_low, kind}
 use Rattle.instructions.specs.Registers.{lo}
@@ -42,7 +42,6 @@ pub record HasGone (b later : Pipeline) (flow after : Flow) (i : Instr) (c : Com
     oldest = slot_in flow.ring.size flow.ring.oldest 1;
   }
   pub accesses : after.accesses ≡ flow.accesses - access_of i
-  pub from : after.from ≡ length after.ring.completed
   pub last : after.last ≡ flow.last
   pub future : after.future ≡ flow.future
   pub half : after.half ≡ flow.half
@@ -133,7 +132,6 @@ module _ (b later : Pipeline) (flow after : Flow) (i : Instr) (c : Completed) (t
         completed = completed;
         stores = ap (λ (r : Contents). r.stores) h.ring;
         accesses = h.accesses;
-        from = h.from;
         last = h.last;
         future = h.future;
         half = h.half;
@@ -201,10 +199,10 @@ module _ (b : Pipeline) (flow : Flow) (c : Completed) (flows : Flows b flow) (is
       whole_alone (filled x (window_of x flow)) (station_by one c) flows.flows.unit flows.flows.flowing.goes_on (oldest_is x flow one c here) counted.whole
 
   pub gone_counted : (later : Pipeline) (after : Flow) → IsStuck b flow → after.ring ≡ record flow.ring { completed = drop 1 flow.ring.completed; oldest = slot_in flow.ring.size flow.ring.oldest 1 } →
-      after.accesses ≡ flow.accesses - n → after.from ≡ length after.ring.completed → after ≡ record flow { ring = after.ring; accesses = after.accesses; from = after.from } →
+      after.accesses ≡ flow.accesses - n → after ≡ record flow { ring = after.ring; accesses = after.accesses } →
       later.committed ≡ record b.committed { pc = c.next; count = suc b.committed.count } → later.low ≡ None → later ≡ record b { committed = later.committed; low = later.low } →
       (told : Option Leaver) → told ≡ told_if tells c.pc c.next → OldestRetired b flow told later after
-  gone_counted later after stuck ring accesses from same committed low rest told told_is =
+  gone_counted later after stuck ring accesses same committed low rest told told_is =
       let whole : is_first_half one.op c.half ≡ false = ap (λ p. p && is_low c.half) counted.whole in
       gone b later flow after one c told
       (record {
@@ -216,7 +214,6 @@ module _ (b : Pipeline) (flow : Flow) (c : Completed) (flows : Flows b flow) (is
             ∙ ap (λ l. record flow.ring { completed = drop 1 flow.ring.completed; stores = l; oldest = slot_in flow.ring.size flow.ring.oldest 1 })
             (ap (λ k. cond k (drop 1 flow.ring.stores) flow.ring.stores) (sym counted.none));
         accesses = accesses ∙ ap (λ k. flow.accesses - k) (sym counted.accesses);
-        from = from;
         last = ap (λ (g : Flow). g.last) same;
         future = ap (λ (g : Flow). g.future) same;
         half = ap (λ (g : Flow). g.half) same;

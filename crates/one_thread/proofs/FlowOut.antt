@@ -29,7 +29,7 @@ use Rattle.one_thread.proofs.Flowing.{completed_less, half_less, path_any, regis
 use Rattle.one_thread.proofs.Futures.{foresees_left, made_value}
 use Rattle.one_thread.proofs.Idle.{Shows}
 use Rattle.one_thread.proofs.Ring.{once_around}
-use Rattle.one_thread.proofs.Reopened.{none_reopened}
+use Rattle.one_thread.proofs.FlowStays.{all_closed}
 use Rattle.one_thread.proofs.Stores.{stores_passed}
 use Rattle.one_thread.proofs.FlowPassed.{IsFilled, answer_by, filled_ended, passed_from, passed_less, passed_runs, passed_shows}
 
@@ -100,7 +100,6 @@ pub record HasLeft (x y : Pipeline) (flow after : Flow) (i : Instr) (c : Complet
   pub completed : after.ring.completed ≡ drop 1 flow.ring.completed
   pub stores : after.ring.stores ≡ stores_behind (station_by i c) flow.ring.stores
   pub accesses : after.accesses ≡ flow.accesses - access_of i
-  pub from : after.from ≡ length after.ring.completed
   pub last : after.last ≡ flow.last
   pub future : after.future ≡ flow.future
   pub half : after.half ≡ flow.half
@@ -194,15 +193,12 @@ module _ (x y : Pipeline) (flow after : Flow) (i : Instr) (c : Completed) (l : H
   left_flow =
       let shows = passed_shows b later w whole first later_is in
       let ring : y.ring ≡ x.ring = ap (λ (p : Pipeline). p.ring) l.rest in
-      let all : after.from ≡ length (window_of y after) = l.from ∙ sym (stations_long y.program.now after.ring.completed) in
       record {
         unit = shows.unit;
         flowing = flows_on;
         last = l.last ∙ flows.last;
         most = omega (arith, ap length rest_is, length-drop 1 W, flows.most, ring);
         two = omega (arith, flows.two, ring);
-        from = omega (arith, all);
-        reopens = none_reopened later after.from all shows.unit;
       }
 
   -- it was one of them
@@ -225,7 +221,7 @@ has_room x y flow after left h d =
 
 -- the next enters the station that was left
 pub has_place : (x y : Pipeline) (flow after : Flow) (left : Option Leaver) → OldestRetired x flow left y after → length flow.ring.completed ≡ x.ring → CanEnter y after →
-    HasPlace y after flow.ring.oldest
+    HasPlace y after (length after.ring.completed) flow.ring.oldest
 has_place x y flow after left d full can =
     let long = stations_long y.program.now after.ring.completed in
     let oldest = flow.ring.oldest in
@@ -238,9 +234,12 @@ has_place x y flow after left d full can =
         before = with_leaver oldest left y;
         flows = d.flows;
         can = record { instr = can.instr; is = can.is; free = can.free; room = can.room };
+        from = length after.ring.completed;
+        reopens = all_closed (in_order (with_leaver oldest left y) after) after (length after.ring.completed) d.flows.flows refl;
         leavers = sym (ap (λ k. slice_set (slice_set y.leavers oldest left) k None) there ∙ set_back y.leavers oldest None left d.untold);
         rest = refl;
       };
+      same = refl;
       small = omega (arith, d.inside, d.flows.flows.unit.ring, d.ring);
       is = sym there ∙ ap (λ n. (after.ring.oldest + n) % y.ring) long ∙ ap (λ r. slot_in r after.ring.oldest (length after.ring.completed)) (sym d.flows.size);
     }

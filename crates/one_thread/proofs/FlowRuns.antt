@@ -1,8 +1,9 @@
--- The next instruction of a flow is let, and is run as far as it comes.
+-- The next instruction of a flow is let, perhaps others behind it, and is run as far as it comes.
 use Rattle.std.proofs.Common.{◌≡◌, ◌<◌, ◌≤◌, ◌^◌, ℕ, ◌+◌, ◌%◌, Bool, true, false, cond, eqb, List, [], ◌∷◌, ◌++◌, length, Option, Some, None, refl, sym, ap, ◌∙◌, subst, arith, eqb-true, length-append}
 use Rattle.std.specs.Prelude.{IfSome, slice_get, slice_index, slice_set}
 use Rattle.instructions.specs.Instruction.{first_of, fixed_next, kind, second_of, width}
 use Rattle.instructions.specs.Operations.{outcome_of}
+use Rattle.instructions.specs.declared.guessing.Leaver.{Leaver}
 use Rattle.instructions.specs.declared.op.Kind.{Kind}
 use Rattle.instructions.specs.declared.op.Kind.TheVariants.{Computes, Jumps, Links, Loads, Stores}
 use Rattle.instructions.specs.declared.stop.Outcome.{Outcome}
@@ -57,17 +58,21 @@ module _ (b : Pipeline) (f : Future) (es : List Entry) (next : Fetched) (predict
   abbrev pub last : Station
   last = let_at next.instr next.half next.pc predicted
 
-  abbrev pub let_fields : Pipeline
-  let_fields = record b { window = b.window ++ last ∷ []; leavers = slice_set b.leavers ((b.oldest + length b.window) % b.ring) None }
+  -- with these behind it
+  abbrev pub let_with : List (Option Leaver) → List Station → Pipeline
+  let_with leavers behind = record b { window = b.window ++ last ∷ behind; leavers = leavers }
 
-  let_unit : StandsForSome let_fields
+  abbrev pub let_fields : Pipeline
+  let_fields = let_with (slice_set b.leavers ((b.oldest + length b.window) % b.ring) None) []
+
+  pub let_unit : StandsForSome let_fields
   let_unit =
       let shows = let_shows b let_fields next predicted h.unit h.goes_on h.can h.small h.fixed refl refl refl in
       shows.unit
 
-  ready : CanClaim let_fields (record { at = length b.window; operands = o })
-  ready =
-      gives_here (operands_in (registers_of b)) b.window [] last
+  ready : (leavers : List (Option Leaver)) (behind : List Station) → CanClaim (let_with leavers behind) (record { at = length b.window; operands = o })
+  ready leavers behind =
+      gives_here (operands_in (registers_of b)) b.window behind last
       ∙ ap (λ x. operands_by (kind next.instr.op) x (source_in (registers_of b) b.window (second_of next.instr))) (h.foresees.values (first_of next.instr) h.first_small ∙ ap Some (sym h.first))
       ∙ ap (operands_by (kind next.instr.op) (Some o.a)) (h.foresees.values (second_of next.instr) h.second_small ∙ ap Some (sym h.second))
       ∙ both_there (kind next.instr.op) o.a o.b
@@ -77,18 +82,25 @@ module _ (b : Pipeline) (f : Future) (es : List Entry) (next : Fetched) (predict
   abbrev ran : Station
   ran = station_after last outcome
 
+  abbrev ran_with : List (Option Leaver) → List Station → Pipeline
+  ran_with leavers behind = record b { window = b.window ++ ran ∷ behind; leavers = leavers; missed = missed_after b.missed (stage_after outcome predicted) }
+
   abbrev ran_fields : Pipeline
-  ran_fields = record let_fields { window = b.window ++ ran ∷ []; missed = missed_after b.missed (stage_after outcome predicted) }
+  ran_fields = ran_with let_fields.leavers []
+
+  ran_behind : (leavers : List (Option Leaver)) (behind : List Station) → StandsForSome (let_with leavers behind) → StandsForSome (ran_with leavers behind)
+  ran_behind leavers behind unit =
+      let at = length b.window in
+      let fields = let_with leavers behind in
+      let there : slice_get fields.window at ≡ Some last = get_end b.window behind last in
+      let set : slice_set fields.window at ran ≡ b.window ++ ran ∷ behind = set_middle b.window behind last ran in
+      let noted = noted_ran (registers_of fields) b.missed b.settled at fields.window last ran o there (ready leavers behind) unit.noted in
+      ran_unit fields (ran_with leavers behind) at last o unit h.goes_on (ready leavers behind) there
+      (sym set ∙ ap (λ x. slice_set fields.window at (station_after last x)) h.comes) refl
+      (subst (AreNoted (missed_after b.missed (stage_after outcome predicted)) b.settled) set noted)
 
   ran_is : StandsForSome ran_fields
-  ran_is =
-      let at = length b.window in
-      let there : slice_get let_fields.window at ≡ Some last = get_end b.window [] last in
-      let set : slice_set let_fields.window at ran ≡ b.window ++ ran ∷ [] = set_middle b.window [] last ran in
-      let noted = noted_ran (registers_of let_fields) b.missed b.settled at let_fields.window last ran o there ready let_unit.noted in
-      ran_unit let_fields ran_fields at last o let_unit h.goes_on ready there
-      (sym set ∙ ap (λ x. slice_set let_fields.window at (station_after last x)) h.comes) refl
-      (subst (AreNoted ran_fields.missed b.settled) set noted)
+  ran_is = ran_behind let_fields.leavers [] let_unit
 
   pub reached_inside : (a : ℕ) → outcome ≡ Address a → a + width next.instr.op ≤ length b.committed.memory
   reached_inside a e =
@@ -103,8 +115,11 @@ module _ (b : Pipeline) (f : Future) (es : List Entry) (next : Fetched) (predict
   abbrev pub left : Station
   left = completed_by last outcome value
 
+  abbrev pub entered_with : List (Option Leaver) → Station → Pipeline
+  entered_with leavers z = record b { window = b.window ++ z ∷ []; leavers = leavers; missed = false }
+
   abbrev pub entered_fields : Station → Pipeline
-  entered_fields z = record let_fields { window = b.window ++ z ∷ []; missed = false }
+  entered_fields z = entered_with let_fields.leavers z
 
   as_ran : (z : Station) → z ≡ ran → missed_after b.missed (stage_after outcome predicted) ≡ b.missed → StandsForSome (entered_fields z)
   as_ran z same missed =
@@ -117,25 +132,36 @@ module _ (b : Pipeline) (f : Future) (es : List Entry) (next : Fetched) (predict
       noted_more false b.settled b.window z (ap Rattle.one_thread.specs.Window.miss_of done)
       (subst (λ m. AreNoted m b.settled b.window) h.missed h.unit.noted)
 
-  mended : (x : ℕ) → ran ≡ record last { stage = Miss x } → StandsForSome (entered_fields (record last { stage = Done; next = x }))
-  mended x is =
+  mended_with : (leavers : List (Option Leaver)) (behind : List Station) → StandsForSome (let_with leavers behind) → (x : ℕ) → ran ≡ record last { stage = Miss x } →
+      StandsForSome (entered_with leavers (record last { stage = Done; next = x }))
+  mended_with leavers behind unit x is =
       let W = b.window in
-      let all : ran_fields.window ≡ W ++ ran ∷ [] = refl in
-      let to : RecoversTo ran_fields.window (W ++ record last { stage = Done; next = x } ∷ []) =
+      let to : RecoversTo (W ++ ran ∷ behind) (W ++ record last { stage = Done; next = x } ∷ []) =
       record {
         i = length W;
         w = record last { stage = Miss x };
         x = x;
         first = record {
-          inside = omega (arith, length-append W (ran ∷ []));
-          here = ap (λ y. gives miss_in (W ++ y ∷ []) (length W)) is ∙ gives_here miss_in W [] (record last { stage = Miss x });
-          first = λ k l. miss_gives (W ++ ran ∷ []) k ∙ ap Rattle.one_thread.proofs.Noted.miss_at (get_left W (ran ∷ []) k l) ∙ sym (miss_gives W k) ∙ completed_no_miss W h.completed k l;
+          inside = omega (arith, length-append W (ran ∷ behind));
+          here = ap (λ y. gives miss_in (W ++ y ∷ behind) (length W)) is ∙ gives_here miss_in W behind (record last { stage = Miss x });
+          first = λ k l. miss_gives (W ++ ran ∷ behind) k ∙ ap Rattle.one_thread.proofs.Noted.miss_at (get_left W (ran ∷ behind) k l) ∙ sym (miss_gives W k)
+              ∙ completed_no_miss W h.completed k l;
         };
-        is = get_end W [] ran ∙ ap Some is;
-        new = ap (λ l. l ++ record last { stage = Done; next = x } ∷ []) (sym (take_middle W (ran ∷ [])));
+        is = get_end W behind ran ∙ ap Some is;
+        new = ap (λ l. l ++ record last { stage = Done; next = x } ∷ []) (sym (take_middle W (ran ∷ behind)));
       } in
-      let shows = recovered_shows ran_fields (entered_fields (record last { stage = Done; next = x })) ran_is h.goes_on to refl (noted_last (record last { stage = Done; next = x }) refl) in
+      let shows = recovered_shows (ran_with leavers behind) (entered_with leavers (record last { stage = Done; next = x })) (ran_behind leavers behind unit) h.goes_on to refl
+      (noted_last (record last { stage = Done; next = x }) refl) in
       shows.unit
+
+  -- where it is a miss, what was let behind it is squashed
+
+  away : (x : ℕ) → outcome ≡ Next x → eqb x predicted ≡ false → ran ≡ record last { stage = Miss x }
+  away x e q = ap (station_after last) e ∙ ap (λ t. record last { stage = cond t Done (Miss x) }) q
+
+  pub missed_unit : (leavers : List (Option Leaver)) (behind : List Station) → StandsForSome (let_with leavers behind) → (x : ℕ) → outcome ≡ Next x → eqb x predicted ≡ false →
+      StandsForSome (entered_with leavers (record last { stage = Done; next = x }))
+  missed_unit leavers behind unit x e q = mended_with leavers behind unit x (away x e q)
 
   loads : (a v : ℕ) → outcome ≡ Address a → kind next.instr.op ≡ Loads → value_by (answer_over es a (width next.instr.op)) b.committed.memory next.instr.op a ≡ Some v →
       StandsForSome (entered_fields (further_on last Done (Some v)))
@@ -171,7 +197,7 @@ module _ (b : Pipeline) (f : Future) (es : List Entry) (next : Fetched) (predict
           as_ran (record last { stage = Done; next = x })
           (ap (λ n. record last { stage = Done; next = n }) (eqb-true x predicted q) ∙ sym (ap (λ t. record last { stage = cond t Done (Miss x) }) q) ∙ sym (ap (station_after last) e))
           (ap (λ x. missed_after b.missed (stage_after x predicted)) e ∙ ap (λ t. missed_after b.missed (cond t Done (Miss x))) q)
-      by false q = mended x (ap (station_after last) e ∙ ap (λ t. record last { stage = cond t Done (Miss x) }) q)
+      by false q = missed_unit let_fields.leavers [] let_unit x e q
   entered (Address a) e = by (kind next.instr.op) refl
     where
       plain : StandsForSome (entered_fields (station_after last (Address a)))

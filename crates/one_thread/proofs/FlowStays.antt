@@ -5,7 +5,7 @@ use Rattle.std.specs.Prelude.{slice_get}
 use Rattle.instructions.specs.declared.instr.Instr.{Instr}
 use Rattle.instructions.specs.Programs.{instr_at}
 use Rattle.one_thread.specs.Changes.{registers_of}
-use Rattle.one_thread.specs.Flow.{CanRestore, Flows, IsFlow, IsFlowing, IsStuck, filled, window_of, with_last}
+use Rattle.one_thread.specs.Flow.{CanRestore, Flows, IsFlow, IsFlowing, IsStuck, Reopens, filled, window_of, with_last}
 use Rattle.one_thread.specs.Notes.{AreNoted}
 use Rattle.one_thread.specs.Reopened.{as_let, reopened, with_reopened}
 use Rattle.one_thread.specs.Stages.{NoRoom, QueueFull}
@@ -52,13 +52,9 @@ put_back n i W w z there older younger =
 
 -- All are
 
-pub begun : (b : Pipeline) (flow : Flow) (n : ℕ) → StandsForSome b → 2 ≤ b.ring → length b.window ≤ b.ring → IsFlowing b flow → window_of b flow ≡ b.window → flow.last ≡ None →
-    n ≡ length flow.ring.completed →
-    IsFlow b (record flow { from = n })
-begun b flow n h two most flows is last all =
+pub begun : (b : Pipeline) (flow : Flow) → StandsForSome b → 2 ≤ b.ring → length b.window ≤ b.ring → IsFlowing b flow → window_of b flow ≡ b.window → flow.last ≡ None → IsFlow b flow
+begun b flow h two most flows is last =
     let W = window_of b flow in
-    let long = stations_long b.program.now flow.ring.completed in
-    let same : n ≡ length W = all ∙ sym long in
     let unit : StandsForSome (filled b W) =
     subst StandsForSome (sym (ap (filled b) is))
     (noted_unit b false 0 h
@@ -68,12 +64,10 @@ begun b flow n h two most flows is last all =
     })) in
     record {
       unit = unit;
-      flowing = record { goes_on = flows.goes_on; there = flows.there; completed = flows.completed; foresees = flows.foresees; half = flows.half; stores = flows.stores; accesses = flows.accesses };
+      flowing = flows;
       last = last;
       most = omega (arith, ap length is, most);
       two = two;
-      from = omega (arith, same);
-      reopens = none_reopened (filled b W) n same unit;
     }
 
 -- Nothing can enter
@@ -94,14 +88,22 @@ no_place b flow i h is reaches full =
 
 -- What a flow leaves
 
-pub can_restore : (b : Pipeline) (flow : Flow) → IsFlow b flow → CanRestore b flow
-can_restore b flow h =
+pub can_restore : (b : Pipeline) (flow : Flow) (n : ℕ) → IsFlow b flow → Reopens b flow n → CanRestore b flow n
+can_restore b flow n h reopens =
     let W = window_of b flow in
     record {
-      unit = subst StandsForSome (sym (ap (λ o. record b { window = with_last (reopened flow.from W) o; missed = false; settled = flow.from }) h.last))
-          (noted_unit (with_reopened flow.from (filled b W)) false flow.from h.reopens
-          (record { no_miss = h.reopens.noted.no_miss; are_settled = older_settled flow.from W h.from h.flowing.completed }));
+      unit = subst StandsForSome (sym (ap (λ o. record b { window = with_last (reopened n W) o; missed = false; settled = n }) h.last))
+          (noted_unit (with_reopened n (filled b W)) false n reopens.unit
+          (record { no_miss = reopens.unit.noted.no_miss; are_settled = older_settled n W reopens.inside h.flowing.completed }));
       there = h.flowing.there;
       all = h.flowing.foresees.all;
       room = λ w e. absurd (cc (e, h.last));
     }
+
+-- Where all have completed for good, they are as they are
+
+pub all_closed : (b : Pipeline) (flow : Flow) (n : ℕ) → IsFlow b flow → n ≡ length flow.ring.completed → Reopens b flow n
+all_closed b flow n h all =
+    let W = window_of b flow in
+    let same : n ≡ length W = all ∙ sym (stations_long b.program.now flow.ring.completed) in
+    record { inside = omega (arith, same); unit = none_reopened (filled b W) n same h.unit }

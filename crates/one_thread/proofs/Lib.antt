@@ -53,8 +53,9 @@ pub mod FlowRuns
 pub mod FlowJoins
 pub mod StoresKnown
 pub mod FlowKept
-pub mod FlowLast
+pub mod LetAstray
 pub mod FlowIn
+pub mod FlowEnters
 pub mod FlowPassed
 pub mod FlowOut
 pub mod FlowLeft

@@ -1,5 +1,5 @@
 -- The flow: how the next instruction enters it and completes.
-use Rattle.std.specs.Prelude.{⊤, ◌≡◌, ◌≢◌, ◌≤◌, ◌<◌, ℕ, ◌+◌, ◌%◌, Bool, true, false, List, [], ◌∷◌, ◌++◌, length, Option, Some, None, is_some, slice_get, slice_set}
+use Rattle.std.specs.Prelude.{⊤, ◌≡◌, ◌≢◌, ◌≤◌, ◌<◌, ℕ, ◌+◌, ◌-◌, ◌%◌, Bool, true, false, List, [], ◌∷◌, ◌++◌, length, Option, Some, None, is_some, slice_get, slice_set}
 use Rattle.instructions.specs.Instruction.{is_first_half, kind, width}
 use Rattle.instructions.specs.Operations.{outcome_of}
 use Rattle.instructions.specs.Programs.{Program, instr_at}
@@ -88,15 +88,23 @@ pub record IsFlowing (b : Pipeline) (flow : Flow) : Type 0 where
   pub stores : flow.ring.stores ≡ stores (registers_of b) (window_of b flow) (length (window_of b flow))
   pub accesses : flow.accesses ≡ accesses (window_of b flow) (length (window_of b flow))
 
--- A flow stands for the window. All but its oldest `from` can also be taken to be let alone
+-- A flow stands for the window
 pub record IsFlow (b : Pipeline) (flow : Flow) : Type 0 where
   pub unit : StandsForSome (filled b (window_of b flow))
   pub flowing : IsFlowing b flow
   pub last : flow.last ≡ None
   pub most : length (window_of b flow) ≤ b.ring
   pub two : 2 ≤ b.ring
-  pub from : flow.from ≤ length (window_of b flow)
-  pub reopens : StandsForSome (with_reopened flow.from (filled b (window_of b flow)))
+
+-- All but its oldest n can also be taken to be let alone
+pub record Reopens (b : Pipeline) (flow : Flow) (n : ℕ) : Type 0 where
+  pub inside : n ≤ length (window_of b flow)
+  pub unit : StandsForSome (with_reopened n (filled b (window_of b flow)))
+
+-- and also once another has joined, unless that was a miss
+abbrev pub StaysOpen : Pipeline → Flow → ℕ → Type 0
+StaysOpen b flow n =
+    (c : Completed) → slice_get flow.ring.completed (length flow.ring.completed - 1) ≡ Some c → c.next ≡ c.predicted → Reopens b flow n
 
 -- The fields of a unit in a flow: its registers are those that the oldest instruction found, and the flow knows where
 -- that stands
@@ -131,13 +139,16 @@ pub record IsPlaced (b : Pipeline) (flow : Flow) : Type 0 where
   pub before : Pipeline
   pub flows : Flows before flow
   pub can : CanEnter before flow
+  pub from : ℕ
+  pub reopens : Reopens (in_order before flow) flow from
   pub leavers :
       b.leavers ≡ slice_set before.leavers ((flow.ring.oldest + length (window_of before flow)) % before.ring) None
   pub rest : b ≡ record before { leavers = b.leavers }
 
--- and this is its station
-pub record HasPlace (b : Pipeline) (flow : Flow) (station : ℕ) : Type 0 where
+-- This is its station, and all but the oldest n can also be taken to be let alone
+pub record HasPlace (b : Pipeline) (flow : Flow) (n station : ℕ) : Type 0 where
   pub placed : IsPlaced b flow
+  pub same : placed.from ≡ n
   pub small : station < 32
   pub is : station ≡ slot_in flow.ring.size flow.ring.oldest (length flow.ring.completed)
 
@@ -169,11 +180,6 @@ completed_as flow predicted d leaves kept =
 abbrev pub enters_as : Flow → Instr → ℕ → Station
 enters_as flow i predicted = let_at i flow.half flow.future.pc predicted
 
--- Nothing can be let behind the next instruction, as that is let
-abbrev pub IsLast : Pipeline → Flow → Instr → ℕ → Type 0
-IsLast b flow i predicted =
-    CannotLet b.program.now b.ring b.queue b.committed.pc (window_of b flow ++ enters_as flow i predicted ∷ [])
-
 -- Its outcome
 abbrev pub outcome_in : Pipeline → Flow → Instr → Operands → Outcome
 outcome_in b flow i o = outcome_of i flow.half flow.future.pc o.a o.b (length b.program.now.bytes)
@@ -195,23 +201,23 @@ abbrev pub with_last : List Station → Option Station → List Station
 with_last W None = W
 with_last W (Some w) = W ++ w ∷ []
 
--- The fields that a flow leaves
-abbrev pub restored : Pipeline → Flow → Pipeline
-restored b flow =
+-- The fields that a flow leaves, in which all but the oldest n are as they were let
+abbrev pub restored : Pipeline → Flow → ℕ → Pipeline
+restored b flow n =
     record b {
-      window = with_last (reopened flow.from (window_of b flow)) flow.last;
+      window = with_last (reopened n (window_of b flow)) flow.last;
       missed = false;
-      settled = flow.from;
+      settled = n;
     }
 
 -- They are those of some unit
-pub record CanRestore (b : Pipeline) (flow : Flow) : Type 0 where
-  pub unit : StandsForSome (restored b flow)
+pub record CanRestore (b : Pipeline) (flow : Flow) (n : ℕ) : Type 0 where
+  pub unit : StandsForSome (restored b flow n)
   pub there : AreThere b.program.now flow.ring.completed
   pub all : length flow.future.values ≡ 34
   pub room : (w : Station) → flow.last ≡ Some w → length flow.ring.completed < 32
 
 -- An instruction has entered, and has completed or is left as it was let
-abbrev pub HasEntered : Pipeline → Flow → Bool → Type 0
-HasEntered b flow true = Flows b flow
-HasEntered b flow false = CanRestore (in_order b flow) flow
+abbrev pub HasEntered : Pipeline → Flow → ℕ → Bool → Type 0
+HasEntered b flow n true = Flows b flow
+HasEntered b flow n false = CanRestore (in_order b flow) flow n

@@ -24,5 +24,6 @@ pub mod CompletedRing
 pub mod Kept
 pub mod Futures
 pub mod Reopened
+pub mod Astray
 pub mod Flow
 pub mod Departing

@@ -1,6 +1,7 @@
 //! Completed instructions in a ring of slots, and the stores among them.
-ghost use Rattle.std.specs.Prelude.{◌≡◌, ◌<◌, ◌≤◌, [], ◌∷◌, ◌++◌, length, drop, slice_get, Some};
+ghost use Rattle.std.specs.Prelude.{◌≡◌, ◌<◌, ◌≤◌, [], ◌∷◌, ◌-◌, ◌++◌, length, IsFalse, drop, slice_get, Some};
 ghost use Rattle.one_thread.specs.Slots.{slot_in};
+ghost use Rattle.one_thread.specs.declared.completed_ring.Completed.{Completed as TheCompleted};
 
 use crate::places::next_station;
 use arrayvec::ArrayVec;
@@ -156,6 +157,27 @@ impl CompletedRing {
         ensures { slice_get self.now.completed i ≡ Some result }
     {
         self.slots[self.station_at(i)]
+    }
+
+    /// Whether the youngest instruction was a miss.
+    pub fn is_mended(&self) -> bool
+        requires { 0 < length self.now.completed }
+        ensures { IsFalse result → (c : TheCompleted) →
+            slice_get self.now.completed (length self.now.completed - 1) ≡ Some c →
+            c.next ≡ c.predicted }
+    {
+        let youngest = self.get(self.len - 1);
+        youngest.next != youngest.predicted
+    }
+
+    /// Whether a load has joined among the instructions from `i` on.
+    #[cold]
+    #[inline(never)]
+    pub fn has_load_behind(&self, i: usize) -> bool {
+        (i..self.len).any(|at| matches!(
+            self.slots[wrapped(self.oldest + at, self.size)].leaves,
+            Leaves::Load
+        ))
     }
 
     /// The oldest instruction.

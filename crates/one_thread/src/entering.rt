@@ -1,31 +1,17 @@
 //! An instruction enters a flow: it is let, and runs as far as it comes.
-ghost use Rattle.std.specs.Prelude.{⊤, ◌≡◌, ◌<◌, suc, length, slice_get, slice_set, IsFalse, IsTrue, None, Some};
+ghost use Rattle.std.specs.Prelude.{◌≡◌, ◌<◌, suc, length, IsFalse, IsTrue, Some};
 ghost use Rattle.instructions.specs.declared.op.Half.TheVariants.{Low};
 ghost use Rattle.one_thread.specs.Decoding.{HasInstr, IsDecoded, IsWhole};
-ghost use Rattle.one_thread.specs.Flow.{CanEnter, Flows, HasEntered, HasPlace, IsLast, IsPlaced, Upcoming, enters_as, in_order};
+ghost use Rattle.one_thread.specs.Flow.{CanEnter, Flows, HasEntered, HasPlace, Reopens, StaysOpen, Upcoming, enters_as, in_order};
 ghost use Rattle.one_thread.specs.Givers.{Chosen};
 
-use crate::decoded::{Decoded, access};
+use crate::decoded::Decoded;
 use crate::fetch::{fetch, fetch_known};
 use crate::flow::Flow;
-use crate::leaver::guess_behind;
+use crate::leaver::{guess_behind, take_leaver};
 use crate::pipeline::Pipeline;
 use crate::station::{Stage, Station, made_at_let};
 use instructions::{Half, Leaver, Predictor};
-
-// Who has left a station, if the predictor is told of it: it is told once.
-#[inline(always)]
-fn take_leaver(leavers: &mut [Option<Leaver>; 32], station: usize) -> Option<Leaver>
-    requires { station < length leavers.old }
-    ensures is { slice_get leavers.old station ≡ Some result }
-    ensures none { leavers.new ≡ slice_set leavers.old station None }
-{
-    let left = leavers[station];
-    if left.is_some() {
-        leavers[station] = None;
-    }
-    left
-}
 
 impl<'a> Pipeline<'a> {
     // The next instruction is left as it was let.
@@ -49,36 +35,10 @@ impl<'a> Pipeline<'a> {
         });
     }
 
-    // Nothing can be let behind the next instruction, since there is no instruction, or the queue is full.
-    #[cold]
-    #[inline(never)]
-    fn is_last_let(&self, flow: &Flow, instr: &Decoded, predicted: u32) -> bool
-        requires place { IsPlaced self.now flow.now }
-        ensures { IsTrue result → IsLast self.now flow.now instr.now predicted }
-    {
-        let Some(next) = fetch(self.code.as_slice(), predicted) else {
-            return true;
-        };
-        if next.is_access() && self.queue <= flow.accesses + access(instr) {
-            return true;
-        }
-        false
-    }
-
-    // The next instruction is let alone, and nothing can be let behind it, where it was predicted.
+    // The next instruction is let alone, and fills the ring: nothing is let behind it.
     #[inline(always)]
-    fn is_alone(&self, flow: &Flow, instr: &Decoded, predicted: u32) -> bool
-        requires place { IsPlaced self.now flow.now }
-        ensures from { IsTrue result → flow.now.from ≡ length flow.now.ring.completed }
-        ensures last { IsTrue result → IsLast self.now flow.now instr.now predicted }
-    {
-        if flow.from != flow.ring.len() {
-            return false;
-        }
-        if flow.ring.len() + 1 == self.ring {
-            return true;
-        }
-        self.is_last_let(flow, instr, predicted)
+    fn is_alone(&self, flow: &Flow, from: usize) -> bool {
+        flow.ring.len() == from && from + 1 == self.ring
     }
 
     /// Whether the next instruction can enter, if there is one; else nothing can be done before the oldest leaves.
@@ -97,25 +57,29 @@ impl<'a> Pipeline<'a> {
     }
 
     // Lets the next instruction, and runs it as far as it comes. Answers whether it has completed: else it is left as it
-    // was let. A miss is mended where no other was let with it and nothing can be let behind it. Where it is `plain`, it
-    // computes one value.
+    // was let. All but the oldest `from` were let in a row with it: a miss is mended unless a load is among these, whose
+    // value may be there only once a younger instruction was claimed. Where it is `plain`, it computes one value.
     #[inline(always)]
     fn runs_next<P: Predictor>(
-        &self,
+        &mut self,
         predictor: &mut P,
         flow: &mut Flow,
         left: Option<Leaver>,
         station: usize,
+        from: usize,
         half: Half,
         plain: bool,
     ) -> bool
-        requires place { HasPlace self.now flow.old station }
+        requires place { HasPlace self.old flow.old from station }
         requires half { half ≡ flow.old.half }
         requires first { IsTrue plain → half ≡ Low }
-        ensures entered { HasEntered self.now flow.new result }
-        ensures longer { Chosen result (length flow.new.ring.completed ≡
-            suc (length flow.old.ring.completed)) ⊤ }
-        ensures order { in_order self.now flow.new ≡ in_order self.now flow.old }
+        ensures entered { HasEntered self.new flow.new from result }
+        ensures reopens { IsTrue result → StaysOpen (in_order self.new flow.new) flow.new from }
+        ensures longer { Chosen result
+            (length flow.new.ring.completed ≡ suc (length flow.old.ring.completed))
+            (length flow.new.ring.completed ≡ length flow.old.ring.completed) }
+        ensures order { in_order self.new flow.new ≡ in_order self.new flow.old }
+        ensures rest { self.new ≡ record self.old { leavers = self.new.leavers } }
     {
         let pc = flow.future.pc;
         let instr = fetch_known(self.code.as_slice(), pc);
@@ -126,16 +90,16 @@ impl<'a> Pipeline<'a> {
             Self::stays(flow, instr, predicted);
             return false;
         };
-        let is_miss = done.next != predicted;
-        if is_miss && !self.is_alone(flow, instr, predicted) {
-            Self::stays(flow, instr, predicted);
-            return false;
+        if done.next != predicted && !self.is_alone(flow, from) {
+            if flow.ring.has_load_behind(from) {
+                Self::stays(flow, instr, predicted);
+                return false;
+            }
+            self.mends(predictor, flow, predicted, done, operands.b);
+            return true;
         }
         let completed = flow.completed(instr, half, predicted, done, operands.b, plain);
         flow.joins(station, instr, completed, operands.b, plain);
-        if is_miss {
-            flow.from = flow.ring.len();
-        }
         true
     }
 
@@ -143,20 +107,24 @@ impl<'a> Pipeline<'a> {
     #[cold]
     #[inline(never)]
     fn runs_half<P: Predictor>(
-        &self,
+        &mut self,
         predictor: &mut P,
         flow: &mut Flow,
         left: Option<Leaver>,
         station: usize,
+        from: usize,
     ) -> bool
-        requires { HasPlace self.now flow.old station }
-        ensures entered { HasEntered self.now flow.new result }
-        ensures longer { Chosen result (length flow.new.ring.completed ≡
-            suc (length flow.old.ring.completed)) ⊤ }
-        ensures order { in_order self.now flow.new ≡ in_order self.now flow.old }
+        requires { HasPlace self.old flow.old from station }
+        ensures entered { HasEntered self.new flow.new from result }
+        ensures reopens { IsTrue result → StaysOpen (in_order self.new flow.new) flow.new from }
+        ensures longer { Chosen result
+            (length flow.new.ring.completed ≡ suc (length flow.old.ring.completed))
+            (length flow.new.ring.completed ≡ length flow.old.ring.completed) }
+        ensures order { in_order self.new flow.new ≡ in_order self.new flow.old }
+        ensures rest { self.new ≡ record self.old { leavers = self.new.leavers } }
     {
         let half = flow.half;
-        self.runs_next(predictor, flow, left, station, half, false)
+        self.runs_next(predictor, flow, left, station, from, half, false)
     }
 
     // Whether the next instruction is half of a pair.
@@ -197,44 +165,57 @@ impl<'a> Pipeline<'a> {
     }
 
     /// Lets the next instruction, and runs it as far as it comes, where the predictor is to be told of who has left its
-    /// station, which is this one. Answers whether it has completed. One that computes a value takes a way of its own,
-    /// compiled apart.
+    /// station, which is this one, and all but the oldest `from` were let in a row with it. Answers whether it has
+    /// completed. One that computes a value takes a way of its own, compiled apart.
     #[inline(always)]
     pub fn enters_behind<P: Predictor>(
-        &self,
+        &mut self,
         predictor: &mut P,
         flow: &mut Flow,
         left: Option<Leaver>,
         station: usize,
+        from: usize,
     ) -> bool
-        requires { HasPlace self.now flow.old station }
-        ensures entered { HasEntered self.now flow.new result }
-        ensures longer { Chosen result (length flow.new.ring.completed ≡
-            suc (length flow.old.ring.completed)) ⊤ }
-        ensures order { in_order self.now flow.new ≡ in_order self.now flow.old }
+        requires { HasPlace self.old flow.old from station }
+        ensures entered { HasEntered self.new flow.new from result }
+        ensures reopens { IsTrue result → StaysOpen (in_order self.new flow.new) flow.new from }
+        ensures longer { Chosen result
+            (length flow.new.ring.completed ≡ suc (length flow.old.ring.completed))
+            (length flow.new.ring.completed ≡ length flow.old.ring.completed) }
+        ensures order { in_order self.new flow.new ≡ in_order self.new flow.old }
+        ensures rest { self.new ≡ record self.old { leavers = self.new.leavers } }
     {
         if self.is_plain(flow) {
-            return self.runs_next(predictor, flow, left, station, Half::Low, true);
+            return self.runs_next(predictor, flow, left, station, from, Half::Low, true);
         }
         if self.is_half(flow) {
-            return self.runs_half(predictor, flow, left, station);
+            return self.runs_half(predictor, flow, left, station, from);
         }
-        self.runs_next(predictor, flow, left, station, Half::Low, false)
+        self.runs_next(predictor, flow, left, station, from, Half::Low, false)
     }
 
-    /// Lets the next instruction, and runs it as far as it comes. Answers whether it has completed.
+    /// Lets the next instruction, and runs it as far as it comes, where all but the oldest `from` were let in a row with
+    /// it. Answers whether it has completed.
     #[inline(always)]
-    pub fn enters_flow<P: Predictor>(&mut self, predictor: &mut P, flow: &mut Flow) -> bool
+    pub fn enters_flow<P: Predictor>(
+        &mut self,
+        predictor: &mut P,
+        flow: &mut Flow,
+        from: usize,
+    ) -> bool
         requires flow { Flows self.old flow.old }
+        requires reopens { Reopens (in_order self.old flow.old) flow.old from }
         requires can { CanEnter self.old flow.old }
-        ensures entered { HasEntered self.new flow.new result }
-        ensures longer { Chosen result (length flow.new.ring.completed ≡
-            suc (length flow.old.ring.completed)) ⊤ }
+        ensures entered { HasEntered self.new flow.new from result }
+        ensures reopens { IsTrue result → StaysOpen (in_order self.new flow.new) flow.new from }
+        ensures longer { Chosen result
+            (length flow.new.ring.completed ≡ suc (length flow.old.ring.completed))
+            (length flow.new.ring.completed ≡ length flow.old.ring.completed) }
         ensures order { in_order self.new flow.new ≡ in_order self.new flow.old }
         ensures rest { self.new ≡ record self.old { leavers = self.new.leavers } }
     {
         let station = flow.ring.station_at(flow.ring.len());
         let left = take_leaver(&mut self.leavers, station);
-        self.enters_behind(predictor, flow, left, station)
+        self.enters_behind(predictor, flow, left, station, from)
     }
 }

@@ -29,9 +29,6 @@ pub struct Flow {
     pub half: Half,
     /// How many of its instructions reach memory.
     pub accesses: usize,
-    /// How many were completed when an instruction last left. Those behind them were let in a row, and may be again as
-    /// they were let.
-    pub from: usize,
     /// The station of the last instruction that was let, if it is left as it was let.
     pub last: Option<Station>,
     /// What LO is committed to hold, where what a first half has made waits for it.
@@ -117,7 +114,6 @@ impl Flow {
             (station_by instr.now completed).made completed.next self.new.future }
         ensures half { self.new.half ≡ half_after (is_first_half instr.now.op completed.half) }
         ensures accesses { self.new.accesses ≡ self.old.accesses + access_of instr.now }
-        ensures from { self.new.from ≡ self.old.from }
         ensures last { self.new.last ≡ self.old.last }
         ensures held { self.new.held ≡ self.old.held }
     {
@@ -136,8 +132,7 @@ impl Flow {
         }
     }
 
-    /// The oldest instruction leaves, without its entry, where it counts for so many accesses: those behind it have
-    /// completed for good.
+    /// The oldest instruction leaves, without its entry, where it counts for so many accesses.
     #[inline(always)]
     pub fn leaves(&mut self, accesses: usize)
         requires some { 0 < length self.old.ring.completed }
@@ -147,15 +142,12 @@ impl Flow {
           oldest = slot_in self.old.ring.size self.old.ring.oldest 1;
         } }
         ensures accesses { self.new.accesses ≡ self.old.accesses - accesses }
-        ensures from { self.new.from ≡ length self.new.ring.completed }
         ensures rest { self.new ≡ record self.old {
           ring = self.new.ring;
           accesses = self.new.accesses;
-          from = self.new.from;
         } }
     {
         self.accesses -= accesses;
         self.ring.shift();
-        self.from = self.ring.len();
     }
 }

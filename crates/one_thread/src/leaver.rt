@@ -1,5 +1,5 @@
 //! Who has left a station, for the predictor.
-ghost use Rattle.std.specs.Prelude.{◌≡◌, IsTrue, Some};
+ghost use Rattle.std.specs.Prelude.{◌≡◌, ◌<◌, length, slice_get, slice_set, IsTrue, None, Some};
 ghost use Rattle.instructions.specs.Guesses.{Guesses};
 ghost use Rattle.instructions.specs.Instruction.{fixed_next, pc_plus_4 as pc_plus_4_of};
 ghost use Rattle.one_thread.specs.Leavers.{leaver_by, told_at};
@@ -24,6 +24,20 @@ pub fn told_of(station: &Station) -> Option<Leaver>
     ensures { result ≡ told_at station.now }
 {
     leaver_of(&station.instr, station.half, station.pc, station.next)
+}
+
+/// Who has left a station, if the predictor is told of it: it is told once.
+#[inline(always)]
+pub fn take_leaver(leavers: &mut [Option<Leaver>; 32], station: usize) -> Option<Leaver>
+    requires { station < length leavers.old }
+    ensures is { slice_get leavers.old station ≡ Some result }
+    ensures none { leavers.new ≡ slice_set leavers.old station None }
+{
+    let left = leavers[station];
+    if left.is_some() {
+        leavers[station] = None;
+    }
+    left
 }
 
 /// Asks a predictor where an instruction goes on, unless that is fixed, once it was told of who has left.

@@ -2,6 +2,7 @@
 #![tactic(auto)]
 
 mod ahead;
+mod astray;
 mod bench;
 mod choices;
 mod chooser;

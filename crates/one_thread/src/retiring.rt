@@ -119,13 +119,11 @@ pub fn retire(
       oldest = slot_in flow.old.ring.size flow.old.ring.oldest 1;
     } }
     ensures accesses { flow.new.accesses ≡ flow.old.accesses - access_of instr.now }
-    ensures from { flow.new.from ≡ length flow.new.ring.completed }
     ensures held { flow.new.held ≡ held_by (is_first_half instr.now.op oldest.now.half)
         oldest.now.kept flow.old.held }
     ensures rest { flow.new ≡ record flow.old {
       ring = flow.new.ring;
       accesses = flow.new.accesses;
-      from = flow.new.from;
       held = flow.new.held;
     } }
     ensures committed { committed.new ≡ passed_by (is_first_half instr.now.op oldest.now.half)
@@ -149,11 +147,9 @@ pub fn retire_counted(committed: &mut Committed, flow: &mut Flow, accesses: usiz
       oldest = slot_in flow.old.ring.size flow.old.ring.oldest 1;
     } }
     ensures accesses { flow.new.accesses ≡ flow.old.accesses - accesses }
-    ensures from { flow.new.from ≡ length flow.new.ring.completed }
     ensures rest { flow.new ≡ record flow.old {
       ring = flow.new.ring;
       accesses = flow.new.accesses;
-      from = flow.new.from;
     } }
     ensures committed { committed.new ≡ record committed.old {
       pc = next;

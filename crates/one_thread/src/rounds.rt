@@ -10,13 +10,14 @@ use crate::retire::leave_untold;
 use instructions::Predictor;
 
 impl<'a> Pipeline<'a> {
-    // As long as the ring is full and the count has not reached a limit, the oldest leaves and the next enters its
-    // station. Answers whether each has completed.
+    // The ring is full: as long as the count has not reached a limit and the next can enter, the oldest leaves and the
+    // next enters its station. Answers whether each has completed.
     #[inline(always)]
     fn rounds<P: Predictor>(&mut self, predictor: &mut P, flow: &mut Flow, limit: u64) -> bool
         requires flow { Flows self.old flow.old }
+        requires full { length flow.old.ring.completed ≡ self.old.ring }
         requires below { self.old.committed.count < limit }
-        ensures entered { HasEntered self.new flow.new result }
+        ensures entered { HasEntered self.new flow.new (length flow.new.ring.completed) result }
         ensures room { Chosen result (length flow.new.ring.completed < self.new.ring) ⊤ }
         ensures code { self.new.code ≡ self.old.code }
         ensures program { self.new.program ≡ self.old.program }
@@ -24,9 +25,6 @@ impl<'a> Pipeline<'a> {
         ensures ends { run_in self.new flow.new limit ≡ run_in self.old flow.old limit }
         ensures less { ahead_to limit self.new flow.new ≤ ahead_to limit self.old flow.old }
     {
-        if flow.ring.len() != self.ring {
-            return true;
-        }
         loop {
             let station = flow.ring.station();
             let left = self.departs(flow);
@@ -34,38 +32,48 @@ impl<'a> Pipeline<'a> {
                 leave_untold(&mut self.leavers, station, left);
                 return true;
             }
-            if !self.enters_behind(predictor, flow, left, station) {
+            let from = flow.ring.len();
+            if !self.enters_behind(predictor, flow, left, station, from) {
                 return false;
             }
         }
     }
 
     /// Lets instructions enter a flow, and the oldest leave it, as long as each completes and the count has not
-    /// reached a limit.
+    /// reached a limit. Answers how many of the oldest have completed for good: those behind them were let in a row with
+    /// the last one, and can be taken to be let alone.
     #[inline(always)]
-    pub fn flows<P: Predictor>(&mut self, predictor: &mut P, flow: &mut Flow, limit: u64)
+    pub fn flows<P: Predictor>(&mut self, predictor: &mut P, flow: &mut Flow, limit: u64) -> usize
         requires flow { Flows self.old flow.old }
         requires room { length flow.old.ring.completed < self.old.ring }
-        ensures flow { CanRestore (in_order self.new flow.new) flow.new }
+        ensures flow { CanRestore (in_order self.new flow.new) flow.new result }
         ensures code { self.new.code ≡ self.old.code }
         ensures program { self.new.program ≡ self.old.program }
         ensures more { self.old.committed.count ≤ self.new.committed.count }
         ensures ends { run_in self.new flow.new limit ≡ run_in self.old flow.old limit }
     {
+        let mut from = flow.ring.len();
         while self.committed.count() < limit {
             let Some(fits) = self.upcoming(flow) else {
-                return;
+                return from;
             };
             if !fits {
                 self.leaves_flow(flow);
+                from = flow.ring.len();
                 continue;
             }
-            if !self.enters_flow(predictor, flow) {
-                return;
+            if !self.enters_flow(predictor, flow, from) {
+                return from;
             }
-            if !self.rounds(predictor, flow, limit) {
-                return;
+            if flow.ring.len() == self.ring {
+                if !self.rounds(predictor, flow, limit) {
+                    return flow.ring.len();
+                }
+                from = flow.ring.len();
+            } else if flow.ring.is_mended() {
+                from = flow.ring.len();
             }
         }
+        from
     }
 }

@@ -3,10 +3,11 @@
 //!
 //! Nearly always one station is free, so that one instruction more fills the ring. That is the only one that can be
 //! claimed, and what it comes to stands before anything else is let: a miss squashes nobody and is mended in place, and
-//! the oldest tenant retires. Where more can be let before any is claimed, each runs as it is let; should one of them
-//! not complete then, all of these are again as they were let. So what stands in the stations behind each retirement
-//! is meant to be the same as if all turns were made one by one, in their order; the contracts promise a unit that
-//! legal steps reach, and the end of the run.
+//! the oldest tenant retires. Where more can be let before any is claimed, each runs as it is let, and behind a miss the
+//! predicted path is let as far as it goes, and squashed. Should one of them not complete then, or be a miss that may
+//! wait for a load, all of these are again as they were let. So what stands in the stations behind each retirement, and
+//! what a predictor is asked and told, is meant to be the same as if all turns were made one by one, in their order;
+//! the contracts promise a unit that legal steps reach, and the end of the run.
 ghost use Rattle.std.specs.Prelude.{◌≡◌, ◌<◌, ◌≤◌, length, slice_get, is_some, true, IfSome, None, Some};
 ghost use Rattle.instructions.specs.Instruction.{kind as kind_of};
 ghost use Rattle.instructions.specs.Programs.{instr_at};
@@ -89,7 +90,6 @@ impl<'a> Pipeline<'a> {
             future: Future::behind(&self.ahead()),
             half: waiting_half(self.low),
             accesses: 0,
-            from: 0,
             last: None,
             held: self.committed.register(Reg::LO),
         };
@@ -102,7 +102,6 @@ impl<'a> Pipeline<'a> {
             let place = flow.ring.station_at(i);
             flow.joins(place, &station.instr, completed, content, false);
         }
-        flow.from = flow.ring.len();
         Some(flow)
     }
 
@@ -131,14 +130,14 @@ impl<'a> Pipeline<'a> {
     }
 
     // The station at `i`, as it was let, if it is behind those that have completed for good.
-    fn station_at_exit(&self, flow: &Flow, i: usize) -> Station
+    fn station_at_exit(&self, flow: &Flow, from: usize, i: usize) -> Station
         requires code { IsDecoded self.now.code.items self.now.program.now }
         requires there { AreThere self.now.program.now flow.now.ring.completed }
         requires inside { i < length flow.now.ring.completed }
-        ensures { slice_get (reopened flow.now.from (window_of self.now flow.now)) i ≡ Some result }
+        ensures { slice_get (reopened from (window_of self.now flow.now)) i ≡ Some result }
     {
         let station = self.station_of(&flow.ring.get(i));
-        if i < flow.from {
+        if i < from {
             return station;
         }
         Station {
@@ -186,23 +185,23 @@ impl<'a> Pipeline<'a> {
         self.oldest = flow.ring.station();
     }
 
-    // The registers and the window are what a flow leaves.
-    fn restores(&mut self, flow: &Flow)
+    // The registers and the window are what a flow leaves, of which so many have completed for good.
+    fn restores(&mut self, flow: &Flow, from: usize)
         requires code { IsDecoded self.old.code.items self.old.program.now }
-        requires flow { CanRestore (in_order self.old flow.now) flow.now }
-        ensures { self.new ≡ restored (in_order self.old flow.now) flow.now }
+        requires flow { CanRestore (in_order self.old flow.now) flow.now from }
+        ensures { self.new ≡ restored (in_order self.old flow.now) flow.now from }
     {
         self.restores_order(flow);
         self.window.clear();
         for i in 0..flow.ring.len() {
-            let station = self.station_at_exit(flow, i);
+            let station = self.station_at_exit(flow, from, i);
             self.window.join(&station);
         }
         if let Some(station) = flow.last {
             self.window.join(&station);
         }
         self.missed = false;
-        self.settled = flow.from;
+        self.settled = from;
     }
 
     /// Turns as long as all live tenants have completed and the count has not reached a limit. Answers at which count
@@ -236,8 +235,8 @@ impl<'a> Pipeline<'a> {
             return self.committed.count().saturating_add(self.ring as u64);
         };
         let mut flow = flow;
-        self.flows(predictor, &mut flow, limit);
-        self.restores(&flow);
+        let from = self.flows(predictor, &mut flow, limit);
+        self.restores(&flow, from);
         0
     }
 }

@@ -48,7 +48,6 @@ returns-clause-departed c =
       instr = here.instr;
       ring = r.ring;
       accesses = r.accesses;
-      from = r.from;
       last = ap (λ (g : Flow). g.last) r.rest;
       future = ap (λ (g : Flow). g.future) r.rest;
       half = ap (λ (g : Flow). g.half) r.rest;

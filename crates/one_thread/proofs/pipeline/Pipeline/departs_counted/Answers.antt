@@ -16,4 +16,4 @@ returns-clause-departed c =
     let alone = counted_alone b c.args.flow.now o.oldest c.requires.flow o.is c.args.accesses o.tells o.leaves c.requires.stuck in
     let r = c.retire_counted.ensures in
     gone_counted b c.args.flow.now o.oldest c.requires.flow o.is c.args.accesses o.tells o.leaves later c.retire_counted.new.flow c.requires.stuck
-    r.ring r.accesses r.from r.rest (r.committed ∙ ap (λ n. record b.committed { pc = n; count = suc b.committed.count }) o.goes_on) alone refl c.args.told o.told_is
+    r.ring r.accesses r.rest (r.committed ∙ ap (λ n. record b.committed { pc = n; count = suc b.committed.count }) o.goes_on) alone refl c.args.told o.told_is

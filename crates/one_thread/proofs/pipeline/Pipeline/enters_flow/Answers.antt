@@ -16,9 +16,12 @@ enters_behind-requires g c =
         before = b;
         flows = c.requires.flow;
         can = c.requires.can;
+        from = c.args.from;
+        reopens = c.requires.reopens;
         leavers = c.take_leaver-left.ensures.none ∙ ap (λ k. slice_set b.leavers k None) place;
         rest = refl;
       };
+      same = refl;
       small = c.station_at-station.ensures.small;
       is = is;
     }

@@ -25,7 +25,7 @@ loop-i-init c =
     let b = c.args.self.now in
     let values : c.behind.result.values ≡ registers_of b =
     c.behind.ensures.values ∙ ap (λ s. slice_set s.registers 0 0) c.ahead.ensures ∙ set_zero (registers_of b) (zero_held b c.requires.unit) in
-    let begun : IsFlowing b (record { ring = c.new.result; future = c.behind.result; half = c.waiting_half.result; accesses = 0; from = 0; last = None; held = c.register.result }) =
+    let begun : IsFlowing b (record { ring = c.new.result; future = c.behind.result; half = c.waiting_half.result; accesses = 0; last = None; held = c.register.result }) =
     search rules in
     record {
       flowing = begun;
@@ -75,7 +75,6 @@ loop-i-preserved c =
     let j : HasJoined c.loop-i.flow c.joins.new.self i x content =
     record {
       completed = c.joins.ensures.completed;
-      from = c.joins.ensures.from;
       last = c.joins.ensures.last;
       held = c.joins.ensures.held;
       oldest = c.joins.ensures.oldest;
@@ -111,8 +110,8 @@ returns-clause-flow c =
     let b = c.args.self.now in
     let h = c.loop-i.invariant in
     let whole = h.window ∙ take_all c.loop-i.i b.window (omega (arith, c.loop-i-test.false, c.len-i-end.ensures.value)) in
-    begins b c.loop-i.flow h.kept h.held h.oldest h.size c.len-2.result
-    (begun b c.loop-i.flow c.len-2.result c.requires.unit c.requires.two (omega (arith, c.if-self-len.false, c.len.ensures.value)) h.flowing whole h.last c.len-2.ensures.value)
+    begins b c.loop-i.flow h.kept h.held h.oldest h.size
+    (begun b c.loop-i.flow c.requires.unit c.requires.two (omega (arith, c.if-self-len.false, c.len.ensures.value)) h.flowing whole h.last)
 
 pub returns-clause-same : goal.returns-clause-same
 returns-clause-same c = begins_in_order c.args.self.now c.loop-i.flow c.loop-i.invariant.kept c.loop-i.invariant.held c.loop-i.invariant.oldest c.loop-i.invariant.size

@@ -1,20 +1,37 @@
-use Rattle.std.proofs.Common.{◌≡◌, ◌<◌, ap, ◌∙◌, arith}
+use Rattle.std.proofs.Common.{◌≡◌, ◌<◌, refl, ap, ◌∙◌, arith}
 use Rattle.instructions.specs.declared.end.Ending.{Ending}
 use Rattle.inorder.specs.Machine.{State}
 use Rattle.one_thread.specs.Changes.{run_from}
 use Rattle.one_thread.specs.Departing.{run_in}
 use Rattle.one_thread.specs.Flow.{in_order}
 use Rattle.one_thread.specs.declared.pipeline.Pipeline.{Pipeline}
-use Rattle.one_thread.proofs.FlowStays.{can_restore}
+use Rattle.one_thread.proofs.Completions.{stations_long}
+use Rattle.one_thread.proofs.FlowEnters.{stays_open}
+use Rattle.one_thread.proofs.FlowStays.{all_closed, can_restore}
 use Rattle.one_thread.proofs.pipeline.Pipeline.flows.Given.{Over}
 use Rattle.one_thread.proofs.pipeline.Pipeline.flows.Goals.{After-enters_flow}
 use Rattle.one_thread.proofs.pipeline.Pipeline.flows.Goals as goal
 
+pub loop-self-init : goal.loop-self-init
+loop-self-init g c =
+    record {
+      flow = c.requires.flow;
+      reopens = all_closed (in_order c.args.self.now c.args.flow.now) c.args.flow.now _ c.requires.flow.flows c.len-from.ensures.value;
+      room = c.requires.room;
+      code = refl;
+      program = refl;
+      more = omega arith;
+      ends = refl;
+    }
+
+pub enters_flow-requires-clause-reopens : goal.enters_flow-requires-clause-reopens
+enters_flow-requires-clause-reopens g c = c.loop-self.invariant.reopens
+
 pub returns-in_default-clause-flow : goal.returns-in_default-clause-flow
-returns-in_default-clause-flow g c = can_restore (in_order c.loop-self.self c.loop-self.flow) c.loop-self.flow c.loop-self.invariant.flow.flows
+returns-in_default-clause-flow g c = can_restore (in_order c.loop-self.self c.loop-self.flow) c.loop-self.flow c.loop-self.from c.loop-self.invariant.flow.flows c.loop-self.invariant.reopens
 
 pub returns-clause-flow : goal.returns-clause-flow
-returns-clause-flow g c = can_restore (in_order c.loop-self.self c.loop-self.flow) c.loop-self.flow c.loop-self.invariant.flow.flows
+returns-clause-flow g c = can_restore (in_order c.loop-self.self c.loop-self.flow) c.loop-self.flow c.loop-self.from c.loop-self.invariant.flow.flows c.loop-self.invariant.reopens
 
 pub loop-self-preserved-then-not-fits : goal.loop-self-preserved-then-not-fits
 loop-self-preserved-then-not-fits g c =
@@ -23,6 +40,7 @@ loop-self-preserved-then-not-fits g c =
     let less : c.loop-self.self.committed.count < c.args.limit = omega (arith, c.loop-self-test.true, c.count.ensures) in
     record {
       flow = left.flow;
+      reopens = all_closed (in_order c.leaves_flow.new.self c.leaves_flow.new.flow) c.leaves_flow.new.flow _ left.flow.flows c.len-from-then-not-fits.ensures.value;
       room = left.room;
       code = left.code ∙ before.code;
       program = left.program ∙ before.program;
@@ -45,15 +63,52 @@ returns-then-not-rounds-clause-ends g c = c.rounds.ensures.ends ∙ entered g (g
 
 pub loop-self-preserved : goal.loop-self-preserved
 loop-self-preserved g c =
-    let mid = c.enters_flow.new.self in
+    let b = c.enters_flow.new.self in
+    let flow = c.enters_flow.new.flow in
+    let on = c.if-not-enters_flow.ensures in
+    let rest = c.enters_flow.ensures.rest in
+    let before = c.loop-self.invariant in
+    let long = stations_long b.program.now flow.ring.completed in
+    record {
+      flow = on.entered;
+      reopens = stays_open (in_order b flow) flow c.loop-self.from (on.reopens refl) (omega (arith, on.longer)) (c.if-is_mended.ensures refl);
+      room = omega (arith, long, on.entered.flows.most, c.if-len-self.false, c.len.ensures.value);
+      code = ap (λ (p : Pipeline). p.code) rest ∙ before.code;
+      program = ap (λ (p : Pipeline). p.program) rest ∙ before.program;
+      more = omega (arith, ap (λ (p : Pipeline). p.committed.count) rest, before.more);
+      ends = entered g (goal.at.loop-self-preserved g c).After-enters_flow;
+    }
+
+pub loop-self-preserved-then-is_mended : goal.loop-self-preserved-then-is_mended
+loop-self-preserved-then-is_mended g c =
+    let b = c.enters_flow.new.self in
+    let flow = c.enters_flow.new.flow in
+    let on = c.if-not-enters_flow.ensures in
+    let rest = c.enters_flow.ensures.rest in
+    let before = c.loop-self.invariant in
+    let long = stations_long b.program.now flow.ring.completed in
+    record {
+      flow = on.entered;
+      reopens = all_closed (in_order b flow) flow _ on.entered.flows c.len-from-then-is_mended.ensures.value;
+      room = omega (arith, long, on.entered.flows.most, c.if-len-self.false, c.len.ensures.value);
+      code = ap (λ (p : Pipeline). p.code) rest ∙ before.code;
+      program = ap (λ (p : Pipeline). p.program) rest ∙ before.program;
+      more = omega (arith, ap (λ (p : Pipeline). p.committed.count) rest, before.more);
+      ends = entered g (goal.at.loop-self-preserved-then-is_mended g c).After-enters_flow;
+    }
+
+pub loop-self-preserved-then-len-self : goal.loop-self-preserved-then-len-self
+loop-self-preserved-then-len-self g c =
     let before = c.loop-self.invariant in
     let on = c.rounds.ensures in
     let rest = c.enters_flow.ensures.rest in
+    let went = c.if-not-rounds.ensures in
     record {
-      flow = c.if-not-rounds.ensures.entered;
-      room = c.if-not-rounds.ensures.room;
+      flow = went.entered;
+      reopens = all_closed (in_order c.rounds.new.self c.rounds.new.flow) c.rounds.new.flow _ went.entered.flows c.len-from-then-len-self.ensures.value;
+      room = went.room;
       code = on.code ∙ ap (λ (p : Pipeline). p.code) rest ∙ before.code;
       program = on.program ∙ ap (λ (p : Pipeline). p.program) rest ∙ before.program;
       more = omega (arith, on.more, ap (λ (p : Pipeline). p.committed.count) rest, before.more);
-      ends = on.ends ∙ entered g (goal.at.loop-self-preserved g c).After-enters_flow;
+      ends = on.ends ∙ entered g (goal.at.loop-self-preserved-then-len-self g c).After-enters_flow;
     }

@@ -18,15 +18,15 @@ loop-i-init c =
 
 pub join-requires : goal.join-requires
 join-requires c =
-    let V = reopened c.args.flow.now.from (window_of c.args.self.now c.args.flow.now) in
+    let V = reopened c.args.from (window_of c.args.self.now c.args.flow.now) in
     omega (arith, ap (λ (p : Pipeline). length p.window) c.loop-i.invariant, length-take c.loop-i.i V, c.loop-i-test.true, c.len-i-end.ensures.value, c.len-i-end.ensures.most)
 
 pub loop-i-preserved : goal.loop-i-preserved
 loop-i-preserved c =
     let flow = c.args.flow.now in
     let b = in_order c.args.self.now flow in
-    let V = reopened flow.from (window_of b flow) in
-    let there = subst (λ (p : Pipeline). slice_get (reopened flow.from (window_of p flow)) c.loop-i.i ≡ Some c.station_at_exit-station.result) c.loop-i.invariant c.station_at_exit-station.ensures in
+    let V = reopened c.args.from (window_of b flow) in
+    let there = subst (λ (p : Pipeline). slice_get (reopened c.args.from (window_of p flow)) c.loop-i.i ≡ Some c.station_at_exit-station.result) c.loop-i.invariant c.station_at_exit-station.ensures in
     let same : c.loop-i.self.window ≡ take c.loop-i.i V = ap (λ (p : Pipeline). p.window) c.loop-i.invariant in
     let more = c.join.ensures ∙ taken c.loop-i.self.window V c.loop-i.i c.station_at_exit-station.result c.station_at_exit-station.result same there refl in
     ap (λ (p : Pipeline). record p { window = c.join.new.self }) c.loop-i.invariant ∙ ap (λ W. record b { window = W }) more
@@ -35,9 +35,9 @@ pub returns : goal.returns
 returns c =
     let flow = c.args.flow.now in
     let b = in_order c.args.self.now flow in
-    let V = reopened flow.from (window_of b flow) in
+    let V = reopened c.args.from (window_of b flow) in
     let long = stations_long b.program.now flow.ring.completed in
-    let same = reopened_long flow.from (window_of b flow) in
+    let same = reopened_long c.args.from (window_of b flow) in
     let with : List Station → Pipeline = λ W. record b { window = W } in
     let all : c.loop-i.self ≡ with V =
     c.loop-i.invariant ∙ ap with (take_all c.loop-i.i V (omega (arith, long, same, c.loop-i-test.false, c.len-i-end.ensures.value))) in
@@ -47,4 +47,4 @@ returns c =
           ∙ ap with (w.join-in-Some.ensures ∙ ap (λ (p : Pipeline). p.window ++ w.in-Some.station ∷ []) all ∙ sym (ap (with_last V) w.in-Some.is))
       | in_default w ↦ w.self-is ∙ all ∙ ap with (sym (ap (with_last V) w.in_default.is))
     ] in
-    ap (λ (p : Pipeline). record p { missed = false; settled = flow.from }) is
+    ap (λ (p : Pipeline). record p { missed = false; settled = c.args.from }) is

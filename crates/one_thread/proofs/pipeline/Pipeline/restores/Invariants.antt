@@ -4,4 +4,4 @@ use Rattle.one_thread.specs.Reopened.{reopened}
 use Rattle.one_thread.proofs.pipeline.Pipeline.restores.Given as goal
 
 abbrev pub invariant-loop-i : goal.invariant-loop-i
-invariant-loop-i l = l.self ≡ record (in_order l.fn.self l.flow) { window = take l.i (reopened l.flow.from (window_of l.fn.self l.flow)) }
+invariant-loop-i l = l.self ≡ record (in_order l.fn.self l.flow) { window = take l.i (reopened l.from (window_of l.fn.self l.flow)) }

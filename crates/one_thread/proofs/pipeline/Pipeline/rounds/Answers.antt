@@ -1,7 +1,8 @@
-use Rattle.std.proofs.Common.{refl, sym, ap, ◌∙◌, subst, arith}
-use Rattle.one_thread.specs.Flow.{HasPlace}
+use Rattle.std.proofs.Common.{ℕ, length, refl, sym, ap, ◌∙◌, subst, arith}
+use Rattle.one_thread.specs.Flow.{CanRestore, HasPlace, in_order}
 use Rattle.one_thread.specs.Changes.{run_from}
-use Rattle.one_thread.proofs.Completions.{stations_long}
+use Rattle.one_thread.specs.Departing.{run_in, to_do}
+use Rattle.one_thread.specs.declared.pipeline.Pipeline.{Pipeline}
 use Rattle.one_thread.proofs.FlowOut.{has_place}
 use Rattle.one_thread.proofs.FlowStays.{no_room}
 use Rattle.one_thread.proofs.pipeline.Pipeline.rounds.Goals as goal
@@ -12,9 +13,10 @@ departs-left-requires-clause-stuck g c =
 
 pub enters_behind-requires : goal.enters_behind-requires
 enters_behind-requires g c =
-    subst (HasPlace c.departs-left.new.self c.departs-left.new.flow) (sym c.station-station.ensures)
+    subst (λ n. HasPlace c.departs-left.new.self c.departs-left.new.flow n c.station-station.result) (sym c.len-from.ensures.value)
+    (subst (HasPlace c.departs-left.new.self c.departs-left.new.flow (length c.departs-left.new.flow.ring.completed)) (sym c.station-station.ensures)
     (has_place c.loop-self.self c.departs-left.new.self c.loop-self.flow c.departs-left.new.flow c.departs-left.result c.departs-left.ensures.departed c.loop-self.invariant.full
-    (c.if-not-can_enter.ensures refl))
+    (c.if-not-can_enter.ensures refl)))
 
 pub loop-self-preserved : goal.loop-self-preserved
 loop-self-preserved g c =
@@ -22,23 +24,28 @@ loop-self-preserved g c =
     let d = c.departs-left.ensures.departed in
     let less = d.less c.args.limit before.below in
     let on = c.if-not-enters_behind.ensures in
+    let rest = c.enters_behind.ensures.rest in
+    let flow = c.departs-left.new.flow in
+    let to : Pipeline → ℕ = λ p. to_do c.args.limit p in
     record {
-      full = on.longer ∙ sym d.shorter ∙ before.full ∙ sym d.ring;
+      full = on.longer ∙ sym d.shorter ∙ before.full ∙ sym d.ring ∙ sym (ap (λ (p : Pipeline). p.ring) rest);
       flow = on.entered;
-      below = omega (arith, c.if-limit-count.false, c.count.ensures);
-      code = d.code ∙ before.code;
-      program = d.program ∙ before.program;
-      more = omega (arith, c.departs-left.ensures.more, before.more);
-      ends = ap (λ p. run_from p c.args.limit) c.enters_behind.ensures.order ∙ d.ends c.args.limit before.below ∙ before.ends;
-      less = omega (arith, less, before.less);
+      below = omega (arith, c.if-limit-count.false, c.count.ensures, ap (λ (p : Pipeline). p.committed.count) rest);
+      code = ap (λ (p : Pipeline). p.code) rest ∙ d.code ∙ before.code;
+      program = ap (λ (p : Pipeline). p.program) rest ∙ d.program ∙ before.program;
+      more = omega (arith, c.departs-left.ensures.more, before.more, ap (λ (p : Pipeline). p.committed.count) rest);
+      ends = ap (λ p. run_from p c.args.limit) c.enters_behind.ensures.order ∙ ap (λ p. run_in p flow c.args.limit) rest ∙ d.ends c.args.limit before.below ∙ before.ends;
+      less = omega (arith, less, before.less, ap to rest);
     }
-
-pub returns-then-len-self-clause-room : goal.returns-then-len-self-clause-room
-returns-then-len-self-clause-room g c =
-    let long = stations_long c.args.self.now.program.now c.args.flow.now.ring.completed in
-    omega (arith, long, c.requires.flow.flows.most, c.len.ensures.value, c.if-len-self.true)
 
 pub returns-then-not-enters_behind-clause-ends : goal.returns-then-not-enters_behind-clause-ends
 returns-then-not-enters_behind-clause-ends g c =
     let before = c.loop-self.invariant in
-    ap (λ p. run_from p c.args.limit) c.enters_behind.ensures.order ∙ c.departs-left.ensures.departed.ends c.args.limit before.below ∙ before.ends
+    ap (λ p. run_from p c.args.limit) c.enters_behind.ensures.order ∙ ap (λ p. run_in p c.departs-left.new.flow c.args.limit) c.enters_behind.ensures.rest
+    ∙ c.departs-left.ensures.departed.ends c.args.limit before.below ∙ before.ends
+
+pub returns-then-not-enters_behind-clause-entered : goal.returns-then-not-enters_behind-clause-entered
+returns-then-not-enters_behind-clause-entered g c =
+    let on = c.enters_behind.new in
+    let entered = c.if-not-enters_behind.ensures in
+    subst (CanRestore (in_order on.self on.flow) on.flow) (c.len-from.ensures.value ∙ sym entered.longer) entered.entered

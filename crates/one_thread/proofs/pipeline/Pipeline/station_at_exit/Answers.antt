@@ -8,12 +8,12 @@ use Rattle.one_thread.proofs.Completions.{stations_get}
 use Rattle.one_thread.proofs.FlowStays.{put_back}
 use Rattle.one_thread.proofs.pipeline.Pipeline.station_at_exit.Goals as goal
 
-pub returns-then-i-flow : goal.returns-then-i-flow
-returns-then-i-flow c =
+pub returns-then-i-from : goal.returns-then-i-from
+returns-then-i-from c =
     let P = c.args.self.now.program.now in
     let flow = c.args.flow.now in
-    put_back flow.from c.args.i (window_of c.args.self.now flow) (station_in P c.get.result) c.station_of-station.result (stations_get P flow.ring.completed c.args.i c.get.result c.get.ensures)
-    (λ l. c.station_of-station.ensures) (λ l. absurd (omega (arith, l, c.if-i-flow.true)))
+    put_back c.args.from c.args.i (window_of c.args.self.now flow) (station_in P c.get.result) c.station_of-station.result (stations_get P flow.ring.completed c.args.i c.get.result c.get.ensures)
+    (λ l. c.station_of-station.ensures) (λ l. absurd (omega (arith, l, c.if-i-from.true)))
 
 pub returns : goal.returns
 returns c =
@@ -21,6 +21,6 @@ returns c =
     let flow = c.args.flow.now in
     let w = c.station_of-station.result in
     let made : c.made_at_let.result ≡ made_at_let (Rattle.instructions.specs.Instruction.kind w.instr.op) w.pc = c.made_at_let.ensures ∙ ap (λ k. made_at_let k w.pc) c.kind.ensures in
-    put_back flow.from c.args.i (window_of c.args.self.now flow) (station_in P c.get.result) (record w { made = c.made_at_let.result; stage = Open })
-    (stations_get P flow.ring.completed c.args.i c.get.result c.get.ensures) (λ l. absurd (omega (arith, l, c.if-i-flow.false)))
+    put_back c.args.from c.args.i (window_of c.args.self.now flow) (station_in P c.get.result) (record w { made = c.made_at_let.result; stage = Open })
+    (stations_get P flow.ring.completed c.args.i c.get.result c.get.ensures) (λ l. absurd (omega (arith, l, c.if-i-from.false)))
     (λ l. ap (λ m. record w { made = m; stage = Open }) made ∙ ap as_let c.station_of-station.ensures)

@@ -1,0 +1,70 @@
+//! A miss in a flow: what was predicted is let behind it and squashed, and it is mended.
+ghost use Rattle.std.specs.Prelude.{◌≡◌, ◌≢◌, ◌-◌, suc, length, slice_get, Some};
+ghost use Rattle.one_thread.specs.Astray.{HasGoneAstray, IsMiss, IsNext};
+ghost use Rattle.one_thread.specs.Flow.{Flows, in_order};
+ghost use Rattle.one_thread.specs.declared.completed_ring.Completed.{Completed};
+
+use crate::completing::Done;
+use crate::decoded::access;
+use crate::fetch::{fetch, fetch_known};
+use crate::flow::Flow;
+use crate::leaver::{guess, take_leaver};
+use crate::pipeline::Pipeline;
+use inorder::wrapped;
+use instructions::Predictor;
+
+impl<'a> Pipeline<'a> {
+    // Lets what is predicted behind the next instruction, as long as anything can be let. None of it is claimed before the
+    // next instruction has squashed it, so a predictor alone notices it: it is told who has left each station, and asked.
+    fn lets_astray<P: Predictor>(&mut self, predictor: &mut P, flow: &Flow, predicted: u32)
+        requires { IsNext self.old flow.now predicted }
+        ensures astray { HasGoneAstray self.new flow.now predicted }
+        ensures rest { self.new ≡ record self.old { leavers = self.new.leavers } }
+    {
+        let instr = fetch_known(self.code.as_slice(), flow.future.pc);
+        let mut pc = predicted;
+        let mut half = instr.half_behind(flow.half);
+        let mut accesses = flow.accesses + access(instr);
+        for count in flow.ring.len() + 1..self.ring {
+            let Some(next) = fetch(self.code.as_slice(), pc) else {
+                return;
+            };
+            if next.is_access() && self.queue <= accesses {
+                return;
+            }
+            let station = wrapped(flow.ring.station() + count, self.ring);
+            let left = take_leaver(&mut self.leavers, station);
+            pc = guess(predictor, left, next, half, pc);
+            half = next.half_behind(half);
+            accesses += access(next);
+        }
+    }
+
+    /// The next instruction was let and is a miss: it completes and is mended, once what was predicted behind it was let
+    /// and squashed.
+    #[cold]
+    #[inline(never)]
+    pub fn mends<P: Predictor>(
+        &mut self,
+        predictor: &mut P,
+        flow: &mut Flow,
+        predicted: u32,
+        done: Done,
+        content: u32,
+    )
+        requires { IsMiss self.old flow.old predicted done content }
+        ensures flows { Flows self.new flow.new }
+        ensures longer { length flow.new.ring.completed ≡ suc (length flow.old.ring.completed) }
+        ensures missed { (c : Completed) → slice_get flow.new.ring.completed
+            (length flow.new.ring.completed - 1) ≡ Some c → c.next ≢ c.predicted }
+        ensures order { in_order self.new flow.new ≡ in_order self.new flow.old }
+        ensures rest { self.new ≡ record self.old { leavers = self.new.leavers } }
+    {
+        self.lets_astray(predictor, flow, predicted);
+        let instr = fetch_known(self.code.as_slice(), flow.future.pc);
+        let half = flow.half;
+        let completed = flow.completed(instr, half, predicted, done, content, false);
+        let station = flow.ring.station_at(flow.ring.len());
+        flow.joins(station, instr, completed, content, false);
+    }
+}
