@@ -4,10 +4,27 @@ use Rattle.ruu_words.specs.Fields.{half_of, index_of, predicted_of, state_of}
 use Rattle.ruu_words.specs.Kinds.{IsAny}
 use Rattle.station.specs.Calls.{Saw}
 use Rattle.station.specs.Claiming.{IsOpenAs}
-use Rattle.station.proofs.ClaimSteps.{after_info, after_peek, after_recheck, answers_on, moved_at_recheck, saw}
+use Rattle.station.proofs.ClaimFacts.{HasInfo}
+use Rattle.station.proofs.ClaimSteps.{IsOnWay, after_info, after_peek, after_recheck, answers_on, moved_at_recheck, saw}
 use Rattle.station.proofs.OnItsWay.{peek_refused}
 use Rattle.station.proofs.Unpacked.{closed_number, open_number}
+use Rattle.station.proofs.claims.Call+UnitPart.claim_at.Goals.{After-read_info-word, After-unpack-info}
 use Rattle.station.proofs.claims.Call+UnitPart.claim_at.Goals as goal
+
+-- An open tenant on its way, and the info word that was read of it
+
+looked : (c : After-read_info-word) → IsOnWay c.args.self.now c.read_info-word.new.self c.args.station c.unpack-tag.result.tag (HasInfo c.read_info-word.result)
+looked c =
+    let found = c.unpack-tag in
+    let is_open = open_number found.result.state (state_of c.peek-found.result) found.ensures.state found.ensures.other (search rules) in
+    after_info (after_peek c.peek-found.result c.peek-found.ensures is_open found.ensures.tag) c.read_info-word.ensures
+
+-- The tenant was still open at the second look, so the info word is its own
+rechecked : (c : After-unpack-info) → let info = c.read_info-word.result in
+    IsOnWay c.args.self.now c.recheck-again.new.self c.args.station c.unpack-tag.result.tag (IsOpenAs (half_of info) (index_of info) (predicted_of info))
+rechecked c =
+    let hit : c.recheck-again.result ≡ c.open_word-open.result = search rules in
+    after_recheck (looked (goal.at.After-unpack-info c).After-read_info-word) c.open_word-open.ensures.tag c.recheck-again.ensures hit
 
 pub returns-then-ne : goal.returns-then-ne
 returns-then-ne c =
@@ -22,39 +39,20 @@ returns-then-ne c =
 
 pub recheck-again-requires-clause-seen : goal.recheck-again-requires-clause-seen
 recheck-again-requires-clause-seen c =
-    let found = c.unpack-tag in
-    let is_open = open_number found.result.state (state_of c.peek-found.result) found.ensures.state found.ensures.other (search rules) in
-    let r1 = after_peek c.peek-found.result c.peek-found.ensures is_open found.ensures.tag in
-    let r2 = after_info r1 c.read_info-word.ensures in
-    subst (λ t. Saw c.read_info-word.new.self c.args.station t IsAny) (sym c.open_word-open.ensures.tag) (saw IsAny (λ t f. tt) r2)
+    let way = looked (goal.at.recheck-again-requires-clause-seen c).After-read_info-word in
+    subst (λ t. Saw c.read_info-word.new.self c.args.station t IsAny) (sym c.open_word-open.ensures.tag) (saw IsAny (λ t f. tt) way)
 
 pub returns-then-again-open : goal.returns-then-again-open
 returns-then-again-open c =
-    let found = c.unpack-tag in
-    let is_open = open_number found.result.state (state_of c.peek-found.result) found.ensures.state found.ensures.other (search rules) in
-    let r1 = after_peek c.peek-found.result c.peek-found.ensures is_open found.ensures.tag in
-    let r2 = after_info r1 c.read_info-word.ensures in
-    moved_at_recheck r2 c.open_word-open.ensures.tag c.recheck-again.ensures c.if-again-open.true
+    let way = looked (goal.at.returns-then-again-open c).After-read_info-word in
+    moved_at_recheck way c.open_word-open.ensures.tag c.recheck-again.ensures c.if-again-open.true
 
 pub claim_open-requires : goal.claim_open-requires
 claim_open-requires c =
-    let found = c.unpack-tag in
-    let is_open = open_number found.result.state (state_of c.peek-found.result) found.ensures.state found.ensures.other (search rules) in
-    let r1 = after_peek c.peek-found.result c.peek-found.ensures is_open found.ensures.tag in
-    let r2 = after_info r1 c.read_info-word.ensures in
-    let hit : c.recheck-again.result ≡ c.open_word-open.result = search rules in
-    let r3 = after_recheck r2 c.open_word-open.ensures.tag c.recheck-again.ensures hit in
     let info = c.read_info-word.result in
     let is = c.unpack-info.ensures in
-    subst (λ (z : Half × ℕ × ℕ). Saw c.recheck-again.new.self c.args.station found.result.tag (IsOpenAs z.0 z.1 z.2)) (λ j. (sym is.half j, sym is.index j, sym is.predicted j))
-    (saw (IsOpenAs (half_of info) (index_of info) (predicted_of info)) (λ t f. f) r3)
+    subst (λ (z : Half × ℕ × ℕ). Saw c.recheck-again.new.self c.args.station c.unpack-tag.result.tag (IsOpenAs z.0 z.1 z.2)) (λ j. (sym is.half j, sym is.index j, sym is.predicted j))
+    (saw (IsOpenAs (half_of info) (index_of info) (predicted_of info)) (λ t f. f) (rechecked (goal.at.claim_open-requires c).After-unpack-info))
 
 pub returns : goal.returns
-returns c =
-    let found = c.unpack-tag in
-    let is_open = open_number found.result.state (state_of c.peek-found.result) found.ensures.state found.ensures.other (search rules) in
-    let r1 = after_peek c.peek-found.result c.peek-found.ensures is_open found.ensures.tag in
-    let r2 = after_info r1 c.read_info-word.ensures in
-    let hit : c.recheck-again.result ≡ c.open_word-open.result = search rules in
-    let r3 = after_recheck r2 c.open_word-open.ensures.tag c.recheck-again.ensures hit in
-    answers_on c.claim_open.result r3 c.claim_open.ensures
+returns c = answers_on c.claim_open.result (rechecked (goal.at.returns c).After-unpack-info) c.claim_open.ensures
