@@ -34,6 +34,13 @@ pub record IsItsJob (P : Program) (t : NewTenant) (values : HasBothValues t) (ta
   pub is : answer ≡ Claimed job
   pub fields : HasItsFields P t values tag pc job
 
+-- What a unit has worked out is of this job
+pub record IsOfJob (P : Program) (j : Job) (w : Worked) : Type 0 where
+  pub pc : w.pc ≡ j.pc
+  pub a : w.a ≡ j.first
+  pub b : w.b ≡ j.second
+  pub outcome : w.outcome ≡ job_outcome P j
+
 pub its_fields : (P : Program) (t : NewTenant) (values : HasBothValues t) (tag pc : ℕ) (u : Tenant) (j : Job) → u.tag ≡ tag → IsLetAs t pc u → j ≡ job_of P u → HasItsFields P t values tag pc j
 its_fields P t values tag pc u j tag_is its f =
     let first : u.first.value ≡ Some values.a = its.first_is values.a values.first in
@@ -69,10 +76,10 @@ one_value v w e = cc e
 
 -- and so it comes to what the definitions say
 pub is_right : {P : Program} {C : Sizes} {U : UpdateUnit} {t : NewTenant} {values : HasBothValues t} {named : ℕ} {j : Job} (w : Worked) → MayLetOut P C U t →
-    HasItsFields P t values named (front_pc U.tenants) j → w.pc ≡ j.pc → w.a ≡ j.first → w.b ≡ j.second → w.outcome ≡ job_outcome P j → IsWorkedRight P U t w
-is_right {P} {C} {U} {t} {values} {named} {j} w may f pc a b is = record {
-  pc = pc ∙ f.pc_is;
-  first = λ v e. a ∙ (f.first_is ∙ one_value values.a v (sym (first_value P C U t values may) ∙ e));
-  second = λ v e. b ∙ (f.second_is ∙ ap (λ x. cond (needs (kind (instr_of P t.index).op) Second) x 0) (one_value values.b v (sym (second_value P C U t values may) ∙ e)));
-  outcome = is ∙ (λ i. outcome_of_half (instr_of P (f.index_is i)) (f.half_is i) (sym pc i) (sym a i) (sym b i) (length P.bytes));
+    HasItsFields P t values named (front_pc U.tenants) j → IsOfJob P j w → IsWorkedRight P U t w
+is_right {P} {C} {U} {t} {values} {named} {j} w may f worked = record {
+  pc = worked.pc ∙ f.pc_is;
+  first = λ v e. worked.a ∙ (f.first_is ∙ one_value values.a v (sym (first_value P C U t values may) ∙ e));
+  second = λ v e. worked.b ∙ (f.second_is ∙ ap (λ x. cond (needs (kind (instr_of P t.index).op) Second) x 0) (one_value values.b v (sym (second_value P C U t values may) ∙ e)));
+  outcome = worked.outcome ∙ (λ i. outcome_of_half (instr_of P (f.index_is i)) (f.half_is i) (sym worked.pc i) (sym worked.a i) (sym worked.b i) (length P.bytes));
 }

@@ -1,12 +1,18 @@
 -- Seats in one hand, of which some have seen more.
-use Rattle.std.proofs.Common.{◌≡◌, refl, sym, ◌∙◌, subst, inl, inr, ⊎_elim}
+use Rattle.std.proofs.Common.{◌≡◌, ℕ, refl, sym, ◌∙◌, subst, inl, inr, ⊎_elim}
 use Rattle.inorder.specs.History.{IsUnit}
 use Rattle.instructions.specs.Histories.{StartsWith}
 use Rattle.ruu_words.specs.declared.rule.SpareNumbers.{SpareNumbers}
 use Rattle.ruu_words.specs.Views.{IsSpare}
+use Rattle.station.specs.declared.answers.Claim.{Claim}
+use Rattle.station.specs.declared.answers.Finish.{Finish}
+use Rattle.station.specs.declared.job.Job.{Job}
+use Rattle.station.specs.Claiming.{ClaimAnswers}
 use Rattle.station.specs.Seats.{Caller, IsSameSeat, TheCore}
+use Rattle.station.specs.Writeback.{FinishAnswers}
 use Rattle.client.specs.declared.seats.Seats.{Seats}
 use Rattle.client.specs.Hands.{AreAll}
+use Rattle.client.proofs.Begins.{claim_begins, finish_begins}
 use Rattle.instructions.proofs.Histories.{starts_on, starts_same}
 
 pub record GoesOn (v w : Caller) : Type 0 where
@@ -48,3 +54,20 @@ same_all core s t all f b o e one other = record {
       rest))
       (all.no_third n unit);
 }
+
+-- One seat has seen more by its call, and the others are as they were
+
+module _ {core : TheCore} {s : Seats} (all : AreAll core s) where
+  pub front_on : {f : Caller} → IsSameSeat s.front f → StartsWith f.seen s.front.seen → AreAll core (record s { front = f })
+  front_on {f} same begins = same_all core s (record s { front = f }) all (on s.front f same begins) (stays s.back) (stays s.one) (stays s.other) refl refl
+
+  one_on : {o : Caller} → IsSameSeat s.one o → o.spare ≡ s.one.spare → StartsWith o.seen s.one.seen → AreAll core (record s { one = o })
+  one_on {o} same spare begins = same_all core s (record s { one = o }) all (stays s.front) (stays s.back) (on s.one o same begins) (stays s.other) spare refl
+
+  pub claimed_on : {o : Caller} (station : ℕ) (answer : Claim) → IsSameSeat s.one o → o.spare ≡ s.one.spare →
+      ClaimAnswers core.program core.sizes s.one.by s.one.seen o.seen station answer → AreAll core (record s { one = o })
+  claimed_on {o} station answer same spare reply = one_on same spare (claim_begins core.program core.sizes s.one.by s.one.seen o.seen station answer reply)
+
+  pub finished_on : {o : Caller} (j : Job) (answer : Finish) → IsSameSeat s.one o → o.spare ≡ s.one.spare →
+      FinishAnswers core.program core.sizes s.one.by s.one.seen o.seen j answer → AreAll core (record s { one = o })
+  finished_on {o} j answer same spare reply = one_on same spare (finish_begins core.program core.sizes s.one.by s.one.seen o.seen j answer reply)

@@ -25,13 +25,14 @@ use Rattle.station.specs.Seats.{Caller, IsSameSeat, TheCore}
 use Rattle.station.specs.Writeback.{FinishAnswers, job_outcome}
 use Rattle.client.specs.declared.seats.Seats.{Seats}
 use Rattle.client.specs.Hands.{AreAll, HaveHeard, KnowsUnits}
-use Rattle.client.specs.Works.{HasCome, HasBothValues, unit_at}
+use Rattle.client.specs.Works.{HasBothValues, HasCome, IsWorked, unit_at}
+use Rattle.client.specs.declared.drive.Worked.{Worked}
 use Rattle.client.proofs.Begins.{claim_begins, finish_begins}
 use Rattle.client.proofs.Alone.{Stand, only_units, quiet, stand_on, stand_still}
 use Rattle.client.proofs.Histories.{at_least, same_between}
 use Rattle.instructions.proofs.Histories.{starts_on, starts_same}
 use Rattle.inorder.proofs.Histories.{same_fronts}
-use Rattle.client.proofs.ItsJob.{IsItsJob, its_fields}
+use Rattle.client.proofs.ItsJob.{HasItsFields, IsItsJob, IsOfJob, is_right, its_fields}
 
 -- What a tenant's let, its claim and its finish have answered
 
@@ -46,10 +47,6 @@ pub record WasLet (core : TheCore) (s : Seats) (t : NewTenant) (f : Caller) (m :
   pub all_met : AreAll core m
   pub met : HaveHeard core (record s { front = f }) m
 
-pub was_let : {core : TheCore} {s m : Seats} {t : NewTenant} {f : Caller} → AreAll core s → KnowsUnits s → HasBothValues t → MayLetOut core.program core.sizes (unit_at core s) t →
-    IsSameSeat s.front f → Adds core.program core.sizes s.front.by s.front.seen f.seen (let_of t ∷ []) → AreAll core m → HaveHeard core (record s { front = f }) m → WasLet core s t f m
-was_let a k v y e l b n = record { all = a; knows = k; values = v; may = y; kept = e; lets = l; all_met = b; met = n }
-
 -- The first unit, as o, was answered so for its claim, and then all have met as n
 pub record WasClaimed (core : TheCore) (s m : Seats) (o : Caller) (station : ℕ) (answer : Claim) (n : Seats) : Type 0 where
   pub same : IsSameSeat m.one o
@@ -57,11 +54,6 @@ pub record WasClaimed (core : TheCore) (s m : Seats) (o : Caller) (station : ℕ
   pub at_station : station ≡ next_station core.sizes (recent (unit_at core s))
   pub reply : ClaimAnswers core.program core.sizes m.one.by m.one.seen o.seen station answer
   pub end : HaveHeard core (record m { one = o }) n
-
-pub was_claimed : {core : TheCore} {s m n : Seats} {t : NewTenant} {f o : Caller} {station : ℕ} (answer : Claim) → WasLet core s t f m → IsSameSeat m.one o → o.spare ≡ m.one.spare →
-    station ≡ next_station core.sizes (recent (unit_at core s)) → ClaimAnswers core.program core.sizes m.one.by m.one.seen o.seen station answer → HaveHeard core (record m { one = o }) n →
-    WasClaimed core s m o station answer n
-was_claimed answer l e h a r n = record { same = e; spare = h; at_station = a; reply = r; end = n }
 
 pub as_job : {core : TheCore} {s m n : Seats} {o : Caller} {station : ℕ} {answer : Claim} {j : Job} → WasClaimed core s m o station answer n → answer ≡ Claimed j →
     WasClaimed core s m o station (Claimed j) n
@@ -89,6 +81,10 @@ module _ {core : TheCore} {s m : Seats} {t : NewTenant} {f : Caller} (l : WasLet
 
   abbrev pc : ℕ
   pc = front_pc (unit_of P C before).tenants
+
+  -- the answer of a claim is the job of this tenant
+  abbrev pub HasItsJob : Claim → Type 0
+  HasItsJob = IsItsJob P t l.values tag pc
 
   heard : StartsWith m.one.seen before
   heard = starts_on before f.seen m.one.seen l.lets.begins (starts_on f.seen m.front.seen m.one.seen l.met.front.adds.begins l.met.of_front)
@@ -152,7 +148,7 @@ module _ {core : TheCore} {s m : Seats} {t : NewTenant} {f : Caller} (l : WasLet
     pub stand : Stand m z
     stand = stand_on core m m z o d.spare (stand_still m) d.end
 
-    pub its_job : LetsAreOut → ClaimsGiveJobs → IsItsJob P t l.values tag pc answer
+    pub its_job : LetsAreOut → ClaimsGiveJobs → HasItsJob answer
     its_job lets_are_out claims_give_jobs =
         let out = lets_are_out P C before m.one.seen t l.may (let_alone m o z stand d.end begins) in
         let u : Tenant = out.tenant.tenant in
@@ -197,7 +193,7 @@ module _ {core : TheCore} {s m : Seats} {t : NewTenant} {f : Caller} (l : WasLet
           let late : IsInFlight P C n.one.seen j = stay P C o.seen n.one.seen j b d.end.one.adds.legal (only o.seen n.one.seen a b written_at) early in
           finished P C n.one.by n.one.seen w.seen j answer (only n.one.seen w.seen (starts_on m.one.seen o.seen n.one.seen a b) written_at (starts_same w.seen)) (still_holds jobs_stay) late e.reply
 
-      pub comes_to : (g : ℕ) (outcome : Outcome) → j.tag ≡ g → outcome ≡ job_outcome P j → HasFinished P C w.seen j answer → WasOnce P C s.one.seen z.one.seen (HasCome station g outcome)
+      comes_to : (g : ℕ) (outcome : Outcome) → j.tag ≡ g → outcome ≡ job_outcome P j → HasFinished P C w.seen j answer → WasOnce P C s.one.seen z.one.seen (HasCome station g outcome)
       comes_to g outcome tag_is is h =
           let i = h.tenant.named in
           record {
@@ -219,3 +215,8 @@ module _ {core : TheCore} {s m : Seats} {t : NewTenant} {f : Caller} (l : WasLet
               };
             };
           }
+
+      -- and so the tenant is worked
+      pub is_worked : {x : Worked} → HasItsFields P t l.values tag pc j → IsOfJob P j x → x.tag ≡ tag → HasFinished P C w.seen j answer → IsWorked core s z station t x
+      is_worked {x} its worked tag_is h =
+          record { tag = tag_is; right = is_right x l.may its worked; written = comes_to x.tag x.outcome (its.tag_is ∙ sym tag_is) worked.outcome h }

@@ -1,9 +1,9 @@
-use Rattle.std.proofs.Common.{[], subst, refl}
+use Rattle.std.proofs.Common.{[], subst}
 use Rattle.inorder.specs.OneHistory.{Adds}
 use Rattle.station.specs.Asking.{AskAnswers}
 use Rattle.client.specs.Done.{IsAskedNext}
 use Rattle.client.proofs.Known.{front_goes_on}
-use Rattle.client.proofs.Same.{on, same_all, stays}
+use Rattle.client.proofs.Same.{front_on}
 use Rattle.client.proofs.hand.ask_next.Goals as goal
 
 pub ask-answer-requires-clause-may : goal.ask-answer-requires-clause-may
@@ -26,8 +26,4 @@ returns-clause-done c =
     (IsAskedNext core c.args.station c.args.tag c.args.k c.args.from answer) reply
 
 pub gather_twice-requires : goal.gather_twice-requires
-gather_twice-requires c =
-    let s = c.args.seats.now in
-    let f = c.ask-answer.new.seat in
-    same_all c.args.core.now s (record s { front = f }) c.requires.all (on s.front f c.ask-answer.ensures.kept c.ask-answer.ensures.reply.adds.begins)
-    (stays s.back) (stays s.one) (stays s.other) refl refl
+gather_twice-requires c = let asks = c.ask-answer.ensures in front_on c.requires.all asks.kept asks.reply.adds.begins

@@ -1,8 +1,7 @@
-use Rattle.std.proofs.Common.{refl}
 use Rattle.client.specs.Done.{IsClaimedNext}
 use Rattle.client.proofs.Known.{unit_goes_on}
 use Rattle.client.proofs.Begins.{claim_begins}
-use Rattle.client.proofs.Same.{on, same_all, stays}
+use Rattle.client.proofs.Same.{claimed_on}
 use Rattle.client.proofs.hand.claim_next.Goals as goal
 
 pub returns-clause-done : goal.returns-clause-done
@@ -16,10 +15,4 @@ returns-clause-done c =
     (IsClaimedNext core s.one.by c.args.station c.claim-answer.result) claim.reply
 
 pub gather_twice-requires : goal.gather_twice-requires
-gather_twice-requires c =
-    let core = c.args.core.now in
-    let s = c.args.seats.now in
-    let r = c.claim-answer in
-    same_all core s (record s { one = r.new.seat }) c.requires.all (stays s.front) (stays s.back)
-    (on s.one r.new.seat r.ensures.kept (claim_begins core.program core.sizes s.one.by s.one.seen r.new.seat.seen c.args.station r.result r.ensures.reply))
-    (stays s.other) r.ensures.spare refl
+gather_twice-requires c = let claim = c.claim-answer.ensures in claimed_on c.requires.all c.args.station c.claim-answer.result claim.kept claim.spare claim.reply

@@ -1,8 +1,7 @@
-use Rattle.std.proofs.Common.{refl}
 use Rattle.client.specs.Done.{IsFinishedNext}
 use Rattle.client.proofs.Known.{unit_goes_on}
 use Rattle.client.proofs.Begins.{finish_begins}
-use Rattle.client.proofs.Same.{on, same_all, stays}
+use Rattle.client.proofs.Same.{finished_on}
 use Rattle.client.proofs.hand.finish_next.Goals as goal
 
 pub returns-clause-done : goal.returns-clause-done
@@ -16,10 +15,4 @@ returns-clause-done c =
     (IsFinishedNext core s.one.by c.args.job c.finish-answer.result) finish.reply
 
 pub gather_twice-requires : goal.gather_twice-requires
-gather_twice-requires c =
-    let core = c.args.core.now in
-    let s = c.args.seats.now in
-    let r = c.finish-answer in
-    same_all core s (record s { one = r.new.seat }) c.requires.all (stays s.front) (stays s.back)
-    (on s.one r.new.seat r.ensures.kept (finish_begins core.program core.sizes s.one.by s.one.seen r.new.seat.seen c.args.job r.result r.ensures.reply))
-    (stays s.other) r.ensures.spare refl
+gather_twice-requires c = let finish = c.finish-answer.ensures in finished_on c.requires.all c.args.job c.finish-answer.result finish.kept finish.spare finish.reply

@@ -1,9 +1,9 @@
-use Rattle.std.proofs.Common.{[], ◌∷◌, subst, refl}
+use Rattle.std.proofs.Common.{[], ◌∷◌, subst}
 use Rattle.inorder.specs.OneHistory.{Adds}
 use Rattle.station.specs.Letting.{let_of}
 use Rattle.client.specs.Done.{IsLetNext}
 use Rattle.client.proofs.Known.{front_goes_on}
-use Rattle.client.proofs.Same.{on, same_all, stays}
+use Rattle.client.proofs.Same.{front_on}
 use Rattle.client.proofs.hand.let_next.Goals as goal
 
 pub let_out-tag-requires-clause-may : goal.let_out-tag-requires-clause-may
@@ -25,8 +25,4 @@ returns-clause-done c =
     (IsLetNext core c.args.tenant c.let_out-tag.result) (record { adds = adds; tag_is = lets.reply })
 
 pub gather_twice-requires : goal.gather_twice-requires
-gather_twice-requires c =
-    let s = c.args.seats.now in
-    let f = c.let_out-tag.new.seat in
-    same_all c.args.core.now s (record s { front = f }) c.requires.all (on s.front f c.let_out-tag.ensures.kept c.let_out-tag.ensures.history.begins)
-    (stays s.back) (stays s.one) (stays s.other) refl refl
+gather_twice-requires c = let lets = c.let_out-tag.ensures in front_on c.requires.all lets.kept lets.history.begins
