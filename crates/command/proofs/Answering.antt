@@ -1,43 +1,48 @@
--- A listing that is not answered: how its devices are left, and what is told of it on one thread.
-use Rattle.std.proofs.Common.{◌≡◌, ◌∙◌, ℕ, true, List, refl, sym, subst, Option, None}
+-- How a listing is answered that was read, on one thread too, and how its devices are left where it is not answered.
+use Rattle.std.proofs.Common.{◌≡◌, ◌∙◌, ℕ, true, List, refl, sym, subst, Option, None, Result, Ok, Err, String, string_bytes}
+use Rattle.std.specs.declared.alloc.Global.{Global}
 use Rattle.instructions.specs.declared.end.End.{End}
 use Rattle.instructions.specs.Programs.{Program}
+use Rattle.isa.specs.declared.listing.fault.FaultKind.{FaultKind}
 use Rattle.isa.specs.Report.{report_of}
 use Rattle.inorder.specs.Runs.{end_of, end_state, state_in}
 use Rattle.counted_io.proofs.Replied.{not_answered}
-use Rattle.counted_io.specs.Replies.{HasRead, IsUnread}
+use Rattle.counted_io.specs.Replies.{HasRead}
 use Rattle.counted_io.specs.declared.counted.Counted.{Counted}
-use Rattle.counted_io.specs.declared.fault.Fault.{Fault}
-use Rattle.counted_io.specs.declared.fault.Fault.TheVariants as fault
 use Rattle.bench.specs.Answer.{ending_status, most_taken}
+use Rattle.bench.specs.Parsed.{IsParsed}
 use Rattle.bench.specs.declared.outcome.Status.{Status}
-use Rattle.command_line.specs.Exits.{fault_refusal}
+use Rattle.bench.specs.declared.outcome.Status.TheVariants.{TextFault}
 use Rattle.command_line.specs.declared.exit.Line.TheVariants.{Nothing}
 use Rattle.command_line.specs.declared.exit.Refusal.{Refusal}
 use Rattle.command_line.specs.declared.exit.Refusal.TheVariants.{Open, Read, Memory, Thread, Write, Trace}
 use Rattle.command_line.specs.declared.request.Asked.{Asked}
-use Rattle.command.specs.Answers.{IsReport, IsRunEnd, IsLineWith}
+use Rattle.command.specs.Answers.{IsAnswerFor, IsReport, IsRunEnd, IsLineWith}
 use Rattle.command.specs.Runs.{written_run}
 use Rattle.command.specs.Unanswered.{IsOfRun, IsUnansweredBy}
 use Rattle.command.specs.declared.went.Went.{Went}
 
-module _ {R W : Type 0} (remaining : R → Option (List ℕ)) (contents : W → Option (List ℕ)) (r r' : Counted R) (w : Counted W)
-    (A : List ℕ → List ℕ → Type 0) where
-  -- a listing was not read
-  pub unread : (fault : Fault) → IsUnread remaining most_taken r r' fault
-      → IsUnansweredBy remaining contents r r' w w A (fault_refusal fault)
-  unread fault.Read is = record { read = is; silent = refl }
-  unread fault.Memory is = record { read = is; silent = refl }
-  unread fault.Write is = absurd is
+-- a listing was read, and its run refused
+pub not_run : {R W : Type 0} (remaining : R → Option (List ℕ)) (contents : W → Option (List ℕ)) (r r' : Counted R) (w : Counted W)
+    (A : List ℕ → List ℕ → Type 0) (refusal : Refusal) → IsOfRun refusal → HasRead remaining most_taken r r'
+    → IsUnansweredBy remaining contents r r' w w A refusal
+not_run remaining contents r r' w A Open of_run read = absurd of_run
+not_run remaining contents r r' w A Read of_run read = absurd of_run
+not_run remaining contents r r' w A Memory of_run read = not_answered remaining most_taken r r' w read
+not_run remaining contents r r' w A Thread of_run read = not_answered remaining most_taken r r' w read
+not_run remaining contents r r' w A Write of_run read = absurd of_run
+not_run remaining contents r r' w A Trace of_run read = absurd of_run
 
-  -- a listing was read, and its run refused
-  pub not_run : (refusal : Refusal) → IsOfRun refusal → HasRead remaining most_taken r r' → IsUnansweredBy remaining contents r r' w w A refusal
-  not_run Open of_run read = absurd of_run
-  not_run Read of_run read = absurd of_run
-  not_run Memory of_run read = not_answered remaining most_taken r r' w read
-  not_run Thread of_run read = not_answered remaining most_taken r r' w read
-  not_run Write of_run read = absurd of_run
-  not_run Trace of_run read = absurd of_run
+-- what is told of a listing that was read: the report of its program, or the line of its fault
+abbrev pub IsTold : Asked → Result Program (String Global) → List ℕ → Went → Type 0
+IsTold asked (Ok P) text went = IsReport asked P text went
+IsTold asked (Err line) text went = (text ≡ string_bytes line) × (went ≡ written_run TextFault Nothing None)
+
+-- where a listing is parsed as this, what is told of it answers it
+pub told_answers : (asked : Asked) (found : Result Program (String Global)) (listing : Result Program (ℕ × FaultKind))
+    (text : List ℕ) (went : Went) → IsTold asked found text went → IsParsed found listing → IsAnswerFor asked listing text went
+told_answers asked (Ok P) listing text went told is = rw is told
+told_answers asked (Err line) listing text went told is = rw is.is (told.0 ∙ is.says, told.1)
 
 -- the report of a run on one thread
 pub alone_reports : (asked : Asked) (P : Program) (end : End) (status : Status) (text : List ℕ) (went : Went) → asked.alone ≡ true

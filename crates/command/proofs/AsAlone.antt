@@ -15,11 +15,11 @@ use Rattle.command_line.specs.declared.request.Asked.{Asked}
 use Rattle.command_line.specs.declared.exit.Line.{Line}
 use Rattle.command.specs.declared.went.Went.{Went}
 use Rattle.command.specs.Answers.{AsAlone, Early, IsAnswerFor, IsAnswerTo, IsAsAlone, EndedEarly, IsRunEnd, IsLineWith}
-use Rattle.command.specs.Runs.{AtAStop, AtTheLimit, IsWhole, WithoutThreads}
+use Rattle.command.specs.Runs.{AtAStop, AtTheLimit, CameToItsEnd, WithoutThreads}
 use Rattle.bench.specs.Answer.{status_number}
 use Rattle.command_line.specs.Exits.{HoldsOfInput}
 
-not_early : (limit : ℕ) (P : Program) (ending : Ending) (state : State) (went : Went) → IsWhole limit went
+not_early : (limit : ℕ) (P : Program) (ending : Ending) (state : State) (went : Went) → CameToItsEnd limit went
     → went.status ≡ status_number (ending_status ending) → IsLineWith false state.count went.line
     → EndedEarly limit P ending state → ⊥
 not_early limit P ending state went (WithoutThreads none) status line early =
@@ -32,43 +32,43 @@ not_early limit P ending state went (AtTheLimit totals is all) status line early
     absurd (omega (arith, count, all, below))
 
 ends_alone : (is_alone : Bool) (config : Settings) (P : Program) (ending : Ending) (state : State) (went : Went)
-    → IsWhole config.limit went → went.status ≡ status_number (ending_status ending)
+    → CameToItsEnd config.limit went → went.status ≡ status_number (ending_status ending)
     → IsLineWith is_alone state.count went.line → IsRunEnd is_alone config P ending state
     → ◌≡◌ {A = Ending × State} (ending, state) (end_of P config.limit)
-ends_alone true config P ending state went whole status line is = is
-ends_alone false config P ending state went whole status line (AsAlone same, turns) = same
-ends_alone false config P ending state went whole status line (Early early, turns) =
-    absurd (not_early config.limit P ending state went whole status line early)
+ends_alone true config P ending state went ended status line is = is
+ends_alone false config P ending state went ended status line (AsAlone same, turns) = same
+ends_alone false config P ending state went ended status line (Early early, turns) =
+    absurd (not_early config.limit P ending state went ended status line early)
 
 answers_alone : (asked : Asked) (found : Result Program (ℕ × FaultKind)) (text : List ℕ) (went : Went)
-    → IsWhole asked.config.limit went → IsAnswerFor asked found text went
+    → CameToItsEnd asked.config.limit went → IsAnswerFor asked found text went
     → (went.status ≡ status_number (status_for asked.config.limit found)) × (text ≡ text_for asked.config.limit found)
-answers_alone asked (Ok P) text went whole is =
-    let same = ends_alone asked.alone asked.config P is.ending is.state went whole is.status is.line is.is in (
+answers_alone asked (Ok P) text went ended is =
+    let same = ends_alone asked.alone asked.config P is.ending is.state went ended is.status is.line is.is in (
       is.status ∙ ap (λ (e : Ending × State). status_number (ending_status e.0)) same,
       is.report ∙ ap report_of_run same,
     )
-answers_alone asked (Err fault) text went whole is = (ap (λ (w : Went). w.status) is.1, is.0)
+answers_alone asked (Err fault) text went ended is = (ap (λ (w : Went). w.status) is.1, is.0)
 
-as_alone : (asked : Asked) (input : List ℕ) (went : Went) (P : List ℕ → Type 0) → IsWhole asked.config.limit went
+as_alone : (asked : Asked) (input : List ℕ) (went : Went) (P : List ℕ → Type 0) → CameToItsEnd asked.config.limit went
     → HasText (IsAnswerTo asked went input) P → IsAsAlone asked.config.limit input went P
 unfolding text_of status_of
-as_alone asked input went P whole has =
-    let both = answers_alone asked (listing input) has.text went whole has.is in
+as_alone asked input went P ended has =
+    let both = answers_alone asked (listing input) has.text went ended has.is in
     record { status = both.0; holds = subst P both.1 has.holds }
 
--- the same of the bytes that are known
+-- what answers the bytes that are known is what one thread answers
 known_as_alone : (asked : Asked) (known : Option (List ℕ)) (went : Went) (P : List ℕ → Type 0)
-    → IsWhole asked.config.limit went → HasTextFor known (IsAnswerTo asked went) P
+    → CameToItsEnd asked.config.limit went → HasTextFor known (IsAnswerTo asked went) P
     → IfSome known (λ input. IsAsAlone asked.config.limit input went P)
-known_as_alone asked None went P whole has = tt
-known_as_alone asked (Some input) went P whole has = as_alone asked input went P whole has
+known_as_alone asked None went P ended has = tt
+known_as_alone asked (Some input) went P ended has = as_alone asked input went P ended has
 
--- the same of a reader's bytes, where there is one
+-- what answers a reader's bytes, where there is a reader, is what one thread answers
 pub reader_as_alone : {R : Type 0} (remaining : R → Option (List ℕ)) (reader : Option (Counted R)) (r : Counted R)
-    → reader ≡ Some r → (asked : Asked) (went : Went) (P : List ℕ → Type 0) → IsWhole asked.config.limit went
+    → reader ≡ Some r → (asked : Asked) (went : Went) (P : List ℕ → Type 0) → CameToItsEnd asked.config.limit went
     → HasTextFor (known_by remaining r) (IsAnswerTo asked went) P
     → HoldsOfInput remaining reader (λ input. IsAsAlone asked.config.limit input went P)
-reader_as_alone remaining reader r is asked went P whole has =
+reader_as_alone remaining reader r is asked went P ended has =
     subst (λ o. HoldsOfInput remaining o (λ input. IsAsAlone asked.config.limit input went P)) (sym is)
-    (known_as_alone asked (known_by remaining r) went P whole has)
+    (known_as_alone asked (known_by remaining r) went P ended has)

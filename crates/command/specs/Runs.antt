@@ -32,10 +32,10 @@ WasWritten (Refused refusal) = ⊥
 
 -- the run came to its end: without threads, at a stop or a fault of the text, or with as many instructions as the limit
 -- allows
-pub data IsWhole (limit : ℕ) (went : Went) : Type 0 where
-  WithoutThreads : went.line ≡ Nothing → IsWhole limit went
-  AtAStop : went.status ≢ status_number Limit → IsWhole limit went
-  AtTheLimit : (totals : Totals) → went.line ≡ Tally totals → totals.retires ≡ limit → IsWhole limit went
+pub data CameToItsEnd (limit : ℕ) (went : Went) : Type 0 where
+  WithoutThreads : went.line ≡ Nothing → CameToItsEnd limit went
+  AtAStop : went.status ≢ status_number Limit → CameToItsEnd limit went
+  AtTheLimit : (totals : Totals) → went.line ≡ Tally totals → totals.retires ≡ limit → CameToItsEnd limit went
 
 -- the last term of a run was at a core of the configured sizes, with as many unit threads and places; as many
 -- instructions were committed as the tally tells, and the core was renewed as often. Each instruction took a turn of

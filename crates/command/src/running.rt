@@ -1,23 +1,20 @@
 //! The run that a command line asks for.
-ghost use Rattle.std.specs.Prelude.{◌≡◌, ◌-◌, ◌^◌, ◌<◌, ℕ, IfSome, IfOk, IfErr, None, Result, true, string_bytes};
-ghost use Rattle.instructions.specs.Programs.{Program};
-ghost use Rattle.isa.specs.declared.listing.fault.FaultKind.{FaultKind};
+ghost use Rattle.std.specs.Prelude.{◌≡◌, ◌-◌, ◌^◌, ◌<◌, IfSome, IfOk, IfErr, None, true};
 ghost use Rattle.counted_io.specs.Counted.{failures_of, Gives};
 ghost use Rattle.counted_io.specs.Replies.{HasReplied};
 ghost use Rattle.bench.specs.Answer.{most_taken};
-ghost use Rattle.bench.specs.Parsed.{IsParsed};
-ghost use Rattle.command.specs.Answers.{IsAnswerFor, IsAnswerTo, IsAsAlone, IsSomeAnswerTo};
-ghost use Rattle.command.specs.Runs.{IsRunWith, IsWhole, WasWritten, refused_run, went_of};
-ghost use Rattle.command.specs.Unanswered.{IsOfRun, IsUnansweredBy};
+ghost use Rattle.command.specs.Answers.{IsAnswerTo, IsAsAlone, IsSomeAnswerTo};
+ghost use Rattle.command.specs.Runs.{CameToItsEnd, IsRunWith, WasWritten, refused_run, went_of};
+ghost use Rattle.command.specs.Unanswered.{IsUnansweredBy};
 ghost use Rattle.command_line.specs.Replies.{HasWritten, IfRefused, IsLeftBy};
 ghost use Rattle.command_line.specs.Exits.{HoldsOfInput, IsOfOneThread};
-ghost use Rattle.command_line.specs.declared.exit.Line.TheVariants.{Refused};
 
 use crate::went::{refused, written};
 use crate::{Asked, Line, Refusal, Went, single_thread, threads};
 use bench::{Status, read_listing};
+use command_line::choose;
 use counted_io::{Counted, write_whole};
-use instructions::Program;
+use one_thread::Order;
 use pool::Gate;
 use std::alloc::Global;
 use std::io::{Read, Write};
@@ -43,7 +40,7 @@ pub fn go<T: Threads + Wait + Sync, R: Read + Drop, W: Write, G: Gate + Sync>(
     ensures answer { WasWritten result.line → HasWritten R.remaining W.contents reader
         writer.old writer.new (IsAnswerTo asked.now result) }
     // Where the run came to its end, that is what one thread answers, byte for byte.
-    ensures same { WasWritten result.line → IsWhole asked.now.config.limit result →
+    ensures same { WasWritten result.line → CameToItsEnd asked.now.config.limit result →
         HoldsOfInput R.remaining reader (λ input. IsAsAlone asked.now.config.limit input result
         (Gives W.contents writer.old writer.new)) }
     ensures alone { asked.now.alone ≡ true → IsOfOneThread result.line }
@@ -64,7 +61,7 @@ pub fn go<T: Threads + Wait + Sync, R: Read + Drop, W: Write, G: Gate + Sync>(
     }
 }
 
-// Reads a listing, and writes the report of its run, or the line of its fault.
+// Reads a listing, runs it as is asked for, and writes the report of its run, or the line of its fault.
 fn answered<T: Threads + Wait + Sync, R: Read, W: Write, G: Gate + Sync>(
     wait: &T,
     alloc: Global,
@@ -83,35 +80,15 @@ fn answered<T: Threads + Wait + Sync, R: Read, W: Write, G: Gate + Sync>(
     ensures err { IfErr result (IsUnansweredBy R.remaining W.contents
         reader.old reader.new writer.old writer.new (IsSomeAnswerTo asked.now)) }
 {
-    let found = read_listing(alloc, reader)?;
-    let (went, text) = answer(wait, alloc, asked, found, gate)?;
+    let predictor = choose(asked.predictor);
+    let (went, text) = match read_listing(alloc, reader)? {
+        Ok(program) if asked.alone => {
+            let order = Order::by_seed(asked.seed);
+            single_thread::report(alloc, asked, &program, predictor, order)?
+        },
+        Ok(program) => threads::report(wait, alloc, asked, &program, predictor, gate)?,
+        Err(line) => (written(Status::TextFault, Line::Nothing, None), line),
+    };
     write_whole(writer, text.as_str().as_bytes())?;
     Ok(went)
-}
-
-// What is told of a listing, and the text for it: the report of its run, or the line of its fault.
-fn answer<T: Threads + Wait + Sync, G: Gate + Sync>(
-    wait: &T,
-    alloc: Global,
-    asked: &Asked<'_>,
-    found: Result<Program, String>,
-    gate: &G,
-) -> Result<(Went, String), Refusal>
-    ensures ok { IfOk result (λ answer. (listing : Result Program (ℕ × FaultKind)) →
-        IsParsed found listing →
-        IsAnswerFor asked.now listing (string_bytes answer.1) answer.0) }
-    ensures line { IfOk result (λ answer. WasWritten answer.0.line) }
-    ensures alone { asked.now.alone ≡ true →
-        IfOk result (λ answer. IsOfOneThread answer.0.line) }
-    ensures ran { IfOk result (λ answer.
-        IsRunWith asked.now.config answer.0.status answer.0.line answer.0.ran) }
-    ensures err { IfErr result IsOfRun }
-    ensures thread { asked.now.alone ≡ true →
-        IfErr result (λ refusal. IsOfOneThread (Refused refusal)) }
-{
-    match found {
-        Ok(program) if asked.alone => Ok(single_thread::report(alloc, asked, &program)?),
-        Ok(program) => threads::report(wait, alloc, asked, &program, gate),
-        Err(line) => Ok((written(Status::TextFault, Line::Nothing, None), line)),
-    }
 }

@@ -5,12 +5,11 @@ ghost use Rattle.command.specs.Runs.{IsRunWith, WasWritten};
 ghost use Rattle.command.specs.Threads.{ended_of, run_refusal};
 ghost use Rattle.command.specs.Unanswered.{IsOfRun};
 ghost use Rattle.command_line.specs.Predictors.{IsChosen};
-ghost use Rattle.pool.specs.Ended.{HasRun};
 
 use crate::went::written;
 use crate::{Asked, Line, Refusal, Went};
 use bench::Status;
-use command_line::{Chosen, choose};
+use command_line::Chosen;
 use instructions::{End, Program};
 use isa::report_text;
 use pool::{Gate, Ran, Run, RunInTurns, Tally, run_in_turns};
@@ -26,15 +25,17 @@ pub(crate) struct Ended {
     ran: Ran,
 }
 
-/// Runs a program on threads: what is told of the run, and its report.
+/// Runs a program on threads with the predictor that is asked for: what is told of the run, and its report.
 pub(crate) fn report<T: Threads + Wait + Sync, G: Gate + Sync>(
     wait: &T,
     alloc: Global,
     asked: &Asked<'_>,
     program: &Program,
+    predictor: Chosen,
     gate: &G,
 ) -> Result<(Went, String), Refusal>
     requires threads { asked.now.alone ≡ false }
+    requires predictor { IsChosen asked.now.predictor predictor }
     ensures ok { IfOk result (λ answer.
         IsReport asked.now program.now (string_bytes answer.1) answer.0) }
     ensures line { IfOk result (λ answer. WasWritten answer.0.line) }
@@ -42,27 +43,11 @@ pub(crate) fn report<T: Threads + Wait + Sync, G: Gate + Sync>(
         IsRunWith asked.now.config answer.0.status answer.0.line answer.0.ran) }
     ensures err { IfErr result IsOfRun }
 {
-    let predictor = choose(asked.predictor);
-    let run = predicted(wait, alloc, asked, program, predictor, gate);
+    let run = run_in_turns(wait, alloc, program, &asked.config, predictor, gate);
     let Ended { end, tally, ran } = ended_run(run)?;
     let text = report_text(alloc, &end)?;
     let status = Status::of(end.outcome);
     Ok((written(status, Line::Tally(tally), Some(ran)), text))
-}
-
-// Runs a program with the predictor that is asked for.
-fn predicted<T: Threads + Wait + Sync, G: Gate + Sync>(
-    wait: &T,
-    alloc: Global,
-    asked: &Asked<'_>,
-    program: &Program,
-    predictor: Chosen,
-    gate: &G,
-) -> RunInTurns
-    requires predictor { IsChosen asked.now.predictor predictor }
-    ensures { HasRun program.now asked.now.config result }
-{
-    run_in_turns(wait, alloc, program, &asked.config, predictor, gate)
 }
 
 fn ended_run(run: RunInTurns) -> Result<Ended, Refusal>

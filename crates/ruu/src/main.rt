@@ -28,19 +28,14 @@ fn main(rt: HostRuntime) -> ExitCode {
         Err(no_run) => return refuse(&rt, &no_run),
     };
     match asked(rt.alloc(), words.as_slice()) {
-        Ok(asked) => run(&rt, &rt, &asked),
+        Ok(asked) if is_standard_input(asked.file) => run(&rt, &rt, &asked, Some(rt.stdin())),
+        Ok(asked) => run(&rt, &rt, &asked, File::open(&rt, asked.file).ok()),
         Err(no_run) => refuse(&rt, &no_run),
     }
 }
 
-fn run<T: Threads + Wait + Sync>(rt: &HostRuntime, wait: &T, asked: &Asked<'_>) -> ExitCode {
-    if is_standard_input(asked.file) {
-        return run_from(rt, wait, asked, Some(rt.stdin()));
-    }
-    run_from(rt, wait, asked, File::open(rt, asked.file).ok())
-}
-
-fn run_from<T: Threads + Wait + Sync, R: Read + Drop>(
+// Runs the listing of an input; there is none where its file did not open.
+fn run<T: Threads + Wait + Sync, R: Read + Drop>(
     rt: &HostRuntime,
     wait: &T,
     asked: &Asked<'_>,
