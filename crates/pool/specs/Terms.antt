@@ -45,7 +45,7 @@ pub record AreAt {S : Type 0} (core : TheCore) (counts : TableId) (dispatcher : 
 pub record MayBegin {S : Type 0} (counts : TableId) (config : Settings) (committer : TheCommitter)
     (term : Term S) : Type 0 where
   pub sizes_are : term.core.sizes ≡ configured_sizes config
-  pub owned : AreAt term.core counts term.dispatcher term.unit term.count
+  pub owned : AreAt term.core counts term.owned.dispatcher term.owned.unit term.count
   pub commits : MayCommit term.core committer
 
 -- The front has departed from this core, with a seat that has seen that nobody is live

@@ -6,7 +6,7 @@ ghost use Rattle.workers.specs.Turns.{untaken};
 
 use crate::commit::Committer;
 use crate::dispatch::{Begin, Dispatcher};
-use crate::terms::Term;
+use crate::terms::{Owned, Term};
 use back::{Back, Naming, Snapper};
 use counts::{CountSeat, Counts};
 use hints::{Hints, Ring};
@@ -50,7 +50,7 @@ pub(crate) fn make<K: Naming + Bounds + Ring, P: Predictor + Drop, G, R>(
     requires program { run.now.program.now ≡ K.program }
     requires config { run.now.config.now ≡ K.config }
     ensures begins { IfOk result (λ made. MayBegin K.counts K.config made.0 made.1) }
-    ensures turns { IfOk result (λ made. made.1.dispatcher.turns ≡ untaken (K.config).turns) }
+    ensures turns { IfOk result (λ made. made.1.owned.dispatcher.turns ≡ untaken (K.config).turns) }
 {
     let (config, program) = (run.config, run.program);
     let (core, front, seat, unit) = Core::make(run.alloc, program, config)?;
@@ -72,8 +72,7 @@ pub(crate) fn make<K: Naming + Bounds + Ring, P: Predictor + Drop, G, R>(
     };
     let term = Term {
         core,
-        dispatcher,
-        unit,
+        owned: Owned { dispatcher, unit },
         count: unit_count,
     };
     Ok((committer, term, snapper))

@@ -24,7 +24,7 @@ use std::thread;
 use std::thread::Threads;
 use workers::{Bounds, Gate, RunState, Turns};
 
-// Starts the snapshot threads, runs all terms, and returns when each thread has ended.
+// Makes the sides of a run, runs its terms in threads, and answers how it ended when each thread has.
 fn run_in_threads<
     'x,
     K: Naming + Bounds + Ring + Send + Sync,
@@ -34,40 +34,6 @@ fn run_in_threads<
 >(
     run: &'x RunShared<'x, G, R>,
     state: &'x RunState<K>,
-    term: Term<P>,
-    snapper: Snapper<K>,
-    committer: &'x mut Committer<K>,
-)
-    requires config { run.now.config.now ≡ K.config }
-    requires begins { MayBegin state.now.counts K.config committer.old term }
-{
-    thread::scope(
-        thread::scope_env(),
-        run.wait,
-        move |scope|
-            requires config { run.now.config.now ≡ K.config }
-            requires begins { MayBegin state.now.counts K.config committer.now term }
-        {
-            let (wait, gate) = (run.wait, run.gate);
-            let places = run.config.places();
-            match start_snappers(scope, wait, state, gate, places, snapper) {
-                Some(places) => run_terms(run, state, &places, term, committer),
-                None => drop(term),
-            }
-            state.end_run();
-        },
-    )
-}
-
-// Makes the sides of a run, runs it in threads, and answers how it ended when each has.
-fn run_with<
-    K: Naming + Bounds + Ring + Send + Sync,
-    P: Predictor + Drop + Send,
-    G: Gate + Sync,
-    R: Threads + Wait + Sync,
->(
-    run: &RunShared<'_, G, R>,
-    state: &RunState<K>,
     count: CountSeat,
     predictor: P,
 ) -> Result<RunInTurns, Memory>
@@ -77,7 +43,23 @@ fn run_with<
     ensures { IfOk result (HasRun K.program K.config) }
 {
     let (mut committer, term, snapper) = make::<K, P, G, R>(run, state, count, predictor)?;
-    run_in_threads(&*run, state, term, snapper, &mut committer);
+    let committing = &mut committer;
+    thread::scope(
+        thread::scope_env(),
+        run.wait,
+        move |scope|
+            requires config { run.now.config.now ≡ K.config }
+            requires begins { MayBegin state.now.counts K.config committing.now term }
+        {
+            let (wait, gate) = (run.wait, run.gate);
+            let places = run.config.places();
+            match start_snappers(scope, wait, state, gate, places, snapper) {
+                Some(places) => run_terms(run, state, &places, term, committing),
+                None => drop(term),
+            }
+            state.end_run();
+        },
+    );
     Ok(committer.end(run.wait, state))
 }
 
@@ -101,7 +83,7 @@ fn run_named<
     ensures { IfOk result (HasRun K.program K.config) }
 {
     let state = make_state::<K>(run.alloc, run.config, counts)?;
-    let ran = run_with::<K, P, G, R>(run, &state, count, predictor);
+    let ran = run_in_threads::<K, P, G, R>(&*run, &state, count, predictor);
     drop(state);
     ran
 }

@@ -9,7 +9,7 @@ ghost use Rattle.workers.specs.Configured.{configured_sizes};
 use super::Committer;
 use crate::dispatch::Dispatcher;
 use crate::ends::Refusal;
-use crate::terms::Term;
+use crate::terms::{Owned, Term};
 use back::{Naming, a_back_enters_behind_a_renewal};
 use core::mem::replace_with;
 use counts::Total;
@@ -83,24 +83,20 @@ impl<K: Naming + Bounds + Ring> Committer<K> {
         state: &RunState<K>,
         term: Term<P>,
     ) -> Option<Term<P>>
-        requires returned { IsReturned term.core state.now.counts term.dispatcher term.unit
-            self.old }
+        requires returned { IsReturned term.core state.now.counts
+            term.owned.dispatcher term.owned.unit self.old }
         requires sizes { term.core.sizes ≡ configured_sizes K.config }
         requires count { term.count.of ≡ state.now.counts }
         ensures turns { self.new.turns ≡ self.old.turns }
         ensures begins { IfSome result (MayBegin state.now.counts K.config self.new) }
         ensures refused { IfNone result (self.new.over ≡ Err Refusal.Memory) }
-        ensures goes_on { IfSome result (λ next. AreRenewed term.core term.dispatcher.seat.seen
-            next.core next.dispatcher.seat next.unit self.new.back.core) }
+        ensures goes_on { IfSome result (λ next. AreRenewed term.core term.owned.dispatcher.seat.seen
+            next.core next.owned.dispatcher.seat next.owned.unit self.new.back.core) }
         ensures front_turns { IfSome result (λ next.
-            next.dispatcher.turns ≡ term.dispatcher.turns) }
+            next.owned.dispatcher.turns ≡ term.owned.dispatcher.turns) }
     {
-        let Term {
-            core,
-            dispatcher,
-            unit,
-            count,
-        } = term;
+        let Term { core, owned, count } = term;
+        let Owned { dispatcher, unit } = owned;
         let Dispatcher {
             seat,
             begin,
@@ -115,11 +111,7 @@ impl<K: Naming + Bounds + Ring> Committer<K> {
             count: front_count,
             turns,
         };
-        Some(Term {
-            core,
-            dispatcher,
-            unit,
-            count,
-        })
+        let owned = Owned { dispatcher, unit };
+        Some(Term { core, owned, count })
     }
 }

@@ -5,7 +5,6 @@ ghost use Rattle.counts.specs.Reads.{WasTotal};
 ghost use Rattle.counts.specs.Totals.{tallied};
 ghost use Rattle.hints.specs.Hinted.{IsEndOf};
 ghost use Rattle.pool.specs.Committing.{Because, HintsLoaded, IsReason, IsUnderWay};
-ghost use Rattle.pool.specs.declared.commit.turning.Turned.TheVariants.{Over};
 ghost use Rattle.pool.specs.declared.commit.Why.{Why};
 
 use super::{Committer, Why};
@@ -40,14 +39,6 @@ fn pass_tally<G: Gate>(
 {
     let _moments = (before, count);
     gate.counted(tally);
-}
-
-// How a turn has ended.
-#[derive(Clone, Copy)]
-enum Turned {
-    Worked,
-    Idle,
-    Over(Why),
 }
 
 impl<K: Naming + Bounds + Ring> Committer<K> {
@@ -96,93 +87,70 @@ impl<K: Naming + Bounds + Ring> Committer<K> {
         true
     }
 
-    // Commits and refreshes once. A refused snapshot is want of memory.
-    fn commit_and_refresh<G: Gate, R: Wait>(
-        &mut self,
-        shared: &TermShared<'_, K, G, R>,
-        hinter: &mut Hinter,
-    ) -> Result<Turned, Memory>
-        requires core { self.old.back.core ≡ shared.now.core.now }
-        requires hinter { IsEndOf shared.now.state.now.hints hinter.old }
-        requires begun { self.old.over ≡ Err Refusal.Memory }
-        requires taken { (back_state self.old.back).count +
-            self.old.turns.left < self.old.turns.all }
-        ensures core { self.new.back.core ≡ shared.now.core.now }
-        ensures begun { self.new.over ≡ Err Refusal.Memory }
-        ensures turns { self.new.turns ≡ self.old.turns }
-        ensures renewals { self.new.renewals ≡ self.old.renewals }
-        ensures last { self.new.last ≡ self.old.last }
-        ensures hinter { IsEndOf shared.now.state.now.hints hinter.new }
-        ensures over { IfOk result (λ turned. (why : Why) → turned ≡ Over why →
-            Because (K.config).limit self.new.back self.new.turns.left why) }
-    {
-        if self.limit as u64 <= self.back.n() {
-            return Ok(Turned::Over(Why::AtLimit));
-        }
-        let mut turned = Turned::Idle;
-        match self.back.commit(shared.core) {
-            Commit::Ended(_) => return Ok(Turned::Over(Why::AtEnd)),
-            Commit::Retired { n, .. } => {
-                shared.state.counts.add(&mut self.count, Total::Retires, 1);
-                if n % SHOWN_EACH == 0 {
-                    self.show(shared)?;
-                    shared.state.wake_watchers();
-                }
-                turned = Turned::Worked;
-            }
-            // its instruction counts with its second half
-            Commit::Half { .. } => turned = Turned::Worked,
-            Commit::NotDone | Commit::Empty => {}
-        }
-        if self.refresh(shared, hinter) {
-            turned = Turned::Worked;
-        }
-        Ok(turned)
-    }
-
-    // Takes turns until the program has ended, the limit is reached or no turn is left, and then answers which. No reason
-    // is answered where the core is to be renewed.
-    fn take_turns<G: Gate, R: Wait>(
+    /// Takes turns, in each of which it commits and refreshes once, until the program has ended, the limit is reached or no
+    /// turn is left, and then answers which. No reason is answered where the core is to be renewed. A refused snapshot is
+    /// want of memory.
+    pub(crate) fn take_turns<G: Gate, R: Wait>(
         &mut self,
         shared: &TermShared<'_, K, G, R>,
     ) -> Result<Option<Why>, Memory>
         requires core { self.old.back.core ≡ shared.now.core.now }
-        requires begun { self.old.over ≡ Err Refusal.Memory }
+        requires fresh { self.old.over ≡ Err Refusal.Thread }
         ensures core { self.new.back.core ≡ shared.now.core.now }
         ensures begun { self.new.over ≡ Err Refusal.Memory }
         ensures over { IfOk result (IsReason (K.config).limit self.new) }
     {
+        self.over = Err(Refusal::Memory);
         let mut hinter = shared.state.hints.hinter();
         let mut backoff = Backoff::after(PATIENCE);
         while self.turns.take() {
-            match self.commit_and_refresh(shared, &mut hinter)? {
-                Turned::Worked => backoff.reset(),
-                Turned::Idle if shared.state.has_term_ended() => return Ok(None),
-                Turned::Idle => backoff.snooze(),
-                Turned::Over(why) => return Ok(Some(why)),
+            if self.limit as u64 <= self.back.n() {
+                return Ok(Some(Why::AtLimit));
+            }
+            let has_committed = match self.back.commit(shared.core) {
+                Commit::Ended(_) => return Ok(Some(Why::AtEnd)),
+                Commit::Retired { n, .. } => {
+                    shared.state.counts.add(&mut self.count, Total::Retires, 1);
+                    if n % SHOWN_EACH == 0 {
+                        self.show(shared)?;
+                        shared.state.wake_watchers();
+                    }
+                    true
+                }
+                // its instruction counts with its second half
+                Commit::Half { .. } => true,
+                Commit::NotDone | Commit::Empty => false,
+            };
+            if self.refresh(shared, &mut hinter) || has_committed {
+                backoff.reset();
+            } else if shared.state.has_term_ended() {
+                return Ok(None);
+            } else {
+                backoff.snooze();
             }
         }
         Ok(Some(Why::Spent))
     }
 
-    /// Commits in one term. Where the run is over, the last state is shown, and the reason is kept. True where the run is
-    /// not over, and the core is to be renewed.
-    pub(crate) fn commit_term<G: Gate, R: Wait>(
+    /// Records a term whose turns were taken. Where the run is over, the last state is shown, and the reason is kept. True
+    /// where the run is not over, and the core is to be renewed.
+    pub(crate) fn record_term<G: Gate, R: Wait>(
         &mut self,
         shared: &TermShared<'_, K, G, R>,
+        reason: Result<Option<Why>, Memory>,
         units: &StartedUnits,
         places: &Places,
     ) -> bool
         requires core { self.old.back.core ≡ shared.now.core.now }
-        requires fresh { self.old.over ≡ Err Refusal.Thread }
+        requires begun { self.old.over ≡ Err Refusal.Memory }
+        requires over { IfOk reason (IsReason (K.config).limit self.old) }
         requires units { units.now ≡ (K.config).units }
         requires places { places.now ≡ (K.config).places }
         ensures core { self.new.back.core ≡ shared.now.core.now }
         ensures has_run { self.new.over ≢ Err Refusal.Thread }
         ensures goes_on { result ≡ true → IsUnderWay self.new }
     {
-        self.over = Err(Refusal::Memory);
-        let Ok(reason) = self.take_turns(shared) else {
+        let Ok(reason) = reason else {
             return false;
         };
         if reason.is_some() && self.show(shared).is_err() {
