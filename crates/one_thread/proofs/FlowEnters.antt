@@ -4,10 +4,10 @@ use Rattle.circular_buffer.proofs.Places.{slice_get-some}
 use Rattle.std.specs.Prelude.{slice_get}
 use Rattle.instructions.specs.Programs.{instr_at}
 use Rattle.instructions.specs.declared.instr.Instr.{Instr}
-use Rattle.one_thread.specs.Astray.{Finds, HasGoneAstray, IsNext}
+use Rattle.one_thread.specs.Astray.{FindsOperands, HasGoneAstray, IsUpcoming}
 use Rattle.one_thread.specs.Changes.{registers_of}
 use Rattle.one_thread.specs.CompletedRing.{stations}
-use Rattle.one_thread.specs.Flow.{Completes, Flows, IsFlow, Reopens, StaysOpen, completed_as, enters_as, filled, in_order, window_of}
+use Rattle.one_thread.specs.Flow.{Completes, Flows, IsFlow, Reopens, ReopensBehind, completed_as, enters_as, filled, in_order, window_of}
 use Rattle.one_thread.specs.Kept.{HasKept, HaveKept, LeavesAs, kept_with}
 use Rattle.one_thread.specs.StandsFor.{StandsForSome}
 use Rattle.one_thread.specs.declared.completed_ring.Completed.{Completed}
@@ -22,9 +22,9 @@ use Rattle.one_thread.proofs.FlowKept.{joins_flows, joins_in_order}
 use Rattle.one_thread.proofs.Kept.{kept_now}
 
 pub record Joins (b : Pipeline) (flow after : Flow) (predicted : ℕ) (d : Done) : Type 0 where
-  pub next : IsNext b flow predicted
+  pub next : IsUpcoming b flow predicted
   pub operands : Operands
-  pub finds : Finds flow next.instr operands
+  pub finds : FindsOperands flow next.instr operands
   pub completes : Completes next.placed.before flow next.instr predicted operands (Some d)
   pub leaves : Leaves
   pub leaves_as : LeavesAs leaves next.instr
@@ -117,14 +117,14 @@ module _ (b : Pipeline) (flow after : Flow) (predicted : ℕ) (d : Done) (h : Jo
       let one = last_is x is in
       misses (ap (λ (z : Completed). z.next) (sym one) ∙ e ∙ ap (λ (z : Completed). z.predicted) one)
 
-  pub joins_stays : StaysOpen (in_order b after) after from
+  pub joins_stays : ReopensBehind (in_order b after) after from
   joins_stays x is e =
       let one = last_is x is in
       joins_open (ap (λ (z : Completed). z.next) (sym one) ∙ e ∙ ap (λ (z : Completed). z.predicted) one)
 
 -- Where all were let in a row
 
-pub stays_open : (b : Pipeline) (flow : Flow) (n : ℕ) → StaysOpen b flow n → 0 < length flow.ring.completed →
+pub stays_open : (b : Pipeline) (flow : Flow) (n : ℕ) → ReopensBehind b flow n → 0 < length flow.ring.completed →
     ((c : Completed) → slice_get flow.ring.completed (length flow.ring.completed - 1) ≡ Some c → c.next ≡ c.predicted) → Reopens b flow n
 stays_open b flow n stays some hit =
     let last = slice_get-some flow.ring.completed (length flow.ring.completed - 1) (omega (arith, some)) in

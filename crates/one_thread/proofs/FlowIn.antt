@@ -1,11 +1,12 @@
 -- The next instruction enters a flow.
-use Rattle.std.proofs.Common.{◌≡◌, ◌≢◌, ◌<◌, ◌≤◌, ◌^◌, ℕ, ◌+◌, ◌%◌, Bool, true, false, eqb, eqb-true, List, [], ◌∷◌, ◌++◌, length, Option, Some, None, refl, sym, ap, ◌∙◌, subst, suc, arith, length-append}
+use Rattle.std.proofs.Common.{◌≡◌, ◌≢◌, ◌<◌, ◌≤◌, ◌^◌, ℕ, ◌+◌, ◌%◌, Bool, true, false, List, [], ◌∷◌, ◌++◌, length, Option, Some, None}
+use Rattle.std.proofs.Common.{eqb, eqb-true, refl, sym, ap, ◌∙◌, subst, suc, arith, length-append}
 use Rattle.std.specs.Prelude.{IfSome, slice_set}
 use Rattle.instructions.specs.Instruction.{fixed_next, width}
 use Rattle.instructions.specs.declared.instr.Instr.{Instr}
 use Rattle.instructions.specs.declared.stop.Outcome.{Outcome}
 use Rattle.instructions.specs.declared.stop.Outcome.TheVariants.{Address, Next, Pair, Stop, Value}
-use Rattle.one_thread.specs.Astray.{Finds, IsNext}
+use Rattle.one_thread.specs.Astray.{FindsOperands, IsUpcoming}
 use Rattle.one_thread.specs.Changes.{registers_of}
 use Rattle.one_thread.specs.Decoding.{IsDecoded}
 use Rattle.one_thread.specs.Flow.{AreThere, CanRestore, Completes, IsFlow, IsPlaced, Reopens, comes_to, completed_as, completed_by, enters_as, filled, in_order, load_of, outcome_in, window_of}
@@ -41,7 +42,7 @@ pub record Enters (x later : Pipeline) (flow : Flow) (i : Instr) (predicted from
   pub leavers : later.leavers ≡ slice_set x.leavers ((x.oldest + length (window_of x flow)) % x.ring) None
   pub rest : later ≡ record x { leavers = later.leavers }
 
-pub enters : (later : Pipeline) (flow : Flow) (predicted : ℕ) (n : IsNext later flow predicted) → Enters (in_order n.placed.before flow) (in_order later flow) flow n.instr predicted n.placed.from
+pub enters : (later : Pipeline) (flow : Flow) (predicted : ℕ) (n : IsUpcoming later flow predicted) → Enters (in_order n.placed.before flow) (in_order later flow) flow n.instr predicted n.placed.from
 enters later flow predicted n =
     let p = n.placed in
     let same : p.can.instr ≡ n.instr = cc (sym p.can.is ∙ n.is) in
@@ -144,7 +145,7 @@ module _ (x later : Pipeline) (flow : Flow) (i : Instr) (predicted from : ℕ) (
       }
 
   -- it runs
-  module _ (o : Operands) (f : Finds flow i o) where
+  module _ (o : Operands) (f : FindsOperands flow i o) where
     runs : Runs b flow.future flow.ring.stores next predicted o (outcome_in x flow i o)
     runs =
         record {

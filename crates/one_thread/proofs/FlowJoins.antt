@@ -33,6 +33,26 @@ pub record HasJoined (flow after : Flow) (i : Instr) (c : Completed) (content : 
   pub half : after.half ≡ half_after (is_first_half i.op c.half)
   pub accesses : after.accesses ≡ flow.accesses + access_of i
 
+-- by what a call answers
+pub has_joined : (flow after : Flow) (i : Instr) (c : Completed) (content : ℕ) → after.ring.completed ≡ flow.ring.completed ++ c ∷ [] → after.last ≡ flow.last →
+    after.ring.stores ≡ with_entry flow.ring.stores (store_with (station_by i c) content) → after.held ≡ flow.held → after.ring.oldest ≡ flow.ring.oldest →
+    after.ring.size ≡ flow.ring.size → after.future.values ≡ write flow.future.values (destination i c.half) c.value →
+    GoesOnBehind flow.future (destination i c.half) (made_by (kind i.op) c.value) c.next after.future → after.half ≡ half_after (is_first_half i.op c.half) →
+    after.accesses ≡ flow.accesses + access_of i → HasJoined flow after i c content
+has_joined flow after i c content completed last stores held oldest size values future half accesses =
+    record {
+      completed = completed;
+      last = last;
+      stores = stores;
+      held = held;
+      oldest = oldest;
+      size = size;
+      values = values;
+      future = future;
+      half = half;
+      accesses = accesses;
+    }
+
 module _ (b : Pipeline) (flow after : Flow) (i : Instr) (c : Completed) (content : ℕ) (j : HasJoined flow after i c content) (is : instr_at b.program.now c.pc ≡ Some i) where
   abbrev z : Station
   z = station_by i c

@@ -6,7 +6,7 @@ use Rattle.instructions.specs.Programs.{instr_at}
 use Rattle.inorder.specs.Unit.{half_after}
 use Rattle.instructions.specs.declared.instr.Instr.{Instr}
 use Rattle.instructions.specs.declared.op.Half.{Half}
-use Rattle.one_thread.specs.Astray.{HasGoneAstray, IsAstray, IsNext}
+use Rattle.one_thread.specs.Astray.{HasGoneAstray, IsAstray, IsUpcoming}
 use Rattle.one_thread.specs.Decoding.{IsDecoded}
 use Rattle.one_thread.specs.Flow.{IsFlowing, enters_as, filled, in_order, window_of}
 use Rattle.one_thread.specs.StandsFor.{StandsForSome}
@@ -30,7 +30,7 @@ more_accesses W w =
     ap (accesses (W ++ w ∷ [])) long ∙ accesses_end W w
 
 -- the next instruction is the first of them
-pub goes_astray : (b : Pipeline) (flow : Flow) (predicted : ℕ) (n : IsNext b flow predicted) (half : Half) (used count : ℕ) → half ≡ half_after (is_first_half n.instr.op flow.half) →
+pub goes_astray : (b : Pipeline) (flow : Flow) (predicted : ℕ) (n : IsUpcoming b flow predicted) (half : Half) (used count : ℕ) → half ≡ half_after (is_first_half n.instr.op flow.half) →
     used ≡ flow.accesses + access_of n.instr → count ≡ length flow.ring.completed + 1 →
     IsAstray (in_order b flow) (window_of b flow) (enters_as flow n.instr predicted) predicted half used count
 goes_astray b flow predicted n half used count half_is uses counts =
@@ -89,7 +89,7 @@ module _ (b old : Pipeline) (flow : Flow) (predicted : ℕ) (rest : b ≡ record
         unit = subst (λ V. StandsForSome (filled (in_order b flow) V)) (a.is ∙ ap (λ (p : Pipeline). window_of p flow ++ enters_as flow i predicted ∷ a.behind) (sym rest)) a.unit;
       }
 
-  module _ (n : IsNext old flow predicted) where
+  module _ (n : IsUpcoming old flow predicted) where
     pub astray_decoded : (code : List Instr) → code ≡ b.code.items → IsDecoded code b.program.now
     astray_decoded code e =
         subst (λ (p : Pipeline). IsDecoded code p.program.now) (sym rest)

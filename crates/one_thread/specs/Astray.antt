@@ -14,7 +14,7 @@ use Rattle.one_thread.specs.declared.pipeline.Pipeline.{Pipeline}
 use Rattle.one_thread.specs.declared.station.Station.{Station}
 
 -- The next instruction can enter, and this is predicted behind it
-pub record IsNext (b : Pipeline) (flow : Flow) (predicted : ℕ) : Type 0 where
+pub record IsUpcoming (b : Pipeline) (flow : Flow) (predicted : ℕ) : Type 0 where
   pub placed : IsPlaced b flow
   pub instr : Instr
   pub is : instr_at placed.before.program.now flow.future.pc ≡ Some instr
@@ -22,17 +22,17 @@ pub record IsNext (b : Pipeline) (flow : Flow) (predicted : ℕ) : Type 0 where
   pub fixed : IfSome (fixed_next instr flow.half flow.future.pc) (λ n. predicted ≡ n)
 
 -- These are what an instruction finds
-pub record Finds (flow : Flow) (i : Instr) (o : Operands) : Type 0 where
+pub record FindsOperands (flow : Flow) (i : Instr) (o : Operands) : Type 0 where
   pub first_small : first_of i < 34
   pub second_small : second_of i < 34
   pub first : o.a ≡ slice_index flow.future.values (first_of i)
   pub second : o.b ≡ slice_index flow.future.values (second_of i)
 
--- It completes with this, on another path, and finds this content
-pub record IsMiss (b : Pipeline) (flow : Flow) (predicted : ℕ) (d : Done) (content : ℕ) : Type 0 where
-  pub next : IsNext b flow predicted
+-- The next instruction completes with this, on another path than was predicted, and finds this content
+pub record AwaitsMending (b : Pipeline) (flow : Flow) (predicted : ℕ) (d : Done) (content : ℕ) : Type 0 where
+  pub next : IsUpcoming b flow predicted
   pub operands : Operands
-  pub finds : Finds flow next.instr operands
+  pub finds : FindsOperands flow next.instr operands
   pub reads : operands.b ≡ content
   pub completes : Completes next.placed.before flow next.instr predicted operands (Some d)
   pub misses : d.next ≢ predicted

@@ -102,8 +102,8 @@ pub record Reopens (b : Pipeline) (flow : Flow) (n : ℕ) : Type 0 where
   pub unit : StandsForSome (with_reopened n (filled b (window_of b flow)))
 
 -- and also once another has joined, unless that was a miss
-abbrev pub StaysOpen : Pipeline → Flow → ℕ → Type 0
-StaysOpen b flow n =
+abbrev pub ReopensBehind : Pipeline → Flow → ℕ → Type 0
+ReopensBehind b flow n =
     (c : Completed) → slice_get flow.ring.completed (length flow.ring.completed - 1) ≡ Some c → c.next ≡ c.predicted → Reopens b flow n
 
 -- The fields of a unit in a flow: its registers are those that the oldest instruction found, and the flow knows where

@@ -1,6 +1,6 @@
 //! A miss in a flow: what was predicted is let behind it and squashed, and it is mended.
 ghost use Rattle.std.specs.Prelude.{◌≡◌, ◌≢◌, ◌-◌, suc, length, slice_get, Some};
-ghost use Rattle.one_thread.specs.Astray.{HasGoneAstray, IsMiss, IsNext};
+ghost use Rattle.one_thread.specs.Astray.{HasGoneAstray, AwaitsMending, IsUpcoming};
 ghost use Rattle.one_thread.specs.Flow.{Flows, in_order};
 ghost use Rattle.one_thread.specs.declared.completed_ring.Completed.{Completed};
 
@@ -17,7 +17,7 @@ impl<'a> Pipeline<'a> {
     // Lets what is predicted behind the next instruction, as long as anything can be let. None of it is claimed before the
     // next instruction has squashed it, so a predictor alone notices it: it is told who has left each station, and asked.
     fn lets_astray<P: Predictor>(&mut self, predictor: &mut P, flow: &Flow, predicted: u32)
-        requires { IsNext self.old flow.now predicted }
+        requires { IsUpcoming self.old flow.now predicted }
         ensures astray { HasGoneAstray self.new flow.now predicted }
         ensures rest { self.new ≡ record self.old { leavers = self.new.leavers } }
     {
@@ -52,7 +52,7 @@ impl<'a> Pipeline<'a> {
         done: Done,
         content: u32,
     )
-        requires { IsMiss self.old flow.old predicted done content }
+        requires { AwaitsMending self.old flow.old predicted done content }
         ensures flows { Flows self.new flow.new }
         ensures longer { length flow.new.ring.completed ≡ suc (length flow.old.ring.completed) }
         ensures missed { (c : Completed) → slice_get flow.new.ring.completed

@@ -2,7 +2,7 @@
 ghost use Rattle.std.specs.Prelude.{◌≡◌, ◌<◌, suc, length, IsFalse, IsTrue, Some};
 ghost use Rattle.instructions.specs.declared.op.Half.TheVariants.{Low};
 ghost use Rattle.one_thread.specs.Decoding.{HasInstr, IsDecoded, IsWhole};
-ghost use Rattle.one_thread.specs.Flow.{CanEnter, Flows, HasEntered, HasPlace, Reopens, StaysOpen, Upcoming, enters_as, in_order};
+ghost use Rattle.one_thread.specs.Flow.{CanEnter, Flows, HasEntered, HasPlace, Reopens, ReopensBehind, Upcoming, enters_as, in_order};
 ghost use Rattle.one_thread.specs.Givers.{Chosen};
 
 use crate::decoded::Decoded;
@@ -74,7 +74,7 @@ impl<'a> Pipeline<'a> {
         requires half { half ≡ flow.old.half }
         requires first { IsTrue plain → half ≡ Low }
         ensures entered { HasEntered self.new flow.new from result }
-        ensures reopens { IsTrue result → StaysOpen (in_order self.new flow.new) flow.new from }
+        ensures reopens { IsTrue result → ReopensBehind (in_order self.new flow.new) flow.new from }
         ensures longer { Chosen result
             (length flow.new.ring.completed ≡ suc (length flow.old.ring.completed))
             (length flow.new.ring.completed ≡ length flow.old.ring.completed) }
@@ -116,7 +116,7 @@ impl<'a> Pipeline<'a> {
     ) -> bool
         requires { HasPlace self.old flow.old from station }
         ensures entered { HasEntered self.new flow.new from result }
-        ensures reopens { IsTrue result → StaysOpen (in_order self.new flow.new) flow.new from }
+        ensures reopens { IsTrue result → ReopensBehind (in_order self.new flow.new) flow.new from }
         ensures longer { Chosen result
             (length flow.new.ring.completed ≡ suc (length flow.old.ring.completed))
             (length flow.new.ring.completed ≡ length flow.old.ring.completed) }
@@ -178,7 +178,7 @@ impl<'a> Pipeline<'a> {
     ) -> bool
         requires { HasPlace self.old flow.old from station }
         ensures entered { HasEntered self.new flow.new from result }
-        ensures reopens { IsTrue result → StaysOpen (in_order self.new flow.new) flow.new from }
+        ensures reopens { IsTrue result → ReopensBehind (in_order self.new flow.new) flow.new from }
         ensures longer { Chosen result
             (length flow.new.ring.completed ≡ suc (length flow.old.ring.completed))
             (length flow.new.ring.completed ≡ length flow.old.ring.completed) }
@@ -207,7 +207,7 @@ impl<'a> Pipeline<'a> {
         requires reopens { Reopens (in_order self.old flow.old) flow.old from }
         requires can { CanEnter self.old flow.old }
         ensures entered { HasEntered self.new flow.new from result }
-        ensures reopens { IsTrue result → StaysOpen (in_order self.new flow.new) flow.new from }
+        ensures reopens { IsTrue result → ReopensBehind (in_order self.new flow.new) flow.new from }
         ensures longer { Chosen result
             (length flow.new.ring.completed ≡ suc (length flow.old.ring.completed))
             (length flow.new.ring.completed ≡ length flow.old.ring.completed) }

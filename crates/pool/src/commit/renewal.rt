@@ -90,7 +90,8 @@ impl<K: Naming + Bounds + Ring> Committer<K> {
         ensures turns { self.new.turns ≡ self.old.turns }
         ensures begins { IfSome result (MayBegin state.now.counts K.config self.new) }
         ensures refused { IfNone result (self.new.over ≡ Err Refusal.Memory) }
-        ensures goes_on { IfSome result (λ next. AreRenewed term.core term.owned.dispatcher.seat.seen
+        ensures goes_on { IfSome result (λ next.
+            AreRenewed term.core term.owned.dispatcher.seat.seen
             next.core next.owned.dispatcher.seat next.owned.unit self.new.back.core) }
         ensures front_turns { IfSome result (λ next.
             next.owned.dispatcher.turns ≡ term.owned.dispatcher.turns) }

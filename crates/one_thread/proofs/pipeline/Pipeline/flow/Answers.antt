@@ -9,7 +9,7 @@ use Rattle.one_thread.specs.Slots.{slot_in}
 use Rattle.one_thread.specs.declared.completed_ring.Completed.{Completed}
 use Rattle.one_thread.specs.declared.station.Station.{Station}
 use Rattle.one_thread.proofs.Completions.{station_is, stations_long}
-use Rattle.one_thread.proofs.FlowJoins.{HasJoined, joined, joined_window}
+use Rattle.one_thread.proofs.FlowJoins.{HasJoined, has_joined, joined, joined_window}
 use Rattle.one_thread.proofs.FlowKept.{begins, begins_in_order, joins_kept}
 use Rattle.one_thread.proofs.Kept.{kept_now, set_zero, zero_held}
 use Rattle.one_thread.proofs.FlowStays.{begun, room_among, taken}
@@ -73,18 +73,8 @@ loop-i-preserved c =
     let there = c.in_ok-completed.ensures.there in
     let content = c.operands-content.result.b in
     let j : HasJoined c.loop-i.flow c.joins.new.self i x content =
-    record {
-      completed = c.joins.ensures.completed;
-      last = c.joins.ensures.last;
-      held = c.joins.ensures.held;
-      oldest = c.joins.ensures.oldest;
-      size = c.joins.ensures.size;
-      values = c.joins.ensures.values;
-      stores = c.joins.ensures.stores;
-      future = c.joins.ensures.future;
-      half = c.joins.ensures.half;
-      accesses = c.joins.ensures.accesses;
-    } in
+    let on = c.joins.ensures in
+    has_joined c.loop-i.flow c.joins.new.self i x content on.completed on.last on.stores on.held on.oldest on.size on.values on.future on.half on.accesses in
     let half : x.half ≡ c.get-station.result.half = ap (λ (w : Station). w.half) c.in_ok-completed.ensures.same in
     let read = c.operands-content.ensures in
     let keeps : HasKept i x c.loop-i.flow.future.values =

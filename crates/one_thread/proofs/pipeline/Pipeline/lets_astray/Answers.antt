@@ -16,8 +16,9 @@ loop-count-init g c =
     let flow = c.args.flow.now in
     let n = c.requires in
     let there = astray_instr b b flow c.args.predicted refl n in
+    let decoded = astray_decoded b b flow c.args.predicted refl n _ c.as_slice.ensures.value in
     let same : c.fetch_known-instr.result.now ≡ n.instr =
-    let e : Some c.fetch_known-instr.result.now ≡ Some n.instr = sym (c.fetch_known-instr.ensures b.program.now (astray_decoded b b flow c.args.predicted refl n _ c.as_slice.ensures.value)) ∙ there in cc e in
+    let e : Some c.fetch_known-instr.result.now ≡ Some n.instr = sym (c.fetch_known-instr.ensures b.program.now decoded) ∙ there in cc e in
     record {
       instr = n.instr;
       is = there;
@@ -62,7 +63,8 @@ loop-count-preserved g c =
     record {
       instr = h.instr;
       is = h.is;
-      astray = more_astray (in_order b flow) (in_order later flow) (window_of old flow) _ (record { instr = i; half = c.loop-count.half; pc = c.loop-count.pc }) c.loop-count.accesses c.loop-count.count p
+      astray = more_astray (in_order b flow) (in_order later flow) (window_of old flow) _ (record { instr = i; half = c.loop-count.half; pc = c.loop-count.pc })
+          c.loop-count.accesses c.loop-count.count p
           c.half_behind-half-in-loop-count.result c.access-accesses.result h.astray
           (astray_open b old flow c.args.predicted h.rest n) (omega (arith, c.loop-count-test.true, ap (λ (q : Pipeline). q.ring) h.rest))
           (sym (c.in-Some.ensures b.program.now decoded)) free c.guess-pc.type_inv fixed

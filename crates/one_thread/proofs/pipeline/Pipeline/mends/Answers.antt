@@ -3,13 +3,13 @@ use Rattle.instructions.specs.Instruction.{fixed_next}
 use Rattle.std.specs.Prelude.{IfSome}
 use Rattle.instructions.specs.Programs.{instr_at}
 use Rattle.instructions.specs.declared.instr.Instr.{Instr}
-use Rattle.one_thread.specs.Astray.{Finds}
+use Rattle.one_thread.specs.Astray.{FindsOperands}
 use Rattle.one_thread.specs.Flow.{Completes, completed_as, in_order}
 use Rattle.one_thread.specs.Kept.{kept_with}
 use Rattle.one_thread.specs.declared.pipeline.Pipeline.{Pipeline}
 use Rattle.one_thread.proofs.FlowEnters.{Joins, joins_last, joins_mended, joins_order}
 use Rattle.one_thread.proofs.FlowIn.{entered_room, enters}
-use Rattle.one_thread.proofs.FlowJoins.{HasJoined}
+use Rattle.one_thread.proofs.FlowJoins.{HasJoined, has_joined}
 use Rattle.one_thread.proofs.LetAstray.{astray_decoded, astray_instr}
 use Rattle.one_thread.proofs.pipeline.Pipeline.mends.Given.{Over}
 use Rattle.one_thread.proofs.pipeline.Pipeline.mends.Goals.{After-joins, After-lets_astray}
@@ -59,24 +59,13 @@ joins g c =
         fixed = subst (λ (j : Instr). IfSome (fixed_next j flow.half flow.future.pc) (λ k. p ≡ k)) same r.next.fixed;
       };
       operands = o;
-      finds = subst (λ j. Finds flow j o) same r.finds;
+      finds = subst (λ j. FindsOperands flow j o) same r.finds;
       completes = subst (λ j. Completes r.next.placed.before flow j p o (Some c.args.done)) same r.completes;
       leaves = completed.result.leaves;
       leaves_as = completed.ensures.leaves;
       joined = subst (λ k. HasJoined flow c.joins.new.self i (completed_as flow p c.args.done completed.result.leaves (kept_with i flow.half k flow.future.values)) k) (sym r.reads)
           (subst (λ y. HasJoined flow c.joins.new.self i y c.args.content) completed.ensures.is
-          (record {
-            completed = on.completed;
-            last = on.last;
-            held = on.held;
-            oldest = on.oldest;
-            size = on.size;
-            stores = on.stores;
-            values = on.values;
-            future = on.future;
-            half = on.half;
-            accesses = on.accesses;
-          }));
+          (has_joined flow c.joins.new.self i _ c.args.content on.completed on.last on.stores on.held on.oldest on.size on.values on.future on.half on.accesses));
     }
 
 pub returns-clause-flows : goal.returns-clause-flows

@@ -3,16 +3,16 @@ use Rattle.instructions.specs.Guesses.{Guesses}
 use Rattle.instructions.specs.Instruction.{fixed_next, width}
 use Rattle.instructions.specs.declared.stop.Outcome.TheVariants.{Address}
 use Rattle.lsq.specs.LoadRule.{lacks_address, youngest}
-use Rattle.one_thread.specs.Astray.{Finds, IsNext}
+use Rattle.one_thread.specs.Astray.{FindsOperands, IsUpcoming}
 use Rattle.one_thread.specs.Changes.{registers_of}
-use Rattle.one_thread.specs.Flow.{CanRestore, Completes, StaysOpen, completed_as, enters_as, in_order, outcome_in, window_of}
+use Rattle.one_thread.specs.Flow.{CanRestore, Completes, ReopensBehind, completed_as, enters_as, in_order, outcome_in, window_of}
 use Rattle.one_thread.specs.Kept.{kept_with}
 use Rattle.one_thread.specs.declared.flow.Flow.{Flow}
 use Rattle.one_thread.specs.declared.pipeline.Pipeline.{Pipeline}
 use Rattle.one_thread.proofs.BenchTurns.{guess_fixed}
 use Rattle.one_thread.proofs.FlowEnters.{Joins, joins_flow, joins_stays, joins_order}
 use Rattle.one_thread.proofs.FlowIn.{entered_inside, entered_room, entered_stays, enters, place_decoded}
-use Rattle.one_thread.proofs.FlowJoins.{HasJoined}
+use Rattle.one_thread.proofs.FlowJoins.{HasJoined, has_joined}
 use Rattle.one_thread.proofs.StoresKnown.{stores_known}
 use Rattle.one_thread.proofs.pipeline.Pipeline.runs_next.Given.{Over}
 use Rattle.one_thread.proofs.pipeline.Pipeline.runs_next.Goals.{After-joins, After-operands-operands}
@@ -20,7 +20,7 @@ use Rattle.one_thread.proofs.pipeline.Pipeline.runs_next.Goals as goal
 
 -- The next instruction, as it was fetched, predicted and read
 
-abbrev next : (g : Over) (c : After-operands-operands g) → IsNext c.args.self.now c.args.flow.now c.guess_behind-predicted.result
+abbrev next : (g : Over) (c : After-operands-operands g) → IsUpcoming c.args.self.now c.args.flow.now c.guess_behind-predicted.result
 next g c =
     let flow = c.args.flow.now in
     let i = c.fetch_known-instr.result.now in
@@ -40,7 +40,7 @@ next g c =
       fixed = guess_fixed g.P.Predictor.Predicts g.P.Predictor.Learns (fixed_next i flow.half flow.future.pc) flow.future.pc i p guess.middle new guess.asked;
     }
 
-finds : (g : Over) (c : After-operands-operands g) → Finds c.args.flow.now c.fetch_known-instr.result.now c.operands-operands.result
+finds : (g : Over) (c : After-operands-operands g) → FindsOperands c.args.flow.now c.fetch_known-instr.result.now c.operands-operands.result
 finds g c =
     let read = c.operands-operands.ensures in
     record { first_small = read.registers.0; second_small = read.registers.1; first = read.first; second = read.second }
@@ -76,18 +76,7 @@ joins g c =
       leaves_as = completed.ensures.leaves;
       joined = subst (λ k. HasJoined flow c.joins.new.self i (completed_as flow p c.in-Some.done completed.result.leaves (kept_with i k o.b flow.future.values)) o.b) c.requires.half
           (subst (λ y. HasJoined flow c.joins.new.self i y o.b) completed.ensures.is
-          (record {
-            completed = on.completed;
-            last = on.last;
-            held = on.held;
-            oldest = on.oldest;
-            size = on.size;
-            stores = on.stores;
-            values = on.values;
-            future = on.future;
-            half = on.half;
-            accesses = on.accesses;
-          }));
+          (has_joined flow c.joins.new.self i _ o.b on.completed on.last on.stores on.held on.oldest on.size on.values on.future on.half on.accesses));
     }
 
 pub completes-requires-clause-inside : goal.completes-requires-clause-inside
@@ -151,5 +140,5 @@ returns-then-not-is_alone-clause-reopens g c t = λ x is hit. absurd (c.mends.en
 
 pub returns-clause-reopens : goal.returns-clause-reopens
 returns-clause-reopens g c t =
-    subst (StaysOpen (in_order c.args.self.now c.joins.new.self) c.joins.new.self) c.requires.place.same
+    subst (ReopensBehind (in_order c.args.self.now c.joins.new.self) c.joins.new.self) c.requires.place.same
     (joins_stays _ _ _ _ _ (joins g (goal.at.returns-clause-reopens g c).After-joins))
