@@ -27,11 +27,14 @@ fn main(rt: HostRuntime) -> ExitCode {
         Ok(words) => words,
         Err(no_run) => return refuse(&rt, &no_run),
     };
-    match asked(rt.alloc(), words.as_slice()) {
-        Ok(asked) if is_standard_input(asked.file) => run(&rt, &rt, &asked, Some(rt.stdin())),
-        Ok(asked) => run(&rt, &rt, &asked, File::open(&rt, asked.file).ok()),
-        Err(no_run) => refuse(&rt, &no_run),
+    let asked = match asked(rt.alloc(), words.as_slice()) {
+        Ok(asked) => asked,
+        Err(no_run) => return refuse(&rt, &no_run),
+    };
+    if is_standard_input(asked.file) {
+        return run(&rt, &rt, &asked, Some(rt.stdin()));
     }
+    run(&rt, &rt, &asked, File::open(&rt, asked.file).ok())
 }
 
 // Runs the listing of an input; there is none where its file did not open.
