@@ -5,19 +5,12 @@ mod shaker;
 mod teller;
 mod watcher;
 
-use command::{Asked, NoRun, asked, end, go, is_standard_input};
+use command::{NoRun, asked, end, go, is_standard_input};
 use command_line::{REFUSED, refuse, words};
 use counted_io::{ClosedStreams, Counted};
-use pool::Open;
-use shaker::Shaker;
-use std::alloc::AllocError;
 use std::fs::File;
-use std::io::Read;
 use std::process::ExitCode;
-use std::sync::Wait;
-use std::thread::Threads;
-use teller::Teller;
-use watcher::Watcher;
+use watcher::watch;
 
 fn main(rt: HostRuntime) -> ExitCode {
     let Ok(_closed) = ClosedStreams::taken(&rt) else {
@@ -31,43 +24,14 @@ fn main(rt: HostRuntime) -> ExitCode {
         Ok(asked) => asked,
         Err(no_run) => return refuse(&rt, &no_run),
     };
-    if is_standard_input(asked.file) {
-        return run(&rt, &rt, &asked, Some(rt.stdin()));
-    }
-    run(&rt, &rt, &asked, File::open(&rt, asked.file).ok())
-}
-
-// Runs the listing of an input; there is none where its file did not open.
-fn run<T: Threads + Wait + Sync, R: Read + Drop>(
-    rt: &HostRuntime,
-    wait: &T,
-    asked: &Asked<'_>,
-    input: Option<R>,
-) -> ExitCode {
-    let reader = input.map(Counted::new);
+    let Ok(watcher) = watch(&rt, &asked) else {
+        return refuse(&rt, &NoRun::Memory);
+    };
     let mut writer = Counted::new(rt.stdout());
-    if !asked.progress && asked.shake.is_none() {
-        return end(rt, go(wait, rt.alloc(), asked, reader, &mut writer, &Open));
+    if is_standard_input(asked.file) {
+        let reader = Some(Counted::new(rt.stdin()));
+        return end(&rt, go(&rt, rt.alloc(), &asked, reader, &mut writer, &watcher));
     }
-    match watch(rt, asked) {
-        Ok(watcher) => end(
-            rt,
-            go(wait, rt.alloc(), asked, reader, &mut writer, &watcher),
-        ),
-        Err(_) => refuse(rt, &NoRun::Memory),
-    }
-}
-
-// Tells and shakes the run as is asked for.
-fn watch<'a>(rt: &'a HostRuntime, asked: &Asked<'_>) -> Result<Watcher<'a>, AllocError> {
-    let shaker = match asked.shake {
-        Some(seed) => Some(Shaker::new(rt.alloc(), seed, asked.config.units())?),
-        None => None,
-    };
-    let teller = if asked.progress {
-        Some(Teller::new(rt))
-    } else {
-        None
-    };
-    Ok(Watcher { teller, shaker })
+    let reader = File::open(&rt, asked.file).ok().map(Counted::new);
+    end(&rt, go(&rt, rt.alloc(), &asked, reader, &mut writer, &watcher))
 }

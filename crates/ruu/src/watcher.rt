@@ -1,8 +1,10 @@
 //! The gate of a run that is told or shaken.
 use crate::shaker::Shaker;
 use crate::teller::Teller;
+use command::Asked;
 use pool::{Gate, Tally};
 use snapshots::Snap;
+use std::alloc::AllocError;
 
 /// Holds units where a shaker does, and tells each tally where there is a teller.
 #[derive(Drop)]
@@ -26,4 +28,18 @@ impl Gate for Watcher<'_> {
             teller.tell(tally);
         }
     }
+}
+
+/// Tells and shakes a run as is asked for.
+pub fn watch<'a>(rt: &'a HostRuntime, asked: &Asked<'_>) -> Result<Watcher<'a>, AllocError> {
+    let shaker = match asked.shake {
+        Some(seed) => Some(Shaker::new(rt.alloc(), seed, asked.config.units())?),
+        None => None,
+    };
+    let teller = if asked.progress {
+        Some(Teller::new(rt))
+    } else {
+        None
+    };
+    Ok(Watcher { teller, shaker })
 }
