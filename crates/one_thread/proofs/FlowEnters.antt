@@ -1,13 +1,11 @@
 -- An instruction of a flow has completed and joins it, as predicted or mended.
-use Rattle.std.proofs.Common.{List, ◌≡◌, ◌≢◌, ℕ, ◌∷◌, ◌++◌, Some, refl, sym, ap, ◌∙◌, subst, ◌<◌, ◌-◌, [], arith, length-append, length}
-use Rattle.circular_buffer.proofs.Places.{slice_get-some}
-use Rattle.std.specs.Prelude.{slice_get}
+use Rattle.std.proofs.Common.{◌≡◌, ◌≢◌, ℕ, ◌∷◌, ◌++◌, Some, refl, sym, ap, ◌∙◌, subst}
 use Rattle.instructions.specs.Programs.{instr_at}
 use Rattle.instructions.specs.declared.instr.Instr.{Instr}
 use Rattle.one_thread.specs.Astray.{FindsOperands, HasGoneAstray, IsUpcoming}
 use Rattle.one_thread.specs.Changes.{registers_of}
 use Rattle.one_thread.specs.CompletedRing.{stations}
-use Rattle.one_thread.specs.Flow.{Completes, Flows, IsFlow, Reopens, ReopensBehind, completed_as, enters_as, filled, in_order, window_of}
+use Rattle.one_thread.specs.Flow.{Completes, Flows, IsFlow, Reopens, completed_as, enters_as, filled, in_order, window_of}
 use Rattle.one_thread.specs.Kept.{HasKept, HaveKept, LeavesAs, kept_with}
 use Rattle.one_thread.specs.StandsFor.{StandsForSome}
 use Rattle.one_thread.specs.declared.completed_ring.Completed.{Completed}
@@ -30,10 +28,6 @@ pub record Joins (b : Pipeline) (flow after : Flow) (predicted : ℕ) (d : Done)
   pub leaves_as : LeavesAs leaves next.instr
   pub joined :
       HasJoined flow after next.instr (completed_as flow predicted d leaves (kept_with next.instr flow.half operands.b flow.future.values)) operands.b
-
-youngest : (cs : List Completed) (c : Completed) → slice_get (cs ++ c ∷ []) (length cs) ≡ Some c
-youngest [] c = refl
-youngest (x ∷ cs) c = youngest cs c
 
 module _ (b : Pipeline) (flow after : Flow) (predicted : ℕ) (d : Done) (h : Joins b flow after predicted d) where
   abbrev before : Pipeline
@@ -94,7 +88,7 @@ module _ (b : Pipeline) (flow after : Flow) (predicted : ℕ) (d : Done) (h : Jo
   from = h.next.placed.from
 
   -- or as predicted
-  joins_open : d.next ≡ predicted → Reopens (in_order b after) after from
+  pub joins_open : d.next ≡ predicted → Reopens (in_order b after) after from
   joins_open hit =
       subst (λ (p : Pipeline). Reopens p after from) (sym (joins_order b refl))
       (entered_open (in_order before flow) (in_order b flow) flow i predicted h.next.placed.from (enters b flow predicted h.next) h.operands h.finds d h.leaves kept after h.completes h.joined hit)
@@ -103,29 +97,3 @@ module _ (b : Pipeline) (flow after : Flow) (predicted : ℕ) (d : Done) (h : Jo
   joins_flow =
       flows_on b refl
       (entered_hit (in_order before flow) (in_order b flow) flow i predicted h.next.placed.from (enters b flow predicted h.next) h.operands h.finds d h.leaves kept after h.completes h.joined)
-
-  -- it is the youngest
-  last_is : (x : Completed) → slice_get after.ring.completed (length after.ring.completed - 1) ≡ Some x → x ≡ c
-  last_is x is =
-      let all = h.joined.completed in
-      let last : length after.ring.completed - 1 ≡ length flow.ring.completed = omega (arith, ap length all, length-append flow.ring.completed (c ∷ [])) in
-      let same : Some x ≡ Some c = sym is ∙ ap (slice_get after.ring.completed) last ∙ ap (λ l. slice_get l (length flow.ring.completed)) all ∙ youngest flow.ring.completed c in
-      cc same
-
-  pub joins_last : d.next ≢ predicted → (x : Completed) → slice_get after.ring.completed (length after.ring.completed - 1) ≡ Some x → x.next ≢ x.predicted
-  joins_last misses x is e =
-      let one = last_is x is in
-      misses (ap (λ (z : Completed). z.next) (sym one) ∙ e ∙ ap (λ (z : Completed). z.predicted) one)
-
-  pub joins_stays : ReopensBehind (in_order b after) after from
-  joins_stays x is e =
-      let one = last_is x is in
-      joins_open (ap (λ (z : Completed). z.next) (sym one) ∙ e ∙ ap (λ (z : Completed). z.predicted) one)
-
--- Where all were let in a row
-
-pub stays_open : (b : Pipeline) (flow : Flow) (n : ℕ) → ReopensBehind b flow n → 0 < length flow.ring.completed →
-    ((c : Completed) → slice_get flow.ring.completed (length flow.ring.completed - 1) ≡ Some c → c.next ≡ c.predicted) → Reopens b flow n
-stays_open b flow n stays some hit =
-    let last = slice_get-some flow.ring.completed (length flow.ring.completed - 1) (omega (arith, some)) in
-    stays _ last.1 (hit _ last.1)

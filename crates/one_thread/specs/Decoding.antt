@@ -1,8 +1,9 @@
 -- What is kept of a decoded instruction.
-use Rattle.std.specs.Prelude.{◌≡◌, ◌≤◌, ℕ, List, length, Some, false, if◌then◌else◌}
-use Rattle.instructions.specs.Instruction.{destination, first_of, is_access, is_branch, is_pair, kind, second_of}
+use Rattle.std.specs.Prelude.{⊤, ◌≡◌, ◌≤◌, ℕ, List, length, Option, Some, None, false, if◌then◌else◌}
+use Rattle.instructions.specs.Instruction.{destination, first_of, fixed_next, is_access, is_branch, is_pair, kind, pc_plus_4, second_of}
 use Rattle.instructions.specs.Programs.{Program, instr_at}
 use Rattle.instructions.specs.declared.instr.Instr.{Instr}
+use Rattle.instructions.specs.declared.op.Half.{Half}
 use Rattle.instructions.specs.declared.op.Half.TheVariants.{Low, High}
 use Rattle.instructions.specs.declared.op.Kind.{Kind}
 use Rattle.instructions.specs.declared.op.Kind.TheVariants.{Loads}
@@ -46,6 +47,16 @@ decode i =
       leaves = leaves_by (goes_of i.op) (kind i.op);
     }
 
+-- An instruction is no pair, and the path goes on behind it
+pub record GoesAhead (i : Instr) : Type 0 where
+  pub whole : is_pair i.op ≡ false
+  pub fixed : (half : Half) (pc : ℕ) → fixed_next i half pc ≡ Some (pc_plus_4 pc)
+
+-- If it is known what an instruction does, it does this and the path goes ahead
+abbrev pub KnownAs : Option Kind → Instr → Type 0
+KnownAs None i = ⊤
+KnownAs (Some k) i = (k ≡ kind i.op) × GoesAhead i
+
 -- These are the decoded instructions of a program
 pub record IsDecoded (code : List Instr) (P : Program) : Type 0 where
   pub is : code ≡ P.code
@@ -57,6 +68,10 @@ pub record HasInstr (code : List Instr) (pc : ℕ) : Type 0 where
   pub decoded : IsDecoded code program
   pub instr : Instr
   pub is : instr_at program pc ≡ Some instr
+
+-- This is known of the instruction at this address
+abbrev pub IsKnownThere : List Instr → ℕ → Option Kind → Type 0
+IsKnownThere code pc known = (P : Program) (i : Instr) → IsDecoded code P → instr_at P pc ≡ Some i → KnownAs known i
 
 -- The instruction at this address is no pair
 abbrev pub IsWhole : List Instr → ℕ → Type 0

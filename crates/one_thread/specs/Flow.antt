@@ -1,5 +1,5 @@
 -- The flow: how the next instruction enters it and completes.
-use Rattle.std.specs.Prelude.{⊤, ◌≡◌, ◌≢◌, ◌≤◌, ◌<◌, ℕ, ◌+◌, ◌-◌, ◌%◌, Bool, true, false, List, [], ◌∷◌, ◌++◌, length, Option, Some, None, is_some, slice_get, slice_set}
+use Rattle.std.specs.Prelude.{⊤, ◌≡◌, ◌≢◌, ◌≤◌, ◌<◌, ℕ, ◌+◌, ◌%◌, suc, Bool, true, false, List, [], ◌∷◌, ◌++◌, length, Option, Some, None, is_some, slice_get, slice_set}
 use Rattle.instructions.specs.Instruction.{is_first_half, kind, width}
 use Rattle.instructions.specs.Operations.{outcome_of}
 use Rattle.instructions.specs.Programs.{Program, instr_at}
@@ -100,11 +100,6 @@ pub record IsFlow (b : Pipeline) (flow : Flow) : Type 0 where
 pub record Reopens (b : Pipeline) (flow : Flow) (n : ℕ) : Type 0 where
   pub inside : n ≤ length (window_of b flow)
   pub unit : StandsForSome (with_reopened n (filled b (window_of b flow)))
-
--- and also once another has joined, unless that was a miss
-abbrev pub ReopensBehind : Pipeline → Flow → ℕ → Type 0
-ReopensBehind b flow n =
-    (c : Completed) → slice_get flow.ring.completed (length flow.ring.completed - 1) ≡ Some c → c.next ≡ c.predicted → Reopens b flow n
 
 -- The fields of a unit in a flow: its registers are those that the oldest instruction found, and the flow knows where
 -- that stands
@@ -217,7 +212,23 @@ pub record CanRestore (b : Pipeline) (flow : Flow) (n : ℕ) : Type 0 where
   pub all : length flow.future.values ≡ 34
   pub room : (w : Station) → flow.last ≡ Some w → length flow.ring.completed < 32
 
--- An instruction has entered, and has completed or is left as it was let
-abbrev pub HasEntered : Pipeline → Flow → ℕ → Bool → Type 0
-HasEntered b flow n true = Flows b flow
-HasEntered b flow n false = CanRestore (in_order b flow) flow n
+-- An instruction has entered and has completed, behind which all but the oldest n can also be taken to be let alone
+pub record HasCompletedIn (b : Pipeline) (flow after : Flow) (n : ℕ) : Type 0 where
+  pub flows : Flows b after
+  pub reopens : Reopens (in_order b after) after n
+  pub longer : length after.ring.completed ≡ suc (length flow.ring.completed)
+
+-- It is left as it was let
+pub record IsLeftOpen (b : Pipeline) (flow after : Flow) (n : ℕ) : Type 0 where
+  pub restores : CanRestore (in_order b after) after n
+  pub same : length after.ring.completed ≡ length flow.ring.completed
+
+-- An instruction has entered, and so many have completed for good, or it is left as it was let
+abbrev pub HasEntered : Pipeline → (flow after : Flow) → ℕ → Option ℕ → Type 0
+HasEntered b flow after n (Some closed) = HasCompletedIn b flow after closed
+HasEntered b flow after n None = IsLeftOpen b flow after n
+
+-- All of a flow have completed for good, or the last one is left as it was let
+abbrev pub HasGoneRound : Pipeline → Flow → Bool → Type 0
+HasGoneRound b flow true = Flows b flow
+HasGoneRound b flow false = CanRestore (in_order b flow) flow (length flow.ring.completed)

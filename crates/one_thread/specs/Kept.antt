@@ -1,12 +1,11 @@
 -- What completed instructions keep: what each found in its register, and what each store writes.
 use Rattle.std.specs.Prelude.{⊤, ◌≡◌, ℕ, Bool, true, false, List, [], ◌∷◌, Option, Some, None, if◌then◌else◌, slice_get, slice_index, unwrap_or}
-use Rattle.instructions.specs.Instruction.{destination, fixed_next, is_pair, kind, pc_plus_4, second_of}
+use Rattle.instructions.specs.Instruction.{destination, fixed_next, is_pair, kind, second_of}
 use Rattle.instructions.specs.Programs.{Program}
 use Rattle.instructions.specs.Registers.{lo}
 use Rattle.instructions.specs.declared.guessing.Leaver.{Leaver}
 use Rattle.instructions.specs.declared.instr.Instr.{Instr}
 use Rattle.instructions.specs.declared.op.Half.{Half}
-use Rattle.instructions.specs.declared.op.Kind.TheVariants.{Computes}
 use Rattle.inorder.specs.Loads.{is_store}
 use Rattle.inorder.specs.Machine.{write}
 use Rattle.one_thread.specs.CompletedRing.{instr_there, station_in}
@@ -26,12 +25,6 @@ abbrev pub kept_of : Instr → Half → List ℕ → ℕ
 kept_of i half registers =
     kept_with i half (unwrap_or (source_in registers [] (second_of i)) 0) registers
 
--- An instruction computes one value, and the path goes on behind it
-pub record ComputesOne (i : Instr) : Type 0 where
-  pub computes : kind i.op ≡ Computes
-  pub whole : is_pair i.op ≡ false
-  pub fixed : (half : Half) (pc : ℕ) → fixed_next i half pc ≡ Some (pc_plus_4 pc)
-
 -- What a predictor is told, if it is told where an instruction has gone on
 abbrev pub told_if : Bool → ℕ → ℕ → Option Leaver
 told_if true pc next = Some (record { pc = pc; next = next })
@@ -50,6 +43,13 @@ LeavesAs Nothing i = LeavesCounted 0 false i
 LeavesAs Load i = LeavesCounted 1 false i
 LeavesAs Told i = LeavesCounted 0 true i
 LeavesAs Any i = ⊤
+
+-- Nothing is to be told when it leaves
+abbrev pub LeavesUntold : Leaves → Type 0
+LeavesUntold Nothing = ⊤
+LeavesUntold Load = ⊤
+LeavesUntold Told = ⊥
+LeavesUntold Any = ⊥
 
 -- The oldest of these leaves with so many accesses and goes on there, and there is nothing to do but to count it and
 -- to tell a predictor this

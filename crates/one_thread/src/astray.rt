@@ -55,16 +55,14 @@ impl<'a> Pipeline<'a> {
         requires { AwaitsMending self.old flow.old predicted done content }
         ensures flows { Flows self.new flow.new }
         ensures longer { length flow.new.ring.completed ≡ suc (length flow.old.ring.completed) }
-        ensures missed { (c : Completed) → slice_get flow.new.ring.completed
-            (length flow.new.ring.completed - 1) ≡ Some c → c.next ≢ c.predicted }
         ensures order { in_order self.new flow.new ≡ in_order self.new flow.old }
         ensures rest { self.new ≡ record self.old { leavers = self.new.leavers } }
     {
         self.lets_astray(predictor, flow, predicted);
         let instr = fetch_known(self.code.as_slice(), flow.future.pc);
         let half = flow.half;
-        let completed = flow.completed(instr, half, predicted, done, content, false);
+        let completed = flow.completed(instr, None, half, predicted, done, content);
         let station = flow.ring.station_at(flow.ring.len());
-        flow.joins(station, instr, completed, content, false);
+        flow.joins(station, instr, None, completed, content);
     }
 }

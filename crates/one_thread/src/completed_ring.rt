@@ -1,7 +1,9 @@
 //! Completed instructions in a ring of slots, and the stores among them.
-ghost use Rattle.std.specs.Prelude.{◌≡◌, ◌<◌, ◌≤◌, [], ◌∷◌, ◌-◌, ◌++◌, length, IsFalse, drop, slice_get, Some};
+ghost use Rattle.std.specs.Prelude.{false, ◌≡◌, ◌<◌, ◌≤◌, [], ◌∷◌, ◌-◌, ◌++◌, length, IsFalse, drop, slice_get, Some};
 ghost use Rattle.one_thread.specs.Slots.{slot_in};
 ghost use Rattle.one_thread.specs.declared.completed_ring.Completed.{Completed as TheCompleted};
+ghost use Rattle.instructions.specs.declared.instr.Instr.{Instr};
+ghost use Rattle.one_thread.specs.Kept.{LeavesUntold, LeavesAs, LeavesCounted};
 
 use crate::places::next_station;
 use arrayvec::ArrayVec;
@@ -20,6 +22,18 @@ pub enum Leaves {
     Told,
     /// Perhaps more: the instruction tells.
     Any,
+}
+
+impl Leaves {
+    /// How many accesses less are live then, where nothing else is to be done.
+    pub fn accesses(self) -> usize
+        ensures { (i : Instr) → LeavesAs self i → LeavesUntold self → LeavesCounted result false i }
+    {
+        match self {
+            Leaves::Load => 1,
+            _ => 0,
+        }
+    }
 }
 
 /// A completed instruction. With its program this is all that its station holds.
@@ -157,17 +171,6 @@ impl CompletedRing {
         ensures { slice_get self.now.completed i ≡ Some result }
     {
         self.slots[self.station_at(i)]
-    }
-
-    /// Whether the youngest instruction was a miss.
-    pub fn is_mended(&self) -> bool
-        requires { 0 < length self.now.completed }
-        ensures { IsFalse result → (c : TheCompleted) →
-            slice_get self.now.completed (length self.now.completed - 1) ≡ Some c →
-            c.next ≡ c.predicted }
-    {
-        let youngest = self.get(self.len - 1);
-        youngest.next != youngest.predicted
     }
 
     /// Whether a load has joined among the instructions from `i` on.

@@ -4,6 +4,7 @@ ghost use Rattle.instructions.specs.Instruction.{kind as kind_in, width as width
 ghost use Rattle.instructions.specs.declared.op.Kind.TheVariants.{Computes};
 ghost use Rattle.instructions.specs.declared.stop.Outcome.TheVariants.{Address};
 ghost use Rattle.lsq.specs.LoadRule.{answer_over as answer_of, lacks_address, youngest};
+ghost use Rattle.one_thread.specs.Decoding.{KnownAs};
 ghost use Rattle.one_thread.specs.Flow.{Completes, outcome_in};
 ghost use Rattle.one_thread.specs.Loads.{value_by};
 
@@ -63,59 +64,33 @@ impl<'a> Pipeline<'a> {
         outcome_by_kind(kind, &instr.to_instr(), half, pc, a, b, size)
     }
 
-    // What the next instruction completes with, where it computes, unless it stops.
-    #[inline(always)]
-    fn computes(
-        &self,
-        flow: &Flow,
-        instr: &Decoded,
-        half: Half,
-        predicted: u32,
-        operands: &Operands,
-    ) -> Option<Done>
-        requires half { half ≡ flow.now.half }
-        requires kind { kind_in instr.now.op ≡ Computes }
-        ensures { Completes self.now flow.now instr.now predicted operands.now result }
-    {
-        match self.outcome(Kind::Computes, flow, instr, half, operands) {
-            Outcome::Value(value) => Some(Done {
-                value,
-                next: predicted,
-            }),
-            _ => None,
-        }
-    }
-
-    /// What the next instruction completes with, unless it stops or waits. Where `plain` says that it computes, nothing
-    /// else is looked at.
+    /// What the next instruction completes with, unless it stops or waits. What it does may be known.
     #[inline(always)]
     pub fn completes(
         &self,
         flow: &Flow,
         instr: &Decoded,
+        known: Option<Kind>,
         half: Half,
         predicted: u32,
         operands: &Operands,
-        plain: bool,
     ) -> Option<Done>
+        requires kind { KnownAs known instr.now }
         requires half { half ≡ flow.now.half }
-        requires plain { IsTrue plain → kind_in instr.now.op ≡ Computes }
         requires inside { (a : ℕ) →
             outcome_in self.now flow.now instr.now operands.now ≡ Address a →
             a + width_in instr.now.op ≤ length self.now.committed.memory }
         requires known { youngest lacks_address flow.now.ring.stores ≡ None }
         ensures { Completes self.now flow.now instr.now predicted operands.now result }
     {
-        if plain {
-            return self.computes(flow, instr, half, predicted, operands);
-        }
-        let (value, next) = match self.outcome(instr.kind(), flow, instr, half, operands) {
+        let kind = instr.kind_by(known);
+        let (value, next) = match self.outcome(kind, flow, instr, half, operands) {
             Outcome::Value(v) | Outcome::Pair(v, _) => (v, predicted),
-            Outcome::Next(x) => match instr.kind() {
+            Outcome::Next(x) => match kind {
                 Kind::Links => (pc_plus_4(flow.future.pc), x),
                 _ => (0, x),
             },
-            Outcome::Address(a) => match instr.kind() {
+            Outcome::Address(a) => match kind {
                 Kind::Loads => {
                     let v = self.value_behind(flow.ring.stores(), instr.op(), a)?;
                     (v, predicted)

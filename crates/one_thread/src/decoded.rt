@@ -4,7 +4,7 @@ ghost use Rattle.instructions.specs.declared.op.Half.{Half};
 ghost use Rattle.instructions.specs.declared.op.Kind.TheVariants.{Computes};
 ghost use Rattle.instructions.specs.Instruction.{destination as destination_of, first_of, fixed_next as fixed_next_of, fixed_next_by, is_access as is_access_of, is_first_half as first_half, is_pair as is_pair_of, kind as kind_of, pc_plus_4 as pc_plus_4_of, second_of};
 ghost use Rattle.inorder.specs.Unit.{half_after};
-ghost use Rattle.one_thread.specs.Decoding.{goes_of as goes_in, leaves_by};
+ghost use Rattle.one_thread.specs.Decoding.{KnownAs, goes_of as goes_in, leaves_by};
 ghost use Rattle.one_thread.specs.Kept.{LeavesAs};
 ghost use Rattle.one_thread.specs.Window.{access_of};
 
@@ -141,6 +141,28 @@ impl Decoded {
             fixed_next_of self.now half pc ≡ Some (pc_plus_4_of pc) }
     {
         matches!(self.goes, Goes::Plain)
+    }
+
+    /// What it does, if nothing else is to be looked at where it enters: it goes ahead.
+    #[inline(always)]
+    pub(crate) fn known(&self) -> Option<Kind>
+        ensures { KnownAs result self.now }
+    {
+        match (self.goes, self.kind) {
+            (Goes::Plain, _) => Some(Kind::Computes),
+            (Goes::Behind, Kind::Loads) => Some(Kind::Loads),
+            (Goes::Behind, Kind::Stores) => Some(Kind::Stores),
+            _ => None,
+        }
+    }
+
+    /// What its operation does, which may be known.
+    #[inline(always)]
+    pub(crate) fn kind_by(&self, known: Option<Kind>) -> Kind
+        requires { KnownAs known self.now }
+        ensures { result ≡ kind_of self.now.op }
+    {
+        known.unwrap_or(self.kind)
     }
 
     /// What there is to do when it leaves.

@@ -61,10 +61,9 @@ impl<'a> Pipeline<'a> {
         let oldest = flow.ring.oldest();
         let (leaves, pc, next) = (oldest.leaves, oldest.pc, oldest.next);
         match leaves {
-            Leaves::Nothing => self.departs_counted(flow, 0, next, None),
-            Leaves::Load => self.departs_counted(flow, 1, next, None),
             Leaves::Told => self.departs_counted(flow, 0, next, Some(Leaver { pc, next })),
             Leaves::Any => self.departs_any(flow),
+            _ => self.departs_counted(flow, leaves.accesses(), next, None),
         }
     }
 

@@ -1,8 +1,8 @@
 //! An instruction enters a flow: it is let, and runs as far as it comes.
-ghost use Rattle.std.specs.Prelude.{◌≡◌, ◌<◌, suc, length, IsFalse, IsTrue, Some};
+ghost use Rattle.std.specs.Prelude.{◌⊎◌, ◌≡◌, ◌<◌, suc, length, IfSome, IsFalse, IsTrue, Some};
 ghost use Rattle.instructions.specs.declared.op.Half.TheVariants.{Low};
-ghost use Rattle.one_thread.specs.Decoding.{HasInstr, IsDecoded, IsWhole};
-ghost use Rattle.one_thread.specs.Flow.{CanEnter, Flows, HasEntered, HasPlace, Reopens, ReopensBehind, Upcoming, enters_as, in_order};
+ghost use Rattle.one_thread.specs.Decoding.{HasInstr, IsDecoded, IsKnownThere, IsWhole};
+ghost use Rattle.one_thread.specs.Flow.{CanEnter, Flows, HasEntered, HasPlace, Reopens, Upcoming, enters_as, in_order};
 ghost use Rattle.one_thread.specs.Givers.{Chosen};
 
 use crate::decoded::Decoded;
@@ -11,7 +11,19 @@ use crate::flow::Flow;
 use crate::leaver::{guess_behind, take_leaver};
 use crate::pipeline::Pipeline;
 use crate::station::{Stage, Station, made_at_let};
-use instructions::{Half, Leaver, Predictor};
+use instructions::{Half, Kind, Leaver, Predictor};
+
+// How many have completed for good once one more has: all behind a miss, else those that had before.
+#[inline(always)]
+fn closed(flow: &Flow, predicted: u32, next: u32, from: usize) -> usize
+    ensures { (next ≡ predicted) × (result ≡ from) ⊎ (result ≡ length flow.now.ring.completed) }
+{
+    if next == predicted {
+        from
+    } else {
+        flow.ring.len()
+    }
+}
 
 impl<'a> Pipeline<'a> {
     // The next instruction is left as it was let.
@@ -56,9 +68,9 @@ impl<'a> Pipeline<'a> {
         Some(true)
     }
 
-    // Lets the next instruction, and runs it as far as it comes. Answers whether it has completed: else it is left as it
-    // was let. All but the oldest `from` were let in a row with it: a miss is mended unless a load is among these, whose
-    // value may be there only once a younger instruction was claimed. Where it is `plain`, it computes one value.
+    // Lets the next instruction, and runs it as far as it comes. Answers how many have completed for good, or None where it
+    // is left as it was let. All but the oldest `from` were let in a row with it: a miss is mended unless a load is among
+    // these, whose value may be there only once a younger instruction was claimed. What it does may be known.
     #[inline(always)]
     fn runs_next<P: Predictor>(
         &mut self,
@@ -68,39 +80,35 @@ impl<'a> Pipeline<'a> {
         station: usize,
         from: usize,
         half: Half,
-        plain: bool,
-    ) -> bool
+        known: Option<Kind>,
+    ) -> Option<usize>
         requires place { HasPlace self.old flow.old from station }
+        requires kind { IsKnownThere self.old.code.items flow.old.future.pc known }
         requires half { half ≡ flow.old.half }
-        requires first { IsTrue plain → half ≡ Low }
-        ensures entered { HasEntered self.new flow.new from result }
-        ensures reopens { IsTrue result → ReopensBehind (in_order self.new flow.new) flow.new from }
-        ensures longer { Chosen result
-            (length flow.new.ring.completed ≡ suc (length flow.old.ring.completed))
-            (length flow.new.ring.completed ≡ length flow.old.ring.completed) }
+        requires first { IfSome known (λ k. half ≡ Low) }
+        ensures entered { HasEntered self.new flow.old flow.new from result }
         ensures order { in_order self.new flow.new ≡ in_order self.new flow.old }
         ensures rest { self.new ≡ record self.old { leavers = self.new.leavers } }
     {
         let pc = flow.future.pc;
         let instr = fetch_known(self.code.as_slice(), pc);
-        let plain = plain && instr.is_plain();
-        let predicted = guess_behind(predictor, left, instr, half, pc, plain);
+        let predicted = guess_behind(predictor, left, instr, known, half, pc);
         let operands = flow.future.operands(instr);
-        let Some(done) = self.completes(flow, instr, half, predicted, &operands, plain) else {
+        let Some(done) = self.completes(flow, instr, known, half, predicted, &operands) else {
             Self::stays(flow, instr, predicted);
-            return false;
+            return None;
         };
         if done.next != predicted && !self.is_alone(flow, from) {
             if flow.ring.has_load_behind(from) {
                 Self::stays(flow, instr, predicted);
-                return false;
+                return None;
             }
             self.mends(predictor, flow, predicted, done, operands.b);
-            return true;
+            return Some(flow.ring.len());
         }
-        let completed = flow.completed(instr, half, predicted, done, operands.b, plain);
-        flow.joins(station, instr, completed, operands.b, plain);
-        true
+        let completed = flow.completed(instr, known, half, predicted, done, operands.b);
+        flow.joins(station, instr, known, completed, operands.b);
+        Some(closed(flow, predicted, done.next, from))
     }
 
     // A half of a pair enters: apart from the way that nearly every instruction takes.
@@ -113,18 +121,14 @@ impl<'a> Pipeline<'a> {
         left: Option<Leaver>,
         station: usize,
         from: usize,
-    ) -> bool
+    ) -> Option<usize>
         requires { HasPlace self.old flow.old from station }
-        ensures entered { HasEntered self.new flow.new from result }
-        ensures reopens { IsTrue result → ReopensBehind (in_order self.new flow.new) flow.new from }
-        ensures longer { Chosen result
-            (length flow.new.ring.completed ≡ suc (length flow.old.ring.completed))
-            (length flow.new.ring.completed ≡ length flow.old.ring.completed) }
+        ensures entered { HasEntered self.new flow.old flow.new from result }
         ensures order { in_order self.new flow.new ≡ in_order self.new flow.old }
         ensures rest { self.new ≡ record self.old { leavers = self.new.leavers } }
     {
         let half = flow.half;
-        self.runs_next(predictor, flow, left, station, from, half, false)
+        self.runs_next(predictor, flow, left, station, from, half, None)
     }
 
     // Whether the next instruction is half of a pair.
@@ -136,13 +140,13 @@ impl<'a> Pipeline<'a> {
         fetch_known(self.code.as_slice(), flow.future.pc).is_pair()
     }
 
-    // Whether the next instruction computes one value.
+    // What the next instruction does, if nothing else is to be looked at.
     #[inline(always)]
-    fn is_plain(&self, flow: &Flow) -> bool
+    fn known(&self, flow: &Flow) -> Option<Kind>
         requires { HasInstr self.now.code.items flow.now.future.pc }
-        ensures { IsTrue result → IsWhole self.now.code.items flow.now.future.pc }
+        ensures { IsKnownThere self.now.code.items flow.now.future.pc result }
     {
-        fetch_known(self.code.as_slice(), flow.future.pc).is_plain()
+        fetch_known(self.code.as_slice(), flow.future.pc).known()
     }
 
     /// Whether the next instruction can enter.
@@ -165,8 +169,9 @@ impl<'a> Pipeline<'a> {
     }
 
     /// Lets the next instruction, and runs it as far as it comes, where the predictor is to be told of who has left its
-    /// station, which is this one, and all but the oldest `from` were let in a row with it. Answers whether it has
-    /// completed. One that computes a value takes a way of its own, compiled apart.
+    /// station, which is this one, and all but the oldest `from` were let in a row with it. Answers how many have
+    /// completed for good, or None where it is left as it was let. One that computes a value, and a load, each take a way
+    /// of their own, compiled apart.
     #[inline(always)]
     pub fn enters_behind<P: Predictor>(
         &mut self,
@@ -175,42 +180,40 @@ impl<'a> Pipeline<'a> {
         left: Option<Leaver>,
         station: usize,
         from: usize,
-    ) -> bool
+    ) -> Option<usize>
         requires { HasPlace self.old flow.old from station }
-        ensures entered { HasEntered self.new flow.new from result }
-        ensures reopens { IsTrue result → ReopensBehind (in_order self.new flow.new) flow.new from }
-        ensures longer { Chosen result
-            (length flow.new.ring.completed ≡ suc (length flow.old.ring.completed))
-            (length flow.new.ring.completed ≡ length flow.old.ring.completed) }
+        ensures entered { HasEntered self.new flow.old flow.new from result }
         ensures order { in_order self.new flow.new ≡ in_order self.new flow.old }
         ensures rest { self.new ≡ record self.old { leavers = self.new.leavers } }
     {
-        if self.is_plain(flow) {
-            return self.runs_next(predictor, flow, left, station, from, Half::Low, true);
+        let low = Half::Low;
+        match self.known(flow) {
+            Some(Kind::Computes) => {
+                let known = Some(Kind::Computes);
+                self.runs_next(predictor, flow, left, station, from, low, known)
+            },
+            Some(Kind::Loads) => {
+                let known = Some(Kind::Loads);
+                self.runs_next(predictor, flow, left, station, from, low, known)
+            },
+            _ if self.is_half(flow) => self.runs_half(predictor, flow, left, station, from),
+            _ => self.runs_next(predictor, flow, left, station, from, low, None),
         }
-        if self.is_half(flow) {
-            return self.runs_half(predictor, flow, left, station, from);
-        }
-        self.runs_next(predictor, flow, left, station, from, Half::Low, false)
     }
 
     /// Lets the next instruction, and runs it as far as it comes, where all but the oldest `from` were let in a row with
-    /// it. Answers whether it has completed.
+    /// it. Answers how many have completed for good, or None where it is left as it was let.
     #[inline(always)]
     pub fn enters_flow<P: Predictor>(
         &mut self,
         predictor: &mut P,
         flow: &mut Flow,
         from: usize,
-    ) -> bool
+    ) -> Option<usize>
         requires flow { Flows self.old flow.old }
         requires reopens { Reopens (in_order self.old flow.old) flow.old from }
         requires can { CanEnter self.old flow.old }
-        ensures entered { HasEntered self.new flow.new from result }
-        ensures reopens { IsTrue result → ReopensBehind (in_order self.new flow.new) flow.new from }
-        ensures longer { Chosen result
-            (length flow.new.ring.completed ≡ suc (length flow.old.ring.completed))
-            (length flow.new.ring.completed ≡ length flow.old.ring.completed) }
+        ensures entered { HasEntered self.new flow.old flow.new from result }
         ensures order { in_order self.new flow.new ≡ in_order self.new flow.old }
         ensures rest { self.new ≡ record self.old { leavers = self.new.leavers } }
     {

@@ -1,21 +1,21 @@
 //! The flow: live tenants that have all completed, and what the next instruction finds.
-ghost use Rattle.std.specs.Prelude.{◌≡◌, ◌<◌, ◌≤◌, ◌+◌, ◌-◌, ◌∷◌, ◌++◌, [], drop, length, IsTrue, false};
+ghost use Rattle.std.specs.Prelude.{◌≡◌, ◌<◌, ◌≤◌, ◌+◌, ◌-◌, ◌∷◌, ◌++◌, [], drop, length, IfSome};
 ghost use Rattle.instructions.specs.declared.op.Half.TheVariants.{Low};
-ghost use Rattle.instructions.specs.declared.op.Kind.TheVariants.{Computes};
 ghost use Rattle.inorder.specs.Machine.{write};
 ghost use Rattle.inorder.specs.Unit.{half_after};
-ghost use Rattle.instructions.specs.Instruction.{is_first_half, is_pair, kind as kind_of};
+ghost use Rattle.instructions.specs.Instruction.{is_first_half};
 ghost use Rattle.one_thread.specs.Flow.{completed_as};
 ghost use Rattle.one_thread.specs.CompletedRing.{station_by, store_with};
 ghost use Rattle.one_thread.specs.Futures.{GoesOnBehind};
-ghost use Rattle.one_thread.specs.Kept.{ComputesOne, LeavesAs, kept_with};
+ghost use Rattle.one_thread.specs.Decoding.{KnownAs};
+ghost use Rattle.one_thread.specs.Kept.{LeavesAs, kept_with};
 ghost use Rattle.one_thread.specs.Loads.{with_entry};
 ghost use Rattle.one_thread.specs.Slots.{slot_in};
 ghost use Rattle.one_thread.specs.Window.{access_of};
 
 use crate::completed_ring::{Completed, CompletedRing, Leaves};
 use crate::completing::Done;
-use crate::decoded::{Decoded, access};
+use crate::decoded::Decoded;
 use crate::future::Future;
 use crate::station::Station;
 use inorder::access_entry;
@@ -38,43 +38,43 @@ pub struct Flow {
 impl Flow {
     /// What an instruction keeps: a store its content, any other what its register holds.
     #[inline(always)]
-    pub fn kept(&self, instr: &Decoded, half: Half, content: u32, plain: bool) -> u32
-        requires plain { IsTrue plain → kind_of instr.now.op ≡ Computes }
+    pub fn kept(&self, instr: &Decoded, known: Option<Kind>, half: Half, content: u32) -> u32
+        requires kind { KnownAs known instr.now }
         requires all { length self.now.future.values ≡ 34 }
         ensures { result ≡ kept_with instr.now half content self.now.future.values }
     {
-        match instr.kind() {
-            Kind::Stores if !plain => content,
+        match instr.kind_by(known) {
+            Kind::Stores => content,
             _ => self.future.values[instr.destination(half).number() as usize],
         }
     }
 
-    /// The next instruction as one that has completed.
+    /// The next instruction as one that has completed. What it does may be known.
     #[inline(always)]
     pub fn completed(
         &self,
         instr: &Decoded,
+        known: Option<Kind>,
         half: Half,
         predicted: u32,
         done: Done,
         content: u32,
-        plain: bool,
     ) -> Completed
+        requires kind { KnownAs known instr.now }
         requires half { half ≡ self.now.half }
-        requires plain { IsTrue plain → ComputesOne instr.now }
         requires all { length self.now.future.values ≡ 34 }
         ensures is { result ≡ completed_as self.now predicted done result.leaves
             (kept_with instr.now half content self.now.future.values) }
         ensures leaves { LeavesAs result.leaves instr.now }
     {
-        let kept = self.kept(instr, half, content, plain);
+        let kept = self.kept(instr, known, half, content);
         Completed {
             pc: self.future.pc,
             half,
-            leaves: if plain {
-                Leaves::Nothing
-            } else {
-                instr.leaves()
+            leaves: match known {
+                Some(Kind::Computes) => Leaves::Nothing,
+                Some(Kind::Loads) => Leaves::Load,
+                _ => instr.leaves(),
             },
             predicted,
             next: done.next,
@@ -83,19 +83,31 @@ impl Flow {
         }
     }
 
-    /// A completed instruction joins, with its content, if it is a store. One that is `plain` computes one value.
+    // The half behind one, which is none where it is known what it does.
+    #[inline(always)]
+    fn half_behind(&self, instr: &Decoded, known: Option<Kind>, half: Half) -> Half
+        requires kind { KnownAs known instr.now }
+        requires first { IfSome known (λ k. self.now.half ≡ Low) }
+        ensures { result ≡ half_after (is_first_half instr.now.op half) }
+    {
+        match known {
+            Some(_) => self.half,
+            None => instr.half_behind(half),
+        }
+    }
+
+    /// A completed instruction joins, with its content, if it is a store. What it does may be known: it is no half then.
     #[inline(always)]
     pub fn joins(
         &mut self,
         station: usize,
         instr: &Decoded,
+        known: Option<Kind>,
         completed: Completed,
         content: u32,
-        plain: bool,
     )
-        requires plain { IsTrue plain →
-            (kind_of instr.now.op ≡ Computes) × (is_pair instr.now.op ≡ false) }
-        requires first { IsTrue plain → self.old.half ≡ Low }
+        requires kind { KnownAs known instr.now }
+        requires first { IfSome known (λ k. self.old.half ≡ Low) }
         requires room { length self.old.ring.completed < self.old.ring.size }
         requires small { station < 32 }
         requires station { station ≡
@@ -121,14 +133,15 @@ impl Flow {
         self.ring.push(station, completed);
         self.future
             .follows(destination, completed.value, completed.next);
-        if plain {
-            return;
-        }
-        self.accesses += access(instr);
-        self.half = instr.half_behind(completed.half);
-        if let Kind::Stores = instr.kind() {
-            let entry = access_entry(instr.op(), Some(completed.value), Some(content));
-            self.ring.push_store(entry);
+        self.half = self.half_behind(instr, known, completed.half);
+        match instr.kind_by(known) {
+            Kind::Loads => self.accesses += 1,
+            Kind::Stores => {
+                self.accesses += 1;
+                let entry = access_entry(instr.op(), Some(completed.value), Some(content));
+                self.ring.push_store(entry);
+            },
+            _ => {},
         }
     }
 

@@ -1,12 +1,13 @@
 //! Who has left a station, for the predictor.
-ghost use Rattle.std.specs.Prelude.{◌≡◌, ◌<◌, length, slice_get, slice_set, IsTrue, None, Some};
+ghost use Rattle.std.specs.Prelude.{◌≡◌, ◌<◌, length, slice_get, slice_set, None, Some};
 ghost use Rattle.instructions.specs.Guesses.{Guesses};
-ghost use Rattle.instructions.specs.Instruction.{fixed_next, pc_plus_4 as pc_plus_4_of};
+ghost use Rattle.instructions.specs.Instruction.{fixed_next};
+ghost use Rattle.one_thread.specs.Decoding.{KnownAs};
 ghost use Rattle.one_thread.specs.Leavers.{leaver_by, told_at};
 
 use crate::decoded::Decoded;
 use crate::station::Station;
-use instructions::{Half, Leaver, Predictor, pc_plus_4, tell};
+use instructions::{Half, Kind, Leaver, Predictor, pc_plus_4, tell};
 
 /// What the predictor is told of a half of an instruction that has gone on at `next`, unless that was fixed.
 #[inline(always)]
@@ -59,21 +60,21 @@ pub fn guess<P: Predictor>(
     }
 }
 
-/// Asks a predictor as `guess` does. Where the instruction is `plain`, the path goes on behind it.
+/// Asks a predictor as `guess` does. Where it is known what the instruction does, the path goes on behind it.
 #[inline(always)]
 pub fn guess_behind<P: Predictor>(
     predictor: &mut P,
     left: Option<Leaver>,
     instr: &Decoded,
+    known: Option<Kind>,
     half: Half,
     pc: u32,
-    plain: bool,
 ) -> u32
-    requires { IsTrue plain → fixed_next instr.now half pc ≡ Some (pc_plus_4_of pc) }
+    requires { KnownAs known instr.now }
     ensures { Guesses P.Predicts P.Learns left instr.now half pc
         result predictor.old predictor.new }
 {
-    if plain {
+    if known.is_some() {
         tell(predictor, left);
         return pc_plus_4(pc);
     }

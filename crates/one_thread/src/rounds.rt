@@ -1,7 +1,7 @@
 //! The rounds of a flow: an instruction enters, and the oldest leaves.
 ghost use Rattle.std.specs.Prelude.{⊤, ◌≡◌, ◌<◌, ◌≤◌, length};
 ghost use Rattle.one_thread.specs.Departing.{ahead_to, run_in};
-ghost use Rattle.one_thread.specs.Flow.{CanRestore, Flows, HasEntered, in_order};
+ghost use Rattle.one_thread.specs.Flow.{CanRestore, Flows, HasGoneRound, in_order};
 ghost use Rattle.one_thread.specs.Givers.{Chosen};
 
 use crate::flow::Flow;
@@ -17,7 +17,7 @@ impl<'a> Pipeline<'a> {
         requires flow { Flows self.old flow.old }
         requires full { length flow.old.ring.completed ≡ self.old.ring }
         requires below { self.old.committed.count < limit }
-        ensures entered { HasEntered self.new flow.new (length flow.new.ring.completed) result }
+        ensures entered { HasGoneRound self.new flow.new result }
         ensures room { Chosen result (length flow.new.ring.completed < self.new.ring) ⊤ }
         ensures code { self.new.code ≡ self.old.code }
         ensures program { self.new.program ≡ self.old.program }
@@ -33,9 +33,9 @@ impl<'a> Pipeline<'a> {
                 return true;
             }
             let from = flow.ring.len();
-            if !self.enters_behind(predictor, flow, left, station, from) {
+            let Some(_) = self.enters_behind(predictor, flow, left, station, from) else {
                 return false;
-            }
+            };
         }
     }
 
@@ -62,15 +62,14 @@ impl<'a> Pipeline<'a> {
                 from = flow.ring.len();
                 continue;
             }
-            if !self.enters_flow(predictor, flow, from) {
+            let Some(closed) = self.enters_flow(predictor, flow, from) else {
                 return from;
-            }
+            };
+            from = closed;
             if flow.ring.len() == self.ring {
                 if !self.rounds(predictor, flow, limit) {
                     return flow.ring.len();
                 }
-                from = flow.ring.len();
-            } else if flow.ring.is_mended() {
                 from = flow.ring.len();
             }
         }

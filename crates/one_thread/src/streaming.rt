@@ -97,10 +97,10 @@ impl<'a> Pipeline<'a> {
             let station = self.window.get(i);
             let completed = self.completed(&station)?;
             let content = flow.future.operands(&station.instr).b;
-            let kept = flow.kept(&station.instr, station.half, content, false);
+            let kept = flow.kept(&station.instr, None, station.half, content);
             let completed = Completed { kept, ..completed };
             let place = flow.ring.station_at(i);
-            flow.joins(place, &station.instr, completed, content, false);
+            flow.joins(place, &station.instr, None, completed, content);
         }
         Some(flow)
     }
@@ -231,10 +231,9 @@ impl<'a> Pipeline<'a> {
         ensures more { self.old.committed.count ≤ self.new.committed.count }
         ensures ends { run_from self.new limit ≡ run_from self.old limit }
     {
-        let Some(flow) = self.flow() else {
+        let Some(mut flow) = self.flow() else {
             return self.committed.count().saturating_add(self.ring as u64);
         };
-        let mut flow = flow;
         let from = self.flows(predictor, &mut flow, limit);
         self.restores(&flow, from);
         0

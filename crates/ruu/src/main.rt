@@ -30,8 +30,14 @@ fn main(rt: HostRuntime) -> ExitCode {
     let mut writer = Counted::new(rt.stdout());
     if is_standard_input(asked.file) {
         let reader = Some(Counted::new(rt.stdin()));
-        return end(&rt, go(&rt, rt.alloc(), &asked, reader, &mut writer, &watcher));
+        return end(
+            &rt,
+            go(&rt, rt.alloc(), &asked, reader, &mut writer, &watcher),
+        );
     }
     let reader = File::open(&rt, asked.file).ok().map(Counted::new);
-    end(&rt, go(&rt, rt.alloc(), &asked, reader, &mut writer, &watcher))
+    end(
+        &rt,
+        go(&rt, rt.alloc(), &asked, reader, &mut writer, &watcher),
+    )
 }

@@ -19,8 +19,8 @@ returns-in_default-clause-future c =
     subst (λ d. GoesOnBehind c.args.self.now.future d (made_by (kind i.op) x.value) x.next c.follows.new.self) c.destination-destination.ensures
     (c.follows.ensures.on (made_by (kind i.op) x.value) (λ n. made_where i x.half x.value (λ z. n (c.destination-destination.ensures ∙ z))))
 
-pub returns-then-plain-clause-future : goal.returns-then-plain-clause-future
-returns-then-plain-clause-future c =
+pub returns-in-Loads-clause-future : goal.returns-in-Loads-clause-future
+returns-in-Loads-clause-future c =
     let i = c.args.instr.now in
     let x = c.args.completed in
     subst (λ d. GoesOnBehind c.args.self.now.future d (made_by (kind i.op) x.value) x.next c.follows.new.self) c.destination-destination.ensures

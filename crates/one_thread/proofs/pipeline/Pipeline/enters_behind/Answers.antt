@@ -1,10 +1,41 @@
 -- An instruction that is no half comes behind a whole one.
-use Rattle.std.proofs.Common.{refl, sym}
+use Rattle.std.proofs.Common.{◌≡◌, Option, Some, refl, sym, subst}
+use Rattle.instructions.specs.declared.op.Half.TheVariants.{Low}
+use Rattle.instructions.specs.declared.op.Kind.{Kind}
+use Rattle.instructions.specs.declared.op.Kind.TheVariants.{Computes, Loads}
+use Rattle.one_thread.specs.Decoding.{IsKnownThere}
+use Rattle.one_thread.specs.Flow.{IsPlaced}
+use Rattle.one_thread.specs.declared.flow.Flow.{Flow}
+use Rattle.one_thread.specs.declared.pipeline.Pipeline.{Pipeline}
 use Rattle.one_thread.proofs.Whole.{whole_next}
 use Rattle.one_thread.proofs.pipeline.Pipeline.enters_behind.Goals as goal
 
-pub runs_next-requires-clause-half : goal.runs_next-requires-clause-half
-runs_next-requires-clause-half g c = sym (whole_next c.args.self.now c.args.flow.now c.requires.placed (c.if-is_plain.ensures refl))
+-- what the next instruction does is known
+abbrev NextIs : Pipeline → Flow → Option Kind → Type 0
+NextIs b flow known = IsKnownThere b.code.items flow.future.pc known
 
-pub runs_next-requires-2-clause-half : goal.runs_next-requires-2-clause-half
-runs_next-requires-2-clause-half g c = sym (whole_next c.args.self.now c.args.flow.now c.requires.placed (c.if-is_half.ensures refl))
+first : (b : Pipeline) (flow : Flow) (kind : Kind) → IsPlaced b flow → NextIs b flow (Some kind) → Low ≡ flow.half
+first b flow kind placed known = sym (whole_next b flow placed (λ P i decoded is. (known P i decoded is).1.whole))
+
+pub runs_next-requires-clause-kind : goal.runs_next-requires-clause-kind
+runs_next-requires-clause-kind g c =
+    let is : c.known.result ≡ Some Computes = cc c.in-Some-Computes.is in
+    subst (NextIs c.args.self.now c.args.flow.now) is c.known.ensures
+
+pub runs_next-requires-clause-half : goal.runs_next-requires-clause-half
+runs_next-requires-clause-half g c =
+    let is : c.known.result ≡ Some Computes = cc c.in-Some-Computes.is in
+    first c.args.self.now c.args.flow.now _ c.requires.placed (subst (NextIs c.args.self.now c.args.flow.now) is c.known.ensures)
+
+pub runs_next-requires-in-Some-Loads-clause-kind : goal.runs_next-requires-in-Some-Loads-clause-kind
+runs_next-requires-in-Some-Loads-clause-kind g c =
+    let is : c.known.result ≡ Some Loads = cc c.in-Some-Loads.is in
+    subst (NextIs c.args.self.now c.args.flow.now) is c.known.ensures
+
+pub runs_next-requires-in-Some-Loads-clause-half : goal.runs_next-requires-in-Some-Loads-clause-half
+runs_next-requires-in-Some-Loads-clause-half g c =
+    let is : c.known.result ≡ Some Loads = cc c.in-Some-Loads.is in
+    first c.args.self.now c.args.flow.now _ c.requires.placed (subst (NextIs c.args.self.now c.args.flow.now) is c.known.ensures)
+
+pub runs_next-requires-in_default-2-clause-half : goal.runs_next-requires-in_default-2-clause-half
+runs_next-requires-in_default-2-clause-half g c = sym (whole_next c.args.self.now c.args.flow.now c.requires.placed (c.if-is_half.ensures refl))

@@ -6,7 +6,6 @@ use Rattle.one_thread.specs.Departing.{run_in}
 use Rattle.one_thread.specs.Flow.{in_order}
 use Rattle.one_thread.specs.declared.pipeline.Pipeline.{Pipeline}
 use Rattle.one_thread.proofs.Completions.{stations_long}
-use Rattle.one_thread.proofs.FlowEnters.{stays_open}
 use Rattle.one_thread.proofs.FlowStays.{all_closed, can_restore}
 use Rattle.one_thread.proofs.pipeline.Pipeline.flows.Given.{Over}
 use Rattle.one_thread.proofs.pipeline.Pipeline.flows.Goals.{After-enters_flow}
@@ -55,8 +54,8 @@ entered g c =
     let run : Pipeline → Ending × State = λ p. run_in p flow c.args.limit in
     ap (λ p. run_from p c.args.limit) c.enters_flow.ensures.order ∙ ap run c.enters_flow.ensures.rest ∙ c.loop-self.invariant.ends
 
-pub returns-then-not-enters_flow-clause-ends : goal.returns-then-not-enters_flow-clause-ends
-returns-then-not-enters_flow-clause-ends g c = entered g (goal.at.returns-then-not-enters_flow-clause-ends g c).After-enters_flow
+pub returns-in_default-enters_flow-clause-ends : goal.returns-in_default-enters_flow-clause-ends
+returns-in_default-enters_flow-clause-ends g c = entered g (goal.at.returns-in_default-enters_flow-clause-ends g c).After-enters_flow
 
 pub returns-then-not-rounds-clause-ends : goal.returns-then-not-rounds-clause-ends
 returns-then-not-rounds-clause-ends g c = c.rounds.ensures.ends ∙ entered g (goal.at.returns-then-not-rounds-clause-ends g c).After-enters_flow
@@ -65,36 +64,18 @@ pub loop-self-preserved : goal.loop-self-preserved
 loop-self-preserved g c =
     let b = c.enters_flow.new.self in
     let flow = c.enters_flow.new.flow in
-    let on = c.if-not-enters_flow.ensures in
+    let on = c.in-Some-enters_flow.ensures.entered in
     let rest = c.enters_flow.ensures.rest in
     let before = c.loop-self.invariant in
     let long = stations_long b.program.now flow.ring.completed in
     record {
-      flow = on.entered;
-      reopens = stays_open (in_order b flow) flow c.loop-self.from (on.reopens refl) (omega (arith, on.longer)) (c.if-is_mended.ensures refl);
-      room = omega (arith, long, on.entered.flows.most, c.if-len-self.false, c.len.ensures.value);
+      flow = on.flows;
+      reopens = on.reopens;
+      room = omega (arith, long, on.flows.flows.most, c.if-len-self.false, c.len.ensures.value);
       code = ap (λ (p : Pipeline). p.code) rest ∙ before.code;
       program = ap (λ (p : Pipeline). p.program) rest ∙ before.program;
       more = omega (arith, ap (λ (p : Pipeline). p.committed.count) rest, before.more);
       ends = entered g (goal.at.loop-self-preserved g c).After-enters_flow;
-    }
-
-pub loop-self-preserved-then-is_mended : goal.loop-self-preserved-then-is_mended
-loop-self-preserved-then-is_mended g c =
-    let b = c.enters_flow.new.self in
-    let flow = c.enters_flow.new.flow in
-    let on = c.if-not-enters_flow.ensures in
-    let rest = c.enters_flow.ensures.rest in
-    let before = c.loop-self.invariant in
-    let long = stations_long b.program.now flow.ring.completed in
-    record {
-      flow = on.entered;
-      reopens = all_closed (in_order b flow) flow _ on.entered.flows c.len-from-then-is_mended.ensures.value;
-      room = omega (arith, long, on.entered.flows.most, c.if-len-self.false, c.len.ensures.value);
-      code = ap (λ (p : Pipeline). p.code) rest ∙ before.code;
-      program = ap (λ (p : Pipeline). p.program) rest ∙ before.program;
-      more = omega (arith, ap (λ (p : Pipeline). p.committed.count) rest, before.more);
-      ends = entered g (goal.at.loop-self-preserved-then-is_mended g c).After-enters_flow;
     }
 
 pub loop-self-preserved-then-len-self : goal.loop-self-preserved-then-len-self

@@ -7,7 +7,7 @@ use Rattle.one_thread.specs.Astray.{FindsOperands}
 use Rattle.one_thread.specs.Flow.{Completes, completed_as, in_order}
 use Rattle.one_thread.specs.Kept.{kept_with}
 use Rattle.one_thread.specs.declared.pipeline.Pipeline.{Pipeline}
-use Rattle.one_thread.proofs.FlowEnters.{Joins, joins_last, joins_mended, joins_order}
+use Rattle.one_thread.proofs.FlowEnters.{Joins, joins_mended, joins_order}
 use Rattle.one_thread.proofs.FlowIn.{entered_room, enters}
 use Rattle.one_thread.proofs.FlowJoins.{HasJoined, has_joined}
 use Rattle.one_thread.proofs.LetAstray.{astray_decoded, astray_instr}
@@ -79,7 +79,3 @@ returns-clause-order g c =
     let a = c.lets_astray in
     joins_order c.args.self.now c.args.flow.now c.joins.new.self c.args.predicted c.args.done (joins g (goal.at.returns-clause-order g c).After-joins)
     a.new.self a.ensures.rest
-
-pub returns-clause-missed : goal.returns-clause-missed
-returns-clause-missed g c =
-    joins_last c.args.self.now c.args.flow.now c.joins.new.self c.args.predicted c.args.done (joins g (goal.at.returns-clause-missed g c).After-joins) c.requires.misses

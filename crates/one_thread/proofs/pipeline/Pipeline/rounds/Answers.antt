@@ -23,13 +23,13 @@ loop-self-preserved g c =
     let before = c.loop-self.invariant in
     let d = c.departs-left.ensures.departed in
     let less = d.less c.args.limit before.below in
-    let on = c.if-not-enters_behind.ensures in
+    let on = c.in-Some.ensures.entered in
     let rest = c.enters_behind.ensures.rest in
     let flow = c.departs-left.new.flow in
     let to : Pipeline → ℕ = λ p. to_do c.args.limit p in
     record {
       full = on.longer ∙ sym d.shorter ∙ before.full ∙ sym d.ring ∙ sym (ap (λ (p : Pipeline). p.ring) rest);
-      flow = on.entered;
+      flow = on.flows;
       below = omega (arith, c.if-limit-count.false, c.count.ensures, ap (λ (p : Pipeline). p.committed.count) rest);
       code = ap (λ (p : Pipeline). p.code) rest ∙ d.code ∙ before.code;
       program = ap (λ (p : Pipeline). p.program) rest ∙ d.program ∙ before.program;
@@ -38,14 +38,14 @@ loop-self-preserved g c =
       less = omega (arith, less, before.less, ap to rest);
     }
 
-pub returns-then-not-enters_behind-clause-ends : goal.returns-then-not-enters_behind-clause-ends
-returns-then-not-enters_behind-clause-ends g c =
+pub returns-in_default-clause-ends : goal.returns-in_default-clause-ends
+returns-in_default-clause-ends g c =
     let before = c.loop-self.invariant in
     ap (λ p. run_from p c.args.limit) c.enters_behind.ensures.order ∙ ap (λ p. run_in p c.departs-left.new.flow c.args.limit) c.enters_behind.ensures.rest
     ∙ c.departs-left.ensures.departed.ends c.args.limit before.below ∙ before.ends
 
-pub returns-then-not-enters_behind-clause-entered : goal.returns-then-not-enters_behind-clause-entered
-returns-then-not-enters_behind-clause-entered g c =
+pub returns-in_default-clause-entered : goal.returns-in_default-clause-entered
+returns-in_default-clause-entered g c =
     let on = c.enters_behind.new in
-    let entered = c.if-not-enters_behind.ensures in
-    subst (CanRestore (in_order on.self on.flow) on.flow) (c.len-from.ensures.value ∙ sym entered.longer) entered.entered
+    let entered = c.in_default.ensures.entered in
+    subst (CanRestore (in_order on.self on.flow) on.flow) (c.len-from.ensures.value ∙ sym entered.same) entered.restores

@@ -1,21 +1,22 @@
-use Rattle.std.proofs.Common.{◌≡◌, ◌≤◌, ◌+◌, ℕ, length, Some, refl, sym, ap, ◌∙◌, subst, arith}
+use Rattle.std.proofs.Common.{◌≡◌, ◌≤◌, ◌+◌, ℕ, ◌∷◌, [], length, length-append, Some, inl, inr, refl, sym, ap, ◌∙◌, subst, arith}
 use Rattle.instructions.specs.Guesses.{Guesses}
 use Rattle.instructions.specs.Instruction.{fixed_next, width}
 use Rattle.instructions.specs.declared.stop.Outcome.TheVariants.{Address}
 use Rattle.lsq.specs.LoadRule.{lacks_address, youngest}
 use Rattle.one_thread.specs.Astray.{FindsOperands, IsUpcoming}
 use Rattle.one_thread.specs.Changes.{registers_of}
-use Rattle.one_thread.specs.Flow.{CanRestore, Completes, ReopensBehind, completed_as, enters_as, in_order, outcome_in, window_of}
+use Rattle.one_thread.specs.Flow.{CanRestore, Completes, IsLeftOpen, Reopens, completed_as, enters_as, in_order, outcome_in, window_of}
 use Rattle.one_thread.specs.Kept.{kept_with}
 use Rattle.one_thread.specs.declared.flow.Flow.{Flow}
 use Rattle.one_thread.specs.declared.pipeline.Pipeline.{Pipeline}
 use Rattle.one_thread.proofs.BenchTurns.{guess_fixed}
-use Rattle.one_thread.proofs.FlowEnters.{Joins, joins_flow, joins_stays, joins_order}
+use Rattle.one_thread.proofs.FlowEnters.{Joins, joins_flow, joins_open, joins_order}
 use Rattle.one_thread.proofs.FlowIn.{entered_inside, entered_room, entered_stays, enters, place_decoded}
 use Rattle.one_thread.proofs.FlowJoins.{HasJoined, has_joined}
+use Rattle.one_thread.proofs.FlowStays.{all_closed}
 use Rattle.one_thread.proofs.StoresKnown.{stores_known}
 use Rattle.one_thread.proofs.pipeline.Pipeline.runs_next.Given.{Over}
-use Rattle.one_thread.proofs.pipeline.Pipeline.runs_next.Goals.{After-joins, After-operands-operands}
+use Rattle.one_thread.proofs.pipeline.Pipeline.runs_next.Goals.{After-closed, After-operands-operands}
 use Rattle.one_thread.proofs.pipeline.Pipeline.runs_next.Goals as goal
 
 -- The next instruction, as it was fetched, predicted and read
@@ -58,7 +59,7 @@ stays g c =
 
 -- It has joined
 
-abbrev joins : (g : Over) (c : After-joins g) → Joins c.args.self.now c.args.flow.now c.joins.new.self c.guess_behind-predicted.result c.in-Some.done
+abbrev joins : (g : Over) (c : After-closed g) → Joins c.args.self.now c.args.flow.now c.joins.new.self c.guess_behind-predicted.result c.in-Some.done
 joins g c =
     let flow = c.args.flow.now in
     let i = c.fetch_known-instr.result.now in
@@ -97,8 +98,8 @@ completes-requires-clause-known g c =
 
 pub returns-in_default-clause-entered : goal.returns-in_default-clause-entered
 returns-in_default-clause-entered g c =
-    subst (λ f. CanRestore (in_order c.args.self.now f) f c.args.from) (sym c.stays.ensures)
-    (stays g (goal.at.returns-in_default-clause-entered g c).After-operands-operands)
+    subst (λ f. IsLeftOpen c.args.self.now c.args.flow.now f c.args.from) (sym c.stays.ensures)
+    (record { restores = stays g (goal.at.returns-in_default-clause-entered g c).After-operands-operands; same = refl })
 
 pub mends-requires : goal.mends-requires
 mends-requires g c =
@@ -124,21 +125,34 @@ joins-requires-clause-few g c = (entered_room _ _ _ _ _ _ (enters _ _ _ (next g 
 pub joins-requires-clause-accesses : goal.joins-requires-clause-accesses
 joins-requires-clause-accesses g c = (entered_room _ _ _ _ _ _ (enters _ _ _ (next g (goal.at.joins-requires-clause-accesses g c).After-operands-operands))).2
 
-pub returns-clause-entered : goal.returns-clause-entered
-returns-clause-entered g c = joins_flow _ _ _ _ _ (joins g (goal.at.returns-clause-entered g c).After-joins)
-
 pub returns-clause-order : goal.returns-clause-order
-returns-clause-order g c = joins_order _ _ _ _ _ (joins g (goal.at.returns-clause-order g c).After-joins) c.args.self.now refl
+returns-clause-order g c = joins_order _ _ _ _ _ (joins g c) c.args.self.now refl
 
 pub returns-then-has_load_behind-clause-entered : goal.returns-then-has_load_behind-clause-entered
 returns-then-has_load_behind-clause-entered g c =
-    subst (λ f. CanRestore (in_order c.args.self.now f) f c.args.from) (sym c.stays-then-has_load_behind.ensures)
-    (stays g (goal.at.returns-then-has_load_behind-clause-entered g c).After-operands-operands)
+    subst (λ f. IsLeftOpen c.args.self.now c.args.flow.now f c.args.from) (sym c.stays-then-has_load_behind.ensures)
+    (record { restores = stays g (goal.at.returns-then-has_load_behind-clause-entered g c).After-operands-operands; same = refl })
 
-pub returns-then-not-is_alone-clause-reopens : goal.returns-then-not-is_alone-clause-reopens
-returns-then-not-is_alone-clause-reopens g c t = λ x is hit. absurd (c.mends.ensures.missed x is hit)
+pub returns-then-not-is_alone-clause-entered : goal.returns-then-not-is_alone-clause-entered
+returns-then-not-is_alone-clause-entered g c =
+    let on = c.mends.ensures in
+    record {
+      flows = on.flows;
+      reopens = all_closed (in_order c.mends.new.self c.mends.new.flow) c.mends.new.flow _ on.flows.flows c.len.ensures.value;
+      longer = on.longer;
+    }
 
-pub returns-clause-reopens : goal.returns-clause-reopens
-returns-clause-reopens g c t =
-    subst (ReopensBehind (in_order c.args.self.now c.joins.new.self) c.joins.new.self) c.requires.place.same
-    (joins_stays _ _ _ _ _ (joins g (goal.at.returns-clause-reopens g c).After-joins))
+pub returns-clause-entered : goal.returns-clause-entered
+returns-clause-entered g c =
+    let on = joins g c in
+    let flow = c.joins.new.self in
+    let x = in_order c.args.self.now flow in
+    let flows = joins_flow _ _ _ _ _ on in
+    record {
+      flows = flows;
+      reopens = elim c.closed.ensures [
+        | inl hit ↦ subst (Reopens x flow) (sym hit.1) (subst (Reopens x flow) c.requires.place.same (joins_open _ _ _ _ _ on hit.0))
+        | inr all ↦ all_closed x flow _ flows.flows all
+      ];
+      longer = omega (arith, ap length c.joins.ensures.completed, length-append c.args.flow.now.ring.completed (c.completed-completed.result ∷ []));
+    }
