@@ -218,7 +218,7 @@ pub record HasCompletedIn (b : Pipeline) (flow after : Flow) (n : ℕ) : Type 0 
   pub reopens : Reopens (in_order b after) after n
   pub longer : length after.ring.completed ≡ suc (length flow.ring.completed)
 
--- It is left as it was let
+-- The next instruction is left as it was let
 pub record IsLeftOpen (b : Pipeline) (flow after : Flow) (n : ℕ) : Type 0 where
   pub restores : CanRestore (in_order b after) after n
   pub same : length after.ring.completed ≡ length flow.ring.completed
