@@ -1,7 +1,6 @@
 //! Completed instructions in a ring of slots, and the stores among them.
-ghost use Rattle.std.specs.Prelude.{false, ◌≡◌, ◌<◌, ◌≤◌, [], ◌∷◌, ◌-◌, ◌++◌, length, IsFalse, drop, slice_get, Some};
+ghost use Rattle.std.specs.Prelude.{◌≡◌, ◌<◌, ◌≤◌, [], ◌∷◌, ◌-◌, ◌++◌, length, false, drop, slice_get, Some};
 ghost use Rattle.one_thread.specs.Slots.{slot_in};
-ghost use Rattle.one_thread.specs.declared.completed_ring.Completed.{Completed as TheCompleted};
 ghost use Rattle.instructions.specs.declared.instr.Instr.{Instr};
 ghost use Rattle.one_thread.specs.Kept.{LeavesUntold, LeavesAs, LeavesCounted};
 

@@ -1,8 +1,7 @@
 //! Decoded instructions.
-ghost use Rattle.std.specs.Prelude.{◌≡◌, ◌≤◌, ℕ, IsTrue, Some, false};
-ghost use Rattle.instructions.specs.declared.op.Half.{Half};
+ghost use Rattle.std.specs.Prelude.{◌≡◌, ◌≤◌, IsTrue};
 ghost use Rattle.instructions.specs.declared.op.Kind.TheVariants.{Computes};
-ghost use Rattle.instructions.specs.Instruction.{destination as destination_of, first_of, fixed_next as fixed_next_of, fixed_next_by, is_access as is_access_of, is_first_half as first_half, is_pair as is_pair_of, kind as kind_of, pc_plus_4 as pc_plus_4_of, second_of};
+ghost use Rattle.instructions.specs.Instruction.{destination as destination_of, first_of, fixed_next as fixed_next_of, fixed_next_by, is_access as is_access_of, is_first_half as first_half, is_pair as is_pair_of, kind as kind_of, second_of};
 ghost use Rattle.inorder.specs.Unit.{half_after};
 ghost use Rattle.one_thread.specs.Decoding.{KnownAs, goes_of as goes_in, leaves_by};
 ghost use Rattle.one_thread.specs.Kept.{LeavesAs};
@@ -136,9 +135,6 @@ impl Decoded {
     #[inline(always)]
     pub(crate) fn is_plain(&self) -> bool
         ensures computes { IsTrue result → kind_of self.now.op ≡ Computes }
-        ensures whole { IsTrue result → is_pair_of self.now.op ≡ false }
-        ensures fixed { IsTrue result → (half : Half) (pc : ℕ) →
-            fixed_next_of self.now half pc ≡ Some (pc_plus_4_of pc) }
     {
         matches!(self.goes, Goes::Plain)
     }

@@ -83,7 +83,7 @@ impl Flow {
         }
     }
 
-    // The half behind one, which is none where it is known what it does.
+    // The half behind this one of an instruction; where it is known what the instruction does, it is no half.
     #[inline(always)]
     fn half_behind(&self, instr: &Decoded, known: Option<Kind>, half: Half) -> Half
         requires kind { KnownAs known instr.now }
