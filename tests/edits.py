@@ -81,6 +81,7 @@ def view(script, uses, names, room):
         script.copied(f"{ROOT}/crates/{name}", f"{room}/crates/{name}", "out")
         script.copied(f"{ROOT}/crates/{name}/out/rlib", f"{room}/crates/{name}/out/rlib")
         if name in names:
+            script.copied(f"{ROOT}/crates/{name}/out/incremental", f"{room}/crates/{name}/out/incremental")
             for edit in edits(name, "must-fail-more"):
                 os.makedirs(f"{room}/crates/{name}/must-fail", exist_ok=True)
                 shutil.copy2(f"{ROOT}/crates/{name}/must-fail-more/{edit}", f"{room}/crates/{name}/must-fail/{edit}")
