@@ -1,5 +1,5 @@
 -- Completed instructions in a ring of slots, and the stores among them.
-use Rattle.std.specs.Prelude.{◌≡◌, ◌<◌, ◌≤◌, ℕ, zero, suc, Bool, List, [], ◌∷◌, length, drop, Option, Some, None, if◌then◌else◌, slice_get, unwrap_or}
+use Rattle.std.specs.Prelude.{◌≡◌, ◌<◌, ◌≤◌, ◌%◌, bit_and, ℕ, zero, suc, Bool, List, [], ◌∷◌, length, drop, Option, Some, None, if◌then◌else◌, slice_get, unwrap_or}
 use Rattle.instructions.specs.Instruction.{destination, kind}
 use Rattle.instructions.specs.Programs.{Program, instr_at}
 use Rattle.instructions.specs.declared.instr.Instr.{Instr}
@@ -23,8 +23,9 @@ pub record Contents : Type 0 where
   pub oldest : ℕ
   pub size : ℕ
 
--- The fields of a ring
-pub record IsRing (slots : List Completed) (size oldest len : ℕ) : Type 0 where
+-- The fields of a ring, whose last station is a mask
+pub record IsRing (slots : List Completed) (size last oldest len : ℕ) : Type 0 where
+  pub masks : (n : ℕ) → bit_and n last ≡ n % size
   pub begins : oldest < size
   pub most : len ≤ size
   pub small : size ≤ 32

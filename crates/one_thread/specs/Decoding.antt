@@ -1,12 +1,13 @@
 -- What is kept of a decoded instruction.
-use Rattle.std.specs.Prelude.{⊤, ◌≡◌, ◌≤◌, ℕ, List, length, Option, Some, None, false, if◌then◌else◌}
+use Rattle.std.specs.Prelude.{⊤, ◌≡◌, ◌+◌, ◌%◌, ◌≤◌, ℕ, List, length, Option, Some, None, false, if◌then◌else◌}
+use Rattle.std.specs.Int.{rotate_right, w32}
 use Rattle.instructions.specs.Instruction.{destination, first_of, fixed_next, is_access, is_branch, is_pair, kind, pc_plus_4, second_of}
 use Rattle.instructions.specs.Programs.{Program, instr_at}
 use Rattle.instructions.specs.declared.instr.Instr.{Instr}
 use Rattle.instructions.specs.declared.op.Half.{Half}
 use Rattle.instructions.specs.declared.op.Half.TheVariants.{Low, High}
 use Rattle.instructions.specs.declared.op.Kind.{Kind}
-use Rattle.instructions.specs.declared.op.Kind.TheVariants.{Loads}
+use Rattle.instructions.specs.declared.op.Kind.TheVariants.{Jumps, Links, Loads}
 use Rattle.instructions.specs.declared.op.Op.{Op}
 use Rattle.instructions.specs.declared.op.Op.TheVariants.{J, Jal, Jr, Jalr}
 use Rattle.one_thread.specs.declared.completed_ring.Leaves.{Leaves}
@@ -47,20 +48,31 @@ decode i =
       leaves = leaves_by (goes_of i.op) (kind i.op);
     }
 
--- An instruction is no pair, and the path goes on behind it
-pub record GoesAhead (i : Instr) : Type 0 where
-  pub whole : is_pair i.op ≡ false
-  pub fixed : (half : Half) (pc : ℕ) → fixed_next i half pc ≡ Some (pc_plus_4 pc)
+-- The path goes on behind an instruction of this kind, if that is no jump
+abbrev pub GoesAhead : Kind → Instr → Type 0
+GoesAhead Jumps i = ⊤
+GoesAhead Links i = ⊤
+GoesAhead k i = (half : Half) (pc : ℕ) → fixed_next i half pc ≡ Some (pc_plus_4 pc)
 
--- If it is known what an instruction does, it does this and the path goes ahead
+-- An instruction is of this kind and no pair, and goes ahead if it does not jump
+pub record IsOf (k : Kind) (i : Instr) : Type 0 where
+  pub kind_is : k ≡ kind i.op
+  pub whole : is_pair i.op ≡ false
+  pub ahead : GoesAhead k i
+
+-- If it is known what an instruction does, it does this
 abbrev pub KnownAs : Option Kind → Instr → Type 0
 KnownAs None i = ⊤
-KnownAs (Some k) i = (k ≡ kind i.op) × GoesAhead i
+KnownAs (Some k) i = IsOf k i
 
 -- These are the decoded instructions of a program
 pub record IsDecoded (code : List Instr) (P : Program) : Type 0 where
   pub is : code ≡ P.code
   pub few : length code ≤ 16384
+
+-- Where the instruction of an address stands among them: one that is no multiple of 4 comes far behind the last
+abbrev pub index_of : ℕ → ℕ
+index_of pc = rotate_right w32 ((pc + 4290772992) % 4294967296) 2
 
 -- They have one at this address
 pub record HasInstr (code : List Instr) (pc : ℕ) : Type 0 where

@@ -1,17 +1,16 @@
 //! Completed instructions in a ring of slots, and the stores among them.
 ghost use Rattle.std.specs.Prelude.{◌≡◌, ◌<◌, ◌≤◌, [], ◌∷◌, ◌-◌, ◌++◌, length, false, drop, slice_get, Some};
+ghost use Rattle.std.specs.Int.{IsPowerOfTwo};
 ghost use Rattle.one_thread.specs.Slots.{slot_in};
 ghost use Rattle.instructions.specs.declared.instr.Instr.{Instr};
 ghost use Rattle.one_thread.specs.Kept.{LeavesUntold, LeavesAs, LeavesCounted};
 
-use crate::places::next_station;
 use arrayvec::ArrayVec;
-use inorder::wrapped;
 use instructions::Half;
 use lsq::Entry;
 use std::marker::Model;
 
-/// What there is to do when an instruction leaves, beside counting it.
+/// What there is to do when an instruction leaves, beside counting it. The first two stand in the order of `accesses`.
 #[derive(Clone, Copy)]
 pub enum Leaves {
     Nothing,
@@ -28,10 +27,7 @@ impl Leaves {
     pub fn accesses(self) -> usize
         ensures { (i : Instr) → LeavesAs self i → LeavesUntold self → LeavesCounted result false i }
     {
-        match self {
-            Leaves::Load => 1,
-            _ => 0,
-        }
+        self as usize
     }
 }
 
@@ -56,8 +52,9 @@ pub struct Completed {
 #[derive(Drop)]
 pub struct CompletedRing {
     slots: [Completed; 32],
-    // how many stations there are
+    // how many stations there are: a power of two, so that the last of them is a mask that goes around
     size: usize,
+    last: usize,
     // the station of the oldest
     oldest: usize,
     len: usize,
@@ -81,7 +78,7 @@ impl Model for CompletedRing {
       size = r.size;
     } };
 
-    ghost invariant = { λ r. IsRing r.slots r.size r.oldest r.len × (r.past ≤ length r.stores.items) };
+    ghost invariant = { λ r. IsRing r.slots r.size r.last r.oldest r.len × (r.past ≤ length r.stores.items) };
 }
 
 // The content of a slot that nobody has used.
@@ -116,6 +113,7 @@ impl CompletedRing {
     pub fn new(size: usize, oldest: usize) -> CompletedRing
         requires inside { oldest < size }
         requires small { size ≤ 32 }
+        requires power { IsPowerOfTwo size }
         ensures completed { result.completed ≡ [] }
         ensures stores { result.stores ≡ [] }
         ensures oldest { result.oldest ≡ oldest }
@@ -124,6 +122,7 @@ impl CompletedRing {
         CompletedRing {
             slots: [unused(); 32],
             size,
+            last: size - 1,
             oldest,
             len: 0,
             stores: ArrayVec::new(),
@@ -161,7 +160,7 @@ impl CompletedRing {
         ensures value { result ≡ slot_in self.now.size self.now.oldest i }
         ensures small { result < 32 }
     {
-        wrapped(self.oldest + i, self.size)
+        (self.oldest + i) & self.last
     }
 
     /// The instruction at `i`.
@@ -177,7 +176,7 @@ impl CompletedRing {
     #[inline(never)]
     pub fn has_load_behind(&self, i: usize) -> bool {
         (i..self.len).any(|at| matches!(
-            self.slots[wrapped(self.oldest + at, self.size)].leaves,
+            self.slots[(self.oldest + at) & self.last].leaves,
             Leaves::Load
         ))
     }
@@ -227,7 +226,7 @@ impl CompletedRing {
           oldest = slot_in self.old.size self.old.oldest 1;
         } }
     {
-        self.oldest = next_station(self.oldest, self.size);
+        self.oldest = (self.oldest + 1) & self.last;
         self.len -= 1;
     }
 

@@ -61,7 +61,7 @@ impl<'a> Pipeline<'a> {
         let Operands { a, b } = *operands;
         let size = self.program.size();
         let pc = flow.future.pc;
-        outcome_by_kind(kind, &instr.to_instr(), half, pc, a, b, size)
+        outcome_by_kind(kind, instr.as_instr(), half, pc, a, b, size)
     }
 
     /// What the next instruction completes with, unless it stops or waits. What it does may be known.

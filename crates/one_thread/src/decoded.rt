@@ -117,11 +117,19 @@ impl Decoded {
         self.instr
     }
 
+    /// The instruction where it stands.
+    #[inline(always)]
+    pub(crate) fn as_instr(&self) -> &Instr
+        ensures { result.now ≡ self.now }
+    {
+        &self.instr
+    }
+
     /// Its operation.
     pub(crate) fn op(&self) -> Op
         ensures { result ≡ self.now.op }
     {
-        self.to_instr().op()
+        self.as_instr().op()
     }
 
     /// What its operation does.
@@ -139,16 +147,22 @@ impl Decoded {
         matches!(self.goes, Goes::Plain)
     }
 
-    /// What it does, if nothing else is to be looked at where it enters: it goes ahead.
+    /// What it does, unless it is a pair or a call.
     #[inline(always)]
     pub(crate) fn known(&self) -> Option<Kind>
         ensures { KnownAs result self.now }
     {
-        match (self.goes, self.kind) {
-            (Goes::Plain, _) => Some(Kind::Computes),
-            (Goes::Behind, Kind::Loads) => Some(Kind::Loads),
-            (Goes::Behind, Kind::Stores) => Some(Kind::Stores),
-            _ => None,
+        match self.goes {
+            Goes::Plain => Some(Kind::Computes),
+            Goes::Behind => match self.leaves {
+                Leaves::Load => Some(Kind::Loads),
+                _ => Some(Kind::Stores),
+            },
+            Goes::To | Goes::Varies => match self.kind {
+                Kind::Jumps => Some(Kind::Jumps),
+                _ => None,
+            },
+            Goes::Pair => None,
         }
     }
 
@@ -225,16 +239,29 @@ impl Decoded {
         }
     }
 
+    /// The register that a half changes, where what the instruction does may be known.
+    #[inline(always)]
+    pub(crate) fn destination_by(&self, known: Option<Kind>, half: Half) -> Reg
+        requires { KnownAs known self.now }
+        ensures { result ≡ destination_of self.now half }
+    {
+        match known {
+            Some(Kind::Jumps | Kind::Stores) => Reg::ZERO,
+            _ => self.destination(half),
+        }
+    }
+
     /// The pc behind a half, unless a predictor is asked for it.
     pub(crate) fn fixed_next(&self, half: Half, pc: u32) -> Option<u32>
         ensures { result ≡ fixed_next_of self.now half pc }
     {
         match self.goes {
-            Goes::Plain | Goes::Behind => Some(pc_plus_4(pc)),
-            Goes::To => Some(self.instr.number),
-            Goes::Varies => None,
             Goes::Pair if half == Half::Low => Some(pc),
-            Goes::Pair => Some(pc_plus_4(pc)),
+            Goes::To | Goes::Varies => match self.leaves {
+                Leaves::Told => None,
+                _ => Some(self.instr.number),
+            },
+            _ => Some(pc_plus_4(pc)),
         }
     }
 }

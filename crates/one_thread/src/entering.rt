@@ -111,10 +111,8 @@ impl<'a> Pipeline<'a> {
         Some(closed(flow, predicted, done.next, from))
     }
 
-    // A half of a pair enters: apart from the way that nearly every instruction takes.
-    #[cold]
-    #[inline(never)]
-    fn runs_half<P: Predictor>(
+    // A half of a pair enters. It is another function for each caller, as `enters_behind` is.
+    fn runs_half<P: Predictor, const FULL: bool>(
         &mut self,
         predictor: &mut P,
         flow: &mut Flow,
@@ -170,10 +168,11 @@ impl<'a> Pipeline<'a> {
 
     /// Lets the next instruction, and runs it as far as it comes, where the predictor is to be told of who has left its
     /// station, which is this one, and all but the oldest `from` were let in a row with it. Answers how many have
-    /// completed for good, or None where it is left as it was let. One that computes a value, and a load, each take a way
-    /// of their own, compiled apart.
+    /// completed for good, or None where it is left as it was let. What computes a value, loads, stores and jumps each take
+    /// a way of their own, compiled apart. With `FULL` the ring is full then: it is another function for each of its two
+    /// callers, since LLVM puts one of this size into its caller only where that is the only one.
     #[inline(always)]
-    pub fn enters_behind<P: Predictor>(
+    pub fn enters_behind<P: Predictor, const FULL: bool>(
         &mut self,
         predictor: &mut P,
         flow: &mut Flow,
@@ -196,7 +195,17 @@ impl<'a> Pipeline<'a> {
                 let known = Some(Kind::Loads);
                 self.runs_next(predictor, flow, left, station, from, low, known)
             },
-            _ if self.is_half(flow) => self.runs_half(predictor, flow, left, station, from),
+            Some(Kind::Stores) => {
+                let known = Some(Kind::Stores);
+                self.runs_next(predictor, flow, left, station, from, low, known)
+            },
+            Some(Kind::Jumps) => {
+                let known = Some(Kind::Jumps);
+                self.runs_next(predictor, flow, left, station, from, low, known)
+            },
+            _ if self.is_half(flow) => {
+                self.runs_half::<P, FULL>(predictor, flow, left, station, from)
+            },
             _ => self.runs_next(predictor, flow, left, station, from, low, None),
         }
     }
@@ -219,6 +228,6 @@ impl<'a> Pipeline<'a> {
     {
         let station = flow.ring.station_at(flow.ring.len());
         let left = take_leaver(&mut self.leavers, station);
-        self.enters_behind(predictor, flow, left, station, from)
+        self.enters_behind::<P, false>(predictor, flow, left, station, from)
     }
 }

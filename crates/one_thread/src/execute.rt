@@ -186,7 +186,7 @@ impl<'a> Pipeline<'a> {
         let Operands { a, b } = ready.operands;
         let size = self.program.size();
         let outcome = outcome_of(
-            &station.instr.to_instr(),
+            station.instr.as_instr(),
             station.half,
             station.pc,
             a,

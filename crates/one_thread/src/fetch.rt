@@ -1,7 +1,7 @@
 //! Fetch, from the decoded instructions of a program.
 ghost use Rattle.std.specs.Prelude.{◌≡◌, IfOk, Some, option_copied};
 ghost use Rattle.instructions.specs.Programs.{Program as Text, instr_at};
-ghost use Rattle.one_thread.specs.Decoding.{HasInstr, IsDecoded};
+ghost use Rattle.one_thread.specs.Decoding.{HasInstr, IsDecoded, index_of as index_in};
 
 use crate::decoded::Decoded;
 use instructions::{Memory, Program};
@@ -18,16 +18,20 @@ pub fn decode_all(alloc: Global, program: &Program) -> Result<Vec<Decoded>, Memo
     Ok(code)
 }
 
+// Where the instruction of an address stands. An address that is no multiple of 4 comes far behind the last.
+#[inline(always)]
+fn index_of(pc: u32) -> usize
+    ensures { result ≡ index_in pc }
+{
+    pc.wrapping_sub(Program::START).rotate_right(2) as usize
+}
+
 /// The instruction at an address, if it is that of one.
 #[inline(always)]
 pub fn fetch(code: &[Decoded], pc: u32) -> Option<&Decoded>
     ensures { (P : Text) → IsDecoded code.now P → option_copied result ≡ instr_at P pc }
 {
-    let offset = pc.wrapping_sub(Program::START);
-    if offset % 4 != 0 {
-        return None;
-    }
-    let at = (offset / 4) as usize;
+    let at = index_of(pc);
     if code.len() <= at {
         return None;
     }
@@ -40,6 +44,6 @@ pub fn fetch_known(code: &[Decoded], pc: u32) -> &Decoded
     requires { HasInstr code.now pc }
     ensures { (P : Text) → IsDecoded code.now P → instr_at P pc ≡ Some result.now }
 {
-    let at = (pc.wrapping_sub(Program::START) / 4) as usize;
+    let at = index_of(pc);
     &code[at]
 }

@@ -18,8 +18,9 @@ use crate::completing::Done;
 use crate::decoded::Decoded;
 use crate::future::Future;
 use crate::station::Station;
-use inorder::access_entry;
+use inorder::access_width;
 use instructions::{Half, Kind};
+use lsq::Entry;
 
 /// Completed instructions, and what the next one finds.
 #[derive(Drop)]
@@ -45,7 +46,7 @@ impl Flow {
     {
         match instr.kind_by(known) {
             Kind::Stores => content,
-            _ => self.future.values[instr.destination(half).number() as usize],
+            _ => self.future.values[instr.destination_by(known, half).number() as usize],
         }
     }
 
@@ -74,6 +75,7 @@ impl Flow {
             leaves: match known {
                 Some(Kind::Computes) => Leaves::Nothing,
                 Some(Kind::Loads) => Leaves::Load,
+                Some(Kind::Stores) => Leaves::Any,
                 _ => instr.leaves(),
             },
             predicted,
@@ -129,7 +131,7 @@ impl Flow {
         ensures last { self.new.last ≡ self.old.last }
         ensures held { self.new.held ≡ self.old.held }
     {
-        let destination = instr.destination(completed.half);
+        let destination = instr.destination_by(known, completed.half);
         self.ring.push(station, completed);
         self.future
             .follows(destination, completed.value, completed.next);
@@ -138,8 +140,12 @@ impl Flow {
             Kind::Loads => self.accesses += 1,
             Kind::Stores => {
                 self.accesses += 1;
-                let entry = access_entry(instr.op(), Some(completed.value), Some(content));
-                self.ring.push_store(entry);
+                self.ring.push_store(Entry {
+                    store: true,
+                    width: access_width(instr.op()),
+                    address: Some(completed.value),
+                    content: Some(content),
+                });
             },
             _ => {},
         }

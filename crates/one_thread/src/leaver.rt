@@ -56,11 +56,12 @@ pub fn guess<P: Predictor>(
     tell(predictor, left);
     match instr.fixed_next(half, pc) {
         Some(fixed) => fixed,
-        None => predictor.predict(pc, &instr.to_instr()),
+        None => predictor.predict(pc, instr.as_instr()),
     }
 }
 
-/// Asks a predictor as `guess` does. Where it is known what the instruction does, the path goes on behind it.
+/// Asks a predictor as `guess` does. Where it is known that the instruction does not jump, the path
+/// goes on behind it.
 #[inline(always)]
 pub fn guess_behind<P: Predictor>(
     predictor: &mut P,
@@ -74,9 +75,11 @@ pub fn guess_behind<P: Predictor>(
     ensures { Guesses P.Predicts P.Learns left instr.now half pc
         result predictor.old predictor.new }
 {
-    if known.is_some() {
-        tell(predictor, left);
-        return pc_plus_4(pc);
+    match known {
+        Some(Kind::Computes | Kind::Loads | Kind::Stores) => {
+            tell(predictor, left);
+            pc_plus_4(pc)
+        },
+        _ => guess(predictor, left, instr, half, pc),
     }
-    guess(predictor, left, instr, half, pc)
 }

@@ -1,6 +1,7 @@
 //! What is committed where the oldest instruction of a flow leaves: its register holds what it has made since it has
 //! completed.
-ghost use Rattle.std.specs.Prelude.{◌≡◌, ◌<◌, ◌≤◌, ◌+◌, ◌-◌, ◌^◌, suc, length, drop, None, Some};
+ghost use Rattle.std.specs.Prelude.{◌≡◌, ◌<◌, ◌≤◌, ◌+◌, ◌-◌, ◌^◌, suc, length, drop, false, None, Some};
+ghost use Rattle.inorder.specs.Loads.{is_store};
 ghost use Rattle.inorder.specs.Machine.{store_bytes};
 ghost use Rattle.instructions.specs.Instruction.{fixed_next, is_first_half, kind as kind_of, width as width_of};
 ghost use Rattle.instructions.specs.declared.op.Kind.TheVariants.{Stores as StoreKind};
@@ -62,7 +63,7 @@ fn wait(low: &mut Option<u32>, flow: &mut Flow, oldest: &Completed)
     flow.held = oldest.kept;
 }
 
-// What the oldest instruction stores is committed, and it is counted, if it is no first half.
+// The oldest instruction, which is no store, is counted, if it is no first half.
 #[inline(always)]
 fn commit(
     committed: &mut Committed,
@@ -72,8 +73,7 @@ fn commit(
     oldest: &Completed,
 )
     requires count { committed.old.count < 2 ^ 64 - 1 }
-    requires inside { kind_of instr.now.op ≡ StoreKind →
-        oldest.now.value + width_of instr.now.op ≤ length committed.old.memory }
+    requires kind { is_store (kind_of instr.now.op) ≡ false }
     ensures committed { committed.new ≡ passed_by (is_first_half instr.now.op oldest.now.half)
         (station_by instr.now oldest.now) oldest.now.kept committed.old }
     ensures low { low.new ≡ low_by (is_first_half instr.now.op oldest.now.half)
@@ -89,9 +89,6 @@ fn commit(
     if instr.is_first_half(oldest.half) {
         wait(low, flow, oldest);
         return;
-    }
-    if let Kind::Stores = instr.kind() {
-        store(committed, flow, instr, oldest);
     }
     count(committed, low, oldest.next);
 }
@@ -131,6 +128,12 @@ pub fn retire(
     ensures low { low.new ≡ low_by (is_first_half instr.now.op oldest.now.half)
         (station_by instr.now oldest.now) }
 {
+    if let Kind::Stores = instr.kind() {
+        flow.leaves(1);
+        store(committed, flow, instr, oldest);
+        count(committed, low, oldest.next);
+        return None;
+    }
     flow.leaves(access(instr));
     commit(committed, low, flow, instr, oldest);
     leaver_of(instr, oldest.half, oldest.pc, oldest.next)

@@ -33,7 +33,7 @@ impl<'a> Pipeline<'a> {
                 return true;
             }
             let from = flow.ring.len();
-            let Some(_) = self.enters_behind(predictor, flow, left, station, from) else {
+            let Some(_) = self.enters_behind::<P, true>(predictor, flow, left, station, from) else {
                 return false;
             };
         }

@@ -1,4 +1,4 @@
-use Rattle.std.proofs.Common.{◌≡◌, ◌<◌, ◌-◌, drop, length, take, ℕ, List, ap, ◌∙◌, arith, length-take-le}
+use Rattle.std.proofs.Common.{◌≡◌, ◌<◌, ◌+◌, ◌-◌, drop, length, take, ℕ, List, ap, ◌∙◌, arith, length-take-le}
 use Rattle.one_thread.specs.CompletedRing.{Contents}
 use Rattle.one_thread.specs.Slots.{ring_of, slot_in}
 use Rattle.one_thread.specs.declared.completed_ring.Completed.{Completed}
@@ -14,6 +14,6 @@ returns c =
     let with : ℕ → List Completed → Contents = λ n l. record { completed = l; stores = drop s.past s.stores.items; oldest = n; size = s.size } in
     let long = ring_length s.size xs s.oldest s.len all h.begins h.most in
     let some : 0 < s.len = omega (arith, c.requires, ap (λ r. length r.completed) c.self.view_is, long) in
-    ap (λ n. with n (ring_of xs n (s.len - 1))) c.next_station-self-inside.ensures.value
+    ap (λ n. with n (ring_of xs n (s.len - 1))) (h.masks (s.oldest + 1))
     ∙ ap (with (slot_in s.size s.oldest 1)) (ring_shift s.size xs s.oldest s.len all h.begins h.most some)
     ∙ ap (λ (r : Contents). record r { completed = drop 1 r.completed; oldest = slot_in r.size r.oldest 1 }) c.self.view_is

@@ -2,7 +2,7 @@
 use Rattle.std.proofs.Common.{◌≡◌, Option, Some, refl, sym, subst}
 use Rattle.instructions.specs.declared.op.Half.TheVariants.{Low}
 use Rattle.instructions.specs.declared.op.Kind.{Kind}
-use Rattle.instructions.specs.declared.op.Kind.TheVariants.{Computes, Loads}
+use Rattle.instructions.specs.declared.op.Kind.TheVariants.{Computes, Jumps, Loads, Stores}
 use Rattle.one_thread.specs.Decoding.{IsKnownThere}
 use Rattle.one_thread.specs.Flow.{IsPlaced}
 use Rattle.one_thread.specs.declared.flow.Flow.{Flow}
@@ -15,7 +15,7 @@ abbrev NextIs : Pipeline → Flow → Option Kind → Type 0
 NextIs b flow known = IsKnownThere b.code.items flow.future.pc known
 
 first : (b : Pipeline) (flow : Flow) (kind : Kind) → IsPlaced b flow → NextIs b flow (Some kind) → Low ≡ flow.half
-first b flow kind placed known = sym (whole_next b flow placed (λ P i decoded is. (known P i decoded is).1.whole))
+first b flow kind placed known = sym (whole_next b flow placed (λ P i decoded is. (known P i decoded is).whole))
 
 pub runs_next-requires-clause-kind : goal.runs_next-requires-clause-kind
 runs_next-requires-clause-kind g c =
@@ -35,6 +35,26 @@ runs_next-requires-in-Some-Loads-clause-kind g c =
 pub runs_next-requires-in-Some-Loads-clause-half : goal.runs_next-requires-in-Some-Loads-clause-half
 runs_next-requires-in-Some-Loads-clause-half g c =
     let is : c.known.result ≡ Some Loads = cc c.in-Some-Loads.is in
+    first c.args.self.now c.args.flow.now _ c.requires.placed (subst (NextIs c.args.self.now c.args.flow.now) is c.known.ensures)
+
+pub runs_next-requires-in-Some-Stores-clause-kind : goal.runs_next-requires-in-Some-Stores-clause-kind
+runs_next-requires-in-Some-Stores-clause-kind g c =
+    let is : c.known.result ≡ Some Stores = cc c.in-Some-Stores.is in
+    subst (NextIs c.args.self.now c.args.flow.now) is c.known.ensures
+
+pub runs_next-requires-in-Some-Stores-clause-half : goal.runs_next-requires-in-Some-Stores-clause-half
+runs_next-requires-in-Some-Stores-clause-half g c =
+    let is : c.known.result ≡ Some Stores = cc c.in-Some-Stores.is in
+    first c.args.self.now c.args.flow.now _ c.requires.placed (subst (NextIs c.args.self.now c.args.flow.now) is c.known.ensures)
+
+pub runs_next-requires-in-Some-Jumps-clause-kind : goal.runs_next-requires-in-Some-Jumps-clause-kind
+runs_next-requires-in-Some-Jumps-clause-kind g c =
+    let is : c.known.result ≡ Some Jumps = cc c.in-Some-Jumps.is in
+    subst (NextIs c.args.self.now c.args.flow.now) is c.known.ensures
+
+pub runs_next-requires-in-Some-Jumps-clause-half : goal.runs_next-requires-in-Some-Jumps-clause-half
+runs_next-requires-in-Some-Jumps-clause-half g c =
+    let is : c.known.result ≡ Some Jumps = cc c.in-Some-Jumps.is in
     first c.args.self.now c.args.flow.now _ c.requires.placed (subst (NextIs c.args.self.now c.args.flow.now) is c.known.ensures)
 
 pub runs_next-requires-in_default-2-clause-half : goal.runs_next-requires-in_default-2-clause-half
