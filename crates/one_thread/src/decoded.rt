@@ -1,6 +1,7 @@
 //! Decoded instructions.
-ghost use Rattle.std.specs.Prelude.{◌≡◌, ◌≤◌, IsTrue};
-ghost use Rattle.instructions.specs.declared.op.Kind.TheVariants.{Computes};
+ghost use Rattle.std.specs.Prelude.{ℕ, ◌≡◌, ◌≤◌, IsTrue};
+ghost use Rattle.instructions.specs.declared.op.Kind.TheVariants.{Computes, Jumps};
+ghost use Rattle.instructions.specs.declared.op.Half.{Half};
 ghost use Rattle.instructions.specs.Instruction.{destination as destination_of, first_of, fixed_next as fixed_next_of, fixed_next_by, is_access as is_access_of, is_first_half as first_half, is_pair as is_pair_of, kind as kind_of, second_of};
 ghost use Rattle.inorder.specs.Unit.{half_after};
 ghost use Rattle.one_thread.specs.Decoding.{KnownAs, goes_of as goes_in, leaves_by};
@@ -262,6 +263,18 @@ impl Decoded {
                 _ => Some(self.instr.number),
             },
             _ => Some(pc_plus_4(pc)),
+        }
+    }
+
+    /// Where a jump that is no call goes on, unless a predictor is asked for it.
+    #[inline(always)]
+    pub(crate) fn jump_target(&self) -> Option<u32>
+        requires { kind_of self.now.op ≡ Jumps }
+        ensures { (half : Half) (pc : ℕ) → result ≡ fixed_next_of self.now half pc }
+    {
+        match self.leaves {
+            Leaves::Told => None,
+            _ => Some(self.instr.number),
         }
     }
 }

@@ -60,8 +60,7 @@ pub fn guess<P: Predictor>(
     }
 }
 
-/// Asks a predictor as `guess` does. Where it is known that the instruction does not jump, the path
-/// goes on behind it.
+/// Asks a predictor as `guess` does. Where it is known what the instruction does, no more of it is looked at than that needs.
 #[inline(always)]
 pub fn guess_behind<P: Predictor>(
     predictor: &mut P,
@@ -79,6 +78,13 @@ pub fn guess_behind<P: Predictor>(
         Some(Kind::Computes | Kind::Loads | Kind::Stores) => {
             tell(predictor, left);
             pc_plus_4(pc)
+        },
+        Some(Kind::Jumps) => {
+            tell(predictor, left);
+            match instr.jump_target() {
+                Some(fixed) => fixed,
+                None => predictor.predict(pc, instr.as_instr()),
+            }
         },
         _ => guess(predictor, left, instr, half, pc),
     }
