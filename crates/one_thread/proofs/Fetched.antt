@@ -7,7 +7,7 @@ use Rattle.std.specs.Int.Bits.{or_zero_r}
 use Rattle.std.proofs.lemmas.Option.{slice_get_past}
 use Rattle.instructions.specs.Programs.{Program, address, instr_at}
 use Rattle.instructions.specs.declared.instr.Instr.{Instr}
-use Rattle.one_thread.specs.Decoding.{IsDecoded, index_of}
+use Rattle.one_thread.specs.Decoding.{IsDecoded, text_index}
 
 -- no instruction stands at an address that is none of the text's
 none_at : (P : Program) (pc : ℕ) → eqb (address ((pc - 0x00400000) / 4)) pc ≡ false → instr_at P pc ≡ None
@@ -56,18 +56,18 @@ known_even P pc i small is = ⊎_elim odd (λ none. omega (arith, none)) (cases_
     odd more = let none = uneven_none P pc small (omega (arith, more)) in absurd (cc (is, none))
 
 -- an address whose offset is a multiple of 4 stands at that place
-index_even : (pc : ℕ) → (pc + 4290772992) % 4294967296 % 4 ≡ 0 → index_of pc ≡ (pc + 4290772992) % 4294967296 / 4
+index_even : (pc : ℕ) → (pc + 4290772992) % 4294967296 % 4 ≡ 0 → text_index pc ≡ (pc + 4290772992) % 4294967296 / 4
 index_even pc e =
     let zero : (pc + 4290772992) % 4294967296 * 1073741824 % 4294967296 ≡ 0 = omega (arith, e) in
     ap (bit_or ((pc + 4290772992) % 4294967296 / 4)) zero ∙ or_zero_r ((pc + 4290772992) % 4294967296 / 4)
 
 -- one that stands among 16,384 is a multiple of 4
-index_small : (pc : ℕ) → index_of pc < 16384 → (pc + 4290772992) % 4294967296 % 4 ≡ 0
+index_small : (pc : ℕ) → text_index pc < 16384 → (pc + 4290772992) % 4294967296 % 4 ≡ 0
 index_small pc l =
     let most = le_or_r ((pc + 4290772992) % 4294967296 / 4) ((pc + 4290772992) % 4294967296 * 1073741824 % 4294967296) in
     omega (arith, l, most)
 
-pub index_past : (P : Program) (code : List Instr) (pc : ℕ) → IsDecoded code P → pc < 2 ^ 32 → length code ≤ index_of pc → instr_at P pc ≡ None
+pub index_past : (P : Program) (code : List Instr) (pc : ℕ) → IsDecoded code P → pc < 2 ^ 32 → length code ≤ text_index pc → instr_at P pc ≡ None
 index_past P code pc d small past = ⊎_elim odd (λ none. even (omega (arith, none))) (cases_lt 0 ((pc + 4290772992) % 4294967296 % 4))
   where
     odd : 0 < (pc + 4290772992) % 4294967296 % 4 → instr_at P pc ≡ None
@@ -78,14 +78,14 @@ index_past P code pc d small past = ⊎_elim odd (λ none. even (omega (arith, n
         let far : length code ≤ (pc + 4290772992) % 4294967296 / 4 = subst (λ n. length code ≤ n) (index_even pc e) past in
         sym (even_is P code pc d small e) ∙ slice_get_past code _ far
 
-pub index_is : (P : Program) (code : List Instr) (pc : ℕ) → IsDecoded code P → pc < 2 ^ 32 → index_of pc < length code → slice_get code (index_of pc) ≡ instr_at P pc
+pub index_is : (P : Program) (code : List Instr) (pc : ℕ) → IsDecoded code P → pc < 2 ^ 32 → text_index pc < length code → slice_get code (text_index pc) ≡ instr_at P pc
 index_is P code pc d small inside =
-    let few : index_of pc < 16384 = omega (arith, inside, d.few) in
+    let few : text_index pc < 16384 = omega (arith, inside, d.few) in
     let even = index_small pc few in
     ap (slice_get code) (index_even pc even) ∙ even_is P code pc d small even
 
 -- where an instruction stands the code looks for it
-pub index_known : (P : Program) (code : List Instr) (pc : ℕ) (i : Instr) → IsDecoded code P → pc < 2 ^ 32 → instr_at P pc ≡ Some i → slice_get code (index_of pc) ≡ Some i
+pub index_known : (P : Program) (code : List Instr) (pc : ℕ) (i : Instr) → IsDecoded code P → pc < 2 ^ 32 → instr_at P pc ≡ Some i → slice_get code (text_index pc) ≡ Some i
 index_known P code pc i d small is =
     let even = known_even P pc i small is in
     ap (slice_get code) (index_even pc even) ∙ even_is P code pc d small even ∙ is

@@ -55,7 +55,7 @@ GoesAhead Links i = ⊤
 GoesAhead k i = (half : Half) (pc : ℕ) → fixed_next i half pc ≡ Some (pc_plus_4 pc)
 
 -- An instruction is of this kind and no pair, and goes ahead if it does not jump
-pub record IsOf (k : Kind) (i : Instr) : Type 0 where
+pub record IsOfKind (k : Kind) (i : Instr) : Type 0 where
   pub kind_is : k ≡ kind i.op
   pub whole : is_pair i.op ≡ false
   pub ahead : GoesAhead k i
@@ -63,7 +63,7 @@ pub record IsOf (k : Kind) (i : Instr) : Type 0 where
 -- If it is known what an instruction does, it does this
 abbrev pub KnownAs : Option Kind → Instr → Type 0
 KnownAs None i = ⊤
-KnownAs (Some k) i = IsOf k i
+KnownAs (Some k) i = IsOfKind k i
 
 -- These are the decoded instructions of a program
 pub record IsDecoded (code : List Instr) (P : Program) : Type 0 where
@@ -71,8 +71,8 @@ pub record IsDecoded (code : List Instr) (P : Program) : Type 0 where
   pub few : length code ≤ 16384
 
 -- Where the instruction of an address stands among them: one that is no multiple of 4 comes far behind the last
-abbrev pub index_of : ℕ → ℕ
-index_of pc = rotate_right w32 ((pc + 4290772992) % 4294967296) 2
+abbrev pub text_index : ℕ → ℕ
+text_index pc = rotate_right w32 ((pc + 4290772992) % 4294967296) 2
 
 -- They have one at this address
 pub record HasInstr (code : List Instr) (pc : ℕ) : Type 0 where

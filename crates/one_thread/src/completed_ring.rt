@@ -1,5 +1,5 @@
 //! Completed instructions in a ring of slots, and the stores among them.
-ghost use Rattle.std.specs.Prelude.{◌≡◌, ◌<◌, ◌≤◌, [], ◌∷◌, ◌-◌, ◌++◌, length, false, drop, slice_get, Some};
+ghost use Rattle.std.specs.Prelude.{◌≡◌, ◌<◌, ◌≤◌, [], ◌∷◌, ◌-◌, ◌++◌, length, false, drop, slice_get, IfSome, IsTrue, Some};
 ghost use Rattle.std.specs.Int.{IsPowerOfTwo};
 ghost use Rattle.one_thread.specs.Slots.{slot_in};
 ghost use Rattle.instructions.specs.declared.instr.Instr.{Instr};
@@ -94,6 +94,13 @@ fn unused() -> Completed {
     }
 }
 
+// Whether so many stations are a power of two.
+fn is_power(size: usize) -> bool
+    ensures { IsTrue result → IsPowerOfTwo size }
+{
+    matches!(size, 2 | 4 | 8 | 16 | 32)
+}
+
 // The entries without the first `past`: one that leaves would move those behind it, so many leave at once.
 #[cold]
 #[inline(never)]
@@ -109,17 +116,21 @@ fn forget(stores: &mut ArrayVec<Entry, 32>, past: usize)
 }
 
 impl CompletedRing {
-    /// A ring of so many stations without an instruction; the next enters this one.
-    pub fn new(size: usize, oldest: usize) -> CompletedRing
+    /// A ring of so many stations without an instruction; the next enters this one. There is none where the stations are no
+    /// power of two, as each `Config` has it.
+    #[inline(always)]
+    pub fn new(size: usize, oldest: usize) -> Option<CompletedRing>
         requires inside { oldest < size }
         requires small { size ≤ 32 }
-        requires power { IsPowerOfTwo size }
-        ensures completed { result.completed ≡ [] }
-        ensures stores { result.stores ≡ [] }
-        ensures oldest { result.oldest ≡ oldest }
-        ensures size { result.size ≡ size }
+        ensures completed { IfSome result (λ ring. ring.completed ≡ []) }
+        ensures stores { IfSome result (λ ring. ring.stores ≡ []) }
+        ensures oldest { IfSome result (λ ring. ring.oldest ≡ oldest) }
+        ensures size { IfSome result (λ ring. ring.size ≡ size) }
     {
-        CompletedRing {
+        if !is_power(size) {
+            return None;
+        }
+        Some(CompletedRing {
             slots: [unused(); 32],
             size,
             last: size - 1,
@@ -127,7 +138,7 @@ impl CompletedRing {
             len: 0,
             stores: ArrayVec::new(),
             past: 0,
-        }
+        })
     }
 
     /// How many instructions it holds.

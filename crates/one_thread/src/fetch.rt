@@ -1,7 +1,7 @@
 //! Fetch, from the decoded instructions of a program.
 ghost use Rattle.std.specs.Prelude.{◌≡◌, IfOk, Some, option_copied};
 ghost use Rattle.instructions.specs.Programs.{Program as Text, instr_at};
-ghost use Rattle.one_thread.specs.Decoding.{HasInstr, IsDecoded, index_of as index_in};
+ghost use Rattle.one_thread.specs.Decoding.{HasInstr, IsDecoded, text_index};
 
 use crate::decoded::Decoded;
 use instructions::{Memory, Program};
@@ -21,7 +21,7 @@ pub fn decode_all(alloc: Global, program: &Program) -> Result<Vec<Decoded>, Memo
 // Where the instruction of an address stands. An address that is no multiple of 4 comes far behind the last.
 #[inline(always)]
 fn index_of(pc: u32) -> usize
-    ensures { result ≡ index_in pc }
+    ensures { result ≡ text_index pc }
 {
     pc.wrapping_sub(Program::START).rotate_right(2) as usize
 }

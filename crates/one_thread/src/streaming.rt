@@ -8,8 +8,7 @@
 //! wait for a load, all of these are again as they were let. So what stands in the stations behind each retirement, and
 //! what a predictor is asked and told, is meant to be the same as if all turns were made one by one, in their order;
 //! the contracts promise a unit that legal steps reach, and the end of the run.
-ghost use Rattle.std.specs.Int.{IsPowerOfTwo};
-ghost use Rattle.std.specs.Prelude.{IsTrue, ◌≡◌, ◌<◌, ◌≤◌, length, slice_get, is_some, true, IfSome, None, Some};
+ghost use Rattle.std.specs.Prelude.{◌≡◌, ◌<◌, ◌≤◌, length, slice_get, is_some, true, IfSome, None, Some};
 ghost use Rattle.instructions.specs.Instruction.{kind as kind_of};
 ghost use Rattle.instructions.specs.Programs.{instr_at};
 ghost use Rattle.one_thread.specs.Changes.{run_from};
@@ -44,13 +43,6 @@ fn value_of(station: &Station) -> Option<u32>
         (Kind::Computes | Kind::Links | Kind::Loads, Stage::Done, made) => made,
         _ => None,
     }
-}
-
-// Whether so many stations are a power of two, as each `Config` has them.
-fn is_power(size: usize) -> bool
-    ensures { IsTrue result → IsPowerOfTwo size }
-{
-    matches!(size, 2 | 4 | 8 | 16 | 32)
 }
 
 impl<'a> Pipeline<'a> {
@@ -90,11 +82,12 @@ impl<'a> Pipeline<'a> {
         ensures same { IfSome result (λ flow. in_order self.now flow ≡ self.now) }
         ensures room { IfSome result (λ flow. length flow.ring.completed < self.now.ring) }
     {
-        if self.ring <= self.window.len() || !is_power(self.ring) {
+        if self.ring <= self.window.len() {
             return None;
         }
+        let ring = CompletedRing::new(self.ring, self.oldest)?;
         let mut flow = Flow {
-            ring: CompletedRing::new(self.ring, self.oldest),
+            ring,
             future: Future::behind(&self.ahead()),
             half: waiting_half(self.low),
             accesses: 0,

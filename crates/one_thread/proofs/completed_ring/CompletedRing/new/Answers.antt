@@ -4,8 +4,9 @@ use Rattle.one_thread.proofs.completed_ring.CompletedRing.new.Goals as goal
 
 pub invariant_of-result : goal.invariant_of-result
 invariant_of-result c =
-    let k = c.requires.power.0 in
-    let is = c.requires.power.1 in (
+    let power = c.is_power.ensures c.if-not-is_power.false in
+    let k = power.0 in
+    let is = power.1 in (
       record {
         masks = λ n. ap (λ m. bit_and n (m - 1)) is ∙ and_mask n k ∙ ap (λ m. n % m) (sym is);
         begins = c.requires.inside;

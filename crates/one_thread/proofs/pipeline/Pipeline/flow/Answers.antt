@@ -1,5 +1,5 @@
 use Rattle.std.proofs.Common.{◌≡◌, ◌<◌, ◌≤◌, length, rules, None, refl, sym, ap, ◌∙◌, subst, arith}
-use Rattle.std.specs.Prelude.{slice_set}
+use Rattle.std.specs.Prelude.{[], IfSome, slice_set}
 use Rattle.std.proofs.lemmas.List.{take_all}
 use Rattle.one_thread.specs.Changes.{registers_of}
 use Rattle.one_thread.specs.CompletedRing.{stations}
@@ -25,16 +25,20 @@ loop-i-init c =
     let b = c.args.self.now in
     let values : c.behind.result.values ≡ registers_of b =
     c.behind.ensures.values ∙ ap (λ s. slice_set s.registers 0 0) c.ahead.ensures ∙ set_zero (registers_of b) (zero_held b c.requires.unit) in
-    let begun : IsFlowing b (record { ring = c.new.result; future = c.behind.result; half = c.waiting_half.result; accesses = 0; last = None; held = c.register.result }) =
+    let ring = c.in_ok-ring.ring in
+    let completed : ring.completed ≡ [] = subst (λ r. IfSome r (λ x. x.completed ≡ [])) c.in_ok-ring.was c.new.ensures.completed in
+    let oldest : ring.oldest ≡ b.oldest = subst (λ r. IfSome r (λ x. x.oldest ≡ b.oldest)) c.in_ok-ring.was c.new.ensures.oldest in
+    let size : ring.size ≡ b.ring = subst (λ r. IfSome r (λ x. x.size ≡ b.ring)) c.in_ok-ring.was c.new.ensures.size in
+    let begun : IsFlowing b (record { ring = ring; future = c.behind.result; half = c.waiting_half.result; accesses = 0; last = None; held = c.register.result }) =
     search rules in
     record {
       flowing = begun;
-      window = ap (stations b.program.now) c.new.ensures.completed;
+      window = ap (stations b.program.now) completed;
       last = refl;
-      kept = subst (λ cs. HaveKept b.program.now (registers_of b) cs c.behind.result.values) (sym c.new.ensures.completed) (sym values);
+      kept = subst (λ cs. HaveKept b.program.now (registers_of b) cs c.behind.result.values) (sym completed) (sym values);
       held = c.register.ensures;
-      oldest = c.new.ensures.oldest;
-      size = c.new.ensures.size;
+      oldest = oldest;
+      size = size;
     }
 
 -- so many have joined

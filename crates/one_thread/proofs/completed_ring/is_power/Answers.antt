@@ -1,5 +1,5 @@
 use Rattle.std.proofs.Common.{⊎_elim}
-use Rattle.one_thread.proofs.streaming.is_power.Goals as goal
+use Rattle.one_thread.proofs.completed_ring.is_power.Goals as goal
 
 pub returns-in-2 : goal.returns-in-2
 returns-in-2 c t =
