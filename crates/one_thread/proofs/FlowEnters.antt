@@ -9,7 +9,7 @@ use Rattle.one_thread.specs.Flow.{Completes, Flows, IsFlow, Reopens, completed_a
 use Rattle.one_thread.specs.Kept.{HasKept, HaveKept, LeavesAs, kept_with}
 use Rattle.one_thread.specs.StandsFor.{StandsForSome}
 use Rattle.one_thread.specs.declared.completed_ring.Completed.{Completed}
-use Rattle.one_thread.specs.declared.completed_ring.Leaves.{Leaves}
+use Rattle.one_thread.specs.declared.leaves.Leaves.{Leaves}
 use Rattle.one_thread.specs.declared.completing.Done.{Done}
 use Rattle.one_thread.specs.declared.execute.Operands.{Operands}
 use Rattle.one_thread.specs.declared.flow.Flow.{Flow}

@@ -18,7 +18,7 @@ use Rattle.one_thread.specs.Window.{reaches_memory}
 use Rattle.one_thread.specs.declared.dispatch.Fetched.{Fetched}
 use Rattle.one_thread.specs.declared.completing.Done.{Done as DoneBy}
 use Rattle.one_thread.specs.declared.execute.Operands.{Operands}
-use Rattle.one_thread.specs.declared.completed_ring.Leaves.{Leaves}
+use Rattle.one_thread.specs.declared.leaves.Leaves.{Leaves}
 use Rattle.one_thread.specs.declared.flow.Flow.{Flow}
 use Rattle.one_thread.specs.declared.pipeline.Pipeline.{Pipeline}
 use Rattle.one_thread.specs.declared.station.Stage.TheVariants.{Done}

@@ -10,11 +10,11 @@ use Rattle.instructions.specs.declared.op.Kind.{Kind}
 use Rattle.instructions.specs.declared.op.Kind.TheVariants.{Jumps, Links, Loads}
 use Rattle.instructions.specs.declared.op.Op.{Op}
 use Rattle.instructions.specs.declared.op.Op.TheVariants.{J, Jal, Jr, Jalr}
-use Rattle.one_thread.specs.declared.completed_ring.Leaves.{Leaves}
-use Rattle.one_thread.specs.declared.completed_ring.Leaves.TheVariants.{Any, Load, Nothing, Told}
+use Rattle.one_thread.specs.declared.leaves.Leaves.{Leaves}
+use Rattle.one_thread.specs.declared.leaves.Leaves.TheVariants.{Any, Load, Nothing, Told}
 use Rattle.one_thread.specs.declared.decoded.Decoded.TheInside.{Inside}
-use Rattle.one_thread.specs.declared.decoded.Goes.{Goes}
-use Rattle.one_thread.specs.declared.decoded.Goes.TheVariants.{Behind, Pair, Plain, To, Varies}
+use Rattle.one_thread.specs.declared.leaves.Goes.{Goes}
+use Rattle.one_thread.specs.declared.leaves.Goes.TheVariants.{Behind, Pair, Plain, To, Varies}
 
 -- Where an operation goes on, as far as it tells
 abbrev pub goes_of : Op → Goes

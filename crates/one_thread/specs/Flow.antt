@@ -29,8 +29,8 @@ use Rattle.one_thread.specs.declared.completing.Done.{Done}
 use Rattle.one_thread.specs.declared.execute.Operands.{Operands}
 use Rattle.one_thread.specs.declared.flow.Flow.{Flow}
 use Rattle.one_thread.specs.declared.completed_ring.Completed.{Completed}
-use Rattle.one_thread.specs.declared.completed_ring.Leaves.{Leaves}
-use Rattle.one_thread.specs.declared.completed_ring.Leaves.TheVariants.{Any}
+use Rattle.one_thread.specs.declared.leaves.Leaves.{Leaves}
+use Rattle.one_thread.specs.declared.leaves.Leaves.TheVariants.{Any}
 use Rattle.one_thread.specs.declared.pipeline.Pipeline.{Pipeline}
 use Rattle.one_thread.specs.declared.station.Stage.TheVariants.{Done as IsDone, Stops}
 use Rattle.one_thread.specs.declared.station.Station.{Station}

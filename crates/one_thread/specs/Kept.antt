@@ -12,8 +12,8 @@ use Rattle.one_thread.specs.CompletedRing.{instr_there, station_in}
 use Rattle.one_thread.specs.Leavers.{leaver_by}
 use Rattle.one_thread.specs.Window.{access_of, source_in}
 use Rattle.one_thread.specs.declared.completed_ring.Completed.{Completed}
-use Rattle.one_thread.specs.declared.completed_ring.Leaves.{Leaves}
-use Rattle.one_thread.specs.declared.completed_ring.Leaves.TheVariants.{Any, Load, Nothing, Told}
+use Rattle.one_thread.specs.declared.leaves.Leaves.{Leaves}
+use Rattle.one_thread.specs.declared.leaves.Leaves.TheVariants.{Any, Load, Nothing, Told}
 
 -- What an instruction keeps that finds these registers, and this in its source 2
 abbrev pub kept_with : Instr → Half → ℕ → List ℕ → ℕ

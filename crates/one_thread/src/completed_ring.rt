@@ -2,34 +2,12 @@
 ghost use Rattle.std.specs.Prelude.{◌≡◌, ◌<◌, ◌≤◌, [], ◌∷◌, ◌-◌, ◌++◌, length, false, drop, slice_get, IfSome, IsTrue, Some};
 ghost use Rattle.std.specs.Int.{IsPowerOfTwo};
 ghost use Rattle.one_thread.specs.Slots.{slot_in};
-ghost use Rattle.instructions.specs.declared.instr.Instr.{Instr};
-ghost use Rattle.one_thread.specs.Kept.{LeavesUntold, LeavesAs, LeavesCounted};
 
+use crate::leaves::Leaves;
 use arrayvec::ArrayVec;
 use instructions::Half;
 use lsq::Entry;
 use std::marker::Model;
-
-/// What there is to do when an instruction leaves, beside counting it. The first two stand in the order of `accesses`.
-#[derive(Clone, Copy)]
-pub enum Leaves {
-    Nothing,
-    /// One access less is live: a load leaves.
-    Load,
-    /// A predictor is told where it has gone on.
-    Told,
-    /// Perhaps more: the instruction tells.
-    Any,
-}
-
-impl Leaves {
-    /// How many accesses less are live then, where nothing else is to be done.
-    pub fn accesses(self) -> usize
-        ensures { (i : Instr) → LeavesAs self i → LeavesUntold self → LeavesCounted result false i }
-    {
-        self as usize
-    }
-}
 
 /// A completed instruction. With its program this is all that its station holds.
 #[derive(Clone, Copy)]

@@ -4,27 +4,13 @@ ghost use Rattle.instructions.specs.declared.op.Kind.TheVariants.{Computes, Jump
 ghost use Rattle.instructions.specs.declared.op.Half.{Half};
 ghost use Rattle.instructions.specs.Instruction.{destination as destination_of, first_of, fixed_next as fixed_next_of, fixed_next_by, is_access as is_access_of, is_first_half as first_half, is_pair as is_pair_of, kind as kind_of, second_of};
 ghost use Rattle.inorder.specs.Unit.{half_after};
-ghost use Rattle.one_thread.specs.Decoding.{KnownAs, goes_of as goes_in, leaves_by};
+ghost use Rattle.one_thread.specs.Decoding.{KnownAs};
 ghost use Rattle.one_thread.specs.Kept.{LeavesAs};
 ghost use Rattle.one_thread.specs.Window.{access_of};
 
-use crate::completed_ring::Leaves;
+use crate::leaves::{Goes, Leaves, goes_of, leaves_of};
 use instructions::{Half, Instr, Kind, Op, Reg, pc_plus_4};
 use std::marker::Model;
-
-/// Where an operation goes on.
-#[derive(Clone, Copy)]
-pub enum Goes {
-    /// One value is computed, and the path goes on behind: nothing else is to be looked at.
-    Plain,
-    /// A load or store, behind which the path goes on.
-    Behind,
-    To,
-    /// A predictor is asked.
-    Varies,
-    /// The half tells.
-    Pair,
-}
 
 /// An instruction, with what its window, its claim and its retirement ask of it, found out once.
 #[derive(Clone, Copy)]
@@ -56,32 +42,6 @@ impl Model for Decoded {
     ghost inverse = { decode };
 
     ghost inverse_ok = { λ d h. sym h };
-}
-
-// Where an operation goes on, as far as it tells.
-fn goes_of(op: Op) -> Goes
-    ensures { result ≡ goes_in op }
-{
-    match op {
-        Op::J | Op::Jal => Goes::To,
-        Op::Jr | Op::Jalr => Goes::Varies,
-        op if op.is_branch() => Goes::Varies,
-        op if op.is_pair() => Goes::Pair,
-        op if op.is_access() => Goes::Behind,
-        _ => Goes::Plain,
-    }
-}
-
-// What there is to do when an instruction leaves.
-fn leaves_of(goes: Goes, kind: Kind) -> Leaves
-    ensures { result ≡ leaves_by goes kind }
-{
-    match (goes, kind) {
-        (Goes::Plain | Goes::To, _) => Leaves::Nothing,
-        (Goes::Behind, Kind::Loads) => Leaves::Load,
-        (Goes::Varies, _) => Leaves::Told,
-        _ => Leaves::Any,
-    }
 }
 
 /// 1 for an instruction that reaches memory, else 0.

@@ -4,9 +4,9 @@ ghost use Rattle.one_thread.specs.Departing.{OldestRetired, run_in, to_do};
 ghost use Rattle.one_thread.specs.Flow.{Flows, IsStuck};
 ghost use Rattle.one_thread.specs.Kept.{OldestIsCounted};
 
-use crate::completed_ring::Leaves;
 use crate::fetch::fetch_known;
 use crate::flow::Flow;
+use crate::leaves::Leaves;
 use crate::pipeline::Pipeline;
 use crate::retire::leave_untold;
 use crate::retiring::{retire, retire_counted};

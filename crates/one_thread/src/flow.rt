@@ -13,10 +13,11 @@ ghost use Rattle.one_thread.specs.Loads.{with_entry};
 ghost use Rattle.one_thread.specs.Slots.{slot_in};
 ghost use Rattle.one_thread.specs.Window.{access_of};
 
-use crate::completed_ring::{Completed, CompletedRing, Leaves};
+use crate::completed_ring::{Completed, CompletedRing};
 use crate::completing::Done;
 use crate::decoded::Decoded;
 use crate::future::Future;
+use crate::leaves::Leaves;
 use crate::station::Station;
 use inorder::access_width;
 use instructions::{Half, Kind};

@@ -19,6 +19,7 @@ mod flow;
 mod forwarding;
 mod future;
 mod leaver;
+mod leaves;
 mod memory_port;
 mod order;
 mod pipeline;

@@ -16,15 +16,16 @@ ghost use Rattle.one_thread.specs.Decoding.{IsDecoded};
 ghost use Rattle.one_thread.specs.Flow.{AreThere, CanRestore, Flows, in_order, restored, window_of};
 ghost use Rattle.one_thread.specs.CompletedRing.{made_by, stage_by, station_in};
 ghost use Rattle.one_thread.specs.Kept.{registers_before};
-ghost use Rattle.one_thread.specs.declared.completed_ring.Leaves.TheVariants.{Any};
+ghost use Rattle.one_thread.specs.declared.leaves.Leaves.TheVariants.{Any};
 ghost use Rattle.one_thread.specs.Reopened.{reopened};
 ghost use Rattle.one_thread.specs.StandsFor.{StandsForSome};
 
-use crate::completed_ring::{Completed, CompletedRing, Leaves};
+use crate::completed_ring::{Completed, CompletedRing};
 use crate::dispatch::waiting_half;
 use crate::fetch::{fetch, fetch_known};
 use crate::flow::Flow;
 use crate::future::Future;
+use crate::leaves::Leaves;
 use crate::pipeline::Pipeline;
 use crate::station::{Stage, Station, made_at_let};
 use crate::window::Window;
