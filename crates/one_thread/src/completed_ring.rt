@@ -30,8 +30,7 @@ pub struct Completed {
 #[derive(Drop)]
 pub struct CompletedRing {
     slots: [Completed; 32],
-    // how many stations there are: a power of two, so that the last of them is a mask that goes around
-    size: usize,
+    // the last station: there is a power of two of them, so that it is a mask that goes around
     last: usize,
     // the station of the oldest
     oldest: usize,
@@ -43,20 +42,20 @@ pub struct CompletedRing {
 }
 
 impl Model for CompletedRing {
-    ghost use Rattle.std.specs.Prelude.{◌≤◌, drop, length, take};
+    ghost use Rattle.std.specs.Prelude.{◌≤◌, ◌+◌, drop, length, take};
     ghost use Rattle.one_thread.specs.CompletedRing.{Contents, IsRing};
     ghost use Rattle.one_thread.specs.Slots.{ring_of};
 
     ghost Value = { Contents };
 
     ghost view = { λ r. record {
-      completed = ring_of (take r.size r.slots) r.oldest r.len;
+      completed = ring_of (take (r.last + 1) r.slots) r.oldest r.len;
       stores = drop r.past r.stores.items;
       oldest = r.oldest;
-      size = r.size;
+      size = r.last + 1;
     } };
 
-    ghost invariant = { λ r. IsRing r.slots r.size r.last r.oldest r.len × (r.past ≤ length r.stores.items) };
+    ghost invariant = { λ r. IsRing r.slots (r.last + 1) r.last r.oldest r.len × (r.past ≤ length r.stores.items) };
 }
 
 // The content of a slot that nobody has used.
@@ -95,7 +94,7 @@ fn forget(stores: &mut ArrayVec<Entry, 32>, past: usize)
 
 impl CompletedRing {
     /// A ring of so many stations without an instruction; the next enters this one. There is none where the stations are no
-    /// power of two, as each `Config` has it.
+    /// power of two; those of a `Config` are.
     #[inline(always)]
     pub fn new(size: usize, oldest: usize) -> Option<CompletedRing>
         requires inside { oldest < size }
@@ -110,7 +109,6 @@ impl CompletedRing {
         }
         Some(CompletedRing {
             slots: [unused(); 32],
-            size,
             last: size - 1,
             oldest,
             len: 0,

@@ -9,11 +9,11 @@ pub returns : goal.returns
 returns c =
     let s = c.self.inside in
     let h = c.self.invariant.0 in
-    let xs : List Completed = take s.size s.slots in
-    let all : length xs ≡ s.size = length-take-le s.size s.slots (omega (arith, h.every_slot, h.small)) in
-    let with : ℕ → List Completed → Contents = λ n l. record { completed = l; stores = drop s.past s.stores.items; oldest = n; size = s.size } in
-    let long = ring_length s.size xs s.oldest s.len all h.begins h.most in
+    let xs : List Completed = take (s.last + 1) s.slots in
+    let all : length xs ≡ (s.last + 1) = length-take-le (s.last + 1) s.slots (omega (arith, h.every_slot, h.small)) in
+    let with : ℕ → List Completed → Contents = λ n l. record { completed = l; stores = drop s.past s.stores.items; oldest = n; size = (s.last + 1) } in
+    let long = ring_length (s.last + 1) xs s.oldest s.len all h.begins h.most in
     let some : 0 < s.len = omega (arith, c.requires, ap (λ r. length r.completed) c.self.view_is, long) in
     ap (λ n. with n (ring_of xs n (s.len - 1))) (h.masks (s.oldest + 1))
-    ∙ ap (with (slot_in s.size s.oldest 1)) (ring_shift s.size xs s.oldest s.len all h.begins h.most some)
+    ∙ ap (with (slot_in (s.last + 1) s.oldest 1)) (ring_shift (s.last + 1) xs s.oldest s.len all h.begins h.most some)
     ∙ ap (λ (r : Contents). record r { completed = drop 1 r.completed; oldest = slot_in r.size r.oldest 1 }) c.self.view_is
