@@ -319,12 +319,15 @@ def check_edits():
     """An edit that has to be refused changes code: one of a definition or a proof shows nothing of a body. That of a law changes it."""
     count = 0
     for crate in crates():
-        room = f"crates/{crate}/must-fail"
-        for name in os.listdir(room) if os.path.isdir(room) else []:
+        for edit in sorted(glob.glob(f"crates/{crate}/must-fail*/*.edit")):
+            with open(edit, encoding="utf-8") as it:
+                first, *more = it.read().split("\n")
+            if "/must-fail/" not in edit and not first.startswith("function: "):
+                continue
             count += 1
-            with open(f"{room}/{name}", encoding="utf-8") as it:
-                if not it.readline().startswith("file: src/" if has_body(crate) else "file: specs/"):
-                    wrong("docs/CONTRIBUTING.md", f"{crate}/must-fail/{name} changes no code")
+            file = more[0] if first.startswith("function: ") else first
+            if not file.startswith("file: src/" if has_body(crate) else "file: specs/"):
+                wrong("docs/CONTRIBUTING.md", f"{edit} changes no code")
     return count
 
 
