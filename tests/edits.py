@@ -6,8 +6,7 @@
                                      of whole crates. The last line is 'N refused, M not refused'
 
 Where a crate's proof takes minutes, and an edit is of a function that calls few others, a line `function: MODULE::NAME` has it
-tried in seconds. Edits are tried in a view of the repository: by `rt check --only`, or, where both folders are one in it, by
-`rt must-fail`."""
+tried in seconds. The others are tried by `rt must-fail`, in a view of the repository in which both folders are one."""
 import concurrent.futures
 import importlib.machinery
 import importlib.util
@@ -87,13 +86,11 @@ def look(names):
     return 0 if count and not wrong else 1
 
 
-def view(script, wanted, names, room):
-    """A folder as the repository is with the crates that are wanted, in which `must-fail` of each crate named holds all its edits."""
-    os.makedirs(room, exist_ok=True)
+def view(script, uses, names, room):
+    """A folder as the repository is, in which `must-fail` of each crate named holds all its edits."""
+    shutil.copy2(f"{ROOT}/crates.txt", room)
     shutil.copy2(f"{ROOT}/HANDLES", room)
-    with open(f"{ROOT}/crates.txt", encoding="utf-8") as lines, open(f"{room}/crates.txt", "w", encoding="utf-8") as it:
-        it.writelines(line for line in lines if (line.partition(":")[0].split() or [""])[0] in wanted)
-    for name in wanted:
+    for name in uses:
         script.copied(f"{ROOT}/crates/{name}", f"{room}/crates/{name}", "out")
         script.copied(f"{ROOT}/crates/{name}/out/rlib", f"{room}/crates/{name}/out/rlib")
         if name in names:
@@ -128,66 +125,75 @@ OPEN = re.compile(r"note: \S+:\d+:\d+:|\S+:\d+:\d+: error")
 NAMED = re.compile(r"(note: )?(\./)?proofs/.*(has no field|is not in scope|has no `|was not admitted)")
 
 
-def tried_alone(name, files, room):
-    """How many of these edits a check of the function that each names refuses, and how many not."""
-    refused, crate = 0, f"{room}/crates/{name}"
-    for file in files:
-        edit = edit_of(name, file)
-        for path, text in edit.texts.items():
-            os.remove(f"{crate}/{path}")
-            with open(f"{crate}/{path}", "w", encoding="utf-8") as it:
+# The words of a check of a crate over the libraries as they stand: those that `rt ci` leaves have no stamp, by which `rt check`
+# would know them, and it would build them anew.
+WORDS = """
+import importlib.util, sys
+sys.dont_write_bytecode = True
+kit, crates, name = sys.argv[1:]
+spec = importlib.util.spec_from_file_location("rtlib", f"{kit}/bin/rtlib.py")
+rtlib = sys.modules["rtlib"] = importlib.util.module_from_spec(spec)
+spec.loader.exec_module(rtlib)
+crate = next(it for it in rtlib.crates_below(crates) if it.folder == f"{crates}/crates/{name}")
+print("\\n".join([rtlib.RATTLE, "check", *crate.words(["--jobs", "1"], keeps=False)]))
+"""
+
+
+def tried_alone(name, edit, words):
+    """Whether a check of the function that an edit names refuses it."""
+    with tempfile.TemporaryDirectory(prefix="edit-") as room:
+        for part in ("src", "specs", "proofs"):
+            if os.path.isdir(f"{ROOT}/crates/{name}/{part}"):
+                shutil.copytree(f"{ROOT}/crates/{name}/{part}", f"{room}/{part}")
+        for path, text in edit_of(name, edit).texts.items():
+            with open(f"{room}/{path}", "w", encoding="utf-8") as it:
                 it.write(text)
-        went = run(["rt", "check", "--jobs", "1", f"--only={edit.function}"], crate)
-        for path in edit.texts:
-            shutil.copy2(f"{ROOT}/crates/{name}/{path}", f"{crate}/{path}")
-        counts = re.search(r"^only=(\d+) proved=(\d+)$", went.stdout, re.M)
-        why = next((it for it in went.stdout.split("\n") if OPEN.match(it) and not NAMED.match(it)), None)
-        is_refused = went.returncode == 1 and counts and int(counts[2]) < int(counts[1]) and why
-        refused += bool(is_refused)
-        print(f"must-fail {name}/{file}: {f'refused, as it must be: {why[:160]}' if is_refused else f'NOT REFUSED: {went.stdout}'}", flush=True)
-    return refused, len(files) - refused
+        went = run([*words, f"--only={edit_of(name, edit).function}"], room)
+    counts = re.search(r"^only=(\d+) proved=(\d+)$", went.stdout, re.M)
+    why = next((it for it in went.stdout.split("\n") if OPEN.match(it) and not NAMED.match(it)), None)
+    is_refused = went.returncode == 1 and counts and int(counts[2]) < int(counts[1]) and why
+    print(f"must-fail {name}/{edit}: {f'refused, as it must be: {why[:160]}' if is_refused else f'NOT REFUSED: {went.stdout}'}", flush=True)
+    return bool(is_refused)
 
 
-def in_view(names, work):
-    """Does the work, with what knows the crates and with a folder for views, once all below the crates named is built, and tells
-    how many edits were refused."""
-    script = prove()
+def built(script, names):
+    """Whether all below these crates is built, and which crates there are with what each stands on."""
     uses = script.crates_of(ROOT)
     lower = sorted({it for name in names for it in script.below(uses, name)})
-    if lower and subprocess.run([f"{ROOT}/prove", "--statements", *lower]).returncode:
-        return 1
-    beside = f"{ROOT}/.git" if os.path.isdir(f"{ROOT}/.git") else None
-    with tempfile.TemporaryDirectory(prefix="edits-", dir=beside) as room, concurrent.futures.ThreadPoolExecutor(lanes()) as pool:
-        refused, not_refused = map(sum, zip(*work(script, uses, room, pool)))
-    print(f"{refused} refused, {not_refused} not refused")
-    return 1 if not_refused else 0
+    return not lower or not subprocess.run([f"{ROOT}/prove", "--statements", *lower]).returncode, uses
+
+
+def told(refused, count):
+    print(f"{refused} refused, {count - refused} not refused")
+    return 1 if refused < count else 0
 
 
 def try_all(names):
     names = [it for it in names if edits(it, "must-fail") or edits(it, "must-fail-more")]
-
-    def work(script, uses, room, pool):
+    script = prove()
+    is_built, uses = built(script, names)
+    if not is_built:
+        return 1
+    beside = f"{ROOT}/.git" if os.path.isdir(f"{ROOT}/.git") else None
+    with tempfile.TemporaryDirectory(prefix="edits-", dir=beside) as room:
         view(script, uses, names, room)
         longest = sorted(names, key=lambda it: -len(os.listdir(f"{room}/crates/{it}/must-fail")))
-        return pool.map(lambda it: tried(it, room), longest)
-
-    return in_view(names, work)
+        with concurrent.futures.ThreadPoolExecutor(lanes()) as pool:
+            counts = [*pool.map(lambda it: tried(it, room), longest)]
+    refused, not_refused = map(sum, zip(*counts))
+    return told(refused, refused + not_refused)
 
 
 def try_alone(names):
-    """Tries the edits that name a function, those of different crates side by side."""
-    found = {name: [it for it in edits(name, "must-fail-more") if edit_of(name, it).function] for name in names}
-    found = {name: files for name, files in found.items() if files}
-
-    def one(script, uses, room, name):
-        view(script, [*script.below(uses, name), name], [], f"{room}/{name}")
-        return tried_alone(name, found[name], f"{room}/{name}")
-
-    def work(script, uses, room, pool):
-        longest = sorted(found, key=lambda it: -len(found[it]))
-        return pool.map(lambda it: one(script, uses, room, it), longest)
-
-    return in_view([*found], work) if found else 0
+    """Tries the edits that name a function, over what stands below their crates: with BUILT=1 that was built just now."""
+    found = [(name, edit) for name in names for edit in edits(name, "must-fail-more") if edit_of(name, edit).function]
+    script, crates = prove(), sorted({name for name, _ in found})
+    if not os.environ.get("BUILT") and not built(script, crates)[0]:
+        return 1
+    words = {it: run([sys.executable, "-c", WORDS, script.kit(), ROOT, it], ROOT).stdout.split("\n")[:-1] for it in crates}
+    with concurrent.futures.ThreadPoolExecutor(lanes()) as pool:
+        refused = sum(pool.map(lambda it: tried_alone(*it, words[it[0]]), found))
+    return told(refused, len(found))
 
 
 def main(words):
