@@ -139,20 +139,21 @@ print("\\n".join([rtlib.RATTLE, "check", *crate.words(["--jobs", "1"], keeps=Fal
 """
 
 
-def tried_alone(name, edit, words):
+def tried_alone(name, file, words):
     """Whether a check of the function that an edit names refuses it."""
+    edit = edit_of(name, file)
     with tempfile.TemporaryDirectory(prefix="edit-") as room:
         for part in ("src", "specs", "proofs"):
             if os.path.isdir(f"{ROOT}/crates/{name}/{part}"):
                 shutil.copytree(f"{ROOT}/crates/{name}/{part}", f"{room}/{part}")
-        for path, text in edit_of(name, edit).texts.items():
+        for path, text in edit.texts.items():
             with open(f"{room}/{path}", "w", encoding="utf-8") as it:
                 it.write(text)
-        went = run([*words, f"--only={edit_of(name, edit).function}"], room)
+        went = run([*words, f"--only={edit.function}"], room)
     counts = re.search(r"^only=(\d+) proved=(\d+)$", went.stdout, re.M)
     why = next((it for it in went.stdout.split("\n") if OPEN.match(it) and not NAMED.match(it)), None)
     is_refused = went.returncode == 1 and counts and int(counts[2]) < int(counts[1]) and why
-    print(f"must-fail {name}/{edit}: {f'refused, as it must be: {why[:160]}' if is_refused else f'NOT REFUSED: {went.stdout}'}", flush=True)
+    print(f"must-fail {name}/{file}: {f'refused, as it must be: {why[:160]}' if is_refused else f'NOT REFUSED: {went.stdout}'}", flush=True)
     return bool(is_refused)
 
 
