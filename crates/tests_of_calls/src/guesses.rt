@@ -1,11 +1,12 @@
 //! A predictor that answers anything.
-ghost use Rattle.std.specs.Prelude.{◌≡◌};
+ghost use Rattle.std.specs.Prelude.{◌≡◌, ◌<◌};
 
-use crate::hands::{finished, let_at, made, takes, work};
+use crate::hands::{Done, finished, let_at, made, takes, work};
 use crate::same::same;
 use front::{Front, Recovery, Turn};
-use instructions::{Instr, Outcome, Predictor};
-use station::Core;
+use instructions::{Instr, Outcome, Predictor, Program};
+use station::{Core, UnitSeat};
+use std::process::Abort;
 use std::test::Fail;
 
 // Answers 1, whatever it is asked.
@@ -24,27 +25,40 @@ impl Predictor for One {
     fn told(&mut self, _pc: u32, _next: u32) {}
 }
 
+const BRANCH: &[u8] = b"beq $0,$0,E\nE: break\n";
+
+// The branch is let with the prediction 1, and finished; what came of it, and of the recovery that follows.
+fn mended(
+    rt: &impl Abort,
+    core: &Core,
+    program: &Program,
+    front: &mut Front<'_, One>,
+    unit: &mut UnitSeat,
+) -> (Option<Done>, Recovery)
+    requires front { front.old.core ≡ core.now }
+    requires unit { unit.old.core ≡ core.now }
+    requires program { program.now ≡ core.now.program }
+    requires ring { 0 < core.now.sizes.ring }
+    ensures { front.new.core ≡ core.now }
+{
+    takes(rt, core, front, &[let_at(0, 1, 0x0040_0000), Turn::NoInstr]);
+    let branch = work(core, program, unit, 0);
+    (branch, front.recover(core))
+}
+
 #[test]
 fn a_predictor_may_answer_anything(rt: HostRuntime) -> Result<(), Fail> {
-    let (program, config) = made(rt.alloc(), b"beq $0,$0,E\nE: break\n", 4, 1, 1)?;
+    let (program, config) = made(rt.alloc(), BRANCH, 4, 1, 1)?;
     let (core, seat, _back, mut unit) = Core::make(rt.alloc(), &program, &config)?;
-    assert!(rt; core.ring() == 4);
+    assert!(rt; 0 < core.ring());
     let mut front = Front::new(&core, seat, &program, One);
-    takes(
-        &rt,
-        &core,
-        &mut front,
-        &[let_at(0, 1, 0x0040_0000), Turn::NoInstr],
-    );
-    let branch = work(&core, &program, &mut unit, 0);
-    let recovery = front.recover(&core);
+    let found = mended(&rt, &core, &program, &mut front, &mut unit);
     takes(&rt, &core, &mut front, &[let_at(1, 1, 0x0040_0004)]);
-    let goes_on = Outcome::Next(0x0040_0004);
-    same(&rt, &branch, &Some(finished(0, 0, goes_on)));
-    let mended = Recovery::Mended {
+    let branch = finished(0, 0, Outcome::Next(0x0040_0004));
+    let recovery = Recovery::Mended {
         station: 0,
         squashed: 0,
     };
-    same(&rt, &recovery, &mended);
+    same(&rt, &found, &(Some(branch), recovery));
     Ok(())
 }

@@ -50,62 +50,69 @@ fn word_forwards_and_byte_without_data_blocks(rt: HostRuntime) -> Result<(), Fai
     Ok(())
 }
 
+/// A store, by its base and width, a load behind it, by its address and width, and what the load is answered.
+const COVERED: &[(u32, Width, u32, Width, Answer)] = &[
+    // a word store at 4
+    (4, Word, 3, Byte, Memory),
+    (4, Word, 4, Byte, Forward(0xd4)),
+    (4, Word, 5, Byte, Forward(0xc3)),
+    (4, Word, 6, Byte, Forward(0xb2)),
+    (4, Word, 7, Byte, Forward(0xa1)),
+    (4, Word, 8, Byte, Memory),
+    (4, Word, 2, Half, Memory),
+    (4, Word, 3, Half, Blocked(0)),
+    (4, Word, 4, Half, Forward(0xc3d4)),
+    (4, Word, 5, Half, Forward(0xb2c3)),
+    (4, Word, 6, Half, Forward(0xa1b2)),
+    (4, Word, 7, Half, Blocked(0)),
+    (4, Word, 0, Word, Memory),
+    (4, Word, 1, Word, Blocked(0)),
+    (4, Word, 4, Word, Forward(DATA)),
+    (4, Word, 7, Word, Blocked(0)),
+    (4, Word, 8, Word, Memory),
+    // a halfword store at 4
+    (4, Half, 4, Byte, Forward(0xd4)),
+    (4, Half, 5, Byte, Forward(0xc3)),
+    (4, Half, 6, Byte, Memory),
+    (4, Half, 3, Half, Blocked(0)),
+    (4, Half, 4, Half, Forward(0xc3d4)),
+    (4, Half, 5, Half, Blocked(0)),
+    (4, Half, 2, Word, Blocked(0)),
+    (4, Half, 4, Word, Blocked(0)),
+    // a byte store at 5
+    (5, Byte, 4, Byte, Memory),
+    (5, Byte, 5, Byte, Forward(0xd4)),
+    (5, Byte, 4, Half, Blocked(0)),
+    (5, Byte, 5, Half, Blocked(0)),
+    (5, Byte, 6, Half, Memory),
+    (5, Byte, 1, Word, Memory),
+    (5, Byte, 4, Word, Blocked(0)),
+    // at the top of memory, where no sum wraps
+    (0xffff_fffc, Word, 0, Word, Memory),
+    (0xffff_fffc, Word, 0xffff_ffff, Byte, Forward(0xa1)),
+    (0xffff_fffe, Word, 0, Byte, Memory),
+    (0xffff_fffe, Word, 0xffff_ffff, Half, Forward(0xb2c3)),
+    (0xffff_fffe, Word, 0xffff_fffd, Word, Blocked(0)),
+    (0, Byte, 0xffff_fffe, Word, Memory),
+];
+
+// What a load is answered behind one store, which has its data.
+fn answered_behind(
+    rt: &impl Abort,
+    (base, stored): (u32, Width),
+    (address, width): (u32, Width),
+) -> Result<Answer, Full> {
+    let mut queue = Queue::new(2);
+    queue.push(store(Some(base), stored, Some(DATA)))?;
+    queue.push(load(address, width))?;
+    Ok(answered(rt, &queue, 1))
+}
+
 #[test]
 fn one_store_answers_by_what_it_covers(rt: HostRuntime) -> Result<(), Fail> {
-    let rows = [
-        // a word store at 4
-        (4, Word, 3, Byte, Memory),
-        (4, Word, 4, Byte, Forward(0xd4)),
-        (4, Word, 5, Byte, Forward(0xc3)),
-        (4, Word, 6, Byte, Forward(0xb2)),
-        (4, Word, 7, Byte, Forward(0xa1)),
-        (4, Word, 8, Byte, Memory),
-        (4, Word, 2, Half, Memory),
-        (4, Word, 3, Half, Blocked(0)),
-        (4, Word, 4, Half, Forward(0xc3d4)),
-        (4, Word, 5, Half, Forward(0xb2c3)),
-        (4, Word, 6, Half, Forward(0xa1b2)),
-        (4, Word, 7, Half, Blocked(0)),
-        (4, Word, 0, Word, Memory),
-        (4, Word, 1, Word, Blocked(0)),
-        (4, Word, 4, Word, Forward(DATA)),
-        (4, Word, 7, Word, Blocked(0)),
-        (4, Word, 8, Word, Memory),
-        // a halfword store at 4
-        (4, Half, 4, Byte, Forward(0xd4)),
-        (4, Half, 5, Byte, Forward(0xc3)),
-        (4, Half, 6, Byte, Memory),
-        (4, Half, 3, Half, Blocked(0)),
-        (4, Half, 4, Half, Forward(0xc3d4)),
-        (4, Half, 5, Half, Blocked(0)),
-        (4, Half, 2, Word, Blocked(0)),
-        (4, Half, 4, Word, Blocked(0)),
-        // a byte store at 5
-        (5, Byte, 4, Byte, Memory),
-        (5, Byte, 5, Byte, Forward(0xd4)),
-        (5, Byte, 4, Half, Blocked(0)),
-        (5, Byte, 5, Half, Blocked(0)),
-        (5, Byte, 6, Half, Memory),
-        (5, Byte, 1, Word, Memory),
-        (5, Byte, 4, Word, Blocked(0)),
-        // at the top of memory, where no sum wraps
-        (0xffff_fffc, Word, 0, Word, Memory),
-        (0xffff_fffc, Word, 0xffff_ffff, Byte, Forward(0xa1)),
-        (0xffff_fffe, Word, 0, Byte, Memory),
-        (0xffff_fffe, Word, 0xffff_ffff, Half, Forward(0xb2c3)),
-        (0xffff_fffe, Word, 0xffff_fffd, Word, Blocked(0)),
-        (0, Byte, 0xffff_fffe, Word, Memory),
-    ];
-    for (base, stored, address, width, want) in rows {
-        let mut queue = Queue::new(2);
-        queue.push(store(Some(base), stored, Some(DATA)))?;
-        queue.push(load(address, width))?;
-        same_in(
-            &rt,
-            &(stored, base, width, address),
-            &answered(&rt, &queue, 1),
-            &want,
-        );
+    for &(base, stored, address, width, want) in COVERED {
+        let answer = answered_behind(&rt, (base, stored), (address, width))?;
+        same_in(&rt, &(stored, base, width, address), &answer, &want);
     }
     Ok(())
 }

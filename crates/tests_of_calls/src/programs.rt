@@ -125,11 +125,10 @@ fn there_are_34_registers(rt: HostRuntime) {
 fn a_copy_is_the_same_program(rt: HostRuntime) -> Result<(), Fail> {
     let program = jump_and_break(rt.alloc())?;
     let copy = program.copied(rt.alloc()).map_err(|_| "no memory")?;
-    assert_eq!(rt; copy.bytes(), [2u8, 1, 0, 0].as_slice());
+    assert!(rt; copy.size() == 4 && copy.len() == 2);
+    same(&rt, &copy.bytes(), &[2, 1, 0, 0].as_slice());
     same(&rt, &copy.byte(1), &1);
-    assert_eq!(rt; copy.size(), 4);
-    assert!(rt; !copy.is_empty());
-    assert_eq!(rt; copy.len(), 2);
+    same(&rt, &copy.is_empty(), &false);
     same(&rt, &copy.instr(1).op(), &Op::Break);
     Ok(())
 }

@@ -3,13 +3,42 @@ ghost use Rattle.std.specs.Prelude.{◌≡◌};
 
 use crate::hands::{Setup, by_hand, finishes, let_at, set_up};
 use crate::same::same;
-use back::{Naming, Refresh};
+use back::{Back, Naming, Refresh};
+use instructions::Program;
+use station::{Core, UnitSeat};
 use std::marker::Brand;
 use std::process::Abort;
 use std::sync::Wait;
 use std::test::Fail;
 
+/// Of whom the back and the unit say that they have woken them: the back before its load and behind it, the unit behind
+/// the job that the load has woken, and the back where it is idle again.
+type Woken = ((u32, Refresh), (u32, u32), (Refresh, u32));
+
 // The back names the station that waits for the load; the unit that works there names the next one.
+fn woken_in_turn<J: Naming>(
+    rt: &impl Abort,
+    core: &Core,
+    program: &Program,
+    back: &mut Back<J>,
+    unit: &mut UnitSeat,
+) -> Woken
+    requires back { back.old.core ≡ core.now }
+    requires unit { unit.old.core ≡ core.now }
+    requires program { program.now ≡ core.now.program }
+    ensures { back.new.core ≡ core.now }
+{
+    finishes(rt, core, program, unit, &[0]);
+    let before = (back.woken(), back.refresh(core));
+    let by_the_load = back.woken();
+    finishes(rt, core, program, unit, &[1]);
+    (
+        before,
+        (by_the_load, unit.woken()),
+        (back.refresh(core), back.woken()),
+    )
+}
+
 fn woken_by_a_load<J: Naming, R: Wait + Abort>(rt: &R, setup: &Setup) -> Result<(), Fail>
     requires { setup.now.program ≡ J.program }
 {
@@ -19,24 +48,14 @@ fn woken_by_a_load<J: Naming, R: Wait + Abort>(rt: &R, setup: &Setup) -> Result<
         let_at(2, 1, 0x0040_0008),
     ];
     let (core, _front, mut back, _snapper, mut unit) = by_hand::<J>(rt, setup, 4, &lets)?;
-    finishes(rt, &core, &setup.program, &mut unit, &[0]);
-    let before = (back.woken(), unit.woken());
-    let found = back.refresh(&core);
-    let by_the_load = back.woken();
-    finishes(rt, &core, &setup.program, &mut unit, &[1]);
-    let by_the_sum = unit.woken();
-    let idle = back.refresh(&core);
-    let after = back.woken();
-    let end = back.end(rt);
+    let woken = woken_in_turn(rt, &core, &setup.program, &mut back, &mut unit);
     let loaded = Refresh::Loaded {
         station: 0,
         tag: 1,
         value: 7,
     };
-    same(rt, &(found, idle), &(loaded, Refresh::Idle));
-    same(rt, &before, &(0, 0));
-    same(rt, &(by_the_load, after, by_the_sum), &(2, 2, 4));
-    same(rt, &end.n, &0);
+    same(rt, &woken, &((0, loaded), (2, 4), (Refresh::Idle, 2)));
+    same(rt, &back.end(rt).n, &0);
     Ok(())
 }
 

@@ -72,12 +72,18 @@ fn seen(
     Ok(calls.get())
 }
 
-// At each size, and up to limits at which a run is cut off in different states.
+/// Numbers of stations and of queue entries.
+const SIZES: &[(u64, u64)] = &[(2, 2), (4, 2), (8, 3), (16, 2), (16, 8), (32, 8), (32, 32)];
+
+/// Limits at which a run is cut off in different states.
+const LIMITS: &[u64] = &[1, 7, 60, 300];
+
+// At each size, and up to each limit.
 fn is_asked_alike(rt: &impl Abort, alloc: Global, listing: &[u8]) -> Result<(), Fail> {
     let program = parse(alloc, listing)?;
-    for (ring, queue) in [(2, 2), (4, 2), (8, 3), (16, 2), (16, 8), (32, 8), (32, 32)] {
+    for &(ring, queue) in SIZES {
         let config = Config::new(ring, queue, 1, 1, 1, 1_000_000, 1_000_000)?;
-        for limit in [1, 7, 60, 300] {
+        for &limit in LIMITS {
             let run = seen(alloc, &program, &config, limit, false)?;
             same_in(
                 rt,

@@ -28,7 +28,7 @@ fn takes_turns(
 }
 
 /// Listings, the numbers of stations and of queue entries, and the turns that are taken.
-const TURNS: [(&[u8], u64, u64, &[Turn]); 6] = [
+const TURNS: &[(&[u8], u64, u64, &[Turn])] = &[
     // a chain of additions
     (
         b"addiu $1,$0,5\naddu $2,$1,$1\nbreak\n",
@@ -123,7 +123,7 @@ const TURNS: [(&[u8], u64, u64, &[Turn]); 6] = [
 
 #[test]
 fn a_unit_takes_these_turns(rt: HostRuntime) -> Result<(), Fail> {
-    for (listing, ring, queue, turns) in TURNS {
+    for &(listing, ring, queue, turns) in TURNS {
         takes_turns(&rt, rt.alloc(), listing, &config(ring, queue)?, turns)?;
     }
     Ok(())

@@ -25,23 +25,33 @@ fn a_command_line_asks_for_a_unit_to_drive(rt: HostRuntime) -> Result<(), Fail> 
     let Ok(hand) = driven(rt.alloc(), words.as_slice()) else {
         return Err(Fail::new("there is nothing to drive"));
     };
+    let sizes = (hand.config.ring(), hand.config.queue());
     same(&rt, &hand.file, &"double.s");
-    same(&rt, &hand.config.ring(), &2);
-    same(&rt, &hand.config.queue(), &2);
-    same(&rt, &hand.config.first_tag(), &7);
-    assert!(rt; hand.quiet_prompt && !hand.echo);
-    let few = ["ruu", "drive", "double.s"];
-    let Ok(plain) = driven(rt.alloc(), few.as_slice()) else {
+    same(&rt, &(sizes, hand.config.first_tag()), &((2, 2), 7));
+    same(&rt, &(hand.quiet_prompt, hand.echo), &(true, false));
+    Ok(())
+}
+
+#[test]
+fn a_unit_to_drive_has_its_usual_sizes(rt: HostRuntime) -> Result<(), Fail> {
+    let words = ["ruu", "drive", "double.s"];
+    let Ok(hand) = driven(rt.alloc(), words.as_slice()) else {
         return Err(Fail::new("there is nothing to drive"));
     };
-    same(&rt, &plain.config.ring(), &16);
-    same(&rt, &plain.config.queue(), &8);
-    same(&rt, &plain.config.first_tag(), &1);
-    assert!(rt; plain.predictor == BranchPredictor::Bimod);
-    assert!(rt; !plain.quiet_prompt);
-    same(&rt, &plain.seed, &None);
-    same(&rt, &plain.steps, &400);
-    let chosen = [
+    let sizes = (hand.config.ring(), hand.config.queue());
+    same(&rt, &(sizes, hand.config.first_tag()), &((16, 8), 1));
+    same(
+        &rt,
+        &(hand.quiet_prompt, hand.seed, hand.steps),
+        &(false, None, 400),
+    );
+    assert!(rt; hand.predictor == BranchPredictor::Bimod);
+    Ok(())
+}
+
+#[test]
+fn a_unit_to_drive_may_choose_its_commands(rt: HostRuntime) -> Result<(), Fail> {
+    let words = [
         "ruu",
         "drive",
         "double.s",
@@ -50,40 +60,47 @@ fn a_command_line_asks_for_a_unit_to_drive(rt: HostRuntime) -> Result<(), Fail> 
         "9",
         "--steps=7",
     ];
-    let Ok(hand) = driven(rt.alloc(), chosen.as_slice()) else {
+    let Ok(hand) = driven(rt.alloc(), words.as_slice()) else {
         return Err(Fail::new("there is nothing to drive"));
     };
-    assert!(rt; hand.echo);
-    same(&rt, &hand.seed, &Some(9));
-    same(&rt, &hand.steps, &7);
+    same(
+        &rt,
+        &(hand.echo, hand.seed, hand.steps),
+        &(true, Some(9), 7),
+    );
     Ok(())
 }
 
+/// Options and values that no unit to drive takes.
+const VALUES: &[(&str, &str)] = &[
+    ("--ruu-size", "3"),
+    ("--ruu-size", "64"),
+    ("--lsq-size", "1"),
+    ("--first-tag", "0"),
+    ("--first-tag", "268435455"),
+    ("--bpred", "none"),
+    ("--units", "2"),
+    ("--limit", "2"),
+    ("--steps", "7"),
+    ("--seed", "-1"),
+];
+
 #[test]
 fn values_out_of_range_are_mistakes(rt: HostRuntime) {
-    let cases: [(&str, &str); 10] = [
-        ("--ruu-size", "3"),
-        ("--ruu-size", "64"),
-        ("--lsq-size", "1"),
-        ("--first-tag", "0"),
-        ("--first-tag", "268435455"),
-        ("--bpred", "none"),
-        ("--units", "2"),
-        ("--limit", "2"),
-        ("--steps", "7"),
-        ("--seed", "-1"),
-    ];
-    for (option, value) in cases {
+    for &(option, value) in VALUES {
         let words = ["ruu", "drive", "double.s", option, value];
         assert!(rt; is_usage(rt.alloc(), words.as_slice()), "{option} {value}");
     }
-    let last = ["ruu", "drive", "double.s", "--first-tag", "268435454"];
-    assert!(rt; driven(rt.alloc(), last.as_slice()).is_ok());
-    let input = ["ruu", "drive", "-"];
-    assert!(rt; is_usage(rt.alloc(), input.as_slice()));
-    let none = ["ruu", "drive"];
-    assert!(rt; is_usage(rt.alloc(), none.as_slice()));
-    // what is to be driven is no run
+}
+
+#[test]
+fn the_last_first_tag_is_taken(rt: HostRuntime) {
+    let words = ["ruu", "drive", "double.s", "--first-tag", "268435454"];
+    assert!(rt; driven(rt.alloc(), words.as_slice()).is_ok());
+}
+
+#[test]
+fn what_is_to_be_driven_is_no_run(rt: HostRuntime) {
     let words = WORDS;
     assert!(rt; matches!(asked(rt.alloc(), words.as_slice()), Err(NoRun::Usage(_))));
 }

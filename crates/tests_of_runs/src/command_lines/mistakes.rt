@@ -20,7 +20,7 @@ const CHART: &str = "\n\nFor more information, try 'ruu chart --help'.\n";
 const LISTING: &str = "error: --trace names the file of the listing\n";
 
 /// Words, and how their mistake begins and ends.
-const MISTAKES: [(&[&str], &str, &str); 32] = [
+const MISTAKES: &[(&[&str], &str, &str)] = &[
     (&[], "", ""),
     (&["ruu"], "", NONE),
     (&["ruu", "walk", "sum.s"], "", ""),
@@ -81,7 +81,7 @@ const MISTAKES: [(&[&str], &str, &str); 32] = [
 
 #[test]
 fn a_mistake_names_the_help_of_its_command(rt: HostRuntime) {
-    for (words, begin, end) in MISTAKES {
+    for &(words, begin, end) in MISTAKES {
         let no_run = refusal(rt.alloc(), words.get(1).copied().unwrap_or("run"), words);
         assert!(rt;
             no_run.is_some_and(|e| is_told(&e, begin, end) && status(&e) == 3),
@@ -91,7 +91,7 @@ fn a_mistake_names_the_help_of_its_command(rt: HostRuntime) {
 }
 
 /// Options and values that no run takes.
-const VALUES: [(&str, &str); 19] = [
+const VALUES: &[(&str, &str)] = &[
     ("--lsq-size", "1"),
     ("--lsq-size", "33"),
     ("--units", "0"),
@@ -115,7 +115,7 @@ const VALUES: [(&str, &str); 19] = [
 
 #[test]
 fn a_value_out_of_its_range_is_a_mistake(rt: HostRuntime) {
-    for (option, value) in VALUES {
+    for &(option, value) in VALUES {
         let words = ["ruu", "run", "sum.s", option, value];
         let no_run = asked(rt.alloc(), words.as_slice()).err();
         assert!(rt;

@@ -33,7 +33,7 @@ fn sizes(alloc: Global, options: &[&str]) -> Option<[u32; 5]> {
 const MOST: u32 = 4_294_967_295;
 
 /// Options, and the sizes that are asked for.
-const SIZES: [(&[&str], [u32; 5]); 29] = [
+const SIZES: &[(&[&str], [u32; 5])] = &[
     (&[], [16, 8, 2, MOST, 1_000_000]),
     (&["--ruu-size", "2"], [2, 2, 2, MOST, 1_000_000]),
     (&["--ruu-size", "4"], [4, 4, 2, MOST, 1_000_000]),
@@ -97,14 +97,14 @@ const SIZES: [(&[&str], [u32; 5]); 29] = [
 
 #[test]
 fn each_option_is_taken_up_to_its_limits(rt: HostRuntime) {
-    for (options, wanted) in SIZES {
+    for &(options, wanted) in SIZES {
         let sizes = sizes(rt.alloc(), options);
         same_in(&rt, &options, &sizes, &Some(wanted));
     }
 }
 
 /// Words, and the predictor and flags that they ask for: alone, progress.
-const FLAGS: [(&[&str], BranchPredictor, bool, bool); 5] = [
+const FLAGS: &[(&[&str], BranchPredictor, bool, bool)] = &[
     (&[], BranchPredictor::Bimod, false, false),
     (
         &["--bpred", "bimod", "--progress"],
@@ -129,24 +129,27 @@ const FLAGS: [(&[&str], BranchPredictor, bool, bool); 5] = [
 
 #[test]
 fn a_predictor_and_flags_are_taken(rt: HostRuntime) -> Result<(), Fail> {
-    for (options, predictor, alone, progress) in FLAGS {
+    for &(options, predictor, alone, progress) in FLAGS {
         let words = words(rt.alloc(), options)?;
         match asked(rt.alloc(), words.as_slice()) {
             Ok(asked) => {
-                assert!(rt; asked.predictor == predictor, "{options:?}");
-                same_in(&rt, &options, &asked.alone, &alone);
-                same_in(&rt, &options, &asked.progress, &progress);
-                same(&rt, &asked.file, &"sum.s");
-                same(&rt, &asked.config.places(), &1);
-                same(&rt, &asked.config.first_tag(), &1);
+                let flags = (asked.predictor == predictor, asked.alone, asked.progress);
+                let usual = (asked.file, asked.config.places(), asked.config.first_tag());
+                same_in(&rt, &options, &flags, &(true, alone, progress));
+                same_in(&rt, &options, &usual, &("sum.s", 1, 1));
             },
             Err(_no_run) => assert!(rt; false, "{options:?}"),
         }
     }
+    Ok(())
+}
+
+#[test]
+fn a_file_may_begin_like_an_option(rt: HostRuntime) -> Result<(), Fail> {
     let words = ["ruu", "run", "--alone", "--", "-x.s"];
-    match asked(rt.alloc(), words.as_slice()) {
-        Ok(asked) => same(&rt, &asked.file, &"-x.s"),
-        Err(_no_run) => assert!(rt; false, "a file behind --"),
-    }
+    let Ok(asked) = asked(rt.alloc(), words.as_slice()) else {
+        return Err(Fail::new("there is no run"));
+    };
+    same(&rt, &asked.file, &"-x.s");
     Ok(())
 }
