@@ -12,7 +12,7 @@ use Rattle.instructions.specs.declared.end.Ending.TheVariants.{Stop as ByStop, L
 use Rattle.instructions.specs.declared.stop.Stop.{Stop}
 use Rattle.inorder.specs.Committed.{with_low}
 use Rattle.inorder.specs.Machine.{Goes, Halts, Ran, State, start, step}
-use Rattle.inorder.specs.Runs.{end_after, end_from, end_state}
+use Rattle.inorder.specs.Runs.{end_after, end_from, end_of, end_state}
 use Rattle.inorder.specs.Unit.{empty_unit}
 use Rattle.one_thread.specs.declared.bench.Turn.TheVariants.{Over}
 use Rattle.one_thread.specs.declared.pipeline.Pipeline.{Pipeline}
@@ -137,23 +137,26 @@ begun_line line rest left before after e b = record {
 
 -- The beginning
 
-pub first_log : (b : Pipeline) (P : Program) (limit : ℕ) → b.program.now ≡ P → b.committed ≡ start P → log_ahead b limit ≡ log P limit
-first_log b P limit p e =
-    let all : limit - 0 ≡ limit = omega arith in
+pub first_run : (b : Pipeline) (P : Program) (limit most : ℕ) → b.program.now ≡ P → b.committed ≡ start P → limit ≡ most → run_from b limit ≡ end_of P most
+first_run b P limit most p e l =
+    let all : limit - 0 ≡ most = omega (arith, l) in
+    ap (λ Q. end_from Q (limit - b.committed.count) b.committed) p ∙ ap (λ s. end_from P (limit - s.count) s) e
+    ∙ ap (λ n. end_from P n (start P)) all
+
+pub first_log : (b : Pipeline) (P : Program) (limit most : ℕ) → b.program.now ≡ P → b.committed ≡ start P → limit ≡ most → log_ahead b limit ≡ log P most
+first_log b P limit most p e l =
+    let all : limit - 0 ≡ most = omega (arith, l) in
     ap (λ Q. log_from Q (limit - b.committed.count) b.committed) p ∙ ap (λ s. log_from P (limit - s.count) s) e
     ∙ ap (λ n. log_from P n (start P)) all
 
 -- Whole runs
 
 -- the log of a run up to its last line
-pub run_logged : (b later : Pipeline) (P : Program) (limit most : ℕ) (end : End) (before mid : Option (List ℕ)) → b.program.now ≡ P → b.committed ≡ start P →
-    limit ≡ most → HasLogged (log_ahead b limit) (final_line (run_from b limit)) before mid → run_from later limit ≡ run_from b limit →
-    end_state end ≡ run_from later limit → HasLogged (log P most) (last_line end.outcome end.pc) before mid
-run_logged b later P limit most end before mid p e l h same ends = record {
-  text = h.text;
-  says = h.says;
-  is = sym (first_log b P limit p e ∙ ap (log P) l) ∙ h.is ∙ ap (λ x. h.text ++ final_line x) (sym (ends ∙ same));
-}
+pub run_logged : (b later : Pipeline) (limit : ℕ) (end : End) (before mid : Option (List ℕ)) →
+    HasLogged (log_ahead b limit) (final_line (run_from b limit)) before mid → run_from later limit ≡ run_from b limit →
+    end_state end ≡ run_from later limit → HasLogged (log_ahead b limit) (last_line end.outcome end.pc) before mid
+run_logged b later limit end before mid h same ends =
+    subst (λ e. HasLogged (log_ahead b limit) (final_line e) before mid) (sym (ends ∙ same)) h
 
 -- what holds at all holds on an error
 pub on_err : {T E Q : Type 0} (r : Result T E) → Q → OnErr r Q

@@ -1,6 +1,6 @@
 //! The log of a run, a line for each commit before the next one is made.
 ghost use Rattle.std.specs.Prelude.{◌≡◌, ◌<◌, ◌+◌, ◌-◌, ◌^◌, ℕ, List, IfErr, IfOk, IsOk, OnErr, OnOk};
-ghost use Rattle.std.specs.Prelude.{string_bytes};
+ghost use Rattle.std.specs.Prelude.{replicate, string_bytes};
 ghost use Rattle.counted_io.specs.Counted.{failures_of, known_by, Gives};
 ghost use Rattle.inorder.specs.Runs.{end_of, end_state};
 ghost use Rattle.one_thread.specs.Changes.{registers_of, run_from};
@@ -113,6 +113,35 @@ fn log_stop<W: Write>(alloc: Global, end: &End, writer: &mut Counted<W>) -> Resu
     }
 }
 
+// Runs a unit that starts up to a limit and in an order, and writes the log of its run.
+fn log_to_end<P: Predictor + Drop, C: Chooser + Drop, W: Write>(
+    alloc: Global,
+    bench: Bench<'_, P>,
+    order: Order<C>,
+    limit: u64,
+    writer: &mut Counted<W>,
+) -> Result<Ending, Refusal>
+    requires room { failures_of writer.old < 2 ^ 64 - 1 }
+    requires starts { replicate 34 0 ≡ registers_of bench.pipeline }
+    ensures end { IfOk result (λ ending. ending ≡ (run_from bench.entry.pipeline limit).0) }
+    ensures says { OnOk result (Gives W.contents writer.old writer.new
+        (log_ahead bench.entry.pipeline limit)) }
+    ensures quiet { OnOk result (failures_of writer.new ≡ failures_of writer.old) }
+    ensures begun { OnErr result (IsBeginning (log_ahead bench.entry.pipeline limit)
+        (known_by W.contents writer.old) (known_by W.contents writer.new)) }
+    ensures err { IfErr result (λ refusal. IsOfWriting refusal) }
+    ensures write { IfErr result (λ refusal.
+        failures_of writer.new ≡ failures_of writer.old + failed_writes refusal) }
+{
+    let mut bench = bench;
+    let mut order = order;
+    let mut registers = [0; 34];
+    log_each_commit(alloc, &mut bench, &mut order, &mut registers, limit, writer)?;
+    let end = bench.run(limit);
+    log_stop(alloc, &end, writer)?;
+    Ok(end.outcome)
+}
+
 /// Runs a program on the one-thread unit, up to the limit of the configuration and in an order, and writes the log of its
 /// commits while it runs. Kept beside the unit are the registers alone.
 pub(crate) fn log_run<P: Predictor + Drop, C: Chooser + Drop, W: Write>(
@@ -134,12 +163,7 @@ pub(crate) fn log_run<P: Predictor + Drop, C: Chooser + Drop, W: Write>(
     ensures write { IfErr result (λ refusal.
         failures_of writer.new ≡ failures_of writer.old + failed_writes refusal) }
 {
-    let mut bench = Bench::new(alloc, program, config, predictor)?;
-    let mut order = order;
-    let mut registers = [0; 34];
+    let bench = Bench::new(alloc, program, config, predictor)?;
     let limit = u64::from(config.limit());
-    log_each_commit(alloc, &mut bench, &mut order, &mut registers, limit, writer)?;
-    let end = bench.run(limit);
-    log_stop(alloc, &end, writer)?;
-    Ok(end.outcome)
+    log_to_end(alloc, bench, order, limit, writer)
 }

@@ -18,16 +18,21 @@ use std::io::Read;
 use std::process::ExitCode;
 
 fn main(rt: HostRuntime) -> ExitCode {
-    let Ok(_closed) = ClosedStreams::taken(&rt) else {
-        return ExitCode::from(REFUSED);
-    };
-    let words = match words(&rt) {
+    match ClosedStreams::taken(&rt) {
+        Ok(_closed) => log_asked(&rt),
+        Err(_) => ExitCode::from(REFUSED),
+    }
+}
+
+// Logs the run that the words ask for.
+fn log_asked(rt: &HostRuntime) -> ExitCode {
+    let words = match words(rt) {
         Ok(words) => words,
-        Err(no_run) => return refuse(&rt, &no_run),
+        Err(no_run) => return refuse(rt, &no_run),
     };
     match committed(rt.alloc(), words.as_slice()) {
-        Ok(asked) => log(&rt, &asked),
-        Err(no_run) => refuse(&rt, &no_run),
+        Ok(asked) => log(rt, &asked),
+        Err(no_run) => refuse(rt, &no_run),
     }
 }
 

@@ -1,5 +1,5 @@
 //! Listings with the reports beside them.
-use std::alloc::Global;
+use std::alloc::{AllocError, Global};
 use std::{fs, io};
 
 /// A listing, and the report that its run has to write.
@@ -44,14 +44,31 @@ fn read(rt: &HostRuntime, name: &str, kind: &str) -> io::Result<Vec<u8>> {
     fs::read(rt, path.as_str())
 }
 
-/// The names of the listings of a folder, without what stands behind the dot.
+/// The names of the listings of a folder in order, without what stands behind the dot.
 pub fn names(rt: &HostRuntime, folder: &str, begin: &str) -> io::Result<Vec<String>> {
+    let mut names = unordered_names(rt, folder, begin)?;
+    names.sort()?;
+    Ok(names)
+}
+
+// The names of the listings of a folder, as the folder lists them.
+fn unordered_names(rt: &HostRuntime, folder: &str, begin: &str) -> io::Result<Vec<String>> {
     let mut names = Vec::new(rt.alloc());
     for entry in fs::read_dir(rt, folder)? {
-        let entry = entry?;
-        if let Some(name) = entry.file_name().strip_suffix(".s") {
-            names.push(format!(in rt.alloc(); "{begin}{name}")?)?;
-        }
+        push_name(rt.alloc(), &mut names, begin, entry?.file_name())?;
     }
     Ok(names)
+}
+
+// Appends the name of a file that is a listing, and nothing for another file.
+fn push_name(
+    alloc: Global,
+    names: &mut Vec<String>,
+    begin: &str,
+    file: &str,
+) -> Result<(), AllocError> {
+    if let Some(name) = file.strip_suffix(".s") {
+        names.push(format!(in alloc; "{begin}{name}")?)?;
+    }
+    Ok(())
 }

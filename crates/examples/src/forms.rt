@@ -4,16 +4,16 @@ use bench::{alone, read_listing};
 use command::{asked, go};
 use counted_io::Counted;
 use inorder::{Ended, Machine};
-use instructions::{End, Ending, NotTaken};
+use instructions::{Config, End, Ending, NotTaken, Program};
 use isa::report_text;
 use pool::Gate;
-use std::alloc::Global;
+use std::alloc::{AllocError, Global};
 use std::io::{self, ErrorKind};
 use std::sync::Wait;
 use std::thread::Threads;
 
 /// Options that change no report.
-pub const FORMS: [&[&str]; 14] = [
+pub const FORMS: &[&[&str]] = &[
     &["--alone"],
     &["--alone", "--units", "4", "--turns", "1"],
     &["--units", "1"],
@@ -31,7 +31,7 @@ pub const FORMS: [&[&str]; 14] = [
 ];
 
 /// Options of runs whose units are held.
-pub const HELD: [&[&str]; 2] = [
+pub const HELD: &[&[&str]] = &[
     &["--units", "4"],
     &["--units", "4", "--ruu-size", "4", "--bpred", "taken"],
 ];
@@ -93,13 +93,10 @@ pub fn run<T: Threads + Wait + Sync, G: Gate + Sync>(
 
 /// The run of a listing by the one-thread unit, which predicts that no branch is taken.
 pub fn from_bytes_to_bytes(alloc: Global, options: &[&str], listing: &[u8]) -> io::Result<Answer> {
-    let words = words(alloc, options, &[])?;
-    let Ok(asked) = asked(alloc, words.as_slice()) else {
-        return Err(mistake());
-    };
+    let config = config(alloc, options)?;
     let mut reader = Counted::new(listing);
     let mut text = Counted::new(Vec::new(alloc));
-    let Ok(status) = alone(alloc, &mut reader, &mut text, &asked.config, NotTaken) else {
+    let Ok(status) = alone(alloc, &mut reader, &mut text, &config, NotTaken) else {
         return Err(io::Error::from(ErrorKind::Other));
     };
     Ok(Answer {
@@ -110,26 +107,48 @@ pub fn from_bytes_to_bytes(alloc: Global, options: &[&str], listing: &[u8]) -> i
 
 /// The report of a listing's run by the in-order machine.
 pub fn in_order(alloc: Global, options: &[&str], listing: &[u8]) -> io::Result<Vec<u8>> {
+    let config = config(alloc, options)?;
+    let program = program(alloc, listing)?;
+    let end = end_in_order(alloc, &program, config.limit().into())?;
+    Ok(report_text(alloc, &end)?.into_bytes())
+}
+
+// The configuration that the options of a listing ask for.
+fn config(alloc: Global, options: &[&str]) -> io::Result<Config> {
     let words = words(alloc, options, &[])?;
-    let Ok(asked) = asked(alloc, words.as_slice()) else {
-        return Err(mistake());
-    };
-    let Ok(Ok(program)) = read_listing(alloc, &mut Counted::new(listing)) else {
-        return Err(io::Error::from(ErrorKind::InvalidData));
-    };
-    let Ok(mut machine) = Machine::new(alloc, &program) else {
-        return Err(io::Error::from(ErrorKind::OutOfMemory));
-    };
-    let outcome = match machine.run(asked.config.limit().into()) {
+    match asked(alloc, words.as_slice()) {
+        Ok(asked) => Ok(asked.config),
+        Err(_) => Err(mistake()),
+    }
+}
+
+// The program of a listing that has no fault.
+fn program(alloc: Global, listing: &[u8]) -> io::Result<Program> {
+    match read_listing(alloc, &mut Counted::new(listing)) {
+        Ok(Ok(program)) => Ok(program),
+        _ => Err(io::Error::from(ErrorKind::InvalidData)),
+    }
+}
+
+// The end of a program's run by the in-order machine, up to a limit.
+fn end_in_order(alloc: Global, program: &Program, limit: u64) -> io::Result<End> {
+    match Machine::new(alloc, program) {
+        Ok(mut machine) => Ok(end_of(alloc, &mut machine, limit)?),
+        Err(_) => Err(io::Error::from(ErrorKind::OutOfMemory)),
+    }
+}
+
+// Runs a machine up to a limit, and gives the end that it comes to.
+fn end_of(alloc: Global, machine: &mut Machine<'_>, limit: u64) -> Result<End, AllocError> {
+    let outcome = match machine.run(limit) {
         Ended::Stopped(stop) => Ending::Stop(stop),
         Ended::Limit => Ending::Limit,
     };
-    let end = End {
+    Ok(End {
         n: machine.count(),
         pc: machine.pc(),
         outcome,
         registers: *machine.registers(),
         memory: Vec::from_slice(alloc, machine.memory())?,
-    };
-    Ok(report_text(alloc, &end)?.into_bytes())
+    })
 }

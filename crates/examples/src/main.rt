@@ -7,7 +7,7 @@ mod forms;
 mod slow;
 
 use example::Example;
-use forms::{FORMS, HELD, from_bytes_to_bytes, in_order, is_named_twice, run};
+use forms::{Answer, FORMS, HELD, from_bytes_to_bytes, in_order, is_named_twice, run};
 use pool::Open;
 use slow::Slow;
 use std::io;
@@ -15,43 +15,55 @@ use std::sync::Wait;
 use std::thread::Threads;
 
 /// The folders of listings, and how the names of their listings begin.
-const FOLDERS: [(&str, &str); 2] = [(".", ""), ("rows", "rows/")];
+const FOLDERS: &[(&str, &str)] = &[(".", ""), ("rows", "rows/")];
 
 fn main(rt: HostRuntime) -> io::Result<()> {
-    for (folder, begin) in FOLDERS {
-        let mut names = example::names(&rt, folder, begin)?;
-        names.sort()?;
-        for name in &names {
+    for &(folder, begin) in FOLDERS {
+        for name in &example::names(&rt, folder, begin)? {
             let example = Example::read(&rt, name.as_str())?;
-            let options = example.options(rt.alloc())?;
-            tell(&rt, &rt, &example, options.as_slice())?;
+            tell(&rt, &rt, &example)?;
         }
     }
     Ok(())
 }
 
 // Tells the status of a listing under the options that it names, and where its report is another one.
-fn tell<T: Threads + Wait + Sync>(
-    rt: &HostRuntime,
-    wait: &T,
-    example: &Example,
-    options: &[&str],
-) -> io::Result<()> {
-    let name = example.name.as_str();
+fn tell<T: Threads + Wait + Sync>(rt: &HostRuntime, wait: &T, example: &Example) -> io::Result<()> {
+    let options = example.options(rt.alloc())?;
     let listing = example.listing.as_slice();
-    let plain = run(wait, rt.alloc(), options, &[], listing, &Open)?;
+    let plain = run(wait, rt.alloc(), options.as_slice(), &[], listing, &Open)?;
+    tell_plain(rt, example, &plain)?;
+    tell_one_thread(rt, example, options.as_slice(), plain.status)?;
+    tell_forms(rt, wait, example, options.as_slice(), plain.status)
+}
+
+// Tells the status of a run under the options that the listing names, and whether its report is another one.
+fn tell_plain(rt: &HostRuntime, example: &Example, plain: &Answer) -> io::Result<()> {
+    let name = example.name.as_str();
     let status = plain.status;
     println!(rt; "{name}: status {status}")?;
     if !plain.is(status, example) {
         println!(rt; "{name}: another report")?;
     }
+    Ok(())
+}
+
+// Tells in which of the forms without a command line a listing has another status or report.
+fn tell_one_thread(
+    rt: &HostRuntime,
+    example: &Example,
+    options: &[&str],
+    status: u8,
+) -> io::Result<()> {
+    let name = example.name.as_str();
+    let listing = example.listing.as_slice();
     if !from_bytes_to_bytes(rt.alloc(), options, listing)?.is(status, example) {
         println!(rt; "{name}: another report from bytes to bytes")?;
     }
     if in_order(rt.alloc(), options, listing)? != example.report {
         println!(rt; "{name}: another report in order")?;
     }
-    tell_forms(rt, wait, example, options, status)
+    Ok(())
 }
 
 // Tells in which of the further forms a listing has another status or report.
@@ -62,21 +74,26 @@ fn tell_forms<T: Threads + Wait + Sync>(
     options: &[&str],
     status: u8,
 ) -> io::Result<()> {
-    let name = example.name.as_str();
     let listing = example.listing.as_slice();
     for form in FORMS {
         if !is_named_twice(options, form)
             && !run(wait, rt.alloc(), options, form, listing, &Open)?.is(status, example)
         {
-            println!(rt; "{name}: another report with {form:?}")?;
+            tell_form(rt, example, form, "")?;
         }
     }
     for form in HELD {
         if !is_named_twice(options, form)
             && !run(wait, rt.alloc(), options, form, listing, &Slow::new())?.is(status, example)
         {
-            println!(rt; "{name}: another report with {form:?}, of units that are held")?;
+            tell_form(rt, example, form, ", of units that are held")?;
         }
     }
     Ok(())
+}
+
+// Tells that a listing has another status or report in a form.
+fn tell_form(rt: &HostRuntime, example: &Example, form: &[&str], units: &str) -> io::Result<()> {
+    let name = example.name.as_str();
+    println!(rt; "{name}: another report with {form:?}{units}")
 }

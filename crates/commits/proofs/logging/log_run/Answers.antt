@@ -1,24 +1,28 @@
-use Rattle.std.proofs.Common.{rules}
-use Rattle.commits.specs.Logs.{last_line, log}
-use Rattle.commits.proofs.LogKept.{all_logged, begun_more, on_err, run_logged}
+use Rattle.std.proofs.Common.{◌≡◌, rules, subst}
+use Rattle.std.specs.Prelude.{IfOk, OnErr, OnOk}
+use Rattle.counted_io.specs.Counted.{Gives, known_by}
+use Rattle.commits.specs.Retirements.{IsBeginning}
+use Rattle.commits.proofs.LogKept.{first_log, first_run}
 use Rattle.commits.proofs.logging.log_run.Goals as goal
 
-pub returns-in_err-log_stop-clause-begun : goal.returns-in_err-log_stop-clause-begun
-returns-in_err-log_stop-clause-begun g c =
+pub returns-clause-end : goal.returns-clause-end
+returns-clause-end g c =
     let made = c.in_ok-bench.ensures in
-    let so_far = c.in_ok-log_each_commit.ensures in
-    let end = c.run-end.result in
-    let most = c.args.config.now.limit in
-    on_err c.from_residual-in_err-log_stop.result (begun_more (log c.args.program.now most) (last_line end.outcome end.pc) _ _ _
-    (run_logged c.in_ok-bench.bench.pipeline c.log_each_commit.new.bench.pipeline c.args.program.now c.from-limit.result most end _ _
-    made.program made.start (search rules) so_far.logged so_far.ends c.run-end.ensures) c.in_err-log_stop.ensures.begun)
+    subst (λ run. IfOk c.log_to_end.result (λ ending. ending ≡ run.0))
+    (first_run c.in_ok-bench.bench.pipeline c.args.program.now c.from-limit.result c.args.config.now.limit made.program made.start (search rules))
+    c.log_to_end.ensures.end
 
 pub returns-clause-says : goal.returns-clause-says
 returns-clause-says g c =
     let made = c.in_ok-bench.ensures in
-    let so_far = c.in_ok-log_each_commit.ensures in
-    let end = c.run-end.result in
-    let most = c.args.config.now.limit in
-    all_logged (log c.args.program.now most) (last_line end.outcome end.pc) _ _ _
-    (run_logged c.in_ok-bench.bench.pipeline c.log_each_commit.new.bench.pipeline c.args.program.now c.from-limit.result most end _ _
-    made.program made.start (search rules) so_far.logged so_far.ends c.run-end.ensures) c.in_ok-log_stop.ensures.says
+    subst (λ text. OnOk c.log_to_end.result (Gives g.W.Write.contents c.args.writer.now c.log_to_end.new.writer text))
+    (first_log c.in_ok-bench.bench.pipeline c.args.program.now c.from-limit.result c.args.config.now.limit made.program made.start (search rules))
+    c.log_to_end.ensures.says
+
+pub returns-clause-begun : goal.returns-clause-begun
+returns-clause-begun g c =
+    let made = c.in_ok-bench.ensures in
+    subst (λ text. OnErr c.log_to_end.result (IsBeginning text
+    (known_by g.W.Write.contents c.args.writer.now) (known_by g.W.Write.contents c.log_to_end.new.writer)))
+    (first_log c.in_ok-bench.bench.pipeline c.args.program.now c.from-limit.result c.args.config.now.limit made.program made.start (search rules))
+    c.log_to_end.ensures.begun
