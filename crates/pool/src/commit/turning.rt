@@ -1,5 +1,5 @@
 //! The turns of the commit thread: in each one commit and one refresh.
-ghost use Rattle.std.specs.Prelude.{◌≡◌, ◌≢◌, ◌+◌, ◌<◌, ◌≤◌, Err, IfOk, None, true};
+ghost use Rattle.std.specs.Prelude.{◌≡◌, ◌≢◌, ◌+◌, ◌<◌, ◌≤◌, Err, IfNone, IfOk, None, true};
 ghost use Rattle.back.specs.Backs.{IsSameBack, back_state};
 ghost use Rattle.counts.specs.Reads.{WasTotal};
 ghost use Rattle.counts.specs.Totals.{tallied};
@@ -58,6 +58,40 @@ impl<K: Naming + Bounds + Ring> Committer<K> {
         Ok(())
     }
 
+    // Commits once, counts an instruction that has retired, and shows the state each so many of these. Answers whether it has
+    // committed anything, or None where the program has ended.
+    fn commit<G: Gate, R: Wait>(
+        &mut self,
+        shared: &TermShared<'_, K, G, R>,
+    ) -> Result<Option<bool>, Memory>
+        requires core { self.old.back.core ≡ shared.now.core.now }
+        requires begun { self.old.over ≡ Err Refusal.Memory }
+        requires room { (back_state self.old.back).count < (K.config).limit }
+        requires turn { (back_state self.old.back).count + (self.old.turns).left
+            < (self.old.turns).all }
+        ensures core { self.new.back.core ≡ shared.now.core.now }
+        ensures ended { IfOk result (λ committed. IfNone committed (self.new.back.ended ≢ None)) }
+        ensures turns { self.new.turns ≡ self.old.turns }
+        ensures renewals { self.new.renewals ≡ self.old.renewals }
+        ensures over { self.new.over ≡ self.old.over }
+        ensures last { self.new.last ≡ self.old.last }
+    {
+        match self.back.commit(shared.core) {
+            Commit::Ended(_) => Ok(None),
+            Commit::Retired { n, .. } => {
+                shared.state.counts.add(&mut self.count, Total::Retires, 1);
+                if n % SHOWN_EACH == 0 {
+                    self.show(shared)?;
+                    shared.state.wake_watchers();
+                }
+                Ok(Some(true))
+            }
+            // its instruction counts with its second half
+            Commit::Half { .. } => Ok(Some(true)),
+            Commit::NotDone | Commit::Empty => Ok(Some(false)),
+        }
+    }
+
     // Refreshes once, and hints the stations that a load woke. False where nothing was loaded.
     fn refresh<G, R: Wait>(&mut self, shared: &TermShared<'_, K, G, R>, hinter: &mut Hinter) -> bool
         requires core { self.old.back.core ≡ shared.now.core.now }
@@ -107,19 +141,8 @@ impl<K: Naming + Bounds + Ring> Committer<K> {
             if self.limit as u64 <= self.back.n() {
                 return Ok(Some(Why::AtLimit));
             }
-            let has_committed = match self.back.commit(shared.core) {
-                Commit::Ended(_) => return Ok(Some(Why::AtEnd)),
-                Commit::Retired { n, .. } => {
-                    shared.state.counts.add(&mut self.count, Total::Retires, 1);
-                    if n % SHOWN_EACH == 0 {
-                        self.show(shared)?;
-                        shared.state.wake_watchers();
-                    }
-                    true
-                }
-                // its instruction counts with its second half
-                Commit::Half { .. } => true,
-                Commit::NotDone | Commit::Empty => false,
+            let Some(has_committed) = self.commit(shared)? else {
+                return Ok(Some(Why::AtEnd));
             };
             if self.refresh(shared, &mut hinter) || has_committed {
                 backoff.reset();
