@@ -12,7 +12,7 @@ mod turned;
 
 use instructions::{Config, End, NotTaken};
 use isa::{parse, report_text};
-use pool::{Gate, Run, RunInTurns, run, run_in_turns};
+use pool::{Gate, Run, RunInTurns, Tally, run, run_in_turns};
 use std::alloc::Global;
 use std::sync::Wait;
 use std::test::Fail;
@@ -103,5 +103,13 @@ fn report(alloc: Global, run: &Run) -> Result<String, Fail> {
         Run::Ended(end, _) => Ok(report_text(alloc, end)?),
         Run::LimitReached(end, _) => Ok(report_text(alloc, end)?),
         Run::Refused(_) => Err(Fail::from("refused")),
+    }
+}
+
+// The tally of a run whose program has ended.
+fn tally(run: &Run) -> Result<Tally, Fail> {
+    match run {
+        Run::Ended(_, tally) => Ok(*tally),
+        _ => Err(Fail::from("the program has not ended")),
     }
 }

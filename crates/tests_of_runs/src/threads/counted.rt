@@ -1,5 +1,5 @@
 //! What is counted in a long run, at its end and on the way.
-use super::{plain, run_listing};
+use super::{plain, run_listing, tally};
 use crate::same::same;
 use pool::{Gate, Open, Run, Tally};
 use snapshots::Snap;
@@ -39,9 +39,7 @@ fn each_load_is_counted_once(rt: HostRuntime) -> Result<(), Fail> {
     let listing = b".space 16\nlw $1,0($0)\nlw $2,4($0)\nlw $3,8($0)\nlw $4,12($0)\nbreak\n";
     for units in [1, 4] {
         let run = run_listing(&rt, rt.alloc(), listing, &plain(units), &Open)?;
-        let Run::Ended(_, tally) = run else {
-            return Err(Fail::from("not ended"));
-        };
+        let tally = tally(&run)?;
         same(&rt, &tally.loads, &4);
     }
     Ok(())
@@ -92,9 +90,7 @@ fn the_gate_is_told_what_was_counted(rt: HostRuntime) -> Result<(), Fail> {
         retires: AtomicU64::new(0),
     };
     let run = run_listing(&rt, rt.alloc(), LOOP, &plain(1), &gate)?;
-    let Run::Ended(_, tally) = run else {
-        return Err(Fail::from("not ended"));
-    };
+    let tally = tally(&run)?;
     same(&rt, &gate.retires.load(SeqCst), &tally.retires);
     assert!(rt; told(&gate.lets, tally.lets) && told(&gate.claims, tally.claims));
     assert!(rt; told(&gate.finishes, tally.finishes) && told(&gate.stale, tally.stale));

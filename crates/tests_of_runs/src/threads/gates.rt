@@ -1,5 +1,5 @@
 //! What a gate sees, and what the tally counts.
-use super::{Shape, end_of_held, plain, run_listing};
+use super::{Shape, end_of_held, plain, run_listing, tally};
 use crate::meeting::Meeting;
 use crate::same::same;
 use pool::{Gate, Open, Run, Tally};
@@ -73,9 +73,7 @@ const LISTING: &[u8] = b"addiu $1,$0,5\naddu $2,$1,$1\nbreak\n";
 fn each_step_is_counted_once(rt: HostRuntime) -> Result<(), Fail> {
     for units in [1, 4] {
         let run = run_listing(&rt, rt.alloc(), LISTING, &plain(units), &Open)?;
-        let Run::Ended(_, tally) = run else {
-            return Err(Fail::from("ended"));
-        };
+        let tally = tally(&run)?;
         let expected = Tally {
             lets: 3,
             claims: 3,

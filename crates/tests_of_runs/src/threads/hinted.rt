@@ -1,6 +1,6 @@
 //! Units find work by hints.
-use super::{Shape, plain, report, run_listing};
-use pool::{Gate, Open, Run, Tally};
+use super::{Shape, plain, report, run_listing, tally};
+use pool::{Gate, Open, Tally};
 use snapshots::Snap;
 use std::alloc::Global;
 use std::process::Abort;
@@ -18,12 +18,9 @@ const ENDED: &str = "stop break\ncount 100001\npc 0x0040000c\n";
 fn a_long_loop_is_hinted(rt: HostRuntime) -> Result<(), Fail> {
     let run = run_listing(&rt, rt.alloc(), LOOP, &plain(1), &Open)?;
     let text = report(rt.alloc(), &run)?;
-    let Run::Ended(_, tally) = run else {
-        return Err(Fail::from("not ended"));
-    };
+    let tally = tally(&run)?;
     assert!(rt; text.as_bytes() == ENDED.as_bytes());
-    assert!(rt; 1 <= tally.hints);
-    assert!(rt; tally.hints <= tally.claims);
+    assert!(rt; 1 <= tally.hints && tally.hints <= tally.claims);
     Ok(())
 }
 
@@ -66,10 +63,8 @@ fn hints_of<R: Threads + Wait + Sync>(rt: &R, alloc: Global, listing: &[u8]) -> 
         turns: 50_000_000,
         ..plain(2)
     };
-    match run_listing(rt, alloc, listing, &shape, &gate)? {
-        Run::Ended(_, tally) => Ok(tally.hints),
-        _ => Err(Fail::from("not ended")),
-    }
+    let run = run_listing(rt, alloc, listing, &shape, &gate)?;
+    Ok(tally(&run)?.hints)
 }
 
 // Of nine claims three are of stations that wait for nobody.

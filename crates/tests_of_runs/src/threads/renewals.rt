@@ -1,5 +1,5 @@
 //! Runs whose tags are spent again and again.
-use super::{Shape, plain, report, run_listing};
+use super::{Shape, plain, report, run_listing, tally};
 use crate::same::same;
 use instructions::NotTaken;
 use isa::parse;
@@ -36,9 +36,7 @@ fn check<R: Threads + Wait + Sync + Abort>(
         let run = run_listing(rt, alloc, listing.as_bytes(), &scarce(units), &Open)?;
         let text = report(alloc, &run)?;
         assert!(*rt; text.as_bytes() == expected.as_bytes(), "{text}");
-        let Run::Ended(_, tally) = run else {
-            return Err(Fail::from("no end"));
-        };
+        let tally = tally(&run)?;
         assert!(*rt;
             least <= tally.renewals && tally.renewals <= most,
             "{tally:?}"

@@ -1,5 +1,5 @@
 //! More than one unit at work: a gate holds one until another works.
-use super::{Shape, end_of_held, plain, report, run_listing};
+use super::{Shape, end_of_held, plain, report, run_listing, tally};
 use crate::same::same;
 use pool::{Gate, Run, Tally};
 use snapshots::Snap;
@@ -99,9 +99,7 @@ fn misses_and_loads_are_run_by_several(rt: HostRuntime) -> Result<(), Fail> {
     let run = run_listing(&rt, rt.alloc(), MIXED.as_bytes(), &plain(4), &gate)?;
     let text = report(rt.alloc(), &run)?;
     assert!(rt; text.as_bytes() == MIXED_END.as_bytes(), "{text}");
-    let Run::Ended(_, tally) = run else {
-        return Err(Fail::from("no end"));
-    };
+    let tally = tally(&run)?;
     same(&rt, &tally.mends, &39);
     same(
         &rt,
