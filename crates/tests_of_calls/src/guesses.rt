@@ -50,7 +50,7 @@ fn mended(
 fn a_predictor_may_answer_anything(rt: HostRuntime) -> Result<(), Fail> {
     let (program, config) = made(rt.alloc(), BRANCH, 4, 1, 1)?;
     let (core, seat, _back, mut unit) = Core::make(rt.alloc(), &program, &config)?;
-    assert!(rt; 0 < core.ring());
+    assert!(rt; core.ring() == 4);
     let mut front = Front::new(&core, seat, &program, One);
     let found = mended(&rt, &core, &program, &mut front, &mut unit);
     takes(&rt, &core, &mut front, &[let_at(1, 1, 0x0040_0004)]);

@@ -58,8 +58,8 @@ impl<K: Naming + Bounds + Ring> Committer<K> {
         Ok(())
     }
 
-    // Commits once, counts an instruction that has retired, and shows the state each so many of these. Answers whether it has
-    // committed anything, or None where the program has ended.
+    // Commits once, counts an instruction that has retired, and shows the state after each `SHOWN_EACH` of these. Answers
+    // whether it has committed anything, or None where the program has ended.
     fn commit<G: Gate, R: Wait>(
         &mut self,
         shared: &TermShared<'_, K, G, R>,

@@ -39,7 +39,7 @@ fn finds_crowded_names(rt: HostRuntime) -> Result<(), Fail> {
 }
 
 /// A last line, with a name that has a bucket, one that is crowded, and one more of such a hash, and its fault.
-const LAST: [(&[u8], FaultKind); 3] = [
+const LAST: &[(&[u8], FaultKind)] = &[
     (b"aaaj:", FaultKind::DoubleLabel),
     (b"abvm:", FaultKind::DoubleLabel),
     (b"j abyj", FaultKind::UnknownLabel),
@@ -47,7 +47,7 @@ const LAST: [(&[u8], FaultKind); 3] = [
 
 #[test]
 fn faults_name_crowded_labels(rt: HostRuntime) -> Result<(), Fail> {
-    for (last, kind) in LAST {
+    for &(last, kind) in LAST {
         let text = crowded(rt.alloc(), last)?;
         let fault = parse(rt.alloc(), text.as_slice()).err();
         same(&rt, &fault, &Some(TextFault { line: 27, kind }));

@@ -1,4 +1,4 @@
-use Rattle.std.proofs.Common.{◌≡◌, ℕ, ◌+◌, ◌%◌, ◌^◌, sym, ap, ◌∙◌}
+use Rattle.std.proofs.Common.{◌≡◌, ◌%◌, ◌^◌, sym, ap, ◌∙◌}
 use Rattle.counts.specs.declared.shares.Share.{Share}
 use Rattle.counts.specs.declared.shares.Shares.{Shares}
 use Rattle.counts.specs.declared.tally.Total.TheVariants.{Lets}
