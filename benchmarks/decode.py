@@ -75,4 +75,5 @@ def main():
         print(decoded(word, parts, labels))
 
 
-main()
+if __name__ == "__main__":
+    main()

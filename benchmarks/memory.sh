@@ -14,7 +14,7 @@ listing() { # n, labels, d
     print "break" }'
 }
 
-# its one word for what was allocated: "N bytes at most in M blocks"
+# The most bytes at a time and the blocks in all of a run, two numbers, as valgrind counts them.
 allocated() { # words of ruu, FILE last
   valgrind --tool=dhat --dhat-out-file=/dev/null crates/ruu/out/ruu "$@" 2>&1 > /dev/null |
     sed -nE 's/.*Total: .* in ([0-9,]+) blocks.*/\1/p; s/.*t-gmax: +([0-9,]+) bytes.*/\1/p' |

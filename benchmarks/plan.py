@@ -33,7 +33,7 @@ def costs():
 def whole(name, is_program, is_kept, was_kept):
     """About how many seconds of one processor a crate takes with one job, where its proof is to be kept or was kept before."""
     factors = (PROGRAM, is_program), (KEEPING, is_kept), (KEPT, was_kept)
-    return costs().get(name, UNKNOWN) * math.prod(factor for factor, counts in factors if counts)
+    return max(costs().get(name, UNKNOWN), 1) * math.prod(factor for factor, counts in factors if counts)
 
 
 def took(cost, jobs):

@@ -14,7 +14,7 @@ trap 'rm -rf "$work"' EXIT
 
 # microseconds on threads, instructions, renewals; the program ends with a status above 0 where the reports differ
 timed() { # first tag
-  crates/speed/out/speed "$units" "$limit" 2 "$1" < benchmarks/loop.s 2> "$work/said"
+  crates/speed/out/speed "$units" "$limit" 2 "$1" < benchmarks/loop.s 2> "$work/said" || { echo "other reports, or no run: $(cat "$work/said")" >&2; exit 1; }
   sed -nE 's/^[0-9]+ ([0-9]+) [0-9]+ ([0-9]+) .*renewals: ([0-9]+).*$/\2 \1 \3/p' "$work/said"
 }
 

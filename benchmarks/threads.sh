@@ -1,8 +1,8 @@
 #!/usr/bin/env bash
 # Prints what the proof costs on threads: the unit that threads share beside twin.c, the same algorithm in plain C, both
 # run in turn in this run; and what the design costs: the twin with a queue whose stamps stand beside their values, without
-# hints, and with each station's word on a cache line of its own. A ring of 16 stations, a queue of 8, the predictor bimod. The threads run on the processors that this script
-# may use (taskset).
+# hints, and with each station's word on a cache line of its own. A ring of 16 stations, a queue of 8, the predictor bimod.
+# The threads run on the processors that this script may use (taskset).
 #
 #   benchmarks/threads.sh [FOLDER]     loop and mixed, and each listing of the folder
 #
@@ -27,7 +27,7 @@ middle() { # column, file
 
 listings=(benchmarks/loop.s benchmarks/mixed.s)
 [ $# -eq 0 ] || listings+=("$1"/*.s)
-echo "                                                                the twin's time by the twin's:"
+echo "                                                                other twins' times by the twin's:"
 echo "listing            units   instructions/s   twin's    time by twin's   together   no hints     padded"
 for listing in "${listings[@]}"; do
   python3 benchmarks/decode.py "$listing" > "$work/numbers"

@@ -70,12 +70,18 @@ def main():
     check_files(asked)
     run = shown_run(program, asked)
     try:
-        with open(asked.out, "w", encoding="utf-8") as out:
+        with open(asked.out, "w", encoding="utf-8", errors="replace") as out:
             out.write(page_text(run))
     except OSError as error:
         refuse(f"{asked.out}: the page cannot be written: {error.strerror}")
-    print(f"{asked.out}: {len(run['steps'])} steps")
+    try:
+        os.write(1, os.fsencode(f"{asked.out}: {len(run['steps'])} steps\n"))
+    except OSError as error:
+        refuse(f"standard output: {error.strerror}")
 
 
 if __name__ == "__main__":
-    main()
+    try:
+        main()
+    except KeyboardInterrupt:
+        sys.exit(130)

@@ -3,7 +3,7 @@ import re
 
 from answers import PAIR
 
-GUESSED = {"beq", "bne", "blez", "bgtz", "bltz", "bgez", "bltzal", "bgezal", "jr", "jalr"}
+GUESSED = {"beq", "bne", "blez", "bgtz", "bltz", "bgez", "jr", "jalr"}
 JUMPS = GUESSED | {"j", "jal"}
 CHANGE = re.compile(r"(?:\$(?P<register>\d+)|(?P<name>lo|hi)|m(?P<address>0x[0-9a-f]+))=(?P<value>0x[0-9a-f]+)")
 STORED = {"sb": ("byte", 2), "sh": ("halfword", 4), "sw": ("word", 8)}
@@ -120,8 +120,7 @@ class Teller:
 
     def load(self, step, _before):
         origin = step["origin"]
-        source = ("" if origin is None else " from memory" if origin == "memory" else
-                  f" from the store in station {origin}, which is not in memory yet")
+        source = " from memory" if origin == "memory" else f" from the store in station {origin}, which is not in memory yet"
         return (f"The load in station {step['station']}, {self.code(step['tenant'])}, gets {{{step['value']}}}{source}." +
                 self.woken(step))
 
@@ -141,11 +140,8 @@ class Teller:
         """A committed change in words. A register's value is that of the report, since a jump tells where it goes."""
         told = CHANGE.fullmatch(text)
         if told["address"]:
-            address = int(told["address"], 16)
-            if operation not in STORED:
-                return f"a part of the word at {{{address - address % 4}}} is changed"
             size, digits = STORED[operation]
-            return f"the {size} at {{{address}}} is `0x{told['value'][-digits:]}`"
+            return f"the {size} at {{{int(told['address'], 16)}}} is `0x{told['value'][-digits:]}`"
         register = int(told["register"]) if told["register"] else PAIR[told["name"]]
         return f"`{self.listing.register_name(register)}` is {{{registers.get(register, 0)}}}"
 

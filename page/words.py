@@ -6,7 +6,6 @@ MOST = 2 ** 64 - 1
 NUMBERS = {"--seed": (0, MOST), "--lsq-size": (2, 32)}
 LISTED = {"--ruu-size": ("2", "4", "8", "16"), "--bpred": ("nottaken", "taken", "bimod")}
 STANDARD = {"--seed": "1", "--ruu-size": "8", "--bpred": "bimod"}
-HELP = os.path.join(os.path.dirname(os.path.abspath(__file__)), "..", "docs", "help", "page.txt")
 
 
 class Words:
@@ -37,7 +36,7 @@ def checked(name, value):
             mistaken(f"{name} takes {', '.join(LISTED[name][:-1])} or {LISTED[name][-1]}")
         return value
     least, most = NUMBERS[name]
-    if not (value.isascii() and value.isdigit() and least <= int(value) <= most):
+    if not (value.isascii() and value.isdigit() and len(value) <= 20 and least <= int(value) <= most):
         mistaken(f"{name} takes a number from {least} to {most}")
     return value
 
@@ -65,10 +64,6 @@ def split(words):
 
 def read(words):
     """The words of the command line, each with its value."""
-    if "-h" in words or "--help" in words:
-        with open(HELP, encoding="ascii") as text:
-            print(text.read(), end="")
-        sys.exit(0)
     files, options = split(words)
     if len(files) != 2:
         mistaken("page takes two files: the listing, and the page that is written")

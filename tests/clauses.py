@@ -178,7 +178,7 @@ def main(words):
     if words == ["--page"]:
         print(page())
         return 0
-    if words[:1] == ["--since"] and len(words) == 2:
+    if words[:1] == ["--since"] and len(words) == 2 and os.path.isdir(f"{words[1]}/crates"):
         compare(promises(words[1]), promises(ROOT))
         return 0
     whole = words[:1] == ["--text"]

@@ -3,7 +3,7 @@
 # built just now, none is built.
 set -u
 cd "$(dirname "${BASH_SOURCE[0]}")/.." || exit 1
-work=$(mktemp -d)
+work=$(mktemp -d) || exit 1
 trap 'rm -rf "$work"' EXIT
 
 fail() { # what is wrong
@@ -18,9 +18,12 @@ build() { # run or test, crate
   [ "$1" = run ] || file=${file}_tests
   [ ! -x "$file" ] || [ -n "$(find crates.txt crates/*/src -newer "$file" -print -quit)" ] || return 0
   [ -z "${BUILT:-}" ] || fail "$file was not built"
+  local began=$EPOCHREALTIME
+  # rt leaves an older one where the proof fails
+  rm -f "$file"
   (cd "crates/$2" && rt "$1" < /dev/null > "$work/log" 2>&1)
   [ -x "$file" ] || { tail -n 40 "$work/log"; fail "$file cannot be built"; }
-  touch "$file"
+  touch -d "@$began" "$file"
 }
 
 # The library that refuses, by the kit's own compiler.

@@ -100,10 +100,8 @@ def view(script, uses, names, room):
                 shutil.copy2(f"{ROOT}/crates/{name}/must-fail-more/{edit}", f"{room}/crates/{name}/must-fail/{edit}")
 
 
-def lanes():
-    with open("/proc/meminfo", encoding="utf-8") as it:
-        free = 1024 * int(re.search(r"MemAvailable:\s+(\d+)", it.read())[1])
-    return max(min(len(os.sched_getaffinity(0)), free // MEMORY), 1)
+def lanes(script):
+    return max(min(script.processors(), script.free_memory() // MEMORY), 1)
 
 
 def run(words, folder):
@@ -179,10 +177,9 @@ def try_all(names):
     with tempfile.TemporaryDirectory(prefix="edits-", dir=beside) as room:
         view(script, uses, names, room)
         longest = sorted(names, key=lambda it: -len(os.listdir(f"{room}/crates/{it}/must-fail")))
-        with concurrent.futures.ThreadPoolExecutor(lanes()) as pool:
+        with concurrent.futures.ThreadPoolExecutor(lanes(script)) as pool:
             counts = [*pool.map(lambda it: tried(it, room), longest)]
-    refused, not_refused = map(sum, zip(*counts))
-    return told(refused, refused + not_refused)
+    return told(sum(refused for refused, _ in counts), sum(map(sum, counts)))
 
 
 def try_alone(names):
@@ -192,7 +189,7 @@ def try_alone(names):
     if not os.environ.get("BUILT") and not built(script, crates)[0]:
         return 1
     words = {it: run([sys.executable, "-c", WORDS, script.kit(), ROOT, it], ROOT).stdout.split("\n")[:-1] for it in crates}
-    with concurrent.futures.ThreadPoolExecutor(lanes()) as pool:
+    with concurrent.futures.ThreadPoolExecutor(lanes(script)) as pool:
         refused = sum(pool.map(lambda it: tried_alone(*it, words[it[0]]), found))
     return told(refused, len(found))
 

@@ -3,15 +3,13 @@
 In each world crates take other times than benchmarks/gate.txt says, at random: on a slower or a faster machine, one that does other
 work, or one where more jobs help less. What is told at the beginning has to be right within a third where the machine is the one of
 the table, and what is told from a quarter of the way on, of the whole time, in all worlds."""
-import importlib.machinery
-import importlib.util
 import random
 import sys
 
 sys.dont_write_bytecode = True
-loader = importlib.machinery.SourceFileLoader("prove", "prove")
-prove = importlib.util.module_from_spec(importlib.util.spec_from_loader("prove", loader))
-loader.exec_module(prove)
+import edits  # noqa: E402
+
+prove = edits.prove()
 
 LANES, TICK = 4, 3
 PROGRAMS = ["ruu", "checker", "chart", "commits", "drive", "listing"]

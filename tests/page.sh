@@ -75,6 +75,7 @@ says 3 'error: --seed takes a value' examples/sum.s "$work/x.html" --seed
 says 3 'error: the listing is read twice, and FILE cannot be -' - "$work/x.html"
 says 3 'error: OUT.html takes a file' examples/sum.s -
 says 5 'ruu: nowhere.s: the listing cannot be read: No such file or directory' nowhere.s "$work/x.html"
+says 5 'ruu: -h: the listing cannot be read: No such file or directory' -- -h "$work/x.html"
 says 5 "ruu: $work/no/x.html: the page cannot be written: No such file or directory" examples/sum.s "$work/no/x.html"
 says 5 "ruu: $work: the page cannot be written: Is a directory" examples/sum.s "$work"
 says 5 'ruu: /dev/full: the page cannot be written: No space left on device' examples/sum.s /dev/full
@@ -89,6 +90,4 @@ for words in 'page --help' 'help page'; do
   # shellcheck disable=SC2086
   ./ruu $words | cmp -s - docs/help/page.txt || fail "ruu $words: another help"
 done
-make_page --help
-cmp -s "$work/out" docs/help/page.txt || fail 'another help'
 echo 'what goes wrong has its word and its status, and no page overwrites the listing'

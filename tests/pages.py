@@ -14,7 +14,7 @@ import subprocess
 import sys
 import tempfile
 
-from clauses import promises
+from clauses import crates, promises
 
 ROOT = os.getcwd()
 PAGES = ["README.md", *sorted(f"docs/{it}" for it in os.listdir("docs") if it.endswith(".md"))]
@@ -154,13 +154,6 @@ def check_spans(page, known):
     return count
 
 
-def crates():
-    """The crates of crates.txt."""
-    with open("crates.txt", encoding="utf-8") as it:
-        heads = [line.partition("#")[0].partition(":")[0].split() for line in it]
-    return [head[0] for head in heads if head]
-
-
 def check_rooms(page, names):
     """Each place below `src/`, `specs/`, `proofs/` or `must-fail/` is in the crate that is named before it, or else in some crate."""
     count = 0
@@ -253,10 +246,15 @@ def check_forms(room):
 
 
 def check_kit():
-    """The pages and the program name one kit, whose logic is that of the kit that is here."""
+    """The pages and the programs name one kit, whose logic is that of the kit that is here."""
     kit = subprocess.run(["rt", "version"], capture_output=True, text=True, check=False).stdout.strip()
-    version = subprocess.run(["crates/ruu/out/ruu", "--version"], capture_output=True, text=True, check=False).stdout.splitlines()
+    said = {}
+    for program in ("ruu", "listing"):
+        said[program] = subprocess.run([f"crates/{program}/out/{program}", "--version"], capture_output=True, text=True, check=False).stdout
+    version = said["ruu"].splitlines()
     named = version[1] if len(version) == 2 else ""
+    if said["listing"] != said["ruu"]:
+        wrong("listing --version", said["listing"])
     if named.partition(" ")[2] != kit.partition(" ")[2]:
         wrong("ruu --version", f"the kit is {kit}")
     with open("README.md", encoding="utf-8") as it:

@@ -6,4 +6,4 @@
 for program in ruu checker chart commits drive listing; do
   build run $program
 done
-python3 tests/pages.py || fail 'the pages disagree with the programs'
+python3 -B tests/pages.py || fail 'the pages disagree with the programs'

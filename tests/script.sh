@@ -79,7 +79,7 @@ is_answered() { # text, words
   [ $status -eq 0 ] && cmp -s "$work/out" "docs/help/$text" && [ ! -s "$work/err" ] || fail "ruu $*: status $status, not the text $text"
 }
 
-for of in -h --help help '--unproved --help'; do
+for of in -h --help help '--unproved --help' 'help help' 'help prove' 'prove --help'; do
   # shellcheck disable=SC2086
   is_answered ruu.txt $of
 done
@@ -236,6 +236,8 @@ listing examples/sum.s examples/double.s
 listing --bogus
 listing --
 END
+answer run --=3 a.s
+[ $status -eq 3 ] || fail "an option without a name: status $status"
 mistake run ''  ''
 mistake run 'a b' 'c d'
 for of in 'prove ruu' '--unproved prove'; do
@@ -335,9 +337,9 @@ unproved() { # what the kit is asked for, words
   [[ $(head -n 1 "$work/err") == 'ruu: a first look: '* ]] && [ "$(tail -n +2 "$work/err")" = 'said by the program' ] || fail "ruu --unproved $*: another text"
   [ "$(cat "$ASKED")" = "$asked" ] || { cat "$ASKED"; fail "ruu --unproved $*: the kit is asked for something else"; }
 }
-touch "$work/a.s"
+touch "$work/a.s" "$work/3"
 unproved "ruu try -- run $work/a.s --units 3" run a.s --units 3
-unproved 'ruu try -- run nowhere.s' run nowhere.s
+unproved "ruu try -- run $work/nowhere.s" run nowhere.s
 unproved "chart try -- chart $work/a.s --seed 3 --trace=$work/b.log" chart a.s --seed 3 --trace=b.log
 unproved "chart try -- chart --trace $work/b.log $work/a.s" chart --trace b.log a.s
 unproved "drive try -- drive $work/a.s" drive a.s
@@ -346,12 +348,9 @@ echo 'a first look is built without a proof, and says so'
 
 # how many crates the programs stand on
 count_of() { # programs
-  python3 - "$@" << 'END'
-import importlib.machinery, importlib.util, sys
-sys.dont_write_bytecode = True
-loader = importlib.machinery.SourceFileLoader("prove", "prove")
-prove = importlib.util.module_from_spec(importlib.util.spec_from_loader("prove", loader))
-loader.exec_module(prove)
+  PYTHONPATH=tests python3 -B - "$@" << 'END'
+import sys, edits
+prove = edits.prove()
 uses = prove.crates_of(".")
 print(len({it for name in sys.argv[1:] for it in [*prove.below(uses, name), name]}))
 END
@@ -372,6 +371,12 @@ grep -qx 'ruu run --jobs 1 --backend rattle -- --help' "$ASKED" || fail 'the pro
 [ "$(grep -cE '^[a-z_]+ lib --jobs [1-4] --statements$' "$ASKED")" -eq $((number - 1)) ] || fail 'the libraries are built otherwise'
 with_kit "$fresh/ruu" run b.s
 [ $status -eq 0 ] && [ "$(cat "$work/out")" = 'ran run b.s' ] && [ ! -s "$work/err" ] || fail "a second run: status $status"
+
+# where a program is no longer proved, the older one is not taken for it
+touch "$fresh/crates/ruu/src/main.rt"
+with_kit env UNPROVED=ruu "$fresh/ruu" run b.s
+[ $status -eq 70 ] && [ ! -e "$fresh/crates/ruu/out/ruu" ] || fail "a program that is not proved: status $status"
+with_kit "$fresh/ruu" run b.s
 
 # all programs at once, and then each starts
 with_kit "$fresh/ruu" prove

@@ -3,15 +3,16 @@
 # report are those of the program. Nothing is proved for it: a fault is told by the program `checker` where that is built.
 # shellcheck disable=SC2154
 
-# The name of the listing, which is the first word of the run that is a file.
-file=
+# The name of the listing: the first word of the run that is a file, and not the value of an option.
+file='' last=''
 for word in "${@:2}"; do
-    if [ -f "$word" ] && [ -r "$word" ]; then
+    if [[ ($last != --?* || $last == --@(alone|progress|*=*)) && -f $word && -r $word ]]; then
         file=$word
         break
     fi
+    last=$word
 done
-if [ -z "$file" ]; then
+if [ -z "$file" ] || ! told=$(mktemp); then
     exec -a ruu "$program" "$@"
 fi
 
@@ -32,10 +33,9 @@ line_of() { # file, k
             sub(/[ \t].*/, "", word)
             if (word == "" || word == ".space" || word == ".word") next
             if (n++ == k) { print NR ": " line; exit }
-        }' "$1"
+        }' < "$1"
 }
 
-told=$(mktemp)
 trap 'rm -f "$told"' EXIT
 set +e
 (exec -a ruu "$program" "$@") | tee "$told"
@@ -46,10 +46,10 @@ case $ending in
     'fault line '*)
         check=$here/crates/checker/out/checker
         if [ -x "$check" ]; then
-            (exec -a ruu "$check" check "$file") | tail -n +2 >&2
+            (exec -a ruu "$check" check -- "$file") | tail -n +2 >&2
         else
             read -r _ _ number _ <<< "$ending"
-            echo "$file:$number: $(sed -n "${number}p" "$file" | shown)" >&2
+            echo "$file:$number: $(sed -n "${number}p" < "$file" | shown)" >&2
         fi
         ;;
     'stop break') ;;

@@ -170,7 +170,7 @@ bad_words() { # command, words
         case $ends$word in
             false--) [ -z "$waits" ] || break && ends=true ;;
             false--*)
-                [ -n "${values[$name]+known}" ] || bad_option "$command" "$name" "${met[@]}"
+                [[ -n $name && -n ${values[$name]+known} ]] || bad_option "$command" "$name" "${met[@]}"
                 [ -z "$waits" ] || break
                 if [[ " ${met[*]} " == *" $name "* ]]; then
                     mistaken "the argument '--$name${values[$name]}' cannot be used multiple times" "$(usage "$command")"
@@ -194,6 +194,7 @@ bad_words() { # command, words
     [[ " ${met[*]} " == *' FILE '* ]] \
         || mistaken $'the following required arguments were not provided:\n  <FILE>' "$(usage "$command" "${met[@]}" FILE)"
     bad_values "$command"
+    file=${given[FILE]}
 }
 
 case $name in
