@@ -6,7 +6,3 @@ use Rattle.std.specs.Prelude.{is_some, ◌||◌}
 pub some_or : (is : Bool) (x : ℕ) (o : Option ℕ) → is_some (cond is (Some x) o) ≡ (is || is_some o)
 some_or true x o = refl
 some_or false x o = refl
-
-or_assoc : (a b c : Bool) → ((a || b) || c) ≡ (a || (b || c))
-or_assoc true b c = refl
-or_assoc false b c = refl

@@ -3,6 +3,7 @@
 mod characters;
 mod labels;
 mod lists;
+mod numbered;
 mod numbers;
 mod operands;
 mod registers;

@@ -135,48 +135,6 @@ pub(crate) static WORDS: [Row; 73] = [
     ),
 ];
 
-/// The remedies of operations where one of the operands is a number.
-pub(crate) static WITH_NUMBER: [Row; 14] = [
-    ("blt", "Write slti $at,@1,@2 and then bne $at,$zero,@3."),
-    ("bge", "Write slti $at,@1,@2 and then beq $at,$zero,@3."),
-    ("bltu", "Write sltiu $at,@1,@2 and then bne $at,$zero,@3."),
-    ("bgeu", "Write sltiu $at,@1,@2 and then beq $at,$zero,@3."),
-    (
-        "bgt",
-        "Write addiu $at,$zero,@2 and then slt $at,$at,@1 and then bne $at,$zero,@3.",
-    ),
-    (
-        "ble",
-        "Write addiu $at,$zero,@2 and then slt $at,$at,@1 and then beq $at,$zero,@3.",
-    ),
-    (
-        "bgtu",
-        "Write addiu $at,$zero,@2 and then sltu $at,$at,@1 and then bne $at,$zero,@3.",
-    ),
-    (
-        "bleu",
-        "Write addiu $at,$zero,@2 and then sltu $at,$at,@1 and then beq $at,$zero,@3.",
-    ),
-    (
-        "mul",
-        "Write addiu $at,$zero,@3 and then mult @2,$at and then mflo @1.",
-    ),
-    (
-        "rem",
-        "Write addiu $at,$zero,@3 and then div @2,$at and then mfhi @1.",
-    ),
-    (
-        "div",
-        "Write addiu $at,$zero,@3 and then div @2,$at and then mflo @1.",
-    ),
-    (
-        "mult",
-        "Write addiu $at,$zero,@3 and then mult @2,$at and then mflo @1.",
-    ),
-    ("beq", "Write addiu $at,$zero,@2 and then beq @1,$at,@3."),
-    ("bne", "Write addiu $at,$zero,@2 and then bne @1,$at,@3."),
-];
-
 /// The remedy of an operation with so many operands.
 pub(crate) struct Counted {
     pub word: &'static str,
@@ -211,18 +169,4 @@ pub(crate) static COUNTS: [Counted; 16] = [
     counted!("or", 2, "Write or @1,@1,@2."),
     counted!("sll", 2, "Write sll @1,@1,@2."),
     counted!("srl", 2, "Write srl @1,@1,@2."),
-];
-
-/// An operation on registers, and the one whose last operand is a number.
-pub(crate) static NUMBERED: [Row; 10] = [
-    ("addu", "addiu"),
-    ("add", "addi"),
-    ("and", "andi"),
-    ("or", "ori"),
-    ("xor", "xori"),
-    ("slt", "slti"),
-    ("sltu", "sltiu"),
-    ("sllv", "sll"),
-    ("srlv", "srl"),
-    ("srav", "sra"),
 ];

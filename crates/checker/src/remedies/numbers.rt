@@ -1,7 +1,8 @@
 //! Remedies of numbers, and of operations with one.
 
 use super::super::statements::Statement;
-use super::lists::{NUMBERED, WITH_NUMBER, row_of};
+use super::lists::row_of;
+use super::numbered::{COMPARED, NUMBERED, WITH_LAST};
 use super::sentences::{Remedy, naming, said};
 use lexical::{begins_number, number_in};
 
@@ -20,14 +21,13 @@ pub(crate) fn other_form(word: &[u8], is_number: bool) -> Option<&'static str> {
     None
 }
 
-/// The sentence for an operation of three operands of which one is a number.
+/// The sentence for an operation of three operands of which the last is a number, or the second.
 pub(crate) fn with_number(statement: &Statement<'_>) -> Option<&'static str> {
     let [_, second, third] = statement.operands;
-    let is_one = begins_number(second) || begins_number(third);
-    if is_one && statement.count == 3 {
-        row_of(&WITH_NUMBER, statement.word)
-    } else {
-        None
+    match statement.count {
+        3 if begins_number(third) => row_of(&WITH_LAST, statement.word),
+        3 if begins_number(second) => row_of(&COMPARED, statement.word),
+        _ => None,
     }
 }
 
