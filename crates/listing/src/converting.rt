@@ -2,7 +2,7 @@
 ghost use Rattle.std.specs.Prelude.{◌≡◌, ◌-◌, ◌^◌, ◌<◌, IfErr, IfOk, OnOk, string_bytes};
 ghost use Rattle.counted_io.specs.Counted.{failures_of};
 ghost use Rattle.counted_io.specs.Replies.{HasReplied};
-ghost use Rattle.listing.specs.Listings.{IsListingOf, IsUnlisted, IsNoFailure, most_of_file};
+ghost use Rattle.listing.specs.Listings.{IsListingOf, IsReasonFor, IsUnlisted, most_of_file};
 
 use crate::no_listing::NoListing;
 use counted_io::{Counted, read_up_to, write_whole};
@@ -25,7 +25,7 @@ pub fn convert<R: Read, W: Write>(
     // What was written whole is a listing of the reader's bytes.
     ensures ok { OnOk result (HasReplied R.remaining W.contents most_of_file
         reader.old reader.new writer.old writer.new IsListingOf) }
-    // Each device is blamed for one failed call, and only then.
+    // A device is blamed for one failed call, and only then; a refusal is that of the reader's bytes.
     ensures err { IfErr result (IsUnlisted R.remaining W.contents
         reader.old reader.new writer.old writer.new) }
 {
@@ -38,7 +38,7 @@ pub fn convert<R: Read, W: Write>(
 // The listing of a file, if that is not too long.
 fn listing(alloc: Global, file: &[u8]) -> Result<String, NoListing>
     ensures ok { IfOk result (λ text. IsListingOf file.now (string_bytes text)) }
-    ensures err { IfErr result IsNoFailure }
+    ensures err { IfErr result (IsReasonFor file.now) }
 {
     if file.len() >= MOST_TAKEN {
         return Err(NoListing::TooLong);

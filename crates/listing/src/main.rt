@@ -79,13 +79,13 @@ fn write_listing_of<R: Read + Drop>(rt: &HostRuntime, file: &str, input: R) -> E
     }
 }
 
-// The words of the command line, of which the first is the program's name.
-fn words(rt: &HostRuntime) -> Result<Vec<String>, u8> {
+// The words of the command line, of which the first is the program's name, or the exit status and what to print.
+fn words(rt: &HostRuntime) -> Result<Vec<String>, (u8, &'static str)> {
     match env::args(rt) {
-        Ok(words) => words.collect(rt.alloc()).map_err(|_| 5),
+        Ok(words) => words.collect(rt.alloc()).map_err(|_| (5, "ruu: memory")),
         Err(error) => Err(match error.kind() {
-            ErrorKind::OutOfMemory => 5,
-            _ => 3,
+            ErrorKind::OutOfMemory => (5, "ruu: memory"),
+            _ => (3, "error: a word is no UTF-8"),
         }),
     }
 }
@@ -96,7 +96,10 @@ fn main(rt: HostRuntime) -> ExitCode {
     };
     let words = match words(&rt) {
         Ok(words) => words,
-        Err(status) => return ExitCode::from(status),
+        Err((status, why)) => {
+            let _ = eprintln!(rt; "{why}");
+            return ExitCode::from(status);
+        }
     };
     match requested(words.as_slice()) {
         Some(Request::Help) => {
