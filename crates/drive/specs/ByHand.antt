@@ -1,5 +1,5 @@
 -- What is told where a unit is driven by hand.
-use Rattle.std.specs.Prelude.{◌≡◌, ◌⊎◌, ◌<◌, ℕ, Bool, true, false, List, Option, None, Some, Result, Ok, Err, length, take}
+use Rattle.std.specs.Prelude.{◌≡◌, ◌⊎◌, ◌<◌, ℕ, min, Bool, true, false, List, Option, None, Some, Result, Ok, Err, length, take}
 use Rattle.std.specs.Io.KnownBytes.{Appends}
 use Rattle.isa.specs.declared.listing.fault.FaultKind.{FaultKind}
 use Rattle.instructions.specs.Programs.{Program}
@@ -9,11 +9,15 @@ use Rattle.session.specs.Plays.{HasPlayedPart, IsPlayed}
 use Rattle.session.specs.Scripts.{HasBroken, HasDriven, HasTold}
 use Rattle.command_line.specs.declared.request.ByHand.{ByHand}
 
+-- how many commands a seed chooses at most
+abbrev pub most_chosen : ByHand → ℕ
+most_chosen hand = min hand.steps 1000000
+
 -- all commands were answered: those of a script, each line of which is a command or not, or those that a seed chooses
-abbrev pub AreAnswered : Option ℕ → (echo : Bool) → (first last : TheSession)
+abbrev pub AreAnswered : Option ℕ → (steps : ℕ) → (echo : Bool) → (first last : TheSession)
     → (script before after : Option (List ℕ)) → (each : Bool) → Type 0
-AreAnswered None echo first last script before after each = HasDriven echo script first last before after each
-AreAnswered (Some seed) echo first last script before after each = IsPlayed seed first last before after × (each ≡ true)
+AreAnswered None steps echo first last script before after each = HasDriven echo script first last before after each
+AreAnswered (Some seed) steps echo first last script before after each = IsPlayed seed steps first last before after × (each ≡ true)
 
 -- the status, which tells whether each line of a script was a command
 abbrev pub script_status : Bool → ℕ
@@ -27,10 +31,10 @@ AreSomeAnswered None echo first script before after = HasTold echo script first 
 AreSomeAnswered (Some seed) echo first script before after = after ≡ before
 
 -- some commands were answered, and of the answer to one more a proper beginning was written
-abbrev pub IsAnswerBroken : Option ℕ → (echo : Bool) → (first : TheSession)
+abbrev pub IsAnswerBroken : Option ℕ → (steps : ℕ) → (echo : Bool) → (first : TheSession)
     → (script before after : Option (List ℕ)) → Type 0
-IsAnswerBroken None echo first script before after = HasBroken echo script first before after
-IsAnswerBroken (Some seed) echo first script before after = HasPlayedPart seed first before after
+IsAnswerBroken None steps echo first script before after = HasBroken echo script first before after
+IsAnswerBroken (Some seed) steps echo first script before after = HasPlayedPart seed steps first before after
 
 -- all commands of a script were answered, for a program from its start on
 pub record IsTranscriptOf (hand : ByHand) (P : Program) (status : ℕ) (script before after : Option (List ℕ)) :
@@ -40,7 +44,7 @@ pub record IsTranscriptOf (hand : ByHand) (P : Program) (status : ℕ) (script b
   pub first : TheSession
   pub last : TheSession
   pub starts : IsStartOfSession P hand.config first
-  pub driven : AreAnswered hand.seed hand.echo first last script before after each
+  pub driven : AreAnswered hand.seed (most_chosen hand) hand.echo first last script before after each
 
 -- what is told for a listing and a script: a transcript, or the fault of the listing
 abbrev pub IsDriven : ByHand → Result Program (ℕ × FaultKind) → (status : ℕ)
@@ -64,7 +68,7 @@ WasBrokenOff hand (Err f) script before after = after ≡ before
 pub record HasBrokenOff (hand : ByHand) (P : Program) (script before after : Option (List ℕ)) : Type 0 where
   pub first : TheSession
   pub starts : IsStartOfSession P hand.config first
-  pub broken : IsAnswerBroken hand.seed hand.echo first script before after
+  pub broken : IsAnswerBroken hand.seed (most_chosen hand) hand.echo first script before after
 
 -- a proper beginning of a text was written
 pub record IsPart (text : List ℕ) (before after : Option (List ℕ)) : Type 0 where

@@ -3,7 +3,7 @@ ghost use Rattle.std.specs.Prelude.{◌≡◌, ◌≢◌, ◌+◌, ◌-◌, ◌^
 ghost use Rattle.isa.specs.Listing.{listing};
 ghost use Rattle.counted_io.specs.Counted.{failures_of, known_by};
 ghost use Rattle.session.specs.Scripts.{write_failures};
-ghost use Rattle.drive.specs.ByHand.{AreAnswered, AreSomeAnswered, IsAnswerBroken, script_status};
+ghost use Rattle.drive.specs.ByHand.{AreAnswered, AreSomeAnswered, IsAnswerBroken, script_status, most_chosen};
 ghost use Rattle.drive.specs.Replies.{HasAnswered, IsLeftByHand, IsUndrivenBy, listing_from};
 ghost use Rattle.command_line.specs.Predictors.{IsChosen};
 ghost use Rattle.command_line.specs.Replies.{IfRefused};
@@ -159,8 +159,8 @@ fn tell<J: Naming, T: Wait, I: BufRead, W: Write>(
     writer: &mut Counted<W>,
 ) -> Result<bool, Fault>
     requires { failures_of writer.old < 2 ^ 64 - 1 }
-    ensures ok { IfOk result (AreAnswered hand.now.seed hand.now.echo session.old session.new
-        (I.remaining script.old) (known_by W.contents writer.old)
+    ensures ok { IfOk result (AreAnswered hand.now.seed (most_chosen hand.now) hand.now.echo
+        session.old session.new (I.remaining script.old) (known_by W.contents writer.old)
         (known_by W.contents writer.new)) }
     ensures quiet { OnOk result (failures_of writer.new ≡ failures_of writer.old) }
     ensures write { IfErr result (λ fault.
@@ -170,8 +170,8 @@ fn tell<J: Naming, T: Wait, I: BufRead, W: Write>(
         (I.remaining script.old) (known_by W.contents writer.old)
         (known_by W.contents writer.new)) }
     ensures broken { IfErr result (λ fault. fault ≡ Fault.Write →
-        IsAnswerBroken hand.now.seed hand.now.echo session.old
-        (I.remaining script.old) (known_by W.contents writer.old)
+        IsAnswerBroken hand.now.seed (most_chosen hand.now) hand.now.echo
+        session.old (I.remaining script.old) (known_by W.contents writer.old)
         (known_by W.contents writer.new)) }
 {
     match hand.seed {

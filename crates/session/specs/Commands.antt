@@ -9,8 +9,8 @@ use Rattle.session.specs.declared.commands.Command.{Command}
 use Rattle.session.specs.declared.commands.Command.TheVariants as call
 use Rattle.session.specs.declared.verbs.Verb.{Verb}
 use Rattle.session.specs.declared.verbs.Verb.TheVariants.{Claim, Commit, Creator, Finish, Help, Info, Learn, Link, List as Listing, Look, Meet, Operand, Queue, Quit, Recover, Refresh, Renew, Report, Rest, Ring, Show, Station, Step, Table, Take, Touched, Turn, Until}
-use Rattle.session.specs.declared.operands.Which.{Which}
-use Rattle.session.specs.declared.operands.Which.TheVariants.{First, Second}
+use Rattle.inorder.specs.declared.history.Source.{Source}
+use Rattle.inorder.specs.declared.history.Source.TheVariants.{First, Second}
 use Rattle.session.specs.declared.parties.Party.{Party}
 use Rattle.session.specs.declared.parties.Party.TheVariants as party
 use Rattle.session.specs.Units.{unit_named}
@@ -104,16 +104,16 @@ abbrev pub unit_and_number : Texts → Option (ℕ × ℕ)
 unit_and_number w = if has_two w then both (unit_named w.first) (whole_number w.second) else None
 
 -- The source with this number, 1 or 2
-abbrev pub source_numbered : Option ℕ → Option Which
+abbrev pub source_numbered : Option ℕ → Option Source
 source_numbered None = None
 source_numbered (Some n) = if n == 1 then Some First else if n == 2 then Some Second else None
 
 -- The source that an operand names
-abbrev pub source_of : List ℕ → Option Which
+abbrev pub source_of : List ℕ → Option Source
 source_of text = source_numbered (whole_number text)
 
 -- The number of a station, and one of its two sources
-abbrev pub station_and_source : Texts → Option (ℕ × Which)
+abbrev pub station_and_source : Texts → Option (ℕ × Source)
 station_and_source w = if has_two w then both (whole_number w.first) (source_of w.second) else None
 
 -- The one with this name: the front, the back, or a unit

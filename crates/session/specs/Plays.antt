@@ -1,5 +1,5 @@
 -- Sessions that are driven by a seed.
-use Rattle.std.specs.Prelude.{◌≡◌, ◌⊎◌, ℕ, suc, ◌+◌, ◌%◌, true, List, [], ◌∷◌, ◌++◌, length, codes, decimal, Option, None, Some, slice_get, take, ◌<◌}
+use Rattle.std.specs.Prelude.{◌≡◌, ◌⊎◌, ℕ, suc, ◌+◌, ◌%◌, true, List, [], ◌∷◌, ◌++◌, length, codes, decimal, Option, None, Some, slice_get, take, ◌<◌, ◌≤◌}
 use Rattle.std.specs.Io.KnownBytes.{Appends}
 use Rattle.isa.specs.Report.{hexadecimal}
 use Rattle.rand_pcg.specs.Lcg.{Lcg}
@@ -74,9 +74,10 @@ pub record ArePlayed (begin : Lcg) (old new : TheSession) (text : List ℕ) (cou
   pub played : IsPlayOf begin old count text chooser middle
   pub looked : MayHaveLooked middle new
 
--- The transcript of a session that a seed drives: of its lines, and of a table and a report
-pub record HasPlayed (seed : ℕ) (old new : TheSession) (text : List ℕ) : Type 0 where
+-- The transcript of a session that a seed drives: of so many lines at most, and of a table and a report
+pub record HasPlayed (seed steps : ℕ) (old new : TheSession) (text : List ℕ) : Type 0 where
   pub count : ℕ
+  pub few : count ≤ steps
   pub before : List ℕ
   pub played : TheSession
   pub lines : ArePlayed (seeded seed) old played before count
@@ -86,16 +87,16 @@ pub record HasPlayed (seed : ℕ) (old new : TheSession) (text : List ℕ) : Typ
   pub report : IsWrittenBehind shown new (count + 2) (codes "report") between text
 
 -- The transcript of a session that a seed drives was written
-pub record IsPlayed (seed : ℕ) (old new : TheSession) (before after : Option (List ℕ)) : Type 0 where
+pub record IsPlayed (seed steps : ℕ) (old new : TheSession) (before after : Option (List ℕ)) : Type 0 where
   pub text : List ℕ
-  pub played : HasPlayed seed old new text
+  pub played : HasPlayed seed steps old new text
   pub written : Appends before after text
 
--- A proper beginning of it was written
-pub record HasPlayedPart (seed : ℕ) (old : TheSession) (before after : Option (List ℕ)) : Type 0 where
+-- A proper beginning of such a transcript was written
+pub record HasPlayedPart (seed steps : ℕ) (old : TheSession) (before after : Option (List ℕ)) : Type 0 where
   pub new : TheSession
   pub text : List ℕ
-  pub played : HasPlayed seed old new text
+  pub played : HasPlayed seed steps old new text
   pub count : ℕ
   pub part : count < length text
   pub written : Appends before after (take count text)

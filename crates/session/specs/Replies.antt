@@ -8,7 +8,7 @@ use Rattle.inorder.specs.declared.history.Source.TheVariants.{First, Second}
 use Rattle.inorder.specs.History.{front, unit_of}
 use Rattle.inorder.specs.OneHistory.{Adds}
 use Rattle.inorder.specs.Unit.{Sizes, front_half}
-use Rattle.back.specs.Backs.{TheBack, committed_in, unit_in}
+use Rattle.back.specs.Backs.{TheBack, back_state, committed_in, unit_in}
 use Rattle.back.specs.Commits.{CommitAnswers}
 use Rattle.back.specs.declared.answers.Commit.{Commit}
 use Rattle.back.specs.Refreshes.{RefreshAnswers}
@@ -32,8 +32,6 @@ use Rattle.station.specs.Looking.{SeesInfo, SeesLink, SeesOperand, SeesStation}
 use Rattle.station.specs.Moments.{WasOnce}
 use Rattle.station.specs.Claiming.{ClaimAnswers, Holds}
 use Rattle.station.specs.Seats.{Caller, TheCore}
-use Rattle.session.specs.declared.operands.Which.{Which}
-use Rattle.session.specs.declared.operands.Which.TheVariants as which
 use Rattle.session.specs.declared.replies.Info.{Info}
 use Rattle.session.specs.declared.replies.Refreshed.{Refreshed}
 use Rattle.ruu_words.specs.declared.link.LinkWord.{LinkWord}
@@ -98,11 +96,15 @@ abbrev pub HoldsWhatIs : TheCore → Caller → Claim → Type 0
 HoldsWhatIs core seat (Claimed job) = Holds core.program core.sizes seat.by seat.seen job
 HoldsWhatIs core seat claim = ⊤
 
+-- A commit, and right behind it the state that the back keeps
+pub record CommitSays (from to : TheBack) (before behind : List Entry) (commit : Commit) : Type 0 where
+  pub says : CommitAnswers (record from { seen = before }) (record to { seen = behind }) commit
+  pub state : back_state to ≡ committed_in to.core behind
+
 -- A commit by the back
 abbrev pub IsCommit : TheBack → TheBack → List Entry → List Entry → Commit → Type 0
 IsCommit from to old new commit =
-    IsBetween old new (λ before behind.
-    CommitAnswers (record from { seen = before }) (record to { seen = behind }) commit)
+    IsBetween old new (λ before behind. CommitSays from to before behind commit)
 
 -- A mark of what was committed at a moment
 abbrev pub IsShown : TheCore → List Entry → List Entry → Mark → Type 0
@@ -125,11 +127,6 @@ abbrev pub IsInfoSeen : TheCore → List Entry → List Entry → ℕ → Info �
 IsInfoSeen core old new station info =
     IsBetween old new (λ before behind.
     SeesInfo core.program core.sizes behind station info.index info.half info.predicted)
-
--- The source that a command names
-abbrev pub source_at : Which → Source
-source_at which.First = First
-source_at which.Second = Second
 
 -- The operand word of a source of a station
 abbrev pub IsOperandSeen : TheCore → List Entry → List Entry → ℕ → Source → Seen SourceState → Type 0

@@ -7,6 +7,7 @@ use Rattle.instructions.specs.Registers.{register_count}
 use Rattle.inorder.specs.declared.history.Entry.{Entry}
 use Rattle.inorder.specs.History.{IsLegal, back}
 use Rattle.instructions.specs.Histories.{StartsWith}
+use Rattle.inorder.specs.Machine.{start}
 use Rattle.inorder.specs.Runs.{state_in}
 use Rattle.back.specs.Backs.{IsSameBack, TheBack, back_state}
 use Rattle.back.specs.Ends.{ending_of}
@@ -29,7 +30,7 @@ use Rattle.session.specs.Units.{unit_count}
 use Rattle.session.specs.Accounts.{HasTurned, IsLinkTold, IsOperandTold}
 use Rattle.session.specs.Retiring.{HasCommittedTold}
 use Rattle.session.specs.Rows.{IsRingTold, IsRowSeen}
-use Rattle.session.specs.Replies.{IsCreatorNow, IsInfoSeen, IsLook, IsRecovery, IsRefresh, IsRest, IsShown, source_at}
+use Rattle.session.specs.Replies.{IsCreatorNow, IsInfoSeen, IsLook, IsRecovery, IsRefresh, IsRest, IsShown}
 use Rattle.session.specs.Renewals.{HasBegunAgain, HasStayed}
 use Rattle.session.specs.Workers.{AreWorkers, HasClaimedTold, UnitHasFinished, HasNone, StaySeen, job_at, seen_at, station_held}
 
@@ -73,7 +74,10 @@ pub record IsStartOfSession (P : Program) (config : Settings) (s : TheSession) :
   pub snapper : s.snapper ≡ 0
   pub mark : s.mark ≡ None
   pub told : s.told ≡ 0
+  pub touched : s.touched ≡ 0
   pub rested : s.rested ≡ false
+  pub going : s.commits.ended ≡ None
+  pub state : back_state s.commits ≡ start P
 
 -- A snapshot of the machine in order, behind every mark and every snapshot before it
 pub record HasTaken (old new : TheSession) (snap : Snap) : Type 0 where
@@ -176,8 +180,8 @@ MayRefuseCommand s (ask.Finish unit station) no.HoldsNone =
     (held : ℕ) → station_held s.units unit ≡ Some held → held ≢ station
 MayRefuseCommand s (ask.Look station) no.NoStation = s.core.sizes.ring ≤ station
 MayRefuseCommand s (ask.Info station) no.NoStation = s.core.sizes.ring ≤ station
-MayRefuseCommand s (ask.Operand station which) no.NoStation = s.core.sizes.ring ≤ station
-MayRefuseCommand s (ask.Link station which) no.NoStation = s.core.sizes.ring ≤ station
+MayRefuseCommand s (ask.Operand station k) no.NoStation = s.core.sizes.ring ≤ station
+MayRefuseCommand s (ask.Link station k) no.NoStation = s.core.sizes.ring ≤ station
 MayRefuseCommand s (ask.Station station) no.NoStation = s.core.sizes.ring ≤ station
 MayRefuseCommand s (ask.Creator register) no.NoRegister = register_count ≤ register
 MayRefuseCommand s ask.Learn no.NoMark = s.mark ≡ None
@@ -215,11 +219,11 @@ Answers old new (ask.Creator register) (say.Creator made) =
 Answers old new ask.Touched (say.Touched count) = (count ≡ old.touched) × (new ≡ old)
 Answers old new (ask.Info station) (say.Info info) =
     IsInfoSeen old.core old.seen new.seen station info × KeepsCommits old new
-Answers old new (ask.Operand station which) (say.Operand told operand) =
-    (told ≡ which)
-    × IsOperandTold old.core old.seen new.seen station (source_at which) operand × KeepsCommits old new
-Answers old new (ask.Link station which) (say.Link from) =
-    IsLinkTold old.core old.seen new.seen station (source_at which) from × KeepsCommits old new
+Answers old new (ask.Operand station k) (say.Operand told operand) =
+    (told ≡ k)
+    × IsOperandTold old.core old.seen new.seen station k operand × KeepsCommits old new
+Answers old new (ask.Link station k) (say.Link from) =
+    IsLinkTold old.core old.seen new.seen station k from × KeepsCommits old new
 Answers old new (ask.Station station) (say.Station row) =
     IsRowSeen old.core old.seen new.seen old.units station row × KeepsCommits old new
 Answers old new ask.Ring (say.Ring head ahead) =
@@ -259,8 +263,8 @@ after_command (ask.Look station) old new = record old { seen = new.seen; fronts 
 after_command (ask.Creator register) old new = record old { seen = new.seen; fronts = new.fronts }
 after_command ask.Touched old new = old
 after_command (ask.Info station) old new = record old { seen = new.seen; commits = new.commits }
-after_command (ask.Operand station which) old new = record old { seen = new.seen; commits = new.commits }
-after_command (ask.Link station which) old new = record old { seen = new.seen; commits = new.commits }
+after_command (ask.Operand station k) old new = record old { seen = new.seen; commits = new.commits }
+after_command (ask.Link station k) old new = record old { seen = new.seen; commits = new.commits }
 after_command (ask.Station station) old new = record old { seen = new.seen; commits = new.commits }
 after_command ask.Ring old new =
     record old { seen = new.seen; commits = new.commits; fronts = new.fronts }

@@ -35,8 +35,6 @@ use Rattle.station.specs.declared.answers.Seen.{Seen}
 use Rattle.station.specs.declared.answers.SourceState.{SourceState}
 use Rattle.station.specs.declared.answers.SourceState.TheVariants as source
 use Rattle.session.specs.declared.producers.Producer.{Producer}
-use Rattle.session.specs.declared.operands.Which.{Which}
-use Rattle.session.specs.declared.operands.Which.TheVariants as which_of
 use Rattle.session.specs.declared.replies.Ahead.{Ahead}
 use Rattle.session.specs.declared.replies.Finished.{Finished}
 use Rattle.session.specs.declared.replies.Head.{Head}
@@ -265,25 +263,25 @@ seen_operand_text state value from =
     operand_state_text state ++ (codes " value " ++ hexadecimal value)
 
 -- The number of an operand
-abbrev pub which_number : Which → ℕ
-which_number which_of.First = 1
-which_number which_of.Second = 2
+abbrev pub source_number : Source → ℕ
+source_number First = 1
+source_number Second = 2
 
 -- An instruction reads this source
-abbrev pub reads : Option Instr → Which → Bool
-reads None which = true
-reads (Some i) which = is_some (source_register (which_number which) i)
+abbrev pub reads : Option Instr → Source → Bool
+reads None k = true
+reads (Some i) k = is_some (source_register (source_number k) i)
 
 -- An operand, if the instruction of its info word reads it
-abbrev pub operand_words : Program → Which → Operand → List ℕ
-operand_words P which o =
-    if reads (indexed P o.info.index) which
+abbrev pub operand_words : Program → Source → Operand → List ℕ
+operand_words P k o =
+    if reads (indexed P o.info.index) k
     then seen_operand_text o.seen.state o.seen.value o.from else codes "NONE"
 
 -- The text of a look at an operand
-abbrev pub told_operand_text : Program → Which → Operand → List ℕ
-told_operand_text P which o =
-    codes "Seen tag " ++ (decimal o.seen.tag ++ (codes " state " ++ operand_words P which o))
+abbrev pub told_operand_text : Program → Source → Operand → List ℕ
+told_operand_text P k o =
+    codes "Seen tag " ++ (decimal o.seen.tag ++ (codes " state " ++ operand_words P k o))
 
 -- The text of a producer by the link words
 abbrev pub link_text : Option Producer → List ℕ
@@ -336,8 +334,8 @@ word_text row = state_words row.seen ++ holder_text row.unit
 abbrev pub station_text : Program → Row → List ℕ
 station_text P row =
     ((((word_text row ++ instr_info P row.first.info) ++ codes "; 1 ")
-    ++ operand_words P which_of.First row.first) ++ codes "; 2 ")
-    ++ operand_words P which_of.Second row.second
+    ++ operand_words P First row.first) ++ codes "; 2 ")
+    ++ operand_words P Second row.second
 
 -- A station, or that there is none
 abbrev pub some_station : Option ℕ → List ℕ
@@ -385,7 +383,7 @@ reply_text P (say.Look seen) = look_text seen
 reply_text P (say.Creator made) = made_text made
 reply_text P (say.Touched count) = decimal count
 reply_text P (say.Info info) = info_text P info
-reply_text P (say.Operand which operand) = told_operand_text P which operand
+reply_text P (say.Operand k operand) = told_operand_text P k operand
 reply_text P (say.Link from) = link_text from
 reply_text P (say.Station row) = station_text P row
 reply_text P (say.Ring head ahead) = ring_text head ahead

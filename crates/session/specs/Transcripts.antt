@@ -24,20 +24,20 @@ abbrev pub operands_of_verb : Verb → List ℕ
 operands_of_verb verb.Turn = codes "no operand, or a pc"
 operands_of_verb verb.Step = codes "a number of instructions"
 operands_of_verb verb.Until = codes "a pc"
-operands_of_verb verb.Claim = codes "a unit and a station"
-operands_of_verb verb.Finish = codes "a unit and a station"
+operands_of_verb verb.Claim = codes "a unit, A to Z or AA to BL, and a station"
+operands_of_verb verb.Finish = codes "a unit, A to Z or AA to BL, and a station"
 operands_of_verb verb.Look = codes "a station"
 operands_of_verb verb.Info = codes "a station"
 operands_of_verb verb.Station = codes "a station"
-operands_of_verb verb.Operand = codes "a station and a source"
-operands_of_verb verb.Link = codes "a station and a source"
-operands_of_verb verb.Creator = codes "a register"
+operands_of_verb verb.Operand = codes "a station and a source, 1 or 2"
+operands_of_verb verb.Link = codes "a station and a source, 1 or 2"
+operands_of_verb verb.Creator = codes "a register, as $t0, $8 or 8"
 operands_of_verb verb.Meet = codes "two of front, back and units"
 operands_of_verb _ = codes "no operand"
 
 -- The text for a line whose first word is none of a command
 abbrev pub unknown_text : ℕ → List ℕ
-unknown_text number = codes "line " ++ (decimal number ++ codes ": unknown word\n")
+unknown_text number = codes "line " ++ (decimal number ++ codes ": unknown word; help lists the commands\n")
 
 -- The text for a line whose operands are none of its command
 abbrev pub wants_text : ℕ → Verb → List ℕ

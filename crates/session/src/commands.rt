@@ -4,12 +4,12 @@ ghost use Rattle.session.specs.Commands.{command_of, turn_of};
 ghost use Rattle.session.specs.Words.{texts_of};
 
 use crate::operands::{
-    Which, bare, only_number, only_pc, only_register, station_and_source, two_parties,
-    unit_and_number,
+    bare, only_number, only_pc, only_register, station_and_source, two_parties, unit_and_number,
 };
 use crate::parties::Party;
 use crate::verbs::Verb;
 use crate::words::Words;
+use station::Source;
 
 /// A call to make. A unit is named by its place, from 0 on.
 #[derive(Clone, Copy)]
@@ -28,8 +28,8 @@ pub enum Command {
     Creator(u32),
     Touched,
     Info(u32),
-    Operand(u32, Which),
-    Link(u32, Which),
+    Operand(u32, Source),
+    Link(u32, Source),
     Station(u32),
     Ring,
     Rest,

@@ -4,8 +4,9 @@ ghost use Rattle.session.specs.Help.{help_text};
 
 use std::alloc::{AllocError, Global};
 
-/// A line for each command. U is a unit, A to Z and AA to BL; S a station; K 1 or 2; R a register.
+/// What the letters of operands stand for, and a line for each command.
 pub const HELP: &str = "\
+U is a unit, A to Z or AA to BL; S a station; K 1 or 2; R a register; PC an address; N a number
 turn          lets the next instruction
 turn PC       lets it with the guess PC, where the predictor would be asked for its next pc
 recover       repairs the oldest misprediction
@@ -21,7 +22,7 @@ info S        the info word of station S
 creator R     who makes register R: a name of listings, or its number, 32 for lo, 33 for hi
 ring          the oldest tenant's station, the next one's, and the next pc
 queue         the loads and stores in flight: address, data, and what blocks a load
-step N        turns of the one-thread unit, until N instructions have retired
+step N        turns of the one-thread unit, until N instructions have retired, 1000000 turns at most
 until PC      turns, until the instruction at PC is the next to retire
 table         a line for each station that is not free, the create vector, the ring
 report        the committed state, as a run reports it

@@ -47,7 +47,6 @@ mod working;
 pub use commands::Command;
 pub use lines::told;
 pub use names::{UNITS, unit_in};
-pub use operands::Which;
 pub use parties::Party;
 pub use play::write_play;
 pub use producers::Producer;

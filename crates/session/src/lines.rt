@@ -23,10 +23,10 @@ fn operands(verb: Verb) -> &'static str
         Verb::Turn => "no operand, or a pc",
         Verb::Step => "a number of instructions",
         Verb::Until => "a pc",
-        Verb::Claim | Verb::Finish => "a unit and a station",
+        Verb::Claim | Verb::Finish => "a unit, A to Z or AA to BL, and a station",
         Verb::Look | Verb::Info | Verb::Station => "a station",
-        Verb::Operand | Verb::Link => "a station and a source",
-        Verb::Creator => "a register",
+        Verb::Operand | Verb::Link => "a station and a source, 1 or 2",
+        Verb::Creator => "a register, as $t0, $8 or 8",
         Verb::Meet => "two of front, back and units",
         _ => "no operand",
     }
@@ -35,7 +35,7 @@ fn operands(verb: Verb) -> &'static str
 fn unknown(alloc: Global, number: u64) -> Result<String, AllocError>
     ensures { IfOk result (λ text. string_bytes text ≡ unknown_text number) }
 {
-    format!(in alloc; "line {number}: unknown word\n")
+    format!(in alloc; "line {number}: unknown word; help lists the commands\n")
 }
 
 fn wants(alloc: Global, number: u64, verb: Verb) -> Result<String, AllocError>

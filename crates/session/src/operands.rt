@@ -7,13 +7,7 @@ use crate::names::{register_in, unit_in};
 use crate::parties::{Party, party_in};
 use crate::words::Words;
 use lexical::decimal_in;
-
-/// Source 1 or source 2 of an instruction.
-#[derive(Clone, Copy)]
-pub enum Which {
-    First,
-    Second,
-}
+use station::Source;
 
 fn has_one(words: &Words<'_>) -> bool
     ensures { result ≡ has_one (texts_of words.now) }
@@ -90,18 +84,18 @@ pub(crate) fn unit_and_number(words: &Words<'_>) -> Option<(usize, u32)>
 }
 
 // The source of this number, 1 or 2.
-fn source_in(text: &[u8]) -> Option<Which>
+fn source_in(text: &[u8]) -> Option<Source>
     ensures { result ≡ source_of text.now }
 {
     match number_in(text)? {
-        1 => Some(Which::First),
-        2 => Some(Which::Second),
+        1 => Some(Source::First),
+        2 => Some(Source::Second),
         _ => None,
     }
 }
 
 /// The number of a station, and one of its two sources.
-pub(crate) fn station_and_source(words: &Words<'_>) -> Option<(u32, Which)>
+pub(crate) fn station_and_source(words: &Words<'_>) -> Option<(u32, Source)>
     ensures { result ≡ station_and_source (texts_of words.now) }
 {
     if !has_two(words) {

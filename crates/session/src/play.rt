@@ -1,5 +1,5 @@
 //! A session that is driven by a seed.
-ghost use Rattle.std.specs.Prelude.{◌≡◌, ◌≢◌, ◌<◌, ◌+◌, ◌-◌, ◌^◌, ◌%◌, IfErr, IfOk, IfSome, OnOk, [], length, slice_get, string_bytes};
+ghost use Rattle.std.specs.Prelude.{◌≡◌, ◌≢◌, ◌<◌, ◌≤◌, ◌+◌, ◌-◌, ◌^◌, ◌%◌, IfErr, IfOk, IfSome, OnOk, [], length, slice_get, string_bytes};
 ghost use Rattle.counted_io.specs.Counted.{failures_of, known_by};
 ghost use Rattle.session.specs.Plays.{ArePlayed, HasPlayed, HasPlayedPart, IsChosenLine, IsPlayed, IsWrittenBehind, MayHaveLooked, command_text, unit_command};
 ghost use Rattle.session.specs.Scripts.{write_failures};
@@ -18,7 +18,7 @@ use std::alloc::{AllocError, Global};
 use std::io::Write;
 use std::sync::Wait;
 
-// There are no more commands to choose from: at most one a station, one a unit, a turn and a commit.
+// The most commands to choose from: one a station, one a unit, a turn and a commit.
 const MOST_CHOICES: usize = 64;
 
 // A command of a unit, as a script has it.
@@ -110,7 +110,7 @@ fn push_lines<P: Predictor + Drop, J: Naming, R: Wait>(
     requires steps { steps < 2 ^ 32 }
     requires empty { out.old.items ≡ [] }
     ensures played { IfOk result (ArePlayed chooser.old session.old session.new out.new.items) }
-    ensures few { IfOk result (λ count. count < 2 ^ 32) }
+    ensures few { IfOk result (λ count. count ≤ steps) }
 {
     for number in 0..steps {
         match chosen(alloc, session, chooser)? {
@@ -134,7 +134,7 @@ pub(crate) fn play<P: Predictor + Drop, J: Naming, R: Wait>(
     steps: u64,
 ) -> Result<Vec<u8>, AllocError>
     requires { steps < 2 ^ 32 }
-    ensures { IfOk result (λ text. HasPlayed seed session.old session.new text.items) }
+    ensures { IfOk result (λ text. HasPlayed seed steps session.old session.new text.items) }
 {
     let mut out = Vec::new(alloc);
     let mut chooser = Seeded::new(seed);
@@ -155,14 +155,14 @@ pub fn write_play<P: Predictor + Drop, J: Naming, R: Wait, W: Write>(
 ) -> Result<(), Fault>
     requires steps { steps < 2 ^ 32 }
     requires room { failures_of writer.old < 2 ^ 64 - 1 }
-    ensures ok { OnOk result (IsPlayed seed session.old session.new
+    ensures ok { OnOk result (IsPlayed seed steps session.old session.new
         (known_by W.contents writer.old) (known_by W.contents writer.new)) }
     ensures quiet { OnOk result (failures_of writer.new ≡ failures_of writer.old) }
     ensures write { IfErr result (λ fault.
         failures_of writer.new ≡ failures_of writer.old + write_failures fault) }
     ensures silent { IfErr result (λ fault. fault ≢ Fault.Write → writer.new ≡ writer.old) }
     ensures broken { IfErr result (λ fault. fault ≡ Fault.Write →
-        HasPlayedPart seed session.old
+        HasPlayedPart seed steps session.old
         (known_by W.contents writer.old) (known_by W.contents writer.new)) }
 {
     let text = play(wait, alloc, session, seed, steps)?;

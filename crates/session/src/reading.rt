@@ -22,9 +22,9 @@ pub enum Goal {
 pub enum Line {
     /// The line has no word, or none before a `#`.
     Nothing,
-    /// The first word of the line is none of a command.
+    /// The line begins with no command.
     Unknown,
-    /// The operands of the line are none of this command.
+    /// The line has operands that this command does not take.
     Wants(Verb),
     Asks(Command),
     /// All stations, and who creates which register.

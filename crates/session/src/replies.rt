@@ -1,11 +1,10 @@
 //! What a session answers.
-use crate::operands::Which;
 use crate::producers::Producer;
 use crate::units::Claimed;
 use back::{Commit, Mark, Refresh, Snap};
 use front::{Made, Recovery, Rest, Turn};
 use instructions::{End, Half};
-use station::{Finish, Seen, SourceState, StationState};
+use station::{Finish, Seen, Source, SourceState, StationState};
 
 /// Why a command is not allowed. Nothing is done then.
 #[derive(Clone, Copy)]
@@ -110,7 +109,7 @@ pub enum Reply {
     Creator(Made),
     Touched(u64),
     Info(Info),
-    Operand(Which, Operand),
+    Operand(Source, Operand),
     /// The producer that a source waits for, by the link words.
     Link(Option<Producer>),
     Station(Row),

@@ -2,12 +2,12 @@
 ghost use Rattle.std.specs.Prelude.{◌≡◌, ◌++◌, ◌<◌, IfOk, OnOk, string_bytes};
 ghost use Rattle.session.specs.Texts.{holder_text, letter_text, ring_text, some_station, station_text, unit_text, word_text};
 
-use crate::operands::Which;
 use crate::replies::{Ahead, Head, Row};
 use crate::texts::state;
 use crate::word_texts::{push_operand, push_tenant};
 use instructions::Program;
 use isa::Hexadecimal;
+use station::Source;
 use std::alloc::{AllocError, Global};
 
 fn letter(at: usize) -> &'static str
@@ -91,9 +91,9 @@ pub(crate) fn station_text(
     push_word(&mut out, row)?;
     push_tenant(&mut out, program, &row.first.info)?;
     out.push_str("; 1 ")?;
-    push_operand(&mut out, program, Which::First, &row.first)?;
+    push_operand(&mut out, program, Source::First, &row.first)?;
     out.push_str("; 2 ")?;
-    push_operand(&mut out, program, Which::Second, &row.second)?;
+    push_operand(&mut out, program, Source::Second, &row.second)?;
     Ok(out)
 }
 

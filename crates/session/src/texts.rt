@@ -201,7 +201,7 @@ pub fn text_of(alloc: Global, program: &Program, reply: &Reply) -> Result<String
         Reply::Creator(made) => made_text(alloc, *made),
         Reply::Touched(count) => format!(in alloc; "{count}"),
         Reply::Info(info) => info_text(alloc, program, info),
-        Reply::Operand(which, operand) => told_operand_text(alloc, program, *which, operand),
+        Reply::Operand(k, operand) => told_operand_text(alloc, program, *k, operand),
         Reply::Link(from) => link_text(alloc, *from),
         Reply::Station(row) => station_text(alloc, program, row),
         Reply::Ring(head, ahead) => ring_text(alloc, head, ahead),

@@ -1,16 +1,15 @@
 //! The texts of what is read of words, and of a rest.
 ghost use Rattle.std.specs.Prelude.{◌≡◌, ◌++◌, IfOk, OnOk, string_bytes};
-ghost use Rattle.session.specs.Texts.{info_text, info_words, instr_info, link_text, operand_state_text, operand_words, reads, rest_text, seen_operand_text, told_operand_text, which_number};
+ghost use Rattle.session.specs.Texts.{info_text, info_words, instr_info, link_text, operand_state_text, operand_words, reads, rest_text, seen_operand_text, told_operand_text, source_number};
 
 use crate::instruction_texts::{indexed, push_from, push_instr};
-use crate::operands::Which;
 use crate::producers::Producer;
 use crate::replies::{Info, Operand};
 use crate::texts::half;
 use front::Rest;
 use instructions::{Instr, Program};
 use isa::Hexadecimal;
-use station::SourceState;
+use station::{Source, SourceState};
 use std::alloc::{AllocError, Global};
 
 fn operand_state(state: SourceState) -> &'static str
@@ -23,20 +22,20 @@ fn operand_state(state: SourceState) -> &'static str
     }
 }
 
-fn which_number(which: Which) -> u32
-    ensures { result ≡ which_number which }
+fn source_number(k: Source) -> u32
+    ensures { result ≡ source_number k }
 {
-    match which {
-        Which::First => 1,
-        Which::Second => 2,
+    match k {
+        Source::First => 1,
+        Source::Second => 2,
     }
 }
 
-fn reads(instr: Option<Instr>, which: Which) -> bool
-    ensures { result ≡ reads instr which }
+fn reads(instr: Option<Instr>, k: Source) -> bool
+    ensures { result ≡ reads instr k }
 {
     match instr {
-        Some(instr) => instr.source(which_number(which)).is_some(),
+        Some(instr) => instr.source(source_number(k)).is_some(),
         None => true,
     }
 }
@@ -59,13 +58,13 @@ fn push_seen(out: &mut String, operand: &Operand) -> Result<(), AllocError>
 pub(crate) fn push_operand(
     out: &mut String,
     program: &Program,
-    which: Which,
+    k: Source,
     operand: &Operand,
 ) -> Result<(), AllocError>
     ensures { OnOk result (string_bytes out.new
-        ≡ string_bytes out.old ++ operand_words program.now which operand.now) }
+        ≡ string_bytes out.old ++ operand_words program.now k operand.now) }
 {
-    if reads(indexed(program, operand.info.index), which) {
+    if reads(indexed(program, operand.info.index), k) {
         push_seen(out, operand)
     } else {
         out.push_str("NONE")
@@ -76,15 +75,15 @@ pub(crate) fn push_operand(
 pub(crate) fn told_operand_text(
     alloc: Global,
     program: &Program,
-    which: Which,
+    k: Source,
     operand: &Operand,
 ) -> Result<String, AllocError>
     ensures { IfOk result (λ text.
-        string_bytes text ≡ told_operand_text program.now which operand.now) }
+        string_bytes text ≡ told_operand_text program.now k operand.now) }
 {
     let tag = operand.seen.tag;
     let mut out = format!(in alloc; "Seen tag {tag} state ")?;
-    push_operand(&mut out, program, which, operand)?;
+    push_operand(&mut out, program, k, operand)?;
     Ok(out)
 }
 

@@ -1,24 +1,13 @@
 //! What a session reads, of words and of the create vector.
 ghost use Rattle.std.specs.Prelude.{◌≡◌};
-ghost use Rattle.session.specs.Replies.{source_at};
 
 use super::Session;
 use crate::names::register_of;
-use crate::operands::Which;
 use crate::replies::{Refusal, Reply};
 use crate::{accounts, front_calls, producers, reads, rows};
 use back::Naming;
 use instructions::Predictor;
 use station::Source;
-
-fn source(which: Which) -> Source
-    ensures { result ≡ source_at which }
-{
-    match which {
-        Which::First => Source::First,
-        Which::Second => Source::Second,
-    }
-}
 
 impl<'a, P: Predictor + Drop, J: Naming> Session<'a, P, J> {
     ghost use Rattle.std.specs.Prelude.{◌≡◌};
@@ -70,32 +59,28 @@ impl<'a, P: Predictor + Drop, J: Naming> Session<'a, P, J> {
         Reply::Info(reads::info(core, all, back, station as usize))
     }
 
-    pub(super) fn operand(&mut self, station: u32, which: Which) -> Reply
+    pub(super) fn operand(&mut self, station: u32, k: Source) -> Reply
         ensures grows { GrowsLegally self.old.core self.old.seen self.new.seen }
-        ensures kept { self.new ≡ after_command (Operand station which) self.old self.new }
-        ensures reply { Answers self.old self.new (Operand station which) result }
+        ensures kept { self.new ≡ after_command (Operand station k) self.old self.new }
+        ensures reply { Answers self.old self.new (Operand station k) result }
     {
         if self.core.ring() <= station as usize {
             return Reply::Refused(Refusal::NoStation);
         }
         let (core, all, back) = (&self.core, &mut self.all, &mut self.back);
-        let k = source(which);
-        Reply::Operand(
-            which,
-            accounts::operand(core, all, back, station as usize, k),
-        )
+        let operand = accounts::operand(core, all, back, station as usize, k);
+        Reply::Operand(k, operand)
     }
 
-    pub(super) fn link(&mut self, station: u32, which: Which) -> Reply
+    pub(super) fn link(&mut self, station: u32, k: Source) -> Reply
         ensures grows { GrowsLegally self.old.core self.old.seen self.new.seen }
-        ensures kept { self.new ≡ after_command (Link station which) self.old self.new }
-        ensures reply { Answers self.old self.new (Link station which) result }
+        ensures kept { self.new ≡ after_command (Link station k) self.old self.new }
+        ensures reply { Answers self.old self.new (Link station k) result }
     {
         if self.core.ring() <= station as usize {
             return Reply::Refused(Refusal::NoStation);
         }
         let (core, all, back) = (&self.core, &mut self.all, &mut self.back);
-        let k = source(which);
         Reply::Link(producers::linked_producer(core, all, back, station as usize, k))
     }
 

@@ -13,7 +13,7 @@ impl<'a, P: Predictor + Drop, J: Naming> Session<'a, P, J> {
     ghost use Rattle.back.specs.Backs.{back_state};
     ghost use Rattle.session.specs.Order.{IsHeldJob, IsTurnOrder};
 
-    // The first unit that holds the job of a station of the ring, with that station.
+    // A unit that holds the job of a station of the ring, with that station.
     fn held(&self) -> Option<(usize, u32)>
         ensures { IsHeldJob self.now result }
     {

@@ -1,4 +1,6 @@
-use Rattle.back.specs.Commits.{CommitAnswers}
+use Rattle.std.proofs.Common.{◌∙◌, ap, sym}
+use Rattle.back.specs.Backs.{committed_in}
+use Rattle.session.specs.Replies.{CommitSays}
 use Rattle.session.proofs.Backs.{commit_says}
 use Rattle.session.proofs.Histories.{between, grows_twice}
 use Rattle.session.proofs.calls.commit.Goals as goal
@@ -15,6 +17,9 @@ returns-clause-reply g c =
     let last = c.meet-2.new.self in
     let says = commit_says first c.meet.new.self c.commit-answer.new.self last answer c.meet.ensures.kept c.meet.ensures.woken c.commit-answer.ensures.reply c.meet-2.ensures.kept
     c.meet-2.ensures.woken in
-    between (λ before behind. CommitAnswers (record first { seen = before }) (record last { seen = behind }) answer)
+    let kept = c.meet-2.ensures.kept in
+    let behind = c.commit-answer.new.self.seen in
+    let state = kept.state ∙ ap (λ core. committed_in core behind) (sym kept.core) in
+    between (λ before behind. CommitSays first last before behind answer)
     c.args.all.now.seen c.meet.new.self.seen c.commit-answer.new.self.seen c.meet-2.new.self.seen c.meet-2.new.other.seen
-    c.meet.ensures.told says c.meet-2.ensures.history.begins c.meet-2.ensures.other_told
+    c.meet.ensures.told (record { says = says; state = state }) c.meet-2.ensures.history.begins c.meet-2.ensures.other_told
