@@ -27,8 +27,9 @@ pub fn one_thread_unit_is_right()
 {}
 
 /// The headline: what the callers of a shared unit do and are told is one legal history. Each reply
-/// is allowed at its point of it, what a caller had seen before a call begins what it sees behind it,
-/// and at each point the committed registers and memory are those of the machine in order.
+/// is allowed at its point there, what a caller had seen before a call is a beginning of what it sees
+/// after the call, and at each point the committed registers and memory are those of the machine in
+/// order.
 pub fn one_legal_history()
     ensures call { (p : Program) (c : Sizes) → TellsOne p c }
     ensures calls { (p : Program) (c : Sizes) → TellsOn p c }
@@ -51,7 +52,7 @@ pub fn a_renewal_begins_again()
         BeginsAgain p c (reached p c history) by }
 {}
 
-/// A tenant that was let before the last renewal has left, and a station and a tag name one tenant since.
+/// A tenant that was let before the last renewal has left, and of those let since, a station and a tag name one.
 pub fn what_is_past_is_past()
     ensures { (p : Program) (c : Sizes) (history : List Taken) → PastIsPast p c history }
 {}
@@ -61,8 +62,8 @@ pub fn a_retired_stop_is_not_renewed()
     ensures { (p : Program) (c : Sizes) (history : List Taken) → StopIsNotRenewed p c history }
 {}
 
-/// Where a history goes on with no renewal, the tenants of before it are the same ones. Each
-/// renewal counts as one.
+/// Where a history goes on with no renewal, the tenants let before the last renewal stay the same
+/// ones. Each renewal raises the number of renewals by one.
 pub fn nothing_is_past_without_a_renewal()
     ensures past { (p : Program) (c : Sizes) (old new : List Entry) → PastStays p c old new }
     ensures counted { RenewalsCount }
@@ -88,7 +89,7 @@ pub fn histories_grow()
 {}
 
 /// Several allowed steps of one caller lead from a unit that is reached to one that is reached too,
-/// and those of them that retire nobody commit nothing. Two such sequences are one.
+/// and those of them that retire nobody commit nothing. Two such sequences, one after the other, are one.
 pub fn several_steps_lead_on()
     ensures lead { (p : Program) (c : Sizes) (by : ℕ) → SeveralLead p c by }
     ensures on { (p : Program) (c : Sizes) (by : ℕ) → LeadOn p c by }
@@ -137,7 +138,8 @@ pub fn a_finish_is_answered()
     ensures { (p : Program) (c : Sizes) (history : List Entry) → FinishIsAnswered p c history }
 {}
 
-/// A station has a tenant that may be claimed or waits for a source, or is told not to be open.
+/// A claim of a station is answered: a tenant of it may be claimed or waits for a source, or the
+/// caller is told that the station is not open.
 pub fn a_claim_is_answered()
     ensures { (p : Program) (c : Sizes) (history : List Entry) → ClaimIsAnswered p c history }
 {}

@@ -21,9 +21,9 @@ pub use laws::{
     a_claim_is_answered, a_finish_is_answered, a_renewal_begins_again,
     a_retired_stop_is_not_renewed, a_retirement_is_answered, a_tag_names_one_tenant,
     a_value_of_before_is_known, fates_follow, histories_grow, loads_are_answered_right,
-    no_wake_is_lost, nothing_is_past_without_a_renewal, one_thread_unit_is_right,
-    only_retirements_commit, operands_follow, ring_is_right, several_steps_lead_on,
-    stations_follow, values_are_words, what_is_past_is_past,
+    no_wake_is_lost, nothing_is_past_without_a_renewal, one_legal_history,
+    one_thread_unit_is_right, only_retirements_commit, operands_follow, ring_is_right,
+    several_steps_lead_on, stations_follow, values_are_words, what_is_past_is_past,
 };
 pub use machine::{Ended, Machine, Stepped};
 pub use ring::wrapped;
