@@ -12,7 +12,7 @@ use Rattle.snapshots.specs.Snapshots.{opening}
 use Rattle.snapshots.specs.declared.snap.Snap.{Snap}
 use Rattle.station.specs.Seats.{Caller, TheCore}
 
--- A back: its core, the number of its caller, what that caller has seen, whom its last load has woken, the
+-- A back: its core, the number of its caller, what that caller has seen, whom its last exchange for a load has woken, the
 -- code with which it has ended, if it has, and the snapshot that it showed last
 pub record TheBack : Type 0 where
   pub core : TheCore

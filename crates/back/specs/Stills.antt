@@ -44,13 +44,13 @@ pub record BackMayEnterAgain (core : TheCore) (seen : List Entry) (seat : Caller
   pub goes_on : GoesOnForBack core seen seat
   pub head : head_at seat.core seat.seen ≡ head_at core seen
 
--- With the seat that a renewal gives a back that has left enters the renewed core
+-- A back that has left enters the renewed core with the seat that the renewal gives
 abbrev pub RenewedBacksEnter : Type 0
 RenewedBacksEnter =
     (core now : TheCore) (old new : Seats) → IsRenewed core old now new →
     BackMayEnter core old.back.seen new.back
 
--- With its own, where the renewal was refused, it enters the core that it left
+-- A back that has left enters the core that it left with its own seat, where the renewal was refused
 abbrev pub RefusedBacksEnter : Type 0
 RefusedBacksEnter =
     (core now : TheCore) (old new : Seats) → old.back.core ≡ core → old.back.by ≡ back →

@@ -4,8 +4,8 @@ use instructions::Stop;
 /// The answer of a commit.
 #[derive(Clone, Copy, Debug, PartialEq, Eq)]
 pub enum Commit {
-    /// The oldest live tenant retired, and its instruction is whole: its pc, and the count of instructions
-    /// behind it.
+    /// The oldest live tenant retired, and its instruction is whole: its pc, and how many instructions are committed by
+    /// then, this one among them.
     Retired { pc: u32, n: u64 },
     /// The first half of a multiplication or division retired: the pc of that instruction. Its second half
     /// commits it, so count, pc and registers are still those before it.

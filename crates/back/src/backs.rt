@@ -95,8 +95,8 @@ impl<J: Naming> Back<J> {
         self.committed.count()
     }
 
-    /// The stations that the last completed load took its value to: bit s is set if one or both sources of
-    /// station s got the value. Before the first such load no bit is set.
+    /// The stations to which the load that `refresh` completed last took its value: bit s is set if one or both sources
+    /// of station s got the value. No bit is set if that load was squashed meanwhile. A new back has the bits of its seat.
     pub fn woken(&self) -> u32
         ensures { result ≡ self.now.woken }
     {

@@ -20,10 +20,9 @@ fn outcome(ended: Option<Stop>) -> Ending
 }
 
 impl<J: Naming> Back<J> {
-    /// The committed state, which is that of the machine in order after n instructions: between two halves of
-    /// an instruction it is the one before that. The outcome is Limit
-    /// unless `commit` answered `Ended`. It waits until no snapper reads; from then on each is answered
-    /// `Gone`.
+    /// Ends the run, and gives the committed state, which is that of the machine in order after n instructions: between
+    /// two halves of an instruction the state before it. The outcome is `Limit` unless `commit` answered `Ended`. The call
+    /// waits until no snapper reads; from then on each is answered `Gone`.
     pub fn end<R: Wait>(self, wait: &R) -> End
         ensures in_order { EndIsInOrder J.program result }
         ensures state { state_in result ≡ back_state self }

@@ -69,7 +69,7 @@ impl<J: Naming> Back<J> {
         core.link(&mut self.seat, producer, consumer, k)
     }
 
-    /// Afterwards each has seen what either had seen. The back can meet any seat.
+    /// Tells the back and another caller what the other has seen. The back can meet any seat.
     pub fn meet<P: Part>(&mut self, core: &Core, other: &mut SeatOf<P>)
         requires core { self.old.core ≡ core.now }
         requires other { other.old.core ≡ core.now }

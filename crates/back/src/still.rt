@@ -112,7 +112,7 @@ impl<J: Naming> BackStill<J> {
         self.enter_at(seat, 0)
     }
 
-    /// Enters the core that it left, where no renewal came between.
+    /// Goes on at the core that it left, with the seat that a refused renewal gave back. For a renewed core call `enter`.
     pub fn enter_again(self, seat: BackSeat) -> Back<J>
         requires goes_on { GoesOnForBack self.core self.seen seat }
         requires head { head_at seat.core seat.seen ≡ head_at self.core self.seen }

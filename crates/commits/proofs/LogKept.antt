@@ -163,10 +163,6 @@ pub on_err : {T E Q : Type 0} (r : Result T E) → Q → OnErr r Q
 on_err (Ok x) q = tt
 on_err (Err e) q = q
 
-pub if_err : {T E : Type 0} (Q : Type 0) (r : Result T E) → OnErr r Q → IfErr r (λ e. Q)
-if_err Q (Ok x) q = tt
-if_err Q (Err e) q = q
-
 -- what was written of a line that there was room for
 pub says_line : {T E S F : Type 0} (r : Result T E) (line : Result S F) (bytes_of : S → List ℕ) (G : List ℕ → Type 0) (bytes : List ℕ) →
     OnOk r (IfOk line (λ t. G (bytes_of t))) → OnOk r (IsOk line) → IfOk line (λ t. bytes_of t ≡ bytes) → OnOk r (G bytes)

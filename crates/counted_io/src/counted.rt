@@ -17,6 +17,7 @@ pub struct Counted<I> {
 }
 
 impl<I> Counted<I> {
+    /// Passes calls on to `inner`. No call has failed yet.
     pub fn new(inner: I) -> Counted<I>
         ensures inner { inner_of result ≡ inner }
         ensures failures { failures_of result ≡ 0 }
@@ -24,19 +25,21 @@ impl<I> Counted<I> {
         Counted { inner, failures: 0 }
     }
 
+    /// How many calls have failed, up to 2^64 - 1.
     pub fn failures(&self) -> u64
         ensures { result ≡ failures_of self.now }
     {
         self.failures
     }
 
+    /// What calls were passed on to.
     pub fn into_inner(self) -> I
         ensures { result ≡ inner_of self }
     {
         self.inner
     }
 
-    /// Counts a call, if it failed.
+    // Counts a call, if it failed.
     fn count(&mut self, failed: bool)
         ensures inner { inner_of self.new ≡ inner_of self.old }
         ensures failures { failures_of self.new ≡ counted failed (failures_of self.old) }
@@ -89,7 +92,7 @@ impl<W: Write> Write for Counted<W> {
     }
 }
 
-/// Whether a write of so many bytes failed: an error, or none taken of some.
+// Whether a write of so many bytes failed: an error, or none taken of some.
 fn has_failed(outcome: &io::Result<usize>, len: usize) -> bool
     ensures { result ≡ write_fails outcome.now len }
 {

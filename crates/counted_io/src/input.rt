@@ -10,10 +10,10 @@ use crate::fault::Fault;
 use std::alloc::Global;
 use std::io::Read;
 
-/// How many bytes one read asks for at most.
+// How many bytes one read asks for at most.
 const CHUNK: usize = 8192;
 
-/// One read, whose bytes go to the end of `bytes`.
+// One read, whose bytes go to the end of `bytes`.
 fn read_some<R: Read>(
     reader: &mut Counted<R>,
     chunk: &mut [u8],

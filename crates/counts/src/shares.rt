@@ -3,8 +3,8 @@
 use atomic_table::{Join, Play, Split, TableRule};
 use std::collections::LinkedList;
 
-/// A seat's share of one total: how much it has added, and the part of that total that it holds, as so many of the
-/// parts that there are when the whole is halved so often. Shares are in the proof alone.
+/// A seat's share of one total: how much the seat has added, and which part of the total it holds: `parts` of the
+/// 2^`halvings` equal parts. Shares are in the proof alone.
 pub struct Share {
     pub added: u64,
     pub parts: u64,

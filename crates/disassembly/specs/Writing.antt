@@ -78,7 +78,7 @@ pub record IsLabelled (marks : List Bool) (target : ℕ) : Type 0 where
   pub is : target ≡ address index
   pub set : slice_index_or marks index false ≡ true
 
--- the labels of the first k instructions, with their addresses
+-- the label of instruction k with its address, if it has one
 abbrev pub with_mark : ℕ → Bool → List (List ℕ × ℕ)
 with_mark k true = (label_text (address k), address k) ∷ []
 with_mark k false = []
@@ -169,7 +169,6 @@ row_line at row =
     (replicate 8 32 ++ with_operands_text (codes ".word") (row_words row))
     ++ (codes " # " ++ hexadecimal at)
 
--- the line of so many bytes of 0
 -- the line that asks for so many bytes of memory
 abbrev pub space_line : ℕ → List ℕ
 space_line count =

@@ -54,7 +54,7 @@ fn implied_source(op: Op) -> Reg
     }
 }
 
-// Whether each field is 0 that the shape does not use: else the word is none of the operation.
+// The instruction of a word whose operation is known, unless a field is set that the shape does not use.
 #[tactic(auto, unfolding(crate::specs::Words::read))]
 fn read(op: Op, layout: Layout, word: u32, pc: u32) -> Option<Decoded>
     ensures { option_map instruction_of result ≡ read_of layout.shape layout.select op pc word }

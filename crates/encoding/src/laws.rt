@@ -12,7 +12,7 @@ pub fn each_operation_has_a_word()
     ensures { EachOperationHasAWord }
 {}
 
-/// The instruction of a word can be written in a listing, and is read back from its text.
+/// The instruction of a word can be written in a listing. That its text is read back is a law of `isa`.
 pub fn each_word_is_written()
     ensures { EachWordIsWritten }
 {}

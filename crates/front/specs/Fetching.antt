@@ -39,7 +39,7 @@ abbrev pub OldestLeft : Sizes → UpdateUnit → List Record → ℕ → Type 0
 OldestLeft C U records left =
     (x : Record) (xs : List Record) → records ≡ x ∷ xs → C.ring ≤ length records → IsLeft U x left
 
--- Both, in what was seen
+-- In what was seen the instruction can be let, and the oldest has left if all stations have had a tenant
 pub record CanFetch (P : Program) (C : Sizes) (seen : List Entry) (records : List Record) (f : Fetched) : Type 0 where
   pub next : CanBeLet P C seen f
   pub oldest : OldestLeft C (unit_of P C seen) records f.left

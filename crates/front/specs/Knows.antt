@@ -70,7 +70,7 @@ pub record Stands (P : Program) (C : Sizes) (U : UpdateUnit) (records : List Rec
 abbrev pub FrontKnows : Program → Sizes → UpdateUnit → List Record → Base → Type 0
 FrontKnows P C U records base = Stands P C U records base (IsFolded U (rested_at base))
 
--- Before a let: or they are the next tenant's
+-- Before a let: the stations of older tenants were let again, or are the next tenant's, or the front has rested since
 pub record RecordsAreReady (P : Program) (C : Sizes) (U : UpdateUnit) (records : List Record) (base : Base) : Type 0 where
   pub stands : Stands P C U records base (IsPassed C U (rested_at base))
   pub free : length records < C.ring

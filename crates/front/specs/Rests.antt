@@ -26,7 +26,7 @@ is_let_to (t ∷ ts) s = t.station == s || is_let_to ts s
 abbrev pub is_untold : ℕ → List Tenant → Tenant → ℕ → Bool
 is_untold told younger t p = is_retired t && (nat_le told p && not (is_let_to younger t.station))
 
--- All such tenants, the oldest first
+-- All tenants of whom the predictor has not been told at a rest, the oldest first
 abbrev pub all_untold : ℕ → List Tenant → List Tenant → List Tenant
 all_untold told younger [] = []
 all_untold told younger (t ∷ ts) =

@@ -52,13 +52,13 @@ pub record FrontMayEnterAgain (core : TheCore) (seen : List Entry) (seat : Calle
   pub goes_on : GoesOnForFront core seen seat
   pub next : next_at seat.core seat.seen ≡ next_at core seen
 
--- With the seat that a renewal gives a front that has left enters the renewed core
+-- A front that has left enters the renewed core with the seat that the renewal gives
 abbrev pub RenewedFrontsEnter : Type 0
 RenewedFrontsEnter =
     (core now : TheCore) (old new : Seats) → IsRenewed core old now new →
     FrontMayEnter core old.front.seen new.front
 
--- With its own, where the renewal was refused, it enters the core that it left
+-- A front that has left enters the core that it left with its own seat, where the renewal was refused
 abbrev pub RefusedFrontsEnter : Type 0
 RefusedFrontsEnter =
     (core now : TheCore) (old new : Seats) → old.front.core ≡ core → old.front.by ≡ front →

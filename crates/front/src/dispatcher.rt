@@ -177,7 +177,7 @@ impl<'a, P: Predictor + Drop> Front<'a, P> {
         }
     }
 
-    /// How many records and entries of the create vector turns and recoveries have read or written.
+    /// How many records and entries of the create vector turns and recoveries have read or written, modulo 2^64.
     pub fn touched(&self) -> u64
         ensures { result ≡ self.now.touched }
     {
@@ -199,7 +199,7 @@ impl<'a, P: Predictor + Drop> Front<'a, P> {
         core.look(&mut self.seat, station)
     }
 
-    /// Afterwards the front and another caller have each seen what either had seen.
+    /// Tells the front and another caller what the other has seen.
     pub fn meet<Q: Part>(&mut self, core: &Core, other: &mut SeatOf<Q>)
         requires core { self.old.core ≡ core.now }
         requires other { other.old.core ≡ core.now }

@@ -4,8 +4,8 @@ ghost use Rattle.front.specs.Behind.{RegistersStay};
 ghost use Rattle.front.specs.Mended.{RecoveriesLeave};
 ghost use Rattle.front.specs.Stills.{RefusedFrontsEnter, RenewedFrontsEnter};
 
-/// A front that has left its core, and gave its seat to a renewal of it, enters with the seat that comes back: the
-/// renewed core, or the one that it left where the renewal was refused.
+/// A front that has left its core, and given its seat to a renewal, may enter with the seat that comes back: the
+/// renewed core, or, where the renewal was refused, the core that it left.
 pub fn a_front_enters_behind_a_renewal()
     ensures renewed { RenewedFrontsEnter }
     ensures refused { RefusedFrontsEnter }

@@ -11,7 +11,7 @@ use crate::answers::Recovery;
 use crate::path::{Counted, Path};
 use station::{Core, FrontSeat, StationState};
 
-/// A miss: its place among the tenants, its station, and where it goes on.
+/// A miss: the position of its record, its station, and where it goes on.
 #[derive(Clone, Copy)]
 pub struct Missed {
     pub at: usize,
@@ -103,6 +103,7 @@ pub fn recover_on(
     ensures table { KnowsTable core.now seat.new.seen path.new.base creators.new }
     ensures touched { IsTouched (4 * squashed_by result) creators.old.touched creators.new.touched }
 {
+    // for the proof: a ring has 2 to 32 stations
     core.ring();
     let Some(missed) = find_miss(core, seat, path) else {
         return Recovery::NoMiss;

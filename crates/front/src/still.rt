@@ -114,7 +114,7 @@ impl<P: Predictor + Drop> FrontStill<P> {
         }
     }
 
-    /// Enters a renewed core, where the next tenant goes to station 0. The program is that of the core.
+    /// Enters a renewed core, where the next tenant goes to station 0. `program` is that of the core.
     pub fn enter<'a>(self, seat: FrontSeat, program: &'a Program) -> Front<'a, P>
         requires program { program.now ≡ seat.core.program }
         requires goes_on { GoesOnForFront self.core self.seen seat }
@@ -129,7 +129,7 @@ impl<P: Predictor + Drop> FrontStill<P> {
         self.enter_at(seat, program, 0)
     }
 
-    /// Enters the core that it left, where no renewal came between.
+    /// Goes on at the core that it left, with the seat that a refused renewal gave back. For a renewed core call `enter`.
     pub fn enter_again<'a>(self, seat: FrontSeat, program: &'a Program) -> Front<'a, P>
         requires program { program.now ≡ seat.core.program }
         requires goes_on { GoesOnForFront self.core self.seen seat }

@@ -28,7 +28,7 @@ pub record IsClaimedOrWaits (P : Program) (C : Sizes) (h : List Entry) (by s : �
   pub answer : MayAdd P C h by (Does (On p Claim)) ⊎
       ((k : Source) × MayAdd P C h by (Refuses (Waiting p k)))
 
--- A claim of a station is answered: it is not open, may be claimed, or waits
+-- A claim of a station is answered: it has no open tenant, or one that may be claimed, or one that waits
 abbrev pub ClaimIsAnswered : Program → Sizes → List Entry → Type 0
 ClaimIsAnswered P C h =
     (by s : ℕ) → IsUnit by → IsLegal P C h →

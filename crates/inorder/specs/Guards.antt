@@ -1,4 +1,4 @@
--- What no step of a legal unit may do, and what a recovery restores.
+-- What no legal step of a unit may do, and what a recovery restores.
 use Rattle.std.specs.Prelude.{◌≡◌, ◌≢◌, ℕ, ◌<◌, Bool, List, Some, None}
 use Rattle.instructions.specs.Programs.{Program}
 use Rattle.instructions.specs.declared.op.Kind.TheVariants.{Stores}

@@ -73,7 +73,7 @@ pub record SeveralLead (P : Program) (C : Sizes) (by : ℕ) : Type 0 where
       Leads P C by U steps V → AllByRecursion IsNoRetire steps →
       committed P V.tenants ≡ committed P U.tenants
 
--- They are the steps of the one after those of the other
+-- The steps that lead from U to V, and then those from V to W, lead from U to W
 abbrev pub LeadOn : Program → Sizes → ℕ → Type 0
 LeadOn P C by =
     (U V W : UpdateUnit) (more steps : List Step) → Leads P C by U steps V →

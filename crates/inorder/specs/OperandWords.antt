@@ -28,7 +28,7 @@ operand_word_of k (Some t) = Some (record { tag = t.tag; value = (operand k t).v
 abbrev pub operand_word : List Tenant → ℕ → Source → Option OperandWord
 operand_word ts s k = operand_word_of k (last_of ts s)
 
--- Which of the two ways is that of source k
+-- The supply of source k, of the two
 abbrev pub supply_for : Source → Supply → Supply → Supply
 supply_for First first second = first
 supply_for Second first second = second

@@ -39,7 +39,7 @@ pub record IsKnownOfBefore (P : Program) (C : Sizes) (U : UpdateUnit) (by : ℕ)
       creator P U.tenants (second_of (instr_of P index)) ≡ Some p → is_old U p ≡ true →
       second ≢ From
 
--- A tenant that was let before the last renewal has left, and a station and a tag name one tenant since
+-- A tenant that was let before the last renewal has left, and of those let since, a station and a tag name one
 pub record IsPast (U : UpdateUnit) : Type 0 where
   pub left : (p : ℕ) (t : Tenant) → at U.tenants p ≡ Some t → is_old U p ≡ true → IsNotLive t
   pub names : (p q : ℕ) (t u : Tenant) → at U.tenants p ≡ Some t → at U.tenants q ≡ Some u →
@@ -51,7 +51,7 @@ StopIsNotRenewed P C history =
     (by q : ℕ) (t : Tenant) (c : Stop) → at (reached P C history).tenants q ≡ Some t →
     t.standing ≡ Retired → t.fate ≡ Stopped c → ¬ Allowed P C (reached P C history) by Renew
 
--- Of all units that legal steps reach
+-- What is past is past in each unit that allowed steps reach
 abbrev pub PastIsPast : Program → Sizes → List Taken → Type 0
 PastIsPast P C history = AreAllowed P C history → IsPast (reached P C history)
 

@@ -57,7 +57,7 @@ IsDelivered U p k = Has U p (λ t. IsThere (operand k t).value)
 abbrev pub IsAskedInTime : UpdateUnit → ℕ → Source → Type 0
 IsAskedInTime U p k = Has U p (λ t. (operand k t).way ≡ Linked true)
 
--- At the point where the call begins
+-- No live tenant is a miss: the front is told so of the point where its call begins
 abbrev pub HasNoMiss : UpdateUnit → Type 0
 HasNoMiss U =
     (p x : ℕ) (t : Tenant) → at U.tenants p ≡ Some t → t.standing ≡ Live → t.fate ≢ Miss x

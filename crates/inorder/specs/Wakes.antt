@@ -30,7 +30,7 @@ pub record IsMarked (h : List Entry) (mark : Mark) : Type 0 where
   pub point : List Entry
   pub is : h ≡ more ++ entry by (Marks mark) ∷ point
 
--- Behind the step that made its value
+-- The walk along q's links is marked behind the step that made q's value
 pub record IsWalkedBehind (P : Program) (C : Sizes) (h : List Entry) (q : ℕ) : Type 0 where
   pub mark : IsMarked h (Walked q)
   pub made : IsMadeByCall P (unit_of P C mark.point) q

@@ -1,4 +1,4 @@
-//! What no step of a legal unit may do, and what a recovery restores, as laws.
+//! What no legal step of a unit may do, and what a recovery restores, as laws.
 ghost use Rattle.std.specs.Prelude.{List};
 ghost use Rattle.instructions.specs.Programs.{Program};
 ghost use Rattle.inorder.specs.Unit.{Sizes};

@@ -31,7 +31,9 @@ pub struct End {
     pub n: u64,
     /// The address at which the next instruction would run, or of the one that stops.
     pub pc: u32,
+    /// Why the run ended.
     pub outcome: Ending,
+    /// Registers 0 to 31, then LO and HI.
     pub registers: [u32; 34],
     /// The bytes of data memory.
     pub memory: Vec<u8>,

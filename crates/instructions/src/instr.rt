@@ -67,8 +67,8 @@ fn pair_target(half: Half) -> Reg
 }
 
 impl Instr {
-    /// An instruction of these registers and this number: register 0 stands where the operation has
-    /// no register, and 0 where it has no number.
+    /// An instruction of these registers and this number. The caller gives register 0 where the
+    /// operation has no register, and 0 where it has no number.
     pub fn new(op: Op, target: Reg, first: Reg, second: Reg, number: u32) -> Instr
         ensures { result ≡ instr_with op target first second number }
     {
@@ -111,14 +111,16 @@ impl Instr {
         }
     }
 
-    /// The register of source 1; register 0 where it has none.
+    /// The register that stands for source 1: the one that is named, but register 0 where a
+    /// multiplication or division names LO or HI.
     pub fn first(&self) -> Reg
         ensures { result ≡ first_of self.now }
     {
         read_register(self.op, self.first)
     }
 
-    /// The register of source 2; register 0 where it has none.
+    /// The register that stands for source 2: the one that is named, but register 0 where a
+    /// multiplication or division names LO or HI.
     pub fn second(&self) -> Reg
         ensures { result ≡ second_of self.now }
     {
@@ -132,7 +134,8 @@ impl Instr {
         self.op.is_pair() && half == Half::Low
     }
 
-    /// The register that a half changes; register 0, which never changes, where it changes none.
+    /// The register that a half changes. Where it changes none, that is register 0, which never
+    /// changes, if the instruction names register 0 where it has no register.
     pub fn destination(&self, half: Half) -> Reg
         ensures { result ≡ destination_of self.now half }
     {

@@ -87,7 +87,7 @@ impl Predictor for Bimod {
     ghost Learns = { λ old pc next new. new.counters ≡ trained old.counters pc next };
 
     fn predict(&mut self, pc: u32, instr: &Instr) -> u32 {
-        let counter = self.counters[place(pc)];
+        let counter = self.counters[counter_at(pc)];
         if 2 <= counter && instr.op().is_branch() {
             instr.number()
         } else {
@@ -96,7 +96,7 @@ impl Predictor for Bimod {
     }
 
     fn told(&mut self, pc: u32, next: u32) {
-        let at = place(pc);
+        let at = counter_at(pc);
         let counter = self.counters[at];
         self.counters[at] = if next == pc_plus_4(pc) {
             counter.saturating_sub(1)
@@ -107,7 +107,7 @@ impl Predictor for Bimod {
 }
 
 // The number of the counter of a pc.
-fn place(pc: u32) -> usize
+fn counter_at(pc: u32) -> usize
     ensures value { result ≡ counter_at pc }
     ensures small { result < 2048 }
 {

@@ -182,7 +182,7 @@ pub fn outcome_of(instr: &Instr, half: Half, pc: u32, a: u32, b: u32, size: u32)
     outcome_by_kind(instr.op.kind(), instr, half, pc, a, b, size)
 }
 
-/// The outcome of a half of an instruction, as `outcome_of` has it, for who has its kind at hand.
+/// The outcome of a half of an instruction, as `outcome_of` has it, for a caller that has its kind at hand.
 #[inline(always)]
 pub fn outcome_by_kind(
     kind: Kind,

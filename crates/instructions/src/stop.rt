@@ -73,7 +73,7 @@ pub enum Outcome {
     Next(u32),
     /// The address of a load or store, aligned and inside data memory.
     Address(u32),
-    /// The code with which the instruction stops.
+    /// Why the instruction stops.
     Stop(Stop),
     /// The values for LO and HI.
     Pair(u32, u32),

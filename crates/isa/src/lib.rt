@@ -1,5 +1,5 @@
-//! The instruction set as programs meet it: listings that are read, instructions and reports that are written, and all that
-//! crate `instructions` has.
+//! The instruction set as programs meet it: listings that are read, instructions and reports that are written, and the
+//! operations, configurations and predictors of crate `instructions`.
 #![tactic(auto)]
 
 mod listing;

@@ -34,10 +34,10 @@ pub use slot::{Operands, Slot};
 use std::alloc::Global;
 use table::{Entry, Labels};
 
-/// The most bytes of a listing.
+// The most bytes of a listing.
 const MOST_TEXT: usize = 4_194_304;
 
-/// The number of an instruction: the address of its label, where it has one.
+// The number of an instruction: the address of its label, where it has one.
 fn resolve<'a>(labels: &Labels<'a>, target: &Target<'a>, number: u32) -> Result<u32, TextFault>
     ensures ok { IfOk result (λ a.
         resolve_number labels.now target.now.line number (name_of target.now) ≡ Ok a) }
@@ -58,7 +58,7 @@ fn resolve<'a>(labels: &Labels<'a>, target: &Target<'a>, number: u32) -> Result<
     Ok(address)
 }
 
-/// Gives each instruction the address of its label.
+// Gives each instruction the address of its label.
 fn resolve_all<'a>(
     labels: &Labels<'a>,
     code: &mut [Instr],
@@ -77,7 +77,7 @@ fn resolve_all<'a>(
     Ok(())
 }
 
-/// The number of colons among so few bytes that a byte counts them, many at a time.
+// The number of colons among at most 255 bytes. The sum is a byte, so that the compiler adds many at a time.
 fn colons(bytes: &[u8]) -> u8
     requires { length bytes.now ≤ 255 }
     ensures { result ≤ length bytes.now }
@@ -89,7 +89,8 @@ fn colons(bytes: &[u8]) -> u8
     colons
 }
 
-/// The number of labels for which room is made: one for each colon, of which a comment may have any number.
+// The number of labels for which room is made: one for each colon, but at most one for four bytes, since a comment may be
+// full of colons.
 fn most_labels(bytes: &[u8]) -> usize
     ensures { result ≤ length bytes.now / 4 }
 {
@@ -100,7 +101,7 @@ fn most_labels(bytes: &[u8]) -> usize
     found.min(bytes.len() / 4)
 }
 
-/// Reads all lines, but for labels that stand twice.
+// Reads all lines, but for labels that stand twice.
 fn read_lines<'a>(
     labels: &mut Vec<Entry<'a>>,
     code: &mut Vec<Instr>,
@@ -135,7 +136,7 @@ fn read_lines<'a>(
     Ok(())
 }
 
-/// The labels that instructions with these targets need, or the first label that stands twice.
+// The labels that instructions with these targets need, or the first label that stands twice.
 fn labels_of<'a>(
     alloc: Global,
     entries: &[Entry<'a>],
@@ -155,7 +156,7 @@ fn labels_of<'a>(
     Labels::of(alloc, some, room)
 }
 
-/// The first fault: this one, or a label before it that stands twice.
+// The first fault: this one, or a label before it that stands twice.
 fn first_of<'a>(alloc: Global, entries: &[Entry<'a>], fault: TextFault) -> TextFault
     requires memory { fault.kind ≡ FaultKind.Memory → fault.line ≡ 0 }
     ensures fault { result.kind ≢ FaultKind.Memory → fault.kind ≢ FaultKind.Memory

@@ -1,4 +1,4 @@
--- The text after a byte at which another text is cut.
+-- A text cut at each byte of one value, and the text after the first such byte.
 use Rattle.std.specs.Prelude.{ℕ, ◌==◌, List, [], ◌∷◌, Option, Some, None, if◌then◌else◌}
 use Rattle.std.specs.List.{slice_split}
 

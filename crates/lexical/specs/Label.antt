@@ -19,9 +19,11 @@ statement_in (p ∷ []) = trim p
 statement_in (p ∷ q ∷ ps) =
     if is_name (trim p) then statement_in (q ∷ ps) else trim (join_with_byte 58 (p ∷ q ∷ ps))
 
+-- the labels of the code of a line
 unfoldable pub labels_of : List ℕ → List (List ℕ)
 labels_of code = labels_in (slice_split (λ b. b == 58) code)
 
+-- the statement of the code of a line
 unfoldable pub statement_of : List ℕ → List ℕ
 statement_of code = statement_in (slice_split (λ b. b == 58) code)
 

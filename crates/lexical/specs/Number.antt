@@ -7,16 +7,17 @@ use Rattle.std.specs.Str.Parse.{digits_value}
 
 -- ---- digits
 
--- the number of one digit or more in a radix
+-- the value of one digit or more in a radix
 unfoldable pub numeral : ℕ → List ℕ → Option ℕ
 numeral radix text =
     if (length text == 0) || not (list_all (λ c. is_digit c radix) text) then None
     else Some (digits_value radix text)
 
--- The digits of a decimal number have no leading zero, but for 0 alone.
+-- whether digits begin with a zero that is not alone
 abbrev pub has_leading_zero : List ℕ → Bool
 has_leading_zero text = nat_lt 1 (length text) && (slice_index text 0 == 48)
 
+-- a decimal number, which has no leading zero
 unfoldable pub decimal : List ℕ → Option ℕ
 decimal text = if has_leading_zero text then None else numeral 10 text
 

@@ -23,7 +23,8 @@ fn label_without_blanks(code: &[u8]) -> Option<(&[u8], &[u8])>
     Some((front, behind))
 }
 
-/// The label of a first line that has nothing else, and the text after its line feed.
+/// The label of a first line that is a name, a colon and a line feed, without blanks, and the text after it. `None` says
+/// nothing: a line may have a label that is written otherwise.
 pub fn label_line(text: &[u8]) -> Option<(&[u8], &[u8])>
     ensures line { IfSome result (λ p. IsLabelLine text.now p.0.now p.1.now) }
     ensures shorter { IfSome result (λ p. length p.1.now < length text.now) }

@@ -4,7 +4,7 @@ ghost use Rattle.std.specs.Prelude.{◌≡◌, not, position};
 ghost use Rattle.std.specs.List.{list_all};
 ghost use Rattle.lexical.specs.Name.{goes_on_name, is_name, is_plain, is_plain_text, is_code_byte};
 
-/// Each byte of a name stands at its own place, and a comma at each other place.
+// A table by byte: a byte that a name may have stands for itself, a comma for each other byte.
 static NAME_BYTES: [u8; 256] = *b"\
     ,,,,,,,,,,,,,,,,,,,,,,,,,,,,,,,,\
     ,,,,,,,,,,,,,,.,0123456789,,,,,,\
@@ -56,7 +56,7 @@ pub fn is_plain_text(text: &[u8]) -> bool
     text.iter().all(|b| is_plain(*b))
 }
 
-/// Each byte of code stands at its own place, and a `#`, which begins a comment, at each other place.
+// A table by byte: a byte of code stands for itself, a `#`, which begins a comment, for each other byte.
 static CODE_BYTES: [u8; 256] = *b"\
     #########\t######################\
     \x20!\"#$%&'()*+,-./0123456789:;<=>?\

@@ -5,10 +5,10 @@ ghost use Rattle.std.specs.Option.{option_map};
 ghost use Rattle.lexical.specs.Number.{capped, first_is, numeral, has_leading_zero, decimal, starts_hex, magnitude};
 ghost use Rattle.lexical.specs.Number.{begins_number, without_sign, at_most, number_in, decimal_in};
 
-/// Above every number that is asked for. A magnitude that is greater is taken for this one.
+// One more than the greatest bound of a range. A greater magnitude counts as this one.
 const CAP: u64 = 0x1_0000_0000;
 
-// The number of digits in a radix, or the cap for a greater one.
+// The value of digits in a radix, but at most the cap.
 #[tactic(auto, unfolding(crate::specs::Number::numeral))]
 fn numeral(digits: &[u8], radix: u32) -> Option<u64>
     requires low { 2 ≤ radix }

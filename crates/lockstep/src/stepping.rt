@@ -100,25 +100,25 @@ pub fn step(text: &[u32], memory: &mut [u8], registers: &mut [u32; 34], pc: &mut
     };
     let a = register(registers, instr.first());
     let b = register(registers, instr.second());
-    match outcome(&instr, at, a, b, memory.len() as u32) {
+    *pc = match outcome(&instr, at, a, b, memory.len() as u32) {
         Outcome::Stop(stop) => return Answer::Stopped(stop),
         Outcome::Value(value) => {
             write(registers, instr.destination(Half::Low), value);
-            *pc = pc_plus_4(at);
+            pc_plus_4(at)
         }
         Outcome::Next(next) => {
             write(registers, instr.destination(Half::Low), pc_plus_4(at));
-            *pc = next;
+            next
         }
         Outcome::Pair(low, high) => {
             write(registers, instr.destination(Half::Low), low);
             write(registers, instr.destination(Half::High), high);
-            *pc = pc_plus_4(at);
+            pc_plus_4(at)
         }
         Outcome::Address(address) => {
             access(memory, registers, at, &instr, address as usize);
-            *pc = pc_plus_4(at);
+            pc_plus_4(at)
         }
-    }
+    };
     Answer::Went
 }

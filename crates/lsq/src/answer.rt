@@ -12,12 +12,12 @@ pub enum Answer {
     Forward(u32),
     /// The load reads data memory: no older store writes a byte of it.
     Memory,
-    /// The load has to wait for the store at this place.
+    /// The load has to wait for the store at this index of the queue.
     Blocked(usize),
 }
 
 impl Queue {
-    /// Answers the load at a place by the older stores.
+    /// Answers the load at an index by the older stores.
     /// This is memory disambiguation by the rule of SimpleScalar's load/store queue: a load waits
     /// for an older store whose address or data is unknown, and else gets the data of the youngest
     /// older store to its bytes (store-to-load forwarding); where that has only some of them, it
@@ -57,7 +57,7 @@ pub fn answer_over_known(older: &[Entry], address: u32, width: Width) -> Answer
     }
 }
 
-// The youngest store without its address, with its place.
+// The youngest store without its address, with its index.
 #[tactic(auto, using(crate::proofs::Youngest::found_or_passed))]
 fn youngest_lacking(older: &[Entry]) -> Option<(usize, Entry)>
     ensures { result ≡ youngest lacks_address older.now }
@@ -73,7 +73,7 @@ fn youngest_lacking(older: &[Entry]) -> Option<(usize, Entry)>
     None
 }
 
-// The youngest store that overlaps a load, with its place.
+// The youngest store that overlaps a load, with its index.
 #[tactic(auto, using(crate::proofs::Youngest::found_or_passed))]
 fn youngest_overlapping(older: &[Entry], address: u32, width: Width) -> Option<(usize, Entry)>
     ensures { result ≡ youngest (overlaps address (bytes width)) older.now }

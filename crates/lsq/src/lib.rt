@@ -1,6 +1,6 @@
 //! The load/store queue: memory instructions in program order, and the rule for one load over the
 //! older stores. The one-thread unit and the shared one ask it store by store, by `lacks_address`, `overlaps` and
-//! `taken_from`; `Queue` answers a load over all its entries at once.
+//! `taken_from`; `Queue::answer` answers a load of the queue over all older entries at once.
 #![tactic(auto)]
 
 mod answer;

@@ -48,17 +48,6 @@ has_alike ws xs i w c same h =
       replaced = creator_alike ws xs i w.destination c.replaced same h.replaced;
     }
 
--- The start
-
-pub known_start : (newest : List ℕ) → length newest ≡ 34 → KnowsCreators [] [] newest 0
-known_start newest e =
-    record {
-      stations = refl;
-      registers = e;
-      each = λ i c f. absurd (cc f);
-      newest_writer = λ r l k less f. absurd (cc f);
-    }
-
 -- Another stage
 
 written_put : (ws : List Station) (i k : ℕ) (x : Station) → IsOfSame x (slice_get ws i) → written_by (slice_get (set ws i x) k) ≡ written_by (slice_get ws k)

@@ -77,15 +77,6 @@ no_room b flow h full =
     let long = stations_long b.program.now flow.ring.completed in
     record { stuck = NoRoom (omega (arith, long, full)); some = omega (arith, long, full, h.flows.two) }
 
-pub no_place : (b : Pipeline) (flow : Flow) (i : Instr) → Flows b flow → instr_at b.program.now flow.future.pc ≡ Some i → reaches_memory i.op ≡ true → b.queue ≤ flow.accesses → IsStuck b flow
-no_place b flow i h is reaches full =
-    let W = window_of b flow in
-    let few = accesses_most W (length W) in
-    record {
-      stuck = QueueFull (record { instr = i; is = ap (instr_at b.program.now) (sym h.flows.flowing.foresees.path) ∙ is; reaches = reaches; full = omega (arith, full, h.flows.flowing.accesses) });
-      some = omega (arith, few, full, h.flows.flowing.accesses, h.flows.unit.least);
-    }
-
 -- What a flow leaves
 
 pub can_restore : (b : Pipeline) (flow : Flow) (n : ℕ) → IsFlow b flow → Reopens b flow n → CanRestore b flow n

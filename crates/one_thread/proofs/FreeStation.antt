@@ -1,11 +1,6 @@
--- An item of a list is set to what it is, or was.
+-- An item of a list is set back to what it was.
 use Rattle.std.proofs.Common.{◌≡◌, ℕ, zero, suc, List, [], ◌∷◌, set, Some, refl, sym, ap}
 use Rattle.std.specs.Prelude.{slice_get}
-
-pub set_as_is : {X : Type 0} → (xs : List X) (k : ℕ) (v : X) → slice_get xs k ≡ Some v → set xs k v ≡ xs
-set_as_is [] k v e = refl
-set_as_is (x ∷ xs) zero v e = let same : v ≡ x = cc (sym e) in ap (λ y. y ∷ xs) same
-set_as_is (x ∷ xs) (suc k) v e = ap (λ l. x ∷ l) (set_as_is xs k v e)
 
 pub set_back : {X : Type 0} → (xs : List X) (k : ℕ) (v w : X) → slice_get xs k ≡ Some v → set (set xs k w) k v ≡ xs
 set_back [] k v w e = refl

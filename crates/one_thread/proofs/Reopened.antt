@@ -60,13 +60,6 @@ reopened_accesses : (n : ℕ) (W : List Station) (k : ℕ) → accesses (reopene
 reopened_accesses n W zero = refl
 reopened_accesses n W (suc k) = ap (λ x. x + access_at (slice_get (reopened n W) k)) (reopened_accesses n W k) ∙ ap (λ x. accesses W k + x) (reopened_same access_at (λ w. refl) n W k)
 
-reopened_miss : (V V' : List Station) (n : ℕ) (W : List Station) (k i j : ℕ) → given_at miss_in V (slice_get W k) i ≡ None → given_at miss_in V' (slice_get (reopened n W) k) j ≡ None
-reopened_miss V V' n [] k i j e = refl
-reopened_miss V V' zero (w ∷ W) zero i j e = refl
-reopened_miss V V' zero (w ∷ W) (suc k) i j e = reopened_miss V V' zero W k i j e
-reopened_miss V V' (suc n) (w ∷ W) zero i j e = e
-reopened_miss V V' (suc n) (w ∷ W) (suc k) i j e = reopened_miss V V' n W k i j e
-
 -- What can be let can be let behind them
 
 reopened_lets : (b : Pipeline) (n : ℕ) (f : Fetched) → NextOf b (Some f) → NextOf (with_reopened n b) (Some f)

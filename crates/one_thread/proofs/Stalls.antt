@@ -1,4 +1,4 @@
--- What can not be let before a turn in which no tenant leaves can not be let behind it.
+-- What cannot be let before a turn in which no tenant leaves cannot be let behind it.
 use Rattle.std.proofs.Common.{◌≡◌, ℕ, ◌-◌, Bool, true, false, List, length, Option, Some, None, refl, sym, ap, ◌∙◌, subst, ⊎_elim, arith}
 use Rattle.std.specs.Prelude.{slice_get, slice_set}
 use Rattle.std.proofs.lemmas.Bool.{cases_eq}

@@ -20,11 +20,6 @@ use Rattle.one_thread.proofs.Futures.{values_passed}
 use Rattle.one_thread.proofs.LookBack.{older_more, older_step, same_answer}
 use Rattle.one_thread.proofs.Scan.{get_end, get_left, take_left, take_middle}
 
--- One station more
-
-pub stores_step : (registers : List ℕ) (W : List Station) (k : ℕ) → stores registers W (k + 1) ≡ with_entry (stores registers W k) (store_at registers W (slice_get W k) k)
-stores_step registers W k = let one : k + 1 ≡ suc k = omega arith in rw one refl
-
 with_length : (es : List Entry) (o : Option Entry) → length (with_entry es o) ≤ suc (length es)
 with_length es None = omega arith
 with_length es (Some e) = omega (arith, length-append es (e ∷ []))

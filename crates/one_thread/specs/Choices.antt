@@ -49,7 +49,7 @@ module _ {S Q : Type 0} (Predicts : S → ℕ → Instr → ℕ → S → Type 0
         Picks Chooses (possible b.pipeline.program.now (sizes b.pipeline) U)
         (step_made b.pipeline.program.now (sizes b.pipeline) U made.unit answer made.does) q r
 
-  -- So it is for each unit that the bench stands for
+  -- A turn is made so from each unit that the bench stands for
   abbrev pub IsTurnBy : BenchFields S → Q → Turn → BenchFields S → Q → Type 0
   IsTurnBy b q answer later r =
       (U : UpdateUnit) → IsReached b.pipeline.program.now (sizes b.pipeline) U → StandsFor b.pipeline U →

@@ -37,12 +37,12 @@ made_by Jumps v = None
 made_by Stores v = None
 made_by _ v = Some v
 
--- How far it has come
+-- How far a completed instruction has come
 abbrev pub stage_by : Kind → ℕ → Stage
 stage_by Stores v = Addr v
 stage_by _ v = Done
 
--- Its station
+-- The station of a completed instruction
 abbrev pub station_by : Instr → Completed → Station
 station_by i c =
     record {

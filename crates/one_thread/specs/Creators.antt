@@ -39,7 +39,7 @@ pub record HasCreators (ws : List Station) (i : ℕ) (w : Station) (c : Creators
   pub second : IsCreator ws i (second_of w.instr) c.second
   pub replaced : IsCreator ws i w.destination c.replaced
 
--- Those of the tenant at i
+-- The creators of the tenant at i
 abbrev pub CreatorsAt : List Station → ℕ → Creators → Type 0
 CreatorsAt ws i c = (w : Station) → slice_get ws i ≡ Some w → HasCreators ws i w c
 

@@ -74,7 +74,7 @@ pub record IsDecoded (code : List Instr) (P : Program) : Type 0 where
 abbrev pub text_index : ℕ → ℕ
 text_index pc = rotate_right w32 ((pc + 4290772992) % 4294967296) 2
 
--- They have one at this address
+-- The decoded instructions have one at this address
 pub record HasInstr (code : List Instr) (pc : ℕ) : Type 0 where
   pub program : Program
   pub decoded : IsDecoded code program

@@ -140,7 +140,7 @@ pub record IsPlaced (b : Pipeline) (flow : Flow) : Type 0 where
       b.leavers ≡ slice_set before.leavers ((flow.ring.oldest + length (window_of before flow)) % before.ring) None
   pub rest : b ≡ record before { leavers = b.leavers }
 
--- This is its station, and all but the oldest n can also be taken to be let alone
+-- This is the station of the next instruction, and all but the oldest n can also be taken to be let alone
 pub record HasPlace (b : Pipeline) (flow : Flow) (n station : ℕ) : Type 0 where
   pub placed : IsPlaced b flow
   pub same : placed.from ≡ n
@@ -175,11 +175,11 @@ completed_as flow predicted d leaves kept =
 abbrev pub enters_as : Flow → Instr → ℕ → Station
 enters_as flow i predicted = let_at i flow.half flow.future.pc predicted
 
--- Its outcome
+-- The outcome of the next instruction
 abbrev pub outcome_in : Pipeline → Flow → Instr → Operands → Outcome
 outcome_in b flow i o = outcome_of i flow.half flow.future.pc o.a o.b (length b.program.now.bytes)
 
--- What it comes to
+-- The station that the next instruction comes to
 abbrev pub comes_to : Pipeline → Flow → Instr → ℕ → Operands → Station
 comes_to b flow i predicted o =
     completed_by (enters_as flow i predicted) (outcome_in b flow i o)
@@ -205,7 +205,7 @@ restored b flow n =
       settled = n;
     }
 
--- They are those of some unit
+-- The fields that a flow leaves are those of some unit
 pub record CanRestore (b : Pipeline) (flow : Flow) (n : ℕ) : Type 0 where
   pub unit : StandsForSome (restored b flow n)
   pub there : AreThere b.program.now flow.ring.completed

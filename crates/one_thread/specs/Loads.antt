@@ -70,7 +70,7 @@ load_in registers memory ws w = loaded_over (entries registers ws (length ws)) m
 abbrev pub IsInside : ℕ → Station → Type 0
 IsInside size w = (a : ℕ) → w.stage ≡ Addr a → a + width w.instr.op ≤ size
 
--- So is each of a list
+-- Each access of a list that has its address is inside the memory
 abbrev pub AreInside : ℕ → List Station → Type 0
 AreInside size W = (k : ℕ) (w : Station) → slice_get W k ≡ Some w → IsInside size w
 

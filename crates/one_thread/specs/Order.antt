@@ -72,7 +72,7 @@ pub record MovedFirst (b : Pipeline) (U : UpdateUnit) (answer : Turn) (later : P
   pub stands : StandsFor later unit
   pub does : DoesFirst b.program.now (sizes b) U unit answer
 
--- So it is for each unit that b stands for
+-- A turn moves so from each unit that b stands for
 abbrev pub MovesFirst : Pipeline → Turn → Pipeline → Type 0
 MovesFirst b answer later =
     (U : UpdateUnit) → IsReached b.program.now (sizes b) U → StandsFor b U → MovedFirst b U answer later
@@ -87,7 +87,7 @@ module _ {S : Type 0} (Predicts : S → ℕ → Instr → ℕ → S → Type 0) 
     pub does : DoesFirst b.pipeline.program.now (sizes b.pipeline) U unit answer
     pub trains : Trains Predicts Learns b.pipeline.program.now U unit answer b.predictor later.predictor
 
-  -- So it is for each unit that the bench stands for
+  -- A turn is made so from each unit that the bench stands for
   abbrev pub IsTurn : BenchFields S → Turn → BenchFields S → Type 0
   IsTurn b answer later =
       (U : UpdateUnit) → IsReached b.pipeline.program.now (sizes b.pipeline) U → StandsFor b.pipeline U →

@@ -39,7 +39,7 @@ module _ {S Q : Type 0} (Predicts : S → ℕ → Instr → ℕ → S → Type 0
     pub asked :
         AsksFor Chooses b.pipeline.program.now (sizes b.pipeline) U made.unit answer made.does old new
 
-  -- So it is for each unit that the bench stands for
+  -- A turn is made so from each unit that the bench stands for
   abbrev pub IsTurnIn : BenchFields S → Order Q → Turn → BenchFields S → Order Q → Type 0
   IsTurnIn b old answer later new =
       (U : UpdateUnit) → IsReached b.pipeline.program.now (sizes b.pipeline) U → StandsFor b.pipeline U →

@@ -9,7 +9,7 @@ ring_of slots start len = take len (drop start (slots ++ slots))
 abbrev pub slot_in : ℕ → ℕ → ℕ → ℕ
 slot_in n start i = (start + i) % n
 
--- and of 32
+-- the slot of the item at i of 32 slots
 abbrev pub slot_of : ℕ → ℕ → ℕ
 slot_of start i = slot_in 32 start i
 

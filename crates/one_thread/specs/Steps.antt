@@ -103,7 +103,7 @@ module _ {S : Type 0} (Predicts : S → ℕ → Instr → ℕ → S → Type 0) 
     pub is :
         step_made b.pipeline.program.now (sizes b.pipeline) U made.unit answer made.does ≡ Some (named step)
 
-  -- So it is for each unit that the bench stands for
+  -- A turn is made so from each unit that the bench stands for
   abbrev pub Makes : BenchFields S → Step → Turn → BenchFields S → Type 0
   Makes b step answer later =
       (U : UpdateUnit) → IsReached b.pipeline.program.now (sizes b.pipeline) U → StandsFor b.pipeline U →

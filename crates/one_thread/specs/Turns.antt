@@ -186,7 +186,7 @@ StaysOpen _ later = later.over ≡ None
 abbrev pub IsStalled : Bool → Pipeline → Type 0
 IsStalled stalled b = stalled ≡ true → NextOf b None
 
--- What could not be let before such a turn can not be let behind it, since no tenant has left
+-- What could not be let before such a turn cannot be let behind it, since no tenant has left
 abbrev pub stalled_after : Turn → Bool
 stalled_after Ran = true
 stalled_after Loaded = true
@@ -197,7 +197,7 @@ pub record BenchFields (S : Type 0) : Type 0 where
   pub pipeline : Pipeline
   pub predictor : S
 
--- Those of a pipeline and a predictor
+-- The fields of a bench, of a pipeline and a predictor
 abbrev pub fields : {S : Type 0} → Pipeline → S → BenchFields S
 fields b s = record { pipeline = b; predictor = s }
 

@@ -21,19 +21,19 @@ pub enum Turn {
     Recovered,
     /// The next instruction has entered a station.
     Let,
-    /// The oldest tenant that can be claimed was claimed and finished.
+    /// A tenant was claimed and finished: by `Bench::turn` the oldest that can be claimed.
     Ran,
-    /// The oldest load that is not blocked got its value.
+    /// A load that is not blocked got its value: by `Bench::turn` the oldest.
     Loaded,
     /// The oldest tenant retired, and was the first of two halves: what it made waits for the second.
     Halved,
     /// The oldest tenant retired, and its instruction was counted.
     Retired,
-    /// The unit has ended.
+    /// A stop has retired, in this turn or before; or nobody is live, and there is no instruction to go on with.
     Over(Stop),
 }
 
-// What could not be let before a turn can not be let behind it, since no tenant has left.
+// What could not be let before a turn cannot be let behind it, since no tenant has left.
 #[inline(always)]
 fn stalls(turn: Turn) -> bool
     ensures { result ≡ stalled_after turn }
@@ -119,7 +119,7 @@ impl<'a, P: Predictor + Drop> Bench<'a, P> {
     }
 
     /// Does the first turn that is possible, in the order of `Turn`. The turn that retires a stop answers Over,
-    /// and so does each later one, which changes nothing.
+    /// and so does each later one, which changes nothing, and each where nobody is live and the pc has no instruction.
     #[inline(always)]
     pub fn turn(&mut self) -> Turn
         requires { self.old.pipeline.committed.count < 2 ^ 64 - 1 }
@@ -170,7 +170,7 @@ impl<'a, P: Predictor + Drop> Bench<'a, P> {
         }
     }
 
-    // Turns as long as all live tenants have completed. Answers at which count that is to be looked for again.
+    // Turns as long as all live tenants have completed. Answers the count at which to look for that again.
     #[inline(always)]
     fn streams(&mut self, limit: u64) -> u64
         ensures program { self.new.pipeline.program ≡ self.old.pipeline.program }

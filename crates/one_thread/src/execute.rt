@@ -69,7 +69,7 @@ pub fn sources_at(window: &Window, ahead: &Ahead, i: usize) -> Option<Operands>
     }
 }
 
-// The oldest station that can be claimed; those before `from` can not.
+// The oldest station that can be claimed; those before `from` cannot.
 #[inline(always)]
 fn oldest_ready(window: &Window, ahead: &Ahead, from: usize) -> Option<Ready>
     requires { AreSettled from window.now }

@@ -33,7 +33,7 @@ pub struct Flow {
     pub accesses: usize,
     /// The station of the last instruction that was let, if it is left as it was let.
     pub last: Option<Station>,
-    /// What LO is committed to hold, where what a first half has made waits for it.
+    /// The committed value of LO, while what a first half has made waits for LO.
     pub held: u32,
 }
 

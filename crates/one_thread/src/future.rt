@@ -1,4 +1,4 @@
-//! What a tenant finds that is let next, where all live ones have made what they write.
+//! What the tenant that is let next finds, where all live ones have made what they write.
 ghost use Rattle.std.specs.Prelude.{◌≡◌, ◌≢◌, ◌<◌, ℕ, [], length, slice_index, slice_set, Option, Some};
 ghost use Rattle.inorder.specs.Machine.{write};
 ghost use Rattle.instructions.specs.Instruction.{first_of, second_of};
@@ -32,8 +32,7 @@ impl Future {
         }
     }
 
-    /// Goes on behind a station that writes a register, if it is not register 0, with this value, and goes on itself at
-    /// `next`.
+    /// Moves on behind a station that writes this value to a register, if that is not register 0, and goes on at `next`.
     #[inline(always)]
     pub fn follows(&mut self, destination: Reg, value: u32, next: u32)
         requires { length self.old.values ≡ 34 }

@@ -13,6 +13,7 @@ pub enum Goes {
     Plain,
     /// A load or store, behind which the path goes on.
     Behind,
+    /// The instruction names where it goes on: `j` and `jal`.
     To,
     /// A predictor is asked.
     Varies,
@@ -20,7 +21,8 @@ pub enum Goes {
     Pair,
 }
 
-/// What there is to do when an instruction leaves, beside counting it. The first two stand in the order of `accesses`.
+/// What there is to do when an instruction leaves, beside counting it. As numbers the first two are what `accesses`
+/// answers.
 #[derive(Clone, Copy)]
 pub enum Leaves {
     Nothing,

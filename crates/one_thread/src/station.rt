@@ -24,7 +24,7 @@ pub enum Stage {
 #[derive(Clone, Copy)]
 pub struct Station {
     pub instr: Decoded,
-    /// Of the instruction.
+    /// Which half of its instruction the tenant is.
     pub half: Half,
     /// The register that it writes; 0 where it writes none.
     pub destination: Reg,

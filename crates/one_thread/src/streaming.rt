@@ -206,8 +206,8 @@ impl<'a> Pipeline<'a> {
         self.settled = from;
     }
 
-    /// Turns as long as all live tenants have completed and the count has not reached a limit. Answers at which count
-    /// that is to be looked for again: what keeps the unit out of it leaves within a ring of instructions.
+    /// Turns as long as all live tenants have completed and the count has not reached a limit. Answers the count at
+    /// which to look for that again: what keeps the unit out of it leaves within a ring of instructions.
     #[inline(always)]
     pub fn streams<P: Predictor>(&mut self, predictor: &mut P, limit: u64) -> u64
         requires unit { StandsForSome self.old }

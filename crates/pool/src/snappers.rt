@@ -34,7 +34,7 @@ impl Places {
     }
 }
 
-// Starts the thread of a place. False where the thread can not be started.
+// Starts the thread of a place. False where the thread cannot be started.
 fn start_snapper<
     's,
     E: 's,

@@ -6,7 +6,7 @@ use snapshots::{Naming, Snap, Snapper};
 use std::sync::Wait;
 use workers::{Bounds, Gate, RunState};
 
-// Nothing but snapshots of the program is passed to the gate.
+// Passes a snapshot of the program to the gate.
 fn pass_snapshot<K: Naming, G: Gate>(gate: &G, place: u32, snap: &Snap)
     requires { IsSnapshotOf K.program snap.now }
 {

@@ -35,7 +35,7 @@ pub record IsTenant (U : UpdateUnit) (p station tag : ℕ) (Fact : Tenant → Ty
   pub tag_is : tenant.tag ≡ tag
   pub fact : Fact tenant
 
--- Nothing more is said of it
+-- True of every tenant
 abbrev pub IsAny : Tenant → Type 0
 IsAny t = ⊤
 

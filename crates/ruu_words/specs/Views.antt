@@ -32,11 +32,11 @@ IsOf v n = (n ≡ v.by) ⊎ IsSpare v.spare n
 abbrev pub without_first : SpareNumbers → SpareNumbers
 without_first spare = record { first = spare.first + spare.every; every = spare.every }
 
--- Every second of these, and the others
+-- What the old seat keeps when the first number goes to a new seat: the second number, the fourth, and so on
 abbrev pub half : SpareNumbers → SpareNumbers
 half spare = record { first = spare.first + spare.every; every = 2 * spare.every }
 
--- Every second of these, the others
+-- What the new seat may give away then: the third number, the fifth, and so on
 abbrev pub other_half : SpareNumbers → SpareNumbers
 other_half spare = record { first = spare.first + 2 * spare.every; every = 2 * spare.every }
 

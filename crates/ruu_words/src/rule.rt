@@ -22,6 +22,7 @@ pub enum Role {
     Start,
     Front,
     Back,
+    /// A unit's seat.
     Worker,
     /// A seat that makes no calls any more.
     Spent,

@@ -51,8 +51,8 @@ fn publish<J: Naming, R: Wait>(
 }
 
 impl<J: Naming> Publisher<J> {
-    /// The opening state is published from the start. There can be as many snappers at once as
-    /// there are places.
+    /// A publisher that shows the opening state, and the first snapper. There can be as many snappers at once as there
+    /// are places. A refusal is for memory, and leaves nothing behind.
     pub fn new(alloc: Global, places: u32) -> Result<(Publisher<J>, Snapper<J>), Memory>
         requires places { (0 < places) × (places ≤ 64) }
         ensures published { IfOk result (λ made. made.0 ≡ opening) }

@@ -5,7 +5,7 @@ ghost use Rattle.snapshots.specs.Snapshots.{opening};
 use left_right::Absorb;
 use std::alloc::AllocError;
 
-/// The registers and the pc of the in-order state after `n` instructions.
+/// The registers and the pc of the in-order state after `n` instructions: register 0 first, LO and HI last.
 #[derive(Clone, Copy, Debug, PartialEq, Eq)]
 pub struct Snap {
     pub n: u64,

@@ -10,7 +10,8 @@ use core::mem::replace_with;
 use std::marker::Model;
 use thiserror::Error;
 
-/// No snapshot can be taken any more: the publisher has ended.
+/// No snapshot was taken. The publisher has ended, and no later try gives one; or a mark was learnt that is later than
+/// all that this publisher has shown, as one of another publisher: then a later try may give one.
 #[derive(Clone, Copy, Debug, Drop, PartialEq, Eq, Error)]
 #[error("the publisher has ended")]
 pub struct Gone;
@@ -70,7 +71,7 @@ impl<J: Naming> Snapper<J> {
         Snapper { reader, floor: 0 }
     }
 
-    /// The snapshot that is published at one moment of the call.
+    /// Takes the snapshot that is published at one moment of the call. Waits for nobody.
     pub fn take(&mut self) -> Result<Snap, Gone>
         ensures ok { IfOk result (λ snap. IsSnapshotOf J.program snap) }
         ensures later { IfOk result (λ snap. self.old ≤ snap.n) }
@@ -83,7 +84,8 @@ impl<J: Naming> Snapper<J> {
         }
     }
 
-    /// From now on it takes no snapshot that is older than the mark's.
+    /// From now on this snapper takes no snapshot older than the mark's. Learn only marks of its own publisher: until that
+    /// one has shown something as late, `take` answers `Gone`.
     pub fn learn(&mut self, mark: &Mark)
         ensures { self.new ≡ max self.old mark.now.n }
     {

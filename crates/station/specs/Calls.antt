@@ -140,12 +140,12 @@ abbrev pub Serves : ℕ × ℕ → ℕ → Source → Reply
 Serves of to k core v w = OfTenant core.program core.sizes v.seen of.0 of.1
     (λ q. IsServing core.program core.sizes v.by q to k v.seen w.seen)
 
--- All who wait for it are served
+-- All sources that were linked in time to the tenant `of` are served, and its walk is marked
 abbrev pub WalksOf : ℕ × ℕ → Reply
 WalksOf of core v w = OfTenant core.program core.sizes v.seen of.0 of.1
     (λ q. HasWalked core.program core.sizes v.by q v.seen w.seen)
 
--- They are, if this outcome is a value
+-- All sources linked to the tenant `of` are served, if this outcome is a value
 abbrev pub Carries : ℕ × ℕ → Outcome → Reply
 Carries of outcome core v w = OfTenant core.program core.sizes v.seen of.0 of.1
     (λ q. HasCarried core.program core.sizes v.by q outcome v.seen w.seen)

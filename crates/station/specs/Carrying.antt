@@ -48,7 +48,7 @@ pub record IsCarrying (P : Program) (C : Sizes) (by q n : ℕ) (old new : List E
   pub adds : Adds P C by old new events
   pub served : (c : ℕ) (k : Source) → c < n → IsServed (unit_of P C new) q c k
 
--- All are, and the walk is marked
+-- All stations are served, and the walk is marked
 pub record HasWalked (P : Program) (C : Sizes) (by q : ℕ) (old new : List Entry) : Type 0 where
   pub events : List Event
   pub walk : IsWalk P C new q events

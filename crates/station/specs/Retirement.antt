@@ -84,7 +84,7 @@ pub record HasEnd (P : Program) (C : Sizes) (seen : List Entry) (s : ℕ) (word 
   pub p : ℕ
   pub head : IsHead (unit_of P C seen) p (IsAtEnd s word)
 
--- How it ended
+-- How a tenant ended, by the state and value of its word
 abbrev pub IsLastOf : StationState → ℕ → Last → Type 0
 IsLastOf StopState value last = (code : Stop) × (code_of code ≡ value) × (last ≡ WasStop code)
 IsLastOf _ value last = last ≡ WasDone value
@@ -102,7 +102,7 @@ pub record HasAccess (P : Program) (C : Sizes) (seen : List Entry) (a : Access) 
   pub p : ℕ
   pub head : IsHead (unit_of P C seen) p (IsAccess a)
 
--- The load of its data
+-- The load of the data of the oldest store
 pub record FindsData (P : Program) (C : Sizes) (a : Access) (n : ℕ) (h : List Entry) (d : Draft) (events : List Event) : Type 0 where
   pub access : HasAccess P C h a
   pub data_is : ReadsData P C access.p n h d events

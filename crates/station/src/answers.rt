@@ -3,7 +3,8 @@ use crate::job::Job;
 use inorder::history::Source;
 use instructions::{Half, Stop};
 
-/// A word as it was seen.
+/// A word as it was seen. The value of a station's word is as `StationWord` says, that of an operand's word the value of
+/// the source, or 0 while the source waits.
 #[derive(Clone, Copy)]
 pub struct Seen<S> {
     pub tag: u32,

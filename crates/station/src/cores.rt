@@ -119,7 +119,8 @@ pub(crate) fn first_table(
 }
 
 impl Core {
-    /// A core for this program, with the front's seat, the back's and a unit's. None has seen anything.
+    /// A core for this program, with the front's seat, the back's and a unit's; `split` makes more of these. None has seen
+    /// anything. A refusal is for memory, and makes nothing.
     pub fn make(
         alloc: Global,
         program: &Program,

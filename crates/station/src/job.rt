@@ -82,14 +82,15 @@ impl Job {
         self.predicted
     }
 
-    /// Source 1; 0 where the claim did not need it.
+    /// The value of source 1, which each claim needs; 0 where the instruction has no such source.
     pub fn a(&self) -> u32
         ensures { result ≡ self.now.first }
     {
         self.a
     }
 
-    /// Source 2; 0 where the claim did not need it.
+    /// The value of source 2; 0 for a store, whose data is read when it retires, and where the instruction has no such
+    /// source.
     pub fn b(&self) -> u32
         ensures { result ≡ self.now.second }
     {

@@ -59,7 +59,7 @@ impl Split<View> for UnitCut {
 
 impl Core {
     /// Two unit seats that have both seen what this one had seen. The first is the same caller's, and
-    /// the second that of a caller who has done nothing at this core.
+    /// the second that of a caller who has done nothing at this core. Read `woken` before: it is 0 in both.
     pub fn split(&self, mut seat: UnitSeat) -> (UnitSeat, UnitSeat)
         requires core { seat.core ≡ self.now }
         ensures first { result.0 ≡ record seat { spare = half seat.spare; woken = 0 } }
@@ -100,7 +100,8 @@ impl Core {
         let _given: &Seat<u8, View> = given;
     }
 
-    /// Afterwards each has seen what either had seen. Any two seats can meet.
+    /// Tells each of two callers what the other has seen. Any two seats can meet. To a caller that never meets another, a
+    /// refusal may speak of an early moment.
     pub fn meet<P: Part, Q: Part>(&self, one: &mut SeatOf<P>, other: &mut SeatOf<Q>)
         requires one { one.old.core ≡ self.now }
         requires other { other.old.core ≡ self.now }

@@ -122,7 +122,7 @@ impl<P: Writer> SeatOf<P> {
     ghost use Rattle.std.specs.Prelude.{◌≡◌};
 
     /// The stations that the seat's last `finish` or `settle` took its value to: bit s is set if one or both
-    /// sources of station s got the value. No bit is set where there was no such call.
+    /// sources of station s got the value. No bit is set where there was no such call, or a `split` since.
     pub fn woken(&self) -> u32
         ensures { result ≡ self.now.woken }
     {

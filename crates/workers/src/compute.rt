@@ -47,7 +47,7 @@ fn compute(core: &Core, seat: &mut UnitSeat, job: Job) -> Finish
     core.finish(seat, job, result)
 }
 
-// Asks the gate about no other unit, and no other station than that of its job.
+// Asks the gate whether the unit is held at the station of its job.
 fn is_held<G: Gate>(gate: &G, unit: &Unit, job: &Job, number: u32, station: u32) -> bool
     requires number { number ≡ unit.now.number }
     requires station { station ≡ job.now.station }

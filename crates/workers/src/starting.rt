@@ -30,7 +30,7 @@ pub fn units_at_once<R: Threads>(rt: &R) -> u64
     }
 }
 
-// Starts the thread of a unit. False where it can not be started.
+// Starts the thread of a unit. False where it cannot be started.
 fn start_unit<
     's,
     E: 's,

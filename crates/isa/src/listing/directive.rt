@@ -27,7 +27,7 @@ pub fn space(part: Option<&[u8]>) -> Result<u32, FaultKind>
     }
 }
 
-/// Adds the bytes of the numbers, the lowest first.
+// Adds the bytes of the numbers, the lowest first.
 fn add_numbers(memory: &mut Vec<u8>, part: Option<&[u8]>) -> Result<(), FaultKind>
     ensures ok { OnOk result (IsAppended
         (words (operands_left (option_map (λ t. t.now) part.entry)))

@@ -189,7 +189,8 @@ impl fmt::Display for InstrText {
     }
 }
 
-/// The text of an instruction is read back as that instruction: a law, whose function does nothing.
+/// The text of each instruction that a listing can write is read back as that instruction, also behind blanks: a law,
+/// whose function does nothing.
 pub fn text_is_read_back()
     ensures { TextIsReadBack }
 {}

@@ -19,8 +19,8 @@ pub struct Draft<'a> {
     pub label: Option<&'a [u8]>,
 }
 
-/// The draft of an operation before its operands. `jal`, and `jalr` where it names none, write register 31; the
-/// moves from and to LO and HI read and write these.
+// The draft of an operation before its operands. `jal`, and `jalr` where it names none, write register 31; the
+// moves from and to LO and HI read and write these.
 fn bare(op: Op) -> Instr
     ensures { result ≡ bare op }
 {
@@ -45,7 +45,7 @@ fn bare(op: Op) -> Instr
 }
 
 impl<'a> Draft<'a> {
-    /// A draft without a meaning of its own, which is to be filled.
+    /// A draft that stands for no instruction yet: `instruction` fills it.
     pub fn new() -> Draft<'a>
         ensures { draft_view result ≡ record { instr = bare Op.Break; label = None } }
     {

@@ -8,18 +8,18 @@ use super::line::Target;
 use super::table::{Entry, hash_of, start_of};
 use std::alloc::{AllocError, Global};
 
-/// The names of 64 hashes that were met, and those that are needed: a bit for each hash.
+/// Two bits for each remainder of a hash by 64: whether a name with it was met, and whether one is needed.
 #[derive(Clone, Copy)]
 pub struct Bits {
     pub met: u64,
     pub needed: u64,
 }
 
-/// The number of labels whose bits stand side by side.
-const SHARE: usize = 8;
+// The number of labels for each word of bits.
+const LABELS_A_WORD: usize = 8;
 
-/// The most labels for which room is made.
-const MOST: usize = 4_194_304;
+// The most labels for which room is made.
+const MOST_ROOM: usize = 4_194_304;
 
 // The half of the hash of a name by which its bits are found.
 fn short_hash(name: &[u8]) -> u32
@@ -107,7 +107,7 @@ fn meet_all<'a>(
     ensures watched { OnOk result (AreWatched all.new.items entries.now) }
     ensures hashes { IfOk result (λ hashes. hashes.items ≡ hashes_of entries.now) }
 {
-    let mut hashes = Vec::with_capacity(alloc, entries.len().min(MOST))?;
+    let mut hashes = Vec::with_capacity(alloc, entries.len().min(MOST_ROOM))?;
     for i in 0..entries.len() {
         let hash = meet(all, entries[i].name);
         hashes.push(hash)?;
@@ -158,7 +158,7 @@ pub fn needed<'a>(
 {
     let mut all = Vec::new(alloc);
     let none = Bits { met: 0, needed: 0 };
-    all.resize(entries.len().min(MOST) / SHARE + 1, none)?;
+    all.resize(entries.len().min(MOST_ROOM) / LABELS_A_WORD + 1, none)?;
     let hashes = meet_all(alloc, &mut all, entries)?;
     need_all(&mut all, targets);
     let mut some = Vec::new(alloc);

@@ -26,7 +26,7 @@ pub enum Slot {
 use Slot::{First, Into, Label, Offset, S16, Second, U5, U16};
 
 /// The operands of an operation, by the names that the manual of MIPS I gives registers:
-/// rd is written, rs and rt are read, but rt is written where there is no rd.
+/// rd is written, rs and rt are read. Where there is no rd, a load and an operation with a number write rt.
 #[derive(Clone, Copy)]
 pub enum Operands {
     RdRsRt,

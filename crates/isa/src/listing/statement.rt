@@ -11,7 +11,7 @@ use super::form::same_word;
 use super::instruction::{Draft, instruction};
 use lexical::{cut_word, operand_part};
 
-/// Adds the bytes of `.space`.
+// Adds the bytes of `.space`.
 fn add_space(memory: &mut Vec<u8>, n: u32) -> Result<(), FaultKind>
     requires small { length memory.old.items ≤ 65536 }
     ensures ok { OnOk result (memory.new.items ≡ memory.old.items ++ replicate n 0) }
@@ -22,7 +22,7 @@ fn add_space(memory: &mut Vec<u8>, n: u32) -> Result<(), FaultKind>
     Ok(())
 }
 
-/// Reads a directive or an instruction, by its word.
+// Reads a directive or an instruction, by its word.
 fn with_operands<'a>(
     memory: &mut Vec<u8>,
     draft: &mut Draft<'a>,

@@ -12,13 +12,13 @@ use std::collections::BTreeMap;
 use std::hash::{FoldHasher, Hasher};
 use std::marker::Model;
 
-/// The number of buckets, one after the other, in which a name may be noted.
+// The number of buckets, one after the other, in which a name may be noted.
 const RUN: usize = 16;
 
-/// More labels than a listing can have.
+// More labels than a listing can have.
 const MOST: usize = 0xffff_ffff;
 
-/// The tag of a free bucket.
+// The tag of a free bucket.
 const FREE: u8 = 0;
 
 /// A label: a name, the address that it stands for, and the line that has it.
@@ -167,8 +167,8 @@ fn note_all<'a>(
     Ok(())
 }
 
-/// The labels in the order in which they were read. A name that finds each of its buckets taken is
-/// crowded, and found by its order: whatever the names are, one is found in few steps.
+/// The labels in the order in which they were read, found by a hash of the name in one of 16 buckets. A name whose buckets
+/// are all taken is crowded, and stands in a B-tree: a look-up takes few steps, whatever the names are.
 #[derive(Drop)]
 pub struct Labels<'a> {
     entries: Vec<Entry<'a>>,

@@ -25,7 +25,8 @@ const SHOWN_EACH: u64 = 64;
 // After so many fruitless turns the commit thread lets another thread run.
 const PATIENCE: u32 = 4;
 
-// Nothing but the retirements that are shown is passed to the gate, and each total as it was at a moment since `before`.
+// Passes a tally to the gate: its retirements are those of the snapshot that was shown, and each total is what it was at a
+// moment since `before`.
 fn pass_tally<G: Gate>(
     gate: &G,
     shown: &Mark,

@@ -9,54 +9,7 @@ use std::sync::atomic::AtomicU64;
 use std::sync::atomic::Ordering::SeqCst;
 use std::test::*;
 
-// Holds the first unit that asks until another has asked.
-#[derive(Drop)]
-struct Turnstile {
-    first: AtomicU64,
-    other: AtomicU64,
-    told: AtomicU64,
-}
-
-impl Gate for Turnstile {
-    fn held(&self, unit: u32, _station: u32) -> bool {
-        let unit = unit as u64;
-        let first = match self.first.compare_exchange(0, unit, SeqCst, SeqCst) {
-            Ok(_) => unit,
-            Err(first) => first,
-        };
-        if first == unit {
-            self.other.load(SeqCst) == 0
-        } else {
-            self.other.store(unit, SeqCst);
-            false
-        }
-    }
-
-    fn seen(&self, place: u32, _snap: &Snap) {
-        if place == 1 {
-            self.told.store(1, SeqCst);
-        }
-    }
-
-    fn counted(&self, _tally: &Tally) {}
-}
-
-#[test]
-fn two_units_work_at_once(rt: HostRuntime) -> Result<(), Fail> {
-    let gate = Turnstile {
-        first: AtomicU64::new(0),
-        other: AtomicU64::new(0),
-        told: AtomicU64::new(0),
-    };
-    let listing = b"addiu $1,$0,1\naddiu $2,$0,2\nbreak\n";
-    let end = end_of_held(&rt, rt.alloc(), listing, 2, &gate)?;
-    same(&rt, &end.n, &2);
-    assert!(rt; gate.other.load(SeqCst) != 0);
-    same(&rt, &gate.told.load(SeqCst), &1);
-    Ok(())
-}
-
-// However many of them the machine runs at once.
+// A unit that rests works, however many units the machine runs at once.
 #[test]
 fn a_unit_that_rests_works_where_another_is_held(rt: HostRuntime) -> Result<(), Fail> {
     let listing = b"nop\nnop\nnop\nnop\nnop\nnop\nnop\nnop\nnop\nbreak\n";
