@@ -3,7 +3,7 @@ use Rattle.std.specs.Prelude.{◌≡◌, Bool, true, not, List, Option, Some, No
 use Rattle.std.specs.Str.{bytes_eq}
 use Rattle.clap.specs.Words.{Row, Text, first_of}
 
--- the log goes to another file than that of the listing
+-- the log goes to a file of another name than that of the listing
 abbrev pub is_other : (file : Text) → (log : Option Text) → Bool
 is_other file None = true
 is_other file (Some log) = not (bytes_eq log file)
@@ -13,12 +13,12 @@ abbrev pub is_file : (log : Option Text) → Bool
 is_file None = true
 is_file (Some log) = not (bytes_eq log (codes "-"))
 
--- the log goes to another file than the one that rows name for the listing
+-- the log goes to a file of another name than the one that rows have for the listing
 abbrev pub IsOther : (file log : Option Text) → Type 0
 IsOther None log = ⊥
 IsOther (Some file) log = is_other file log ≡ true
 
--- the log is the one that the rows ask for: a file that is not that of the listing
+-- the log is the one that the rows ask for: a file of another name than that of the listing
 pub record IsLog (rows : List Row) (log : Option Text) : Type 0 where
   pub is : log ≡ first_of (codes "trace") rows
   pub names_file : is_file (first_of (codes "trace") rows) ≡ true

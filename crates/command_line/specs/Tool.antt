@@ -28,8 +28,9 @@ flag_rule name = record (new_rule name) { long = Some name; action = Some SetTru
 abbrev pub run_rules : List Rule
 run_rules =
     file_rule ∷ option_rule (codes "ruu-size") ∷ option_rule (codes "lsq-size") ∷ option_rule (codes "units")
-    ∷ option_rule (codes "bpred") ∷ option_rule (codes "turns") ∷ option_rule (codes "limit") ∷ flag_rule (codes "alone")
-    ∷ flag_rule (codes "progress") ∷ option_rule (codes "seed") ∷ option_rule (codes "shake") ∷ []
+    ∷ option_rule (codes "bpred") ∷ option_rule (codes "turns") ∷ option_rule (codes "limit")
+    ∷ flag_rule (codes "alone") ∷ flag_rule (codes "progress") ∷ option_rule (codes "seed")
+    ∷ option_rule (codes "shake") ∷ []
 
 -- those of `ruu commits`
 abbrev pub commits_rules : List Rule

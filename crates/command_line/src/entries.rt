@@ -37,7 +37,7 @@ pub(crate) fn flag<'a>(matches: &ArgMatches<'a>, name: &str) -> bool
     }
 }
 
-/// The number of an option, if it is in its range.
+/// The number of an option, or the default without one, if it is in its range.
 pub(crate) fn number<'a>(
     alloc: Global,
     program: &str,
@@ -78,7 +78,7 @@ pub(crate) fn seed<'a>(
     Ok(Some(seed))
 }
 
-/// The predictor of `--bpred`.
+/// The predictor of `--bpred`, or the bimodal one without it.
 pub(crate) fn predictor<'a>(
     alloc: Global,
     program: &str,

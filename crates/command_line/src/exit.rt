@@ -36,24 +36,24 @@ pub enum Line {
     Nothing,
     /// What the threads of a run did, once its report was written.
     Tally(Tally),
-    /// There was no run to its end.
+    /// The program was refused what it wanted.
     Refused(Refusal),
 }
 
 /// What a program wanted and did not get.
 #[derive(Clone, Copy, PartialEq, Eq)]
 pub enum Refusal {
-    /// The file did not open.
+    /// The file of the listing did not open.
     Open,
-    /// The file could not be read.
+    /// The listing could not be read, or the script that drives its unit.
     Read,
     /// Memory ran out.
     Memory,
     /// A thread could not be started.
     Thread,
-    /// The report, or the chart behind it, could not be written.
+    /// Standard output could not be written.
     Write,
-    /// The log could not be written.
+    /// The log of `--trace` could not be written.
     Trace,
 }
 

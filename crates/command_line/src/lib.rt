@@ -7,6 +7,7 @@ mod ending;
 mod entered;
 mod entries;
 mod exit;
+mod names;
 mod no_run;
 mod program;
 mod progress;

@@ -1,4 +1,4 @@
-//! Why a command line gives no run.
+//! Why a program does nothing but print a text.
 ghost use Rattle.std.specs.Prelude.{◌≡◌, Some};
 ghost use Rattle.command_line.specs.Statuses.{status_of, no_run_text};
 
@@ -6,8 +6,8 @@ use crate::exit::REFUSED;
 use std::alloc::{AllocError, AllocFailed};
 use std::fmt;
 
-/// Why a command line gives no run. Its `Display` is the text to print. `Ring` and `Memory` have
-/// no line feed at the end of theirs.
+/// Why a program does nothing but print a text, which is the `Display` of this. `Ring` and `Memory`
+/// have no line feed at the end of theirs.
 #[derive(Drop)]
 pub enum NoRun {
     /// Help or the version was asked for; this is its text.

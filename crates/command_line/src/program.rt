@@ -22,8 +22,8 @@ pub fn words(rt: &HostRuntime) -> Result<Vec<String>, NoRun>
     }
 }
 
-/// Prints what is told in place of a run: help on standard output, all else on standard error. A
-/// failure to print changes no status.
+/// Prints help or the version on standard output, and any other text on standard error. A failure to
+/// print changes no status.
 pub fn refuse(rt: &HostRuntime, no_run: &NoRun) -> ExitCode
     ensures { exit_status result ≡ status_of no_run.now }
 {

@@ -7,6 +7,7 @@ ghost use Rattle.command_line.specs.Rings.{HasOddRing};
 ghost use Rattle.command_line.specs.Tool.{chart_word};
 
 use crate::entered::entered;
+use crate::names::CHART;
 use crate::reading_watched::{values_of, watched};
 use crate::trace::log_of;
 use crate::word::Word;
@@ -32,8 +33,8 @@ fn read<'a>(alloc: Global, matches: &ArgMatches<'a>) -> Result<Charted<'a>, NoRu
     ensures err { IfErr result
         (AreRefused (rows_of (found_of matches.now)) HasChart (HasOddRing HasChart)) }
 {
-    let values = values_of(alloc, "ruu chart", matches)?;
+    let values = values_of(alloc, CHART, matches)?;
     let log = log_of(alloc, matches, values.file)?;
-    let run = watched(alloc, "ruu chart", matches, values)?;
+    let run = watched(alloc, CHART, matches, values)?;
     Ok(Charted { run, log })
 }

@@ -7,6 +7,7 @@ ghost use Rattle.command_line.specs.Tool.{check_word};
 
 use crate::entered::entered;
 use crate::entries::{file, flag};
+use crate::names::CHECK;
 use crate::word::Word;
 use crate::{Checked, NoRun};
 use clap::ArgMatches;
@@ -29,7 +30,7 @@ fn read<'a>(alloc: Global, matches: &ArgMatches<'a>) -> Result<Checked<'a>, NoRu
     ensures err { IfErr result
         (AreRefused (rows_of (found_of matches.now)) NamesFile NoneOdd) }
 {
-    let file = file(alloc, "ruu check", matches)?;
+    let file = file(alloc, CHECK, matches)?;
     let all = flag(matches, "all");
     Ok(Checked { file, all })
 }

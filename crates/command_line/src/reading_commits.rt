@@ -8,6 +8,7 @@ ghost use Rattle.command_line.specs.Tool.{commits_word};
 ghost use Rattle.command_line.specs.Watched.{HasWatchedRun, IsWatchedBy};
 
 use crate::entered::entered;
+use crate::names::COMMITS;
 use crate::reading_watched::{values_of, watched};
 use crate::word::Word;
 use crate::{NoRun, Watched};
@@ -32,6 +33,6 @@ fn read<'a>(alloc: Global, matches: &ArgMatches<'a>) -> Result<Watched<'a>, NoRu
     ensures err { IfErr result
         (AreRefused (rows_of (found_of matches.now)) HasWatchedRun (HasOddRing HasWatchedRun)) }
 {
-    let values = values_of(alloc, "ruu commits", matches)?;
-    watched(alloc, "ruu commits", matches, values)
+    let values = values_of(alloc, COMMITS, matches)?;
+    watched(alloc, COMMITS, matches, values)
 }

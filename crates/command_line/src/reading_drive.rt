@@ -7,6 +7,7 @@ ghost use Rattle.command_line.specs.Tool.{drive_word};
 
 use crate::entered::entered;
 use crate::entries::{file, flag, number, predictor};
+use crate::names::DRIVE;
 use crate::refusals::usage;
 use crate::steps::steps_of;
 use crate::word::Word;
@@ -33,24 +34,24 @@ fn read<'a>(alloc: Global, matches: &ArgMatches<'a>) -> Result<ByHand<'a>, NoRun
     ensures err { IfErr result
         (AreRefused (rows_of (found_of matches.now)) CanBeDriven NoneOdd) }
 {
-    let file = file(alloc, "ruu drive", matches)?;
+    let file = file(alloc, DRIVE, matches)?;
     if is_standard_input(file) {
         return Err(usage(
             alloc,
-            "ruu drive",
+            DRIVE,
             "the commands come from standard input, and FILE cannot be -",
         ));
     }
-    let queue = number(alloc, "ruu drive", matches, "lsq-size", 2, 32, 8)?;
-    let predictor = predictor(alloc, "ruu drive", matches)?;
-    let first_tag = number(alloc, "ruu drive", matches, "first-tag", 1, 268_435_454, 1)?;
+    let queue = number(alloc, DRIVE, matches, "lsq-size", 2, 32, 8)?;
+    let predictor = predictor(alloc, DRIVE, matches)?;
+    let first_tag = number(alloc, DRIVE, matches, "first-tag", 1, 268_435_454, 1)?;
     let quiet_prompt = flag(matches, "quiet-prompt");
     let echo = flag(matches, "echo");
     let steps = steps_of(alloc, matches)?;
-    let ring = number(alloc, "ruu drive", matches, "ruu-size", 2, 32, 16)?;
+    let ring = number(alloc, DRIVE, matches, "ruu-size", 2, 32, 16)?;
     let queue = queue.min(ring);
     let Ok(config) = Config::new(ring, queue, 64, 1, first_tag, 1_000_000, 0xffff_ffff) else {
-        return Err(usage(alloc, "ruu drive", "--ruu-size takes 2, 4, 8, 16 or 32"));
+        return Err(usage(alloc, DRIVE, "--ruu-size takes 2, 4, 8, 16 or 32"));
     };
     Ok(ByHand {
         file,

@@ -8,6 +8,7 @@ ghost use Rattle.command_line.specs.Tool.{run_word};
 
 use crate::entered::entered;
 use crate::entries::{file, flag, number, predictor};
+use crate::names::RUN;
 use crate::ring::with_ring;
 use crate::seeds::seeds_of;
 use crate::word::Word;
@@ -15,8 +16,6 @@ use crate::{Asked, NoRun};
 use clap::ArgMatches;
 use std::alloc::Global;
 use std::convert::AsStr;
-
-const RUN: &str = "ruu run";
 
 /// The run that the words ask for, of which the first is the program's name. Where they are refused, `NoRun` has what
 /// to print, and `status` gives the exit status.

@@ -45,7 +45,7 @@ pub struct Watched<'a> {
 #[derive(Clone, Copy)]
 pub struct Charted<'a> {
     pub run: Watched<'a>,
-    /// The file that gets the log; never the one of the listing.
+    /// The file that gets the log, by a name that is neither `-` nor that of the listing.
     pub log: Option<&'a str>,
 }
 
@@ -58,12 +58,12 @@ pub struct Checked<'a> {
     pub all: bool,
 }
 
-/// What is to be driven by hand.
+/// A unit that is to be driven by commands.
 #[derive(Clone, Copy)]
 pub struct ByHand<'a> {
-    /// The file of the listing; never standard input, from which the commands come.
+    /// The file of the listing; never `-`, since commands come from standard input.
     pub file: &'a str,
-    /// Its units, limit and turns are those of a run that is asked for nothing more.
+    /// As many units as can be driven; limit and turns are those of a run that is asked for nothing more.
     pub config: Config,
     pub predictor: BranchPredictor,
     /// No prompt is wanted, on a terminal either.
@@ -72,7 +72,7 @@ pub struct ByHand<'a> {
     pub echo: bool,
     /// The seed by which commands are chosen in place of those from standard input.
     pub seed: Option<u64>,
-    /// How many commands a seed chooses.
+    /// How many commands the seed chooses at most.
     pub steps: u64,
 }
 

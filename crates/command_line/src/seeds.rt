@@ -7,6 +7,7 @@ ghost use Rattle.command_line.specs.Values.{is_true, value_in};
 
 use crate::NoRun;
 use crate::entries::seed;
+use crate::names::RUN;
 use crate::refusals::usage;
 use clap::ArgMatches;
 use std::alloc::Global;
@@ -30,13 +31,13 @@ pub(crate) fn seeds_of<'a>(
     ensures usage { IfErr result IsUsage }
     ensures err { IfErr result (λ _. AreNoSeeds (rows_of (found_of matches.now))) }
 {
-    let turns = seed(alloc, "ruu run", matches, "seed")?;
-    let shake = seed(alloc, "ruu run", matches, "shake")?;
+    let turns = seed(alloc, RUN, matches, "seed")?;
+    let shake = seed(alloc, RUN, matches, "shake")?;
     if !alone && turns.is_some() {
-        return Err(usage(alloc, "ruu run", "--seed needs --alone"));
+        return Err(usage(alloc, RUN, "--seed needs --alone"));
     }
     if alone && shake.is_some() {
-        return Err(usage(alloc, "ruu run", "--shake cannot stand with --alone"));
+        return Err(usage(alloc, RUN, "--shake cannot stand with --alone"));
     }
     Ok(Seeds { turns, shake })
 }

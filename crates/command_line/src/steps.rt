@@ -6,6 +6,7 @@ ghost use Rattle.command_line.specs.Steps.{AreNoSteps, AreSteps};
 
 use crate::NoRun;
 use crate::entries::{number, seed};
+use crate::names::DRIVE;
 use crate::refusals::usage;
 use clap::ArgMatches;
 use std::alloc::Global;
@@ -17,18 +18,18 @@ pub(crate) struct Steps {
     pub count: u64,
 }
 
-/// The seed of the matches and its number of commands, which needs one.
+/// The seed of the matches and its number of commands. A number without a seed is a mistake.
 pub(crate) fn steps_of<'a>(alloc: Global, matches: &ArgMatches<'a>) -> Result<Steps, NoRun>
     ensures ok { IfOk result (λ steps.
         AreSteps (rows_of (found_of matches.now)) steps.seed steps.count) }
     ensures usage { IfErr result IsUsage }
     ensures err { IfErr result (λ _. AreNoSteps (rows_of (found_of matches.now))) }
 {
-    let seed = seed(alloc, "ruu drive", matches, "seed")?;
-    let count = number(alloc, "ruu drive", matches, "steps", 1, 1_000_000, 400)?;
+    let seed = seed(alloc, DRIVE, matches, "seed")?;
+    let count = number(alloc, DRIVE, matches, "steps", 1, 1_000_000, 400)?;
     let steps = matches.get_str("steps");
     if seed.is_none() && steps.is_some() {
-        return Err(usage(alloc, "ruu drive", "--steps needs --seed"));
+        return Err(usage(alloc, DRIVE, "--steps needs --seed"));
     }
     Ok(Steps { seed, count })
 }

@@ -6,11 +6,12 @@ ghost use Rattle.command_line.specs.Logs.{IsLog, IsNoLog};
 ghost use Rattle.command_line.specs.Values.{text_behind, value_in};
 
 use crate::NoRun;
+use crate::names::CHART;
 use crate::refusals::usage;
 use clap::ArgMatches;
 use std::alloc::Global;
 
-/// The file of the log that the matches ask for, of the run of a listing in another file.
+/// The file of the log, if the matches ask for one. A log by the name of the listing's file, or by `-`, is a mistake.
 pub(crate) fn log_of<'a>(
     alloc: Global,
     matches: &ArgMatches<'a>,
@@ -25,10 +26,10 @@ pub(crate) fn log_of<'a>(
         return Ok(None);
     };
     if log == file {
-        return Err(usage(alloc, "ruu chart", "--trace names the file of the listing"));
+        return Err(usage(alloc, CHART, "--trace names the file of the listing"));
     }
     if log == "-" {
-        return Err(usage(alloc, "ruu chart", "--trace takes a file"));
+        return Err(usage(alloc, CHART, "--trace takes a file"));
     }
     Ok(Some(log))
 }

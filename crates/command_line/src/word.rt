@@ -31,31 +31,31 @@ pub(crate) fn page_of(word: Word) -> Page
     match word {
         Word::Run => Page {
             name: "run",
-            about: RUN,
+            about: RUN_ABOUT,
             notes: RUN_NOTES,
             arguments: RUN_ARGUMENTS.as_slice(),
         },
         Word::Chart => Page {
             name: "chart",
-            about: CHART,
+            about: CHART_ABOUT,
             notes: CHART_NOTES,
             arguments: CHART_ARGUMENTS.as_slice(),
         },
         Word::Commits => Page {
             name: "commits",
-            about: COMMITS,
+            about: COMMITS_ABOUT,
             notes: COMMITS_NOTES,
             arguments: COMMITS_ARGUMENTS.as_slice(),
         },
         Word::Check => Page {
             name: "check",
-            about: CHECK,
+            about: CHECK_ABOUT,
             notes: CHECK_NOTES,
             arguments: CHECK_ARGUMENTS.as_slice(),
         },
         Word::Drive => Page {
             name: "drive",
-            about: DRIVE,
+            about: DRIVE_ABOUT,
             notes: DRIVE_NOTES,
             arguments: DRIVE_ARGUMENTS.as_slice(),
         },
@@ -141,7 +141,7 @@ static RUN_ARGUMENTS: [Argument; 11] = [
     ),
 ];
 
-const RUN: &str = "Runs a listing of MIPS I instructions and writes a report of how it ended";
+const RUN_ABOUT: &str = "Runs a listing of MIPS I instructions and writes a report of how it ended";
 
 const RUN_NOTES: &str = "\
 Example: ruu run examples/sum.s --ruu-size 8 --bpred taken
@@ -164,7 +164,7 @@ static CHART_ARGUMENTS: [Argument; 7] = [
     ),
 ];
 
-const CHART: &str =
+const CHART_ABOUT: &str =
     "Runs a listing on one thread, writes its report and draws what became of each tenant";
 
 const CHART_NOTES: &str = "\
@@ -178,7 +178,7 @@ Exit status: 0 the listing ran to a break, 1 it stopped otherwise, 2 a fault in 
 
 static COMMITS_ARGUMENTS: [Argument; 6] = [Argument::File, RING, QUEUE, PREDICTOR, LIMIT, SEED];
 
-const COMMITS: &str =
+const COMMITS_ABOUT: &str =
     "Runs a listing on one thread and writes a line for each instruction that is committed";
 
 const COMMITS_NOTES: &str = "\
@@ -196,7 +196,8 @@ static CHECK_ARGUMENTS: [Argument; 2] = [
     flag!("all", "Tell each fault, and not the first alone"),
 ];
 
-const CHECK: &str = "Reads a listing, runs nothing, and tells what it holds or where its fault is";
+const CHECK_ABOUT: &str =
+    "Reads a listing, runs nothing, and tells what it holds or where its fault is";
 
 const CHECK_NOTES: &str = "\
 Example: ruu check examples/sum.s
@@ -228,7 +229,7 @@ static DRIVE_ARGUMENTS: [Argument; 9] = [
     ),
 ];
 
-const DRIVE: &str =
+const DRIVE_ABOUT: &str =
     "Drives the unit of a listing by commands from standard input, one a line, and tells each answer";
 
 const DRIVE_NOTES: &str = "\

@@ -1,4 +1,4 @@
-use Rattle.std.proofs.Common.{◌∙◌, sym, ap, subst, codes, refl}
+use Rattle.std.proofs.Common.{◌∙◌, sym, subst, refl}
 use Rattle.clap.specs.Words.{found_of, rows_of}
 use Rattle.instructions.specs.Settings.{Settings}
 use Rattle.command_line.specs.declared.request.ByHand.{ByHand}
