@@ -5,7 +5,7 @@ ghost use Rattle.counted_io.specs.Counted.{failures_of, known_by};
 ghost use Rattle.bench.specs.Answer.{status_number};
 ghost use Rattle.command_line.specs.Exits.{HoldsOfInput, IsOfOneThread, IsOfWriting, failed_writes, refused};
 ghost use Rattle.command_line.specs.declared.exit.Line.TheVariants.{Nothing, Refused};
-ghost use Rattle.commits.specs.Answers.{IsLogOf};
+ghost use Rattle.commits.specs.Answers.{IsLogOf, failed_reads};
 ghost use Rattle.commits.specs.Logs.{log_for};
 ghost use Rattle.commits.specs.Retirements.{IsBeginning};
 
@@ -33,6 +33,8 @@ pub fn log_commits<R: Read + Drop, W: Write>(
     ensures open { reader ≡ None → result ≡ refused Refusal.Open }
     ensures unopened { reader ≡ None → writer.new ≡ writer.old }
     ensures opened { result.line ≡ Refused Refusal.Open → reader ≡ None }
+    // No trace is written beside the log, so none is blamed.
+    ensures untraced { result.line ≢ Refused Refusal.Trace }
     // A log that was written whole is that of the in-order machine's steps, for any predictor, sizes and seed.
     ensures answer { result.line ≡ Nothing → HoldsOfInput R.remaining reader (λ input.
         IsLogOf asked.now.config.limit (listing input) result.status
@@ -79,6 +81,10 @@ fn log_listing<R: Read, W: Write>(
     ensures quiet { OnOk result (failures_of writer.new ≡ failures_of writer.old) }
     ensures err { IfErr result (λ refusal. IsOfOneThread (Refused refusal)) }
     ensures opened { IfErr result (λ refusal. refusal ≢ Refusal.Open) }
+    ensures untraced { IfErr result (λ refusal. refusal ≢ Refusal.Trace) }
+    // The reader is blamed for one failed call, and only then.
+    ensures read { IfErr result (λ refusal.
+        failures_of reader.new ≡ failures_of reader.old + failed_reads refusal) }
     ensures write { IfErr result (λ refusal.
         failures_of writer.new ≡ failures_of writer.old + failed_writes refusal) }
     ensures begun { IfErr result (λ refusal. IfSome (known_by R.remaining reader.old) (λ input.

@@ -8,8 +8,9 @@ use isa::Hexadecimal;
 use std::alloc::AllocError;
 use std::fmt;
 
-/// The column in which a change begins, from the begin of the text before it.
-const COLUMN: usize = 16;
+/// The columns of the text before a change. A blank follows, so that the change begins in column 17 from the begin of the
+/// text, or one column after a longer text.
+const TEXT_WIDTH: usize = 16;
 
 // A register in three columns.
 #[derive(Clone, Copy)]
@@ -39,7 +40,7 @@ fn value_of(registers: &[u32; 34], r: Reg) -> u32
 fn push_gap(out: &mut String, length: usize) -> Result<(), AllocError>
     ensures { OnOk result (string_bytes out.new ≡ string_bytes out.old ++ gap length) }
 {
-    let mut left = 1 + COLUMN.saturating_sub(length);
+    let mut left = 1 + TEXT_WIDTH.saturating_sub(length);
     'blanks: while left > 0 {
         out.push_str(" ")?;
         left -= 1;
