@@ -1,6 +1,11 @@
 -- What the meetings of the first unit with all others come to.
-use Rattle.std.proofs.Common.{◌≡◌, [], ◌∙◌, subst}
+use Rattle.std.proofs.Common.{◌≡◌, ℕ, List, [], ◌++◌, map, ap, ◌∙◌, subst}
+use Rattle.instructions.specs.Programs.{Program}
+use Rattle.inorder.specs.declared.history.Entry.{Entry}
+use Rattle.inorder.specs.declared.history.Event.{Event}
+use Rattle.inorder.specs.History.{entry}
 use Rattle.inorder.specs.OneHistory.{Adds}
+use Rattle.inorder.specs.Unit.{Sizes}
 use Rattle.station.specs.Seats.{Caller, IsSameSeat, TheCore}
 use Rattle.client.specs.Hands.{HasHeardMore}
 use Rattle.instructions.proofs.Histories.{starts_on}
@@ -17,3 +22,12 @@ later_on core u v w a b =
       spare_is = b.spare_is ∙ a.spare_is;
       adds = record { begins = starts_on u.seen v.seen w.seen a.adds.begins b.adds.begins; legal = b.adds.legal; one_table = b.adds.one_table ∙ a.adds.one_table; mine = again.mine ∙ a.adds.mine };
     }
+
+-- what a caller has heard before a call adds nothing to what the call adds
+pub heard_before : (P : Program) (C : Sizes) (by : ℕ) (old mid new : List Entry) (events : List Event) → Adds P C by old mid [] → Adds P C by mid new events → Adds P C by old new events
+heard_before P C by old mid new events a b = record {
+  begins = starts_on old mid new a.begins b.begins;
+  legal = b.legal;
+  one_table = b.one_table ∙ a.one_table;
+  mine = b.mine ∙ ap (λ l. map (entry by) events ++ l) a.mine;
+}

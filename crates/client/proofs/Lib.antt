@@ -6,6 +6,7 @@ pub mod Alone
 pub mod Begins
 pub mod ItsJob
 pub mod Way
+pub mod OwnSteps
 pub mod Known
 pub mod WorkedOut
 pub mod TwoTenants

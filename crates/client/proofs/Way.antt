@@ -25,14 +25,13 @@ use Rattle.station.specs.Seats.{Caller, IsSameSeat, TheCore}
 use Rattle.station.specs.Writeback.{FinishAnswers, job_outcome}
 use Rattle.client.specs.declared.seats.Seats.{Seats}
 use Rattle.client.specs.Hands.{AreAll, HaveHeard, KnowsUnits}
-use Rattle.client.specs.Works.{HasBothValues, HasCome, IsWorked, unit_at}
-use Rattle.client.specs.declared.drive.Worked.{Worked}
+use Rattle.client.specs.Works.{HasBothValues, HasCome, unit_at}
 use Rattle.client.proofs.Begins.{claim_begins, finish_begins}
 use Rattle.client.proofs.Alone.{Stand, only_units, quiet, stand_on, stand_still}
 use Rattle.client.proofs.Histories.{at_least, same_between}
 use Rattle.instructions.proofs.Histories.{starts_on, starts_same}
 use Rattle.inorder.proofs.Histories.{same_fronts}
-use Rattle.client.proofs.ItsJob.{HasItsFields, IsItsJob, IsOfJob, is_right, its_fields}
+use Rattle.client.proofs.ItsJob.{IsItsJob, its_fields}
 
 -- What a tenant's let, its claim and its finish have answered
 
@@ -193,7 +192,7 @@ module _ {core : TheCore} {s m : Seats} {t : NewTenant} {f : Caller} (l : WasLet
           let late : IsInFlight P C n.one.seen j = stay P C o.seen n.one.seen j b d.end.one.adds.legal (only o.seen n.one.seen a b written_at) early in
           finished P C n.one.by n.one.seen w.seen j answer (only n.one.seen w.seen (starts_on m.one.seen o.seen n.one.seen a b) written_at (starts_same w.seen)) (still_holds jobs_stay) late e.reply
 
-      comes_to : (g : ℕ) (outcome : Outcome) → j.tag ≡ g → outcome ≡ job_outcome P j → HasFinished P C w.seen j answer → WasOnce P C s.one.seen z.one.seen (HasCome station g outcome)
+      pub comes_to : (g : ℕ) (outcome : Outcome) → j.tag ≡ g → outcome ≡ job_outcome P j → HasFinished P C w.seen j answer → WasOnce P C s.one.seen z.one.seen (HasCome station g outcome)
       comes_to g outcome tag_is is h =
           let i = h.tenant.named in
           record {
@@ -215,8 +214,3 @@ module _ {core : TheCore} {s m : Seats} {t : NewTenant} {f : Caller} (l : WasLet
               };
             };
           }
-
-      -- and so the tenant is worked
-      pub is_worked : {x : Worked} → HasItsFields P t l.values tag pc j → IsOfJob P j x → x.tag ≡ tag → HasFinished P C w.seen j answer → IsWorked core s z station t x
-      is_worked {x} its worked tag_is h =
-          record { tag = tag_is; right = is_right x l.may its worked; written = comes_to x.tag x.outcome (its.tag_is ∙ sym tag_is) worked.outcome h }

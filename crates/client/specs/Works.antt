@@ -1,20 +1,27 @@
 -- What comes of an instruction that is let, claimed and finished.
-use Rattle.std.specs.Prelude.{◌≡◌, ℕ, length, Some, if◌then◌else◌}
+use Rattle.std.specs.Prelude.{◌≡◌, ℕ, List, [], ◌∷◌, length, Some, if◌then◌else◌}
 use Rattle.instructions.specs.Instruction.{first_of, kind, second_of}
 use Rattle.instructions.specs.Operations.{outcome_of}
 use Rattle.instructions.specs.Programs.{Program, instr_of, text_start}
 use Rattle.instructions.specs.declared.op.Half.TheVariants.{Low}
 use Rattle.instructions.specs.declared.stop.Outcome.{Outcome}
+use Rattle.inorder.specs.declared.history.Entry.{Entry}
 use Rattle.inorder.specs.declared.history.Source.TheVariants.{Second}
 use Rattle.inorder.specs.History.{unit_of}
+use Rattle.inorder.specs.OneHistory.{Adds}
 use Rattle.inorder.specs.Tenants.{needs}
 use Rattle.inorder.specs.Unit.{UpdateUnit, creator, front_pc, next_tag, recent, value_of}
 use Rattle.ruu_words.specs.Kinds.{IsTenant}
+use Rattle.station.specs.declared.answers.Finish.TheVariants.{Finished}
 use Rattle.station.specs.declared.answers.Supply.TheVariants.{Known}
 use Rattle.station.specs.declared.answers.Tenant.{Tenant}
+use Rattle.station.specs.declared.job.Job.{Job}
+use Rattle.station.specs.Claiming.{IsClaimed}
 use Rattle.station.specs.Finishing.{HasOutcome}
+use Rattle.station.specs.Letting.{let_of}
 use Rattle.station.specs.Moments.{WasOnce}
 use Rattle.station.specs.Seats.{TheCore}
+use Rattle.station.specs.Writeback.{FinishAnswers, job_outcome}
 use Rattle.client.specs.declared.seats.Seats.{Seats}
 use Rattle.client.specs.declared.drive.Worked.{Worked}
 
@@ -55,6 +62,29 @@ pub record IsWorked (core : TheCore) (old new : Seats) (station : ℕ) (t : Tena
   pub right : IsWorkedRight core.program (unit_at core old) t w
   pub written : WasOnce core.program core.sizes old.one.seen new.one.seen
       (HasCome station w.tag w.outcome)
+
+-- The unit has claimed a job of the station and tag, has finished that job with this outcome, and
+-- has done nothing else
+pub record HasClaimedAndFinished (core : TheCore) (by : ℕ) (old new : List Entry) (station tag : ℕ)
+    (outcome : Outcome) : Type 0 where
+  pub job : Job
+  pub tag_is : job.tag ≡ tag
+  pub outcome_is : outcome ≡ job_outcome core.program job
+  pub mid : List Entry
+  pub claimed : IsClaimed core.program core.sizes by old mid station job
+  pub end : List Entry
+  pub finished : FinishAnswers core.program core.sizes by mid end job Finished
+  pub idle : Adds core.program core.sizes by end new []
+
+-- All that was done: the front has let the tenant, and the first unit has worked on it; the back
+-- and the other unit have done nothing
+pub record HaveWorked (core : TheCore) (old new : Seats) (station : ℕ) (t : Tenant) (w : Worked) :
+    Type 0 where
+  pub front : Adds core.program core.sizes old.front.by old.front.seen new.front.seen
+      (let_of t ∷ [])
+  pub one : HasClaimedAndFinished core old.one.by old.one.seen new.one.seen station w.tag w.outcome
+  pub back : Adds core.program core.sizes old.back.by old.back.seen new.back.seen []
+  pub other : Adds core.program core.sizes old.other.by old.other.seen new.other.seen []
 
 -- The outcome of the first instruction, where all registers are 0
 abbrev pub IsFirstOutcome : Program → Outcome → Type 0

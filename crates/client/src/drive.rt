@@ -3,7 +3,7 @@ ghost use Rattle.std.specs.Prelude.{◌≡◌, ◌<◌, IfOk, length};
 ghost use Rattle.inorder.specs.Unit.{next_station, recent};
 ghost use Rattle.station.specs.Letting.{MayLetOut};
 ghost use Rattle.client.specs.Hands.{AreAll, KnowsUnits};
-ghost use Rattle.client.specs.Works.{HasBothValues, IsFirstOutcome, IsWorked, unit_at};
+ghost use Rattle.client.specs.Works.{HasBothValues, HaveWorked, IsFirstOutcome, IsWorked, unit_at};
 
 use crate::seats::{Seats, gather, make};
 use instructions::{Config, Half, Memory, Outcome, Program};
@@ -40,6 +40,7 @@ pub fn work(
     requires may { MayLetOut core.now.program core.now.sizes (unit_at core.now seats.old) tenant }
     requires values { HasBothValues tenant }
     ensures all { AreAll core.now seats.new }
+    ensures history { HaveWorked core.now seats.old seats.new station tenant result }
     ensures worked { IsWorked core.now seats.old seats.new station tenant result }
 {
     let tag = core.let_out(&mut seats.front, tenant);
