@@ -7,6 +7,7 @@
 A line is `crate file function: requires NAME ..; ensures NAME ..`. A clause without a name has the name `-`. What is private
 to its file is left out: a function counts if it is `pub`, or is of a trait that is. The page leaves out what a library does
 not hand on, the tests, and what a trait asks for without a clause of its own; a call that has conditions has a `*` there."""
+import functools
 import os
 import re
 import sys
@@ -117,20 +118,50 @@ def handed_on(crate):
     names = set()
     for module, items in re.findall(r"^pub use (\w+)::([^;]*);", text, re.M):
         if os.path.exists(f"{src}/{module}.rt"):
-            names.update(re.findall(r"\w+", items))
+            names.update(re.findall(r"(?:\w+ as )?(\w+)", items))
     return names, set(re.findall(r"^pub mod (\w+);", text, re.M))
 
 
-def is_listed(crate, file, function, said):
-    """Whether the page lists a function: other crates can call it, and it has a clause or no trait asks for it."""
+@functools.cache
+def uses(crate):
+    """By a file and a name in it, which files hand this on (`pub use FILE::NAME as OTHER`), and what they call it."""
+    src, found = f"{ROOT}/crates/{crate}/src", {}
+    for folder, _, files in os.walk(src):
+        for name in (it for it in files if it.endswith(".rt")):
+            below = folder if name == "lib.rt" else f"{folder}/{name[:-3]}"
+            with open(f"{folder}/{name}", encoding="utf-8") as it:
+                lines = re.findall(r"^pub use ([\w:]+)::(\w+(?: as \w+)?|\{[^}]*\});", it.read(), re.M)
+            for module, items in lines:
+                file = os.path.relpath(f"{below}/{module.replace('::', '/')}.rt", src)
+                for old, other in re.findall(r"(\w+)(?: as (\w+))?", items):
+                    found.setdefault((file, old), []).append((os.path.relpath(f"{folder}/{name}", src), other or old))
+    return found
+
+
+def names_at_root(crate, file, name):
+    """The names by which the root of a library hands on what has a name in a file."""
+    found = [(file, name)]
+    for at in found:
+        found += [it for it in uses(crate).get(at, []) if it not in found]
+    return [name for file, name in found if file == "lib.rt"]
+
+
+def names_outside(crate, file, function, said):
+    """The names by which the page lists a function: other crates can call it, and it has a clause or no trait asks for it."""
     has_clause = any(kind == "ensures" for kind, _, _ in said)
     if not os.path.exists(f"{ROOT}/crates/{crate}/src/lib.rt"):
-        return has_clause
+        return [function] if has_clause else []
     names, modules = handed_on(crate)
     module = re.match(r"\w+", file)[0]
     with open(f"{ROOT}/crates/{crate}/src/{file}", encoding="utf-8") as it:
         is_pub = re.search(rf"^ *pub .*\bfn {function.rpartition('::')[2]}\b", it.read(), re.M)
-    return bool(has_clause or is_pub) and (module == "lib" or module in modules or not names.isdisjoint(function.split("::")))
+    if not (has_clause or is_pub):
+        return []
+    head, *rest = function.split("::")
+    found = ["::".join([name, *rest]) for name in names_at_root(crate, file, head)]
+    if module == "lib" or module in modules or not names.isdisjoint([head, *rest]):
+        found.append(function)
+    return sorted(set(found))
 
 
 def names_of(said, kind):
@@ -167,8 +198,8 @@ def page():
         of_crate = {key[1:]: said for key, said in found.items() if key[0] == crate}
         calls = {}
         for (file, function), said in of_crate.items():
-            if not crate.startswith("tests_") and is_listed(crate, file, function, said):
-                calls.setdefault(function.rpartition("::")[0], []).append((function, said))
+            for name in [] if crate.startswith("tests_") else names_outside(crate, file, function, said):
+                calls.setdefault(name.rpartition("::")[0], []).append((name, said))
         if calls:
             lines += [f"## {crate}\n", *(row for owner, of in calls.items() for row in rows_of(owner, of)), ""]
     return "\n".join(lines).rstrip("\n")
