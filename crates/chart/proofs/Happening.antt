@@ -1,79 +1,49 @@
 -- What is told of a turn has happened.
 use Rattle.std.proofs.Common.{◌≡◌, ◌<◌, ◌≤◌, ℕ, zero, suc, ◌+◌, ◌^◌, Bool, true, false, cond, List, [], ◌∷◌, ◌++◌, length, map, take, drop, Option, Some, None, refl, sym, ap, ◌∙◌, subst, arith}
+use Rattle.std.proofs.Common.{length-append}
+use Rattle.std.proofs.Math.Seq.{take-append_seam}
 use Rattle.std.proofs.lemmas.Bool.{le-ltb, ltb-false}
 use Rattle.std.proofs.lemmas.List.{append-nil}
 use Rattle.std.specs.List.{AllByRecursion}
 use Rattle.std.specs.Prelude.{nat_lt, slice_get}
+use Rattle.instructions.specs.Instruction.{first_of, second_of}
 use Rattle.instructions.specs.Programs.{Program}
+use Rattle.inorder.specs.Callers.{is_retired}
+use Rattle.inorder.specs.Moves.{IsReached}
 use Rattle.inorder.specs.Tenants.{Retired as HasRetired, Squashed, Tenant}
-use Rattle.inorder.specs.Unit.{Sizes, UpdateUnit}
+use Rattle.inorder.specs.Unit.{Sizes, UpdateUnit, creator, how_many}
+use Rattle.inorder.proofs.OneCaller.Sequences.{sound_of}
 use Rattle.one_thread.specs.declared.bench.Turn.{Turn}
 use Rattle.one_thread.specs.declared.bench.Turn.TheVariants.{Halved, Let, Loaded, Over, Ran, Recovered, Retired}
 use Rattle.one_thread.specs.declared.station.Station.{Station}
-use Rattle.one_thread.specs.Turns.{Before, Does, Now, Nowhere}
+use Rattle.one_thread.specs.Turns.{Before, Does, Lets, Now, Nowhere}
 use Rattle.one_thread.specs.Window.{window}
 use Rattle.chart.specs.declared.event.Event.TheVariants.{Moved}
 use Rattle.chart.specs.declared.row.Row.{Row}
 use Rattle.chart.specs.Events.{entry_events, events, is_same, left_events, went_on, moved_events, retired_event, squash, squashes}
-use Rattle.chart.specs.Happened.{Happened, HasGone, StandsAs}
+use Rattle.chart.specs.Happened.{Awaits, Happened, HasGone, StandsAs}
 use Rattle.chart.specs.Named.{IsRowOf, StandsIn, live_positions}
-use Rattle.chart.specs.Rows.{SoFar, all_seen, is_recovery, let_row, newcomer, phase_of, retires as leaves_one, staying}
+use Rattle.chart.specs.Rows.{SoFar, all_seen, awaited, is_recovery, let_row, newcomer, phase_of, retires as leaves_one, staying}
 use Rattle.chart.specs.Watched.{AreTurns, Passed, unit_behind, events_at, kept_behind}
 use Rattle.counted_io.specs.Counted.{raised}
 use Rattle.chart.proofs.LivePositions.{Fewer, OneLess, OneMore}
-use Rattle.chart.proofs.RowsNamed.{Named, as_before, each_row, fewer_left, matched, named, one_less, position_of, positions_length, row_count, stands_at}
+use Rattle.chart.proofs.Lists.{all_behind, all_both, all_but_first, all_get, all_take, get_before, get_last, get_map}
+use Rattle.chart.proofs.Producers.{let_window, row_awaits}
+use Rattle.chart.proofs.Reached.{by_turns}
+use Rattle.chart.proofs.Retirements.{retirements_are}
+use Rattle.chart.proofs.RowsNamed.{Named, as_before, each_row, fewer_left, matched, named, one_less, position_of, positions_length, row_count, seen_positions, seen_stations}
+use Rattle.chart.proofs.RowsNamed.{stands_at, station_in}
 use Rattle.chart.proofs.TurnPositions.{grows, lets, loads, recovers, retires, runs}
-
--- Lists
-
-all_both : {X : Type 0} (Q : X → Type 0) (xs ys : List X) → AllByRecursion Q xs → AllByRecursion Q ys → AllByRecursion Q (xs ++ ys)
-all_both Q [] ys h k = k
-all_both Q (x ∷ xs) ys h k = (h.0, all_both Q xs ys h.1 k)
-
-all_get : {X : Type 0} (Q : X → Type 0) (xs : List X) → AllByRecursion Q xs → (i : ℕ) (x : X) → slice_get xs i ≡ Some x → Q x
-all_get Q [] h i x e = absurd (cc)
-all_get Q (y ∷ ys) h zero x e = let same : y ≡ x = cc in subst Q same h.0
-all_get Q (y ∷ ys) h (suc i) x e = all_get Q ys h.1 i x e
-
-all_take : {X : Type 0} (Q : X → Type 0) (n : ℕ) (xs : List X) → AllByRecursion Q xs → AllByRecursion Q (take n xs)
-all_take Q zero xs h = tt
-all_take Q (suc n) [] h = tt
-all_take Q (suc n) (x ∷ xs) h = (h.0, all_take Q n xs h.1)
-
-all_but_first : {X : Type 0} (Q : X → Type 0) (xs : List X) → AllByRecursion Q xs → AllByRecursion Q (drop 1 xs)
-all_but_first Q [] h = tt
-all_but_first Q (x ∷ xs) h = h.1
-
--- behind others
-all_behind : {X : Type 0} (Q : X → Type 0) (xs ys : List X) → AllByRecursion Q ys → (i : ℕ) (x : X) → length xs ≤ i →
-    slice_get (xs ++ ys) i ≡ Some x → Q x
-all_behind Q [] ys h i x l e = all_get Q ys h i x e
-all_behind Q (z ∷ xs) ys h zero x l e = absurd (omega (arith, l))
-all_behind Q (z ∷ xs) ys h (suc i) x l e = all_behind Q xs ys h i x (omega (arith, l)) e
-
-get_before : {X : Type 0} (xs ys : List X) (i : ℕ) (x : X) → slice_get xs i ≡ Some x → slice_get (xs ++ ys) i ≡ Some x
-get_before [] ys i x e = absurd (cc)
-get_before (z ∷ xs) ys zero x e = e
-get_before (z ∷ xs) ys (suc i) x e = get_before xs ys i x e
-
-get_last : {X : Type 0} (xs : List X) (x : X) → slice_get (xs ++ x ∷ []) (length xs) ≡ Some x
-get_last [] x = refl
-get_last (z ∷ xs) x = get_last xs x
-
-get_position : (rows : List Row) (i : ℕ) (r : Row) → slice_get rows i ≡ Some r → slice_get (map position_of rows) i ≡ Some r.position
-get_position [] i r e = absurd (cc)
-get_position (x ∷ rows) zero r e = let same : x ≡ r = cc in ap (λ (z : Row). Some z.position) same
-get_position (x ∷ rows) (suc i) r e = get_position rows i r e
 
 module _ (P : Program) (us vs : List Tenant) where
   -- Who has left
 
   retired_happened : (first : ℕ) (rows : List Row) (others : ℕ) → StandsAs vs first HasRetired → map position_of rows ≡ first ∷ live_positions vs →
-      AllByRecursion (IsRowOf P us) rows → AllByRecursion (Happened P us vs) (retired_event others rows)
-  retired_happened first [] others left e h = tt
-  retired_happened first (r ∷ rs) others left e h =
+      AllByRecursion (IsRowOf P us) rows → others ≡ how_many is_retired us → AllByRecursion (Happened P us vs) (retired_event others rows)
+  retired_happened first [] others left e h count = tt
+  retired_happened first (r ∷ rs) others left e h count =
       let same : first ≡ r.position = cc in
-      (record { stood = h.0; left = subst (λ p. StandsAs vs p HasRetired) same left }, tt)
+      (record { gone = record { stood = h.0; left = subst (λ p. StandsAs vs p HasRetired) same left }; count = count }, tt)
 
   squashes_happened : (rows : List Row) (live n : ℕ) → ((i : ℕ) (r : Row) → live ≤ i → slice_get rows i ≡ Some r → HasGone P us vs r Squashed) →
       AllByRecursion (Happened P us vs) (squashes live rows n)
@@ -146,13 +116,14 @@ module _ (P : Program) (us vs : List Tenant) where
       let there : (j : ℕ) (r : Row) (w : Station) → slice_get rows j ≡ Some r → slice_get W (0 + j) ≡ Some w → StandsIn P vs r.position w =
       λ j r w e f.
       let at_j : slice_get (live_positions vs) j ≡ Some r.position =
-      ap (λ l. slice_get l j) (sym stay) ∙ get_before (map position_of rows) extra j r.position (get_position rows j r e) in
+      ap (λ l. slice_get l j) (sym stay) ∙ get_before (map position_of rows) extra j r.position (get_map position_of rows j r e) in
       let same : j ≡ 0 + j = omega arith in
       stands_at P vs (live_positions vs) W (matched P vs) j r.position w at_j (ap (slice_get W) same ∙ f) in
       all_both (Happened P us vs) went (moved_events W 0 rows ++ came) left
       (all_both (Happened P us vs) (moved_events W 0 rows) came (moves_happened W 0 rows (some_stay answer (length W) k.rows h) there) entry)
 
-module _ (P : Program) (C : Sizes) (U V : UpdateUnit) (k : SoFar) (n : Named P U.tenants k) where
+module _ (P : Program) (C : Sizes) (U V : UpdateUnit) (k : SoFar) (n : Named P U.tenants k) (count : k.retirements ≡ how_many is_retired U.tenants)
+    (reached : IsReached P C U) where
   each : AllByRecursion (IsRowOf P U.tenants) k.rows
   each = each_row P U.tenants k n
 
@@ -166,7 +137,7 @@ module _ (P : Program) (C : Sizes) (U V : UpdateUnit) (k : SoFar) (n : Named P U
   one_left o = go (nat_lt (length (window P V.tenants)) (length k.rows))
     where
       go : (b : Bool) → AllByRecursion (Happened P U.tenants V.tenants) (cond b (retired_event k.retirements k.rows) [])
-      go true = retired_happened P U.tenants V.tenants o.first k.rows k.retirements o.left (n.positions ∙ o.positions) each
+      go true = retired_happened P U.tenants V.tenants o.first k.rows k.retirements o.left (n.positions ∙ o.positions) each count
       go false = tt
 
   -- nobody has
@@ -187,7 +158,7 @@ module _ (P : Program) (C : Sizes) (U V : UpdateUnit) (k : SoFar) (n : Named P U
       gone : (i : ℕ) (r : Row) → length (window P V.tenants) ≤ i → slice_get k.rows i ≡ Some r → HasGone P U.tenants V.tenants r Squashed
       gone i r l e =
           let at_i : slice_get (live_positions V.tenants ++ f.gone) i ≡ Some r.position =
-          ap (λ x. slice_get x i) (sym (n.positions ∙ f.positions)) ∙ get_position k.rows i r e in
+          ap (λ x. slice_get x i) (sym (n.positions ∙ f.positions)) ∙ get_map position_of k.rows i r e in
           let past : length (live_positions V.tenants) ≤ i = omega (arith, l, positions_length P V.tenants) in
           record {
             stood = all_get (IsRowOf P U.tenants) k.rows each i r e;
@@ -195,10 +166,34 @@ module _ (P : Program) (C : Sizes) (U V : UpdateUnit) (k : SoFar) (n : Named P U
           }
 
   -- one has come
-  one_came : OneMore U.tenants V.tenants → (rows : List Row) →
-      AllByRecursion (Happened P U.tenants V.tenants) (entry_events rows (newcomer k Let (window P V.tenants)))
-  one_came o rows = go (slice_get (window P V.tenants) (length k.rows)) refl
+  one_came : Lets P C U V →
+      AllByRecursion (Happened P U.tenants V.tenants)
+      (entry_events (all_seen (raised k.turns) (window P V.tenants) 0 k.rows) (newcomer k Let (window P V.tenants)))
+  one_came d = go (slice_get (window P V.tenants) (length k.rows)) refl
     where
+      o : OneMore U.tenants V.tenants
+      o = lets P C U V d
+
+      rows : List Row
+      rows = all_seen (raised k.turns) (window P V.tenants) 0 k.rows
+
+      -- the rows of those before it, as the turn left them
+      stations : map station_in rows ≡ window P U.tenants
+      stations =
+          let W = window P U.tenants in
+          let more = let_window P C U V d in
+          let count : length k.rows ≡ length W = row_count P C U V k n ∙ positions_length P U.tenants in
+          let wide : 0 + length k.rows ≤ length (window P V.tenants) = omega (arith, ap (λ l. length l) more.1, length-append W (more.0 ∷ []), count) in
+          seen_stations (raised k.turns) (window P V.tenants) 0 k.rows wide
+          ∙ ap (take (length k.rows)) more.1
+          ∙ ap (λ m. take m (W ++ more.0 ∷ [])) count
+          ∙ take-append_seam W (more.0 ∷ [])
+
+      waits : (register : ℕ) → Awaits U.tenants (creator P U.tenants register) (awaited register rows)
+      waits register =
+          row_awaits P U.tenants rows register (sound_of P C U reached) d.goes_on
+          (seen_positions (raised k.turns) (window P V.tenants) 0 k.rows ∙ n.positions) stations
+
       go : (w : Option Station) → slice_get (window P V.tenants) (length k.rows) ≡ w →
           AllByRecursion (Happened P U.tenants V.tenants) (entry_events rows (let_row Let w k.lets (raised k.turns)))
       go None e = tt
@@ -211,6 +206,8 @@ module _ (P : Program) (C : Sizes) (U V : UpdateUnit) (k : SoFar) (n : Named P U
             record {
               position = n.lets;
               stands = stands_at P V.tenants (live_positions V.tenants) (window P V.tenants) (matched P V.tenants) (length k.rows) k.lets w last e;
+              awaits_first = waits (first_of w.instr);
+              awaits_second = waits (second_of w.instr);
             },
             tt,
           )
@@ -223,8 +220,7 @@ module _ (P : Program) (C : Sizes) (U V : UpdateUnit) (k : SoFar) (n : Named P U
       let o = lets P C U V d in
       let stay : map position_of k.rows ++ length U.tenants ∷ [] ≡ live_positions V.tenants =
       ap (λ l. l ++ length U.tenants ∷ []) n.positions ∙ sym o.positions in
-      together P U.tenants V.tenants k Let (length U.tenants ∷ []) each stay tt
-      (one_came o (all_seen (raised k.turns) (window P V.tenants) 0 k.rows))
+      together P U.tenants V.tenants k Let (length U.tenants ∷ []) each stay tt (one_came d)
   happened Ran d = together P U.tenants V.tenants k Ran [] each (all_of k.rows (n.positions ∙ sym (runs P C U V d).positions)) tt tt
   happened Loaded d = together P U.tenants V.tenants k Loaded [] each (all_of k.rows (n.positions ∙ sym (loads P C U V d).positions)) tt tt
   happened Halved d =
@@ -245,4 +241,6 @@ pub all_happened : (P : Program) (C : Sizes) (turns : List Passed) (t : Passed) 
     AllByRecursion (Happened P (unit_behind turns).tenants t.unit.tenants) (events_at P turns t)
 all_happened P C turns t a small =
     let more = grows P C (unit_behind turns) t.unit t.answer a.1 in
-    happened P C (unit_behind turns) t.unit (kept_behind P turns) (named P C turns a.0 (omega (arith, more, small))) t.answer a.1
+    let before : length (unit_behind turns).tenants < 2 ^ 64 = omega (arith, more, small) in
+    happened P C (unit_behind turns) t.unit (kept_behind P turns) (named P C turns a.0 before) (retirements_are P C turns a.0 before) (by_turns P C turns a.0)
+    t.answer a.1

@@ -5,4 +5,7 @@ pub mod WholeRuns
 pub mod LivePositions
 pub mod TurnPositions
 pub mod RowsNamed
+pub mod Reached
+pub mod Retirements
+pub mod Producers
 pub mod Happening

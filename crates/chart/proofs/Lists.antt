@@ -1,8 +1,10 @@
 -- Lists, one by one.
-use Rattle.std.proofs.Common.{◌≡◌, ◌<◌, ◌≤◌, ℕ, zero, suc, ◌+◌, ◌-◌, true, false, List, [], ◌∷◌, ◌++◌, length, take, drop, get_or, Option, refl, sym, ap, ◌∙◌, arith, add-one, append_assoc}
+use Rattle.std.proofs.Common.{◌≡◌, ◌<◌, ◌≤◌, ℕ, zero, suc, ◌+◌, ◌-◌, true, false, List, [], ◌∷◌, ◌++◌, length, map, take, drop, get_or, Option, Some, refl, sym, ap, ◌∙◌, subst, arith, add-one}
+use Rattle.std.proofs.Common.{append_assoc}
 use Rattle.std.proofs.Math.Seq.{drop-cons}
 use Rattle.std.proofs.lemmas.Grind.{common_steps}
 use Rattle.std.proofs.lemmas.Bool.{lt-ltb}
+use Rattle.std.specs.List.{AllByRecursion}
 use Rattle.std.specs.Prelude.{nat_lt, slice_get}
 use Rattle.chart.specs.declared.event.Event.{Event}
 use Rattle.chart.specs.declared.row.Row.{Row}
@@ -71,3 +73,44 @@ squashes_go_on live left rows o before new whole more there made so_far =
     ∙ ap (λ l. before ++ l) (sym (squashes_more live n rows inside))
     ∙ ap (λ k. before ++ squashes live rows k) one
     ∙ so_far
+
+-- What holds of each
+
+pub all_both : {X : Type 0} (Q : X → Type 0) (xs ys : List X) → AllByRecursion Q xs → AllByRecursion Q ys → AllByRecursion Q (xs ++ ys)
+all_both Q [] ys h k = k
+all_both Q (x ∷ xs) ys h k = (h.0, all_both Q xs ys h.1 k)
+
+pub all_get : {X : Type 0} (Q : X → Type 0) (xs : List X) → AllByRecursion Q xs → (i : ℕ) (x : X) → slice_get xs i ≡ Some x → Q x
+all_get Q [] h i x e = absurd (cc)
+all_get Q (y ∷ ys) h zero x e = let same : y ≡ x = cc in subst Q same h.0
+all_get Q (y ∷ ys) h (suc i) x e = all_get Q ys h.1 i x e
+
+pub all_take : {X : Type 0} (Q : X → Type 0) (n : ℕ) (xs : List X) → AllByRecursion Q xs → AllByRecursion Q (take n xs)
+all_take Q zero xs h = tt
+all_take Q (suc n) [] h = tt
+all_take Q (suc n) (x ∷ xs) h = (h.0, all_take Q n xs h.1)
+
+pub all_but_first : {X : Type 0} (Q : X → Type 0) (xs : List X) → AllByRecursion Q xs → AllByRecursion Q (drop 1 xs)
+all_but_first Q [] h = tt
+all_but_first Q (x ∷ xs) h = h.1
+
+-- behind others
+pub all_behind : {X : Type 0} (Q : X → Type 0) (xs ys : List X) → AllByRecursion Q ys → (i : ℕ) (x : X) → length xs ≤ i →
+    slice_get (xs ++ ys) i ≡ Some x → Q x
+all_behind Q [] ys h i x l e = all_get Q ys h i x e
+all_behind Q (z ∷ xs) ys h zero x l e = absurd (omega (arith, l))
+all_behind Q (z ∷ xs) ys h (suc i) x l e = all_behind Q xs ys h i x (omega (arith, l)) e
+
+pub get_before : {X : Type 0} (xs ys : List X) (i : ℕ) (x : X) → slice_get xs i ≡ Some x → slice_get (xs ++ ys) i ≡ Some x
+get_before [] ys i x e = absurd (cc)
+get_before (z ∷ xs) ys zero x e = e
+get_before (z ∷ xs) ys (suc i) x e = get_before xs ys i x e
+
+pub get_last : {X : Type 0} (xs : List X) (x : X) → slice_get (xs ++ x ∷ []) (length xs) ≡ Some x
+get_last [] x = refl
+get_last (z ∷ xs) x = get_last xs x
+
+pub get_map : {X Y : Type 0} (f : X → Y) (xs : List X) (i : ℕ) (x : X) → slice_get xs i ≡ Some x → slice_get (map f xs) i ≡ Some (f x)
+get_map f [] i x e = absurd (cc)
+get_map f (y ∷ ys) zero x e = let same : y ≡ x = cc in ap (λ z. Some (f z)) same
+get_map f (y ∷ ys) (suc i) x e = get_map f ys i x e

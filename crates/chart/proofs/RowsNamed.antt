@@ -52,7 +52,7 @@ drop_there [] i x e = absurd (cc)
 drop_there (y ∷ ys) zero x e = let same : y ≡ x = cc in ap (λ z. z ∷ ys) same
 drop_there (y ∷ ys) (suc i) x e = drop_there ys i x e
 
-seen_positions : (turn : ℕ) (W : List Station) (i : ℕ) (rows : List Row) → map position_of (all_seen turn W i rows) ≡ map position_of rows
+pub seen_positions : (turn : ℕ) (W : List Station) (i : ℕ) (rows : List Row) → map position_of (all_seen turn W i rows) ≡ map position_of rows
 seen_positions turn W i [] = refl
 seen_positions turn W i (r ∷ rs) =
     ap (λ p. p ∷ map position_of (all_seen turn W (i + 1) rs)) (one (slice_get W i))
@@ -62,7 +62,7 @@ seen_positions turn W i (r ∷ rs) =
     one None = refl
     one (Some w) = refl
 
-seen_stations : (turn : ℕ) (W : List Station) (i : ℕ) (rows : List Row) → i + length rows ≤ length W →
+pub seen_stations : (turn : ℕ) (W : List Station) (i : ℕ) (rows : List Row) → i + length rows ≤ length W →
     map station_in (all_seen turn W i rows) ≡ take (length rows) (drop i W)
 seen_stations turn W i [] h = refl
 seen_stations turn W i (r ∷ rs) h =

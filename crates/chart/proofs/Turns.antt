@@ -1,5 +1,5 @@
 -- What was told, turn by turn.
-use Rattle.std.proofs.Common.{◌≡◌, ◌<◌, ◌≤◌, ◌+◌, ◌-◌, ℕ, List, ◌∷◌, ◌++◌, length, take, Option, sym, ap, ◌∙◌, subst, arith, append_assoc}
+use Rattle.std.proofs.Common.{◌≡◌, ◌<◌, ◌≤◌, ◌+◌, ◌-◌, ℕ, List, ◌∷◌, ◌++◌, length, take, Option, sym, ap, ◌∙◌, subst, arith, append_assoc, length-append}
 use Rattle.std.proofs.KnownBytes.{Appends-trans}
 use Rattle.std.proofs.Math.Seq.{take-append-add}
 use Rattle.std.proofs.lemmas.List.{take-append-le}
@@ -187,19 +187,22 @@ module _ {S Q : Type 0} (Predicts : S → ℕ → Instr → ℕ → S → Type 0
         over = subst (NoTurnIsDue P limit g.stood.turns) (sym (ap (λ e. e.0) (at_limit limit b.pipeline reached))) (sym (count_is b o k now g.stood) ∙ full);
       }
 
-  -- a turn that was told in part, or not at all
+  -- a turn that was due and told in part, or not at all
   pub stood_part : (b later : BenchFields S) (o o' : Order Q) (k : SoFar) (answer : Turn) (now new : Option (List ℕ)) (n : ℕ) →
       IsTurnIn Predicts Learns Chooses b o answer later o' → SizesStay b.pipeline later.pipeline →
       n ≤ length (turn_text f (raised k.turns) (events k answer later.pipeline.window)) →
-      Appends now new (take n (turn_text f (raised k.turns) (events k answer later.pipeline.window))) →
-      Stood Predicts Learns Chooses f P C limit b o k first start now → IsBegun Predicts Learns Chooses f P C first start new
-  stood_part b later o o' k answer now new n turned same inside says s =
+      Appends now new (take n (turn_text f (raised k.turns) (events k answer later.pipeline.window))) → b.pipeline.committed.count < limit →
+      GoesOn Predicts Learns Chooses f P C limit b o k first start now → IsBegun Predicts Learns Chooses f P C limit first start new
+  stood_part b later o o' k answer now new n turned same inside says below g =
       go (has_passed b later o o' s.turns answer s.program s.sizes program s.reached s.stands turned)
     where
+      s : Stood Predicts Learns Chooses f P C limit b o k first start now
+      s = g.stood
+
       program : later.pipeline.program.now ≡ P
       program = ap (λ p. p.now) same.program ∙ s.program
 
-      go : HasPassed b later o o' s.turns answer → IsBegun Predicts Learns Chooses f P C first start new
+      go : HasPassed b later o o' s.turns answer → IsBegun Predicts Learns Chooses f P C limit first start new
       go m =
           let t : Passed = record { answer = answer; unit = m.unit } in
           let before = told f P s.turns in
@@ -212,10 +215,12 @@ module _ {S Q : Type 0} (Predicts : S → ℕ → Instr → ℕ → S → Type 0
           record {
             turns = t ∷ s.turns;
             are = (s.are, m.does.0);
+            due = (s.due, is_due b o k now g below);
             last = record { predictor = later.predictor; order = o' };
             guessed = (b.predictor, s.guessed, m.trains);
             ordered = (o, s.ordered, m.does.1);
             n = length before + n;
+            within = λ d. omega (arith, less, length-append before T);
             says = subst (Appends start new) (sym part) (Appends-trans start now new before (take n T) s.says (subst (λ l. Appends now new (take n l)) line says));
           }
 

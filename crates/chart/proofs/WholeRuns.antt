@@ -5,6 +5,8 @@ use Rattle.std.proofs.Math.Seq.{take-append-add}
 use Rattle.std.proofs.lemmas.List.{append-nil, take-append-le}
 use Rattle.std.specs.Io.KnownBytes.{Appends}
 use Rattle.instructions.specs.declared.end.End.{End}
+use Rattle.instructions.specs.declared.end.Ending.{Ending}
+use Rattle.instructions.specs.declared.end.Ending.TheVariants.{Stop as ByStop, Limit as ByLimit}
 use Rattle.instructions.specs.declared.instr.Instr.{Instr}
 use Rattle.instructions.specs.Programs.{Program}
 use Rattle.instructions.specs.Settings.{Settings}
@@ -19,7 +21,7 @@ use Rattle.one_thread.specs.Turns.{BenchFields}
 use Rattle.chart.specs.declared.telling.Format.{Format}
 use Rattle.chart.specs.Rows.{SoFar, start_kept}
 use Rattle.chart.specs.Telling.{first_text, last_text}
-use Rattle.chart.specs.Watched.{GoesOn, Guides, IsBegun, NoTurnIsDue, IsThrough, IsTold, Stood, unit_behind, kept_behind, sizes_by, told}
+use Rattle.chart.specs.Watched.{GoesOn, Guides, IsBegun, IsDue, NoTurnIsDue, IsThrough, IsTold, Passed, unit_behind, kept_behind, sizes_by, told}
 
 pub appends_none : (known : Option (List ℕ)) → Appends known known []
 appends_none None = tt
@@ -62,33 +64,43 @@ module _ {S Q : Type 0} (Predicts : S → ℕ → Instr → ℕ → S → Type 0
   }
 
   pub first_part : (new : Option (List ℕ)) (n : ℕ) → n ≤ length (first_text f) →
-      Appends start new (take n (first_text f)) → IsBegun Predicts Learns Chooses f P C first start new
-  first_part new n inside says = record {
+      Appends start new (take n (first_text f)) → (limit : ℕ) → IsBegun Predicts Learns Chooses f P C limit first start new
+  first_part new n inside says limit = record {
     turns = [];
     are = tt;
+    due = tt;
     last = first;
     guessed = refl;
     ordered = refl;
     n = n;
+    within = λ d. inside;
     says = subst (Appends start new) (sym (take-append-le n (first_text f) (last_text f start_kept) inside)) says;
   }
 
   -- The last ones
 
+  -- behind the last turn no further one is due
+  none_due : (limit : ℕ) (ts : List Passed) (e : Ending) → NoTurnIsDue P limit ts e → IsDue P limit ts → ⊥
+  none_due limit ts (ByStop c) over d = d.going c over
+  none_due limit ts ByLimit full d = let below = d.below in omega (arith, full, below)
+
   pub last_part : (limit : ℕ) (b : BenchFields S) (o : Order Q) (k : SoFar) (now new : Option (List ℕ)) (n : ℕ) →
-      n ≤ length (last_text f k) → Appends now new (take n (last_text f k)) → Stood Predicts Learns Chooses f P C limit b o k first start now →
-      IsBegun Predicts Learns Chooses f P C first start new
-  last_part limit b o k now new n inside says s =
+      n ≤ length (last_text f k) → Appends now new (take n (last_text f k)) → IsThrough Predicts Learns Chooses f P C limit b o k first start now →
+      IsBegun Predicts Learns Chooses f P C limit first start new
+  last_part limit b o k now new n inside says t =
+      let s = t.stood in
       let before = told f P s.turns in
       let last = last_text f (kept_behind P s.turns) in
       let line = ap (last_text f) s.kept in
       record {
         turns = s.turns;
         are = s.are;
+        due = s.due;
         last = record { predictor = b.predictor; order = o };
         guessed = s.guessed;
         ordered = s.ordered;
         n = length before + n;
+        within = λ d. absurd (none_due limit s.turns (run_from b.pipeline limit).0 t.over d);
         says = subst (Appends start new) (sym (take-append-add before last n)) (Appends-trans start now new before (take n last) s.says (subst (λ
             l. Appends now new (take n l)) line says));
       }

@@ -37,11 +37,13 @@ pub record HasToldWhole (f : Format) (asked : Charted) (P : Program) (before aft
       IsTold PredictsAs LearnsAs ChoosesNext f P (sizes_by asked.run.config) asked.run.config.limit (guides first (order_by asked.run.seed))
       (end_of P asked.run.config.limit) before after
 
--- A beginning was told of the run that is asked for
+-- A beginning was told of the run that is asked for: of turns that are due within its limit
 pub record HasBegun (f : Format) (asked : Charted) (P : Program) (before after : Option (List ℕ)) : Type 0 where
   pub first : Chosen
   pub chosen : IsChosen asked.run.predictor first
-  pub begun : IsPartOf PredictsAs LearnsAs ChoosesNext f P (sizes_by asked.run.config) (guides first (order_by asked.run.seed)) before after
+  pub begun :
+      IsPartOf PredictsAs LearnsAs ChoosesNext f P (sizes_by asked.run.config) asked.run.config.limit (guides first (order_by asked.run.seed))
+      before after
 
 -- The run was logged where a log is wanted, and nothing was written where none is
 abbrev pub IsLogged : (is_wanted : Bool) → Charted → Program → (before after : Option (List ℕ)) → Type 0
@@ -105,11 +107,12 @@ pub record HasReportBegun (asked : Charted) (found : Result Program (ℕ × Faul
   pub report : IsCutText refusal (text_for asked.run.config.limit found) before.text after.text
   pub log : after.log ≡ before.log
 
--- Where a run with pictures was broken off
+-- Where a run with pictures was broken off: in its log only where one is wanted
 pub data IsBrokenOff (asked : Charted) (P : Program) (refusal : Refusal) (before after : Outputs) : Type 0 where
   InReport : HasReportBegun asked (Ok P) refusal before after → IsBrokenOff asked P refusal before after
   InChart : IsOfWriting refusal → HasChartBegun asked P before after → IsBrokenOff asked P refusal before after
-  InLog : IsOfLog refusal → HasLogBegun asked P before after → IsBrokenOff asked P refusal before after
+  InLog : is_some asked.log ≡ true → IsOfLog refusal → HasLogBegun asked P before after →
+      IsBrokenOff asked P refusal before after
 
 -- What was written for a listing where that was broken off
 abbrev pub IsBegun : Charted → Result Program (ℕ × FaultKind) → Refusal → (before after : Outputs) → Type 0

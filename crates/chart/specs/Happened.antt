@@ -1,9 +1,11 @@
 -- What became of tenants at a turn, by the tenants before it and behind it.
-use Rattle.std.specs.Prelude.{◌≡◌, ℕ, List, length, Some}
+use Rattle.std.specs.Prelude.{◌≡◌, ℕ, List, length, Option, Some, None}
+use Rattle.instructions.specs.Instruction.{first_of, second_of}
 use Rattle.instructions.specs.Programs.{Program}
-use Rattle.inorder.specs.Tenants.{Standing, Tenant}
+use Rattle.inorder.specs.Callers.{is_retired}
+use Rattle.inorder.specs.Tenants.{IsThere, Standing, Tenant}
 use Rattle.inorder.specs.Tenants as tenant
-use Rattle.inorder.specs.Unit.{at}
+use Rattle.inorder.specs.Unit.{at, creator, how_many, value_of}
 use Rattle.one_thread.specs.declared.station.Station.{Station}
 use Rattle.chart.specs.declared.event.Event.{Event}
 use Rattle.chart.specs.declared.event.Event.TheVariants.{Left, Let, Moved}
@@ -19,10 +21,20 @@ pub record StandsAs (ts : List Tenant) (position : ℕ) (standing : Standing) : 
   pub is : at ts position ≡ Some tenant
   pub stands : tenant.standing ≡ standing
 
--- The tenant of a row was let: there were as many tenants before it as its position says
-pub record WasLet (P : Program) (before behind : List Tenant) (r : Row) : Type 0 where
+-- A new tenant waits for the creator of a source, at this position, which has made nothing yet; or for nobody, since
+-- the value is there
+abbrev pub Awaits : (before : List Tenant) → (creator producer : Option ℕ) → Type 0
+Awaits before c None = IsThere (value_of before c)
+Awaits before c (Some p) = (c ≡ Some p) × (value_of before c ≡ None)
+
+-- The tenant of a row was let: there were as many tenants before it as its position says, and its two sources wait for
+-- these
+pub record WasLet (P : Program) (before behind : List Tenant) (r : Row) (first second : Option ℕ)
+    : Type 0 where
   pub position : r.position ≡ length before
   pub stands : IsRowOf P behind r
+  pub awaits_first : Awaits before (creator P before (first_of r.station.instr)) first
+  pub awaits_second : Awaits before (creator P before (second_of r.station.instr)) second
 
 -- The tenant at a position has gone on, from one phase to another
 pub record HasGoneOn (P : Program) (before behind : List Tenant) (position : ℕ) (from to : Phase) : Type 0 where
@@ -38,9 +50,14 @@ pub record HasGone (P : Program) (before behind : List Tenant) (r : Row) (standi
   pub stood : IsRowOf P before r
   pub left : StandsAs behind r.position standing
 
+-- The tenant of a row has retired, behind so many others
+pub record HasRetired (P : Program) (before behind : List Tenant) (r : Row) (others : ℕ) : Type 0 where
+  pub gone : HasGone P before behind r tenant.Retired
+  pub count : others ≡ how_many is_retired before
+
 -- An event tells what became of the tenant at its position
 abbrev pub Happened : Program → List Tenant → List Tenant → Event → Type 0
-Happened P before behind (Let r first second) = WasLet P before behind r
+Happened P before behind (Let r first second) = WasLet P before behind r first second
 Happened P before behind (Moved position from to) = HasGoneOn P before behind position from to
-Happened P before behind (Left r (Retired others)) = HasGone P before behind r tenant.Retired
+Happened P before behind (Left r (Retired others)) = HasRetired P before behind r others
 Happened P before behind (Left r Squashed) = HasGone P before behind r tenant.Squashed

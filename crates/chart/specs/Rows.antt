@@ -1,5 +1,6 @@
 -- The rows of the live tenants of a run, from turn to turn.
 use Rattle.std.specs.Prelude.{ℕ, ◌+◌, Bool, true, false, List, [], ◌∷◌, ◌++◌, length, take, drop, Option, Some, None, is_some, ◌==◌, nat_lt, if◌then◌else◌, slice_get}
+use Rattle.inorder.specs.Unit.{can_be_written}
 use Rattle.one_thread.specs.declared.bench.Turn.{Turn}
 use Rattle.one_thread.specs.declared.bench.Turn.TheVariants.{Halved, Let, Over, Recovered, Retired}
 use Rattle.one_thread.specs.declared.station.Stage.{Stage}
@@ -109,7 +110,8 @@ unmade (Some r) = unmade_by r.station.made r.position
 
 -- The producer that has still to make what a new tenant reads from a register; none makes register 0
 abbrev pub awaited : (register : ℕ) → List Row → Option ℕ
-awaited register rows = if register == 0 then None else unmade (writer_of register rows)
+awaited register rows =
+    if can_be_written register then unmade (writer_of register rows) else None
 
 -- The station, if there is one
 abbrev pub as_list : Option Station → List Station

@@ -163,15 +163,18 @@ module _ {S Q : Type 0} (Predicts : S → ℕ → Instr → ℕ → S → Type 0
     pub ends : committed P (unit_behind turns).tenants ≡ end.1
     pub says : Appends before after (text f P turns)
 
-  -- A beginning was told of legal turns by the guesses of this predictor and in this order
-  pub record IsBegun (f : Format) (P : Program) (C : Sizes) (first : Guides S Q) (before after : Option (List ℕ))
-      : Type 0 where
+  -- A beginning was told of a run up to a limit: of legal turns by the guesses of this predictor and in this order,
+  -- each of which was due. While a further one is due, nothing was written of the text behind the last turn
+  pub record IsBegun (f : Format) (P : Program) (C : Sizes) (limit : ℕ) (first : Guides S Q)
+      (before after : Option (List ℕ)) : Type 0 where
     pub turns : List Passed
     pub are : AreTurns P C turns
+    pub due : AreDue P limit turns
     pub last : Guides S Q
     pub guessed : HasGuessed Predicts Learns P first.predictor turns last.predictor
     pub ordered : AreOrdered Chooses P C first.order turns are last.order
     pub n : ℕ
+    pub within : IsDue P limit turns → n ≤ length (told f P turns)
     pub says : Appends before after (take n (text f P turns))
 
 -- A beginning of a text was written, or all of it

@@ -15,8 +15,9 @@ pub fn a_row_names_its_tenant()
         AreNamed p (unit_behind turns).tenants (kept_behind p turns).rows }
 {}
 
-/// Each event of a turn has become of the tenant that it names: who was let is the youngest, who has gone on was in
-/// the one phase before the turn and is in the other behind it, who has left was live before it.
+/// Each event of a turn has become of the tenant that it names: who was let is the youngest and waits for the creators
+/// that have made nothing yet, who has gone on was in the one phase before the turn and is in the other behind it, who
+/// has left was live before it, and who has retired did so behind as many others as it says.
 pub fn what_is_told_has_happened()
     ensures { (p : Program) (c : Sizes) (turns : List Passed) (t : Passed) →
         AreTurns p c (t ∷ turns) → length t.unit.tenants < 2 ^ 64 →

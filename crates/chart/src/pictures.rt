@@ -1,5 +1,5 @@
 //! What became of each instruction of a run: its chart and its log.
-ghost use Rattle.std.specs.Prelude.{◌≡◌, ◌≢◌, ◌+◌, ◌-◌, ◌^◌, ◌<◌, IfErr, OnOk, OnErr, is_some};
+ghost use Rattle.std.specs.Prelude.{◌≡◌, ◌≢◌, ◌+◌, ◌-◌, ◌^◌, ◌<◌, IfErr, OnOk, OnErr, is_some, true};
 ghost use Rattle.counted_io.specs.Counted.{failures_of, known_by};
 ghost use Rattle.chart.specs.Answers.{HasBegun, HasToldWhole, IsLogged, IsOfLog};
 ghost use Rattle.chart.specs.Answers.{log_failures, log_refusal};
@@ -48,6 +48,7 @@ pub(crate) fn trace<L: Write>(
         (known_by L.contents log.old) (known_by L.contents log.new)) }
     ensures quiet { OnOk result (failures_of log.new ≡ failures_of log.old) }
     ensures err { IfErr result IsOfLog }
+    ensures wanted { OnErr result (is_some asked.now.log ≡ true) }
     ensures write { IfErr result (λ refusal. failed_writes refusal ≡ 0) }
     ensures trace { IfErr result (λ refusal.
         failures_of log.new ≡ failures_of log.old + log_failures refusal) }

@@ -32,9 +32,10 @@ pub fn watch<P: Predictor + Drop, C: Chooser + Drop, W: Write>(
         (sizes_by config.now) config.now.limit (guides predictor order) (end_state end)
         (known_by W.contents writer.old) (known_by W.contents writer.new)) }
     ensures quiet { OnOk result (failures_of writer.new ≡ failures_of writer.old) }
-    // The text that was written before a fault is a beginning of what is told of such turns.
+    // The text that was written before a fault is a beginning of what is told of such turns, each due
+    // within the limit.
     ensures begun { OnErr result (IsBegun P.Predicts P.Learns C.Chooses format program.now
-        (sizes_by config.now) (guides predictor order)
+        (sizes_by config.now) config.now.limit (guides predictor order)
         (known_by W.contents writer.old) (known_by W.contents writer.new)) }
     ensures write { IfErr result (λ fault. fault ≡ Fault.Write →
         failures_of writer.new ≡ failures_of writer.old + 1) }

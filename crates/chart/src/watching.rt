@@ -224,7 +224,7 @@ pub(crate) fn tell_turns<P: Predictor + Drop, C: Chooser + Drop, W: Write>(
         (start : Option (List ℕ)) →
         GoesOn P.Predicts P.Learns C.Chooses format Q D limit bench.old order.old (kept books.old)
         first start (known_by W.contents writer.old) →
-        IsBegun P.Predicts P.Learns C.Chooses format Q D first start
+        IsBegun P.Predicts P.Learns C.Chooses format Q D limit first start
         (known_by W.contents writer.new)) }
 {
     'turns: while bench.count() < limit {

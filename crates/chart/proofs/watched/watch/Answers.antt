@@ -2,20 +2,20 @@ use Rattle.std.proofs.Common.{◌∙◌, arith, refl, subst}
 use Rattle.counted_io.specs.Counted.{known_by}
 use Rattle.inorder.specs.Runs.{end_state}
 use Rattle.chart.specs.Rows.{kept}
-use Rattle.chart.specs.Watched.{IsTold, guides, sizes_by}
+use Rattle.chart.specs.Watched.{IsBegun, IsTold, guides, sizes_by}
 use Rattle.chart.proofs.WholeRuns.{all_told, appends_none, first_part, last_part, on_err, goes_start}
 use Rattle.chart.proofs.watched.watch.Goals as goal
 
 pub returns-in_err-bench-clause-begun : goal.returns-in_err-bench-clause-begun
 returns-in_err-bench-clause-begun g c =
     on_err c.from_residual.result (first_part g.P.Predictor.Predicts g.P.Predictor.Learns g.C.Chooser.Chooses c.args.format c.args.program.now
-    (sizes_by c.args.config.now) (guides c.args.predictor c.args.order) _ _ 0 (omega arith) (appends_none _))
+    (sizes_by c.args.config.now) (guides c.args.predictor c.args.order) _ _ 0 (omega arith) (appends_none _) c.args.config.now.limit)
 
 pub returns-in_err-tell_first-clause-begun : goal.returns-in_err-tell_first-clause-begun
 returns-in_err-tell_first-clause-begun g c =
     let part = c.in_err-tell_first.ensures.part in
     on_err c.from_residual-in_err-tell_first.result (first_part g.P.Predictor.Predicts g.P.Predictor.Learns g.C.Chooser.Chooses c.args.format
-    c.args.program.now (sizes_by c.args.config.now) (guides c.args.predictor c.args.order) _ _ part.n part.inside part.gives)
+    c.args.program.now (sizes_by c.args.config.now) (guides c.args.predictor c.args.order) _ _ part.n part.inside part.gives c.args.config.now.limit)
 
 pub returns-in_err-tell_turns-clause-begun : goal.returns-in_err-tell_turns-clause-begun
 returns-in_err-tell_turns-clause-begun g c =
@@ -24,7 +24,10 @@ returns-in_err-tell_turns-clause-begun g c =
     let first = goes_start g.P.Predictor.Predicts g.P.Predictor.Learns g.C.Chooser.Chooses c.args.format c.args.program.now c.args.config.now guide _
     c.from-limit.result c.in_ok-bench.bench c.args.order (kept c.new-books.result) _ made.program made.ring made.queue made.tag made.fresh
     c.new-books.ensures made.predictor refl c.in_ok-tell_first.ensures.says in
-    on_err c.from_residual-in_err-tell_turns.result (c.in_err-tell_turns.ensures.begun c.args.program.now (sizes_by c.args.config.now) guide _ first)
+    on_err c.from_residual-in_err-tell_turns.result (subst (λ n. IsBegun g.P.Predictor.Predicts g.P.Predictor.Learns g.C.Chooser.Chooses c.args.format
+    c.args.program.now (sizes_by c.args.config.now) n guide (known_by g.W.Write.contents c.args.writer.now)
+    (known_by g.W.Write.contents c.tell_turns.new.writer)) (c.from-limit.ensures ∙ c.limit.ensures)
+    (c.in_err-tell_turns.ensures.begun c.args.program.now (sizes_by c.args.config.now) guide _ first))
 
 pub returns-in_err-tell_last-clause-begun : goal.returns-in_err-tell_last-clause-begun
 returns-in_err-tell_last-clause-begun g c =
@@ -35,9 +38,12 @@ returns-in_err-tell_last-clause-begun g c =
     c.new-books.ensures made.predictor refl c.in_ok-tell_first.ensures.says in
     let told = c.tell_turns.new in
     let part = c.in_err-tell_last.ensures.part in
-    on_err c.from_residual-in_err-tell_last.result (last_part g.P.Predictor.Predicts g.P.Predictor.Learns g.C.Chooser.Chooses c.args.format
-    c.args.program.now (sizes_by c.args.config.now) guide _ c.from-limit.result told.bench told.order (kept told.books) _ _ part.n part.inside part.gives
-    (c.in_ok-tell_turns.ensures.through c.args.program.now (sizes_by c.args.config.now) guide _ first).stood)
+    let begun = last_part g.P.Predictor.Predicts g.P.Predictor.Learns g.C.Chooser.Chooses c.args.format c.args.program.now
+    (sizes_by c.args.config.now) guide _ c.from-limit.result told.bench told.order (kept told.books) _ _ part.n part.inside part.gives
+    (c.in_ok-tell_turns.ensures.through c.args.program.now (sizes_by c.args.config.now) guide _ first) in
+    on_err c.from_residual-in_err-tell_last.result (subst (λ n. IsBegun g.P.Predictor.Predicts g.P.Predictor.Learns g.C.Chooser.Chooses c.args.format
+    c.args.program.now (sizes_by c.args.config.now) n guide (known_by g.W.Write.contents c.args.writer.now)
+    (known_by g.W.Write.contents c.tell_last.new.writer)) (c.from-limit.ensures ∙ c.limit.ensures) begun)
 
 pub returns-clause-told : goal.returns-clause-told
 returns-clause-told g c =

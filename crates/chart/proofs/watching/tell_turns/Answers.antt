@@ -10,9 +10,10 @@ pub returns-in_err-tell_turn-clause-begun : goal.returns-in_err-tell_turn-clause
 returns-in_err-tell_turn-clause-begun g c =
     let turned = c.turn_in-answer in
     let part = c.in_err-tell_turn.ensures.part in
+    let less : c.turns.bench.pipeline.committed.count < c.args.limit = omega (arith, c.count.ensures.value, c.turns-test.true) in
     on_err c.from_residual.result (λ Q D first start s. stood_part g.P.Predictor.Predicts g.P.Predictor.Learns g.C.Chooser.Chooses c.args.format Q D c.args.limit
     first start c.turns.bench turned.new.self c.turns.order turned.new.order (kept c.turns.books) turned.result _ _ part.n turned.ensures.turn turned.ensures.same
-    part.inside part.gives (c.turns.invariant.goes_on Q D first start s).stood)
+    part.inside part.gives less (c.turns.invariant.goes_on Q D first start s))
 
 pub returns-in-Over-clause-through : goal.returns-in-Over-clause-through
 returns-in-Over-clause-through g c Q D first start s =
