@@ -1,8 +1,8 @@
 # A load from an address that is no multiple of 4 stops the run, and it stops precisely: all that
 # stands before the load has happened, and nothing behind it has.
 #
-# The load waits for the subtraction before it, so the unit has long computed t3 and is ready to
-# write the last store when the load turns out to be wrong. Neither is in the report.
+# The load waits for a chain of three, so t3 and the last store may be executed before the load
+# turns out wrong, as with `./ruu chart examples/unaligned.s --seed 1`. Neither is in the report.
 
         .word 1, 2, 3, 4
 

@@ -3,7 +3,7 @@
 # The branch below is taken, but it waits for a chain of additions. Meanwhile the unit goes on where
 # the predictor says: behind the branch, into a load that reaches past the end of data memory and an
 # addition that overflows. When the branch is known, all of that is squashed, and no fault is seen.
-# On the second round the predictor `bimod` has learnt the branch.
+# `bimod` learns a branch when its station is let again: with 16 stations before the third round.
 
         .space 4
 
