@@ -24,7 +24,8 @@ with_text file s loaded =
 abbrev pub overlaid : List ℕ → ℕ → List ℕ → List ℕ
 overlaid below at bytes = take at below ++ (bytes ++ drop (at + length bytes) below)
 
--- An image with a segment of data. The bytes that the file does not have stay 0.
+-- An image with a segment of data. The bytes that the file does not have keep what was there: 0, or what an earlier
+-- segment wrote.
 unfoldable pub with_data : List ℕ → Segment → Loaded → Result Loaded Refusal
 with_data file s loaded =
     if nat_lt data_size (s.address + s.size) || nat_lt s.size s.filled then Err (NoRoom s.address)

@@ -14,10 +14,31 @@ pub struct Table {
 }
 
 /// The size of the header of a file in bytes.
-const HEADER: usize = 52;
+pub(crate) const HEADER: usize = 52;
 
 /// The size of a program header in bytes.
-pub const PROGRAM_HEADER: usize = 32;
+pub(crate) const PROGRAM_HEADER: usize = 32;
+
+/// The first four bytes of a file: 0x7f and `ELF`.
+const ELFMAG: u32 = 0x464c_457f;
+
+/// The place of the class in a file.
+const EI_CLASS: usize = 4;
+
+/// The class of files of 32 bits.
+const ELFCLASS32: u8 = 1;
+
+/// The place of the byte order in a file.
+const EI_DATA: usize = 5;
+
+/// The byte order of files whose numbers have the lowest byte first.
+const ELFDATA2LSB: u8 = 1;
+
+/// The kind of executables.
+const ET_EXEC: u32 = 2;
+
+/// The machine MIPS.
+const EM_MIPS: u32 = 8;
 
 fn has_magic(file: &[u8]) -> bool
     ensures { result ≡ has_magic_of file.now }
@@ -25,7 +46,7 @@ fn has_magic(file: &[u8]) -> bool
     if file.len() < 4 {
         return false;
     }
-    word_at(file, 0) == 0x464c_457f
+    word_at(file, 0) == ELFMAG
 }
 
 #[tactic(auto, unfolding(crate::specs::Headers::unfit))]
@@ -33,16 +54,16 @@ fn unfit(file: &[u8]) -> Option<Refusal>
     requires { 52 ≤ length file.now }
     ensures { result ≡ unfit_of file.now }
 {
-    if file[4] != 1 {
+    if file[EI_CLASS] != ELFCLASS32 {
         return Some(Refusal::Class);
     }
-    if file[5] != 1 {
+    if file[EI_DATA] != ELFDATA2LSB {
         return Some(Refusal::ByteOrder);
     }
-    if half_at(file, 16) != 2 {
+    if half_at(file, 16) != ET_EXEC {
         return Some(Refusal::Kind);
     }
-    if half_at(file, 18) != 8 {
+    if half_at(file, 18) != EM_MIPS {
         return Some(Refusal::Machine);
     }
     None

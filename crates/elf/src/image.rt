@@ -6,7 +6,7 @@ ghost use Rattle.elf.specs.Placing.{overlaid as overlaid_with, is_text as is_tex
 use crate::Refusal;
 use crate::bytes::{words, zeros};
 use crate::header::{PROGRAM_HEADER, Table, table_of};
-use crate::segment::Segment;
+use crate::segment::{PT_LOAD, Segment};
 use instructions::Program;
 use std::alloc::{AllocError, Global};
 use std::marker::Model;
@@ -134,7 +134,7 @@ fn placed(alloc: Global, file: &[u8], segment: Segment, image: Image) -> Result<
     ensures fault { IfErr result (λ e. e ≢ Refusal.Memory
         → placed_with file.now segment image ≡ Err e) }
 {
-    if segment.kind != 1 || segment.size == 0 {
+    if segment.kind != PT_LOAD || segment.size == 0 {
         return Ok(image);
     }
     if file.len() < segment.offset as usize + segment.filled as usize {

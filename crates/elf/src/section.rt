@@ -4,6 +4,9 @@ ghost use Rattle.elf.specs.Symbols.{section_of};
 
 use crate::bytes::word_at;
 
+/// The kind of a section that is a table of symbols.
+pub(crate) const SHT_SYMTAB: u32 = 2;
+
 /// The header of a section.
 #[derive(Clone, Copy)]
 pub struct Section {

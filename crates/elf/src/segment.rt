@@ -4,6 +4,9 @@ ghost use Rattle.elf.specs.Headers.{segment_of};
 
 use crate::bytes::word_at;
 
+/// The kind of a segment that is loaded.
+pub(crate) const PT_LOAD: u32 = 1;
+
 /// The program header of a segment.
 #[derive(Clone, Copy)]
 pub struct Segment {

@@ -3,7 +3,8 @@ ghost use Rattle.std.specs.Prelude.{◌≡◌, ◌≤◌, ◌+◌, ◌*◌, IfOk
 ghost use Rattle.elf.specs.Symbols.{has_sections as has_sections_of, is_symbols as is_symbols_of, symbols_of, symbols_up_to, symbols_in as symbols_by, with_function, functions_up_to, functions_in, is_graphic as is_graphic_of, name_window as window_of, printable_at};
 
 use crate::bytes::{half_at, word_at};
-use crate::section::Section;
+use crate::header::HEADER;
+use crate::section::{SHT_SYMTAB, Section};
 use std::alloc::{AllocError, Global};
 
 /// The table of symbols: its place in the file, the number of symbols, and the place of their names.
@@ -21,14 +22,14 @@ pub struct Function {
     pub name: usize,
 }
 
-/// The size of the header of a file in bytes.
-const HEADER: usize = 52;
-
 /// The size of a section header in bytes.
 const SECTION_HEADER: usize = 40;
 
 /// The size of a symbol in bytes.
 const SYMBOL: usize = 16;
+
+/// The type of a symbol that is a function: the lower four bits of its info.
+const STT_FUNC: u8 = 2;
 
 /// The most bytes of a name.
 const MOST_NAME: usize = 60;
@@ -44,7 +45,7 @@ fn has_sections(file: &[u8]) -> bool
 fn is_symbols(file: &[u8], count: usize, section: Section) -> bool
     ensures { result ≡ is_symbols_of file.now count section }
 {
-    section.kind == 2
+    section.kind == SHT_SYMTAB
         && (section.link as usize) < count
         && file.len() >= section.offset as usize + section.size as usize
 }
@@ -67,7 +68,7 @@ fn symbols_in(file: &[u8]) -> Option<Symbols>
             let names = Section::at(file, at + SECTION_HEADER * section.link as usize);
             found = Some(Symbols {
                 at: section.offset,
-                count: section.size / 16,
+                count: section.size / SYMBOL as u32,
                 names: names.offset,
             });
         }
@@ -85,7 +86,7 @@ fn functions_of(alloc: Global, file: &[u8], symbols: Symbols) -> Result<Vec<Func
     let mut functions = Vec::new(alloc);
     'symbols: for k in 0..symbols.count as usize {
         let at = symbols.at as usize + SYMBOL * k;
-        if file[at + 12] % 16 == 2 {
+        if file[at + 12] % 16 == STT_FUNC {
             functions.push(Function {
                 address: word_at(file, at + 4),
                 name: symbols.names as usize + word_at(file, at) as usize,
