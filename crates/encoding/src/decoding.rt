@@ -6,7 +6,7 @@ ghost use Rattle.encoding.specs.Words.{instruction_of, decode as decode_of, read
 
 use crate::fields;
 use crate::layout::{Layout, Shape, layout_of, operation_of};
-use instructions::{Op, Reg, pc_plus_4};
+use instructions::{Instr, Op, Reg, pc_plus_4};
 
 /// The instruction of a word: an operation, the registers that it writes and reads (register 0 where it
 /// has none), and its number. A target is an address.
@@ -17,6 +17,28 @@ pub struct Decoded {
     pub first: Reg,
     pub second: Reg,
     pub number: u32,
+}
+
+impl From<Decoded> for Instr {
+    ghost from_gives = { λ said instr. instr ≡ instruction_of said };
+
+    fn from(said: Decoded) -> Instr {
+        Instr::new(said.op, said.target, said.first, said.second, said.number)
+    }
+}
+
+impl From<Instr> for Decoded {
+    ghost from_gives = { λ instr decoded. instruction_of decoded ≡ instr };
+
+    fn from(instr: Instr) -> Decoded {
+        Decoded {
+            op: instr.op,
+            target: instr.target,
+            first: instr.first,
+            second: instr.second,
+            number: instr.number,
+        }
+    }
 }
 
 fn branch_target(word: u32, pc: u32) -> u32
