@@ -1,4 +1,5 @@
-//! One step of the in-order machine over machine words and over buffers of a caller, for a simulator that runs beside it.
+//! One step of the in-order machine over machine words and over buffers of a caller, for a simulator that
+//! runs beside it.
 #![tactic(auto)]
 
 mod laws;

@@ -36,10 +36,7 @@ fn word_at(text: &[u32], pc: u32) -> Option<u32>
 fn instruction(word: u32, pc: u32) -> Option<Instr>
     ensures { result ≡ decode_of pc word }
 {
-    match decode(word, pc) {
-        Some(said) => Some(Instr::new(said.op, said.target, said.first, said.second, said.number)),
-        None => None,
-    }
+    Some(Instr::from(decode(word, pc)?))
 }
 
 fn register(registers: &[u32; 34], r: Reg) -> u32
@@ -69,7 +66,6 @@ fn access(memory: &mut [u8], registers: &mut [u32; 34], pc: u32, instr: &Instr, 
     match instr.op().kind() {
         Kind::Stores => {
             store(memory, address, width, register(registers, instr.second()));
-            write(registers, instr.destination(Half::Low), 0);
         }
         _ => {
             let raw = number(memory, address, width);
@@ -82,8 +78,8 @@ fn access(memory: &mut [u8], registers: &mut [u32; 34], pc: u32, instr: &Instr, 
     }
 }
 
-/// Runs the instruction that the word at the pc says: `text` holds the machine words, the first of them at 0x00400000, and
-/// `memory` the bytes of data memory, from address 0 on. Registers 32 and 33 are LO and HI.
+/// Runs the instruction that the word at the pc says: `text` holds the machine words, the first of them at 0x00400000,
+/// and `memory` the bytes of data memory, from address 0 on. Registers 32 and 33 are LO and HI.
 pub fn step(text: &[u32], memory: &mut [u8], registers: &mut [u32; 34], pc: &mut u32) -> Answer
     requires text { length text.now ≤ 16384 }
     requires memory { length memory.old ≤ 65536 }
