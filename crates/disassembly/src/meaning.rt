@@ -71,10 +71,7 @@ fn meant(code: &[u32], k: usize) -> Result<Instr, Refusal>
     let address = address_of(k);
     let word = code[k];
     match decode(word, address) {
-        Some(said) => {
-            let instr = Instr::new(said.op, said.target, said.first, said.second, said.number);
-            checked(code, k, instr)
-        }
+        Some(said) => checked(code, k, Instr::from(said)),
         None => Err(Refusal::Word {
             address,
             word,
@@ -95,10 +92,8 @@ pub fn instructions(alloc: Global, code: &[u32]) -> Result<Vec<Instr>, Refusal>
 {
     let mut found = Vec::with_capacity(alloc, code.len())?;
     'words: for k in 0..code.len() {
-        match meant(code, k) {
-            Ok(instr) => found.push(instr)?,
-            Err(refusal) => return Err(refusal),
-        }
+        let instr = meant(code, k)?;
+        found.push(instr)?;
     }
     Ok(found)
 }
