@@ -10,7 +10,7 @@ mod no_listing;
 
 use converting::convert;
 use counted_io::{ClosedStreams, Counted};
-use no_listing::NoListing;
+use no_listing::{NoListing, REFUSED};
 use std::env;
 use std::fs::File;
 use std::io::{ErrorKind, Read};
@@ -65,7 +65,7 @@ fn write_listing(rt: &HostRuntime, file: &str) -> ExitCode {
         Ok(executable) => write_listing_of(rt, file, executable),
         Err(reason) => {
             let _ = eprintln!(rt; "ruu: {file}: {reason}");
-            ExitCode::from(5)
+            ExitCode::from(REFUSED)
         }
     }
 }
@@ -82,9 +82,11 @@ fn write_listing_of<R: Read + Drop>(rt: &HostRuntime, file: &str, input: R) -> E
 // The words of the command line, of which the first is the program's name, or the exit status and what to print.
 fn words(rt: &HostRuntime) -> Result<Vec<String>, (u8, &'static str)> {
     match env::args(rt) {
-        Ok(words) => words.collect(rt.alloc()).map_err(|_| (5, "ruu: memory")),
+        Ok(words) => words
+            .collect(rt.alloc())
+            .map_err(|_| (REFUSED, "ruu: memory")),
         Err(error) => Err(match error.kind() {
-            ErrorKind::OutOfMemory => (5, "ruu: memory"),
+            ErrorKind::OutOfMemory => (REFUSED, "ruu: memory"),
             _ => (3, "error: a word is no UTF-8"),
         }),
     }
@@ -92,7 +94,7 @@ fn words(rt: &HostRuntime) -> Result<Vec<String>, (u8, &'static str)> {
 
 fn main(rt: HostRuntime) -> ExitCode {
     let Ok(_closed) = ClosedStreams::taken(&rt) else {
-        return ExitCode::from(5);
+        return ExitCode::from(REFUSED);
     };
     let words = match words(&rt) {
         Ok(words) => words,

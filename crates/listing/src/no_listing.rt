@@ -8,6 +8,9 @@ use counted_io::{Fault, WriteFailed};
 use disassembly::Refusal;
 use std::fmt;
 
+/// The exit status of a program that was refused what it wanted.
+pub const REFUSED: u8 = 5;
+
 /// Why a file has no listing.
 #[derive(Clone, Copy, Drop)]
 pub enum NoListing {
@@ -28,7 +31,7 @@ impl NoListing {
             NoListing::Failed { .. }
             | NoListing::Refused {
                 why: Refusal::Memory,
-            } => 5,
+            } => REFUSED,
             NoListing::Refused { .. } | NoListing::TooLong => 2,
         }
     }
