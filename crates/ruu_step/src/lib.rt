@@ -8,9 +8,9 @@ ghost use Rattle.ruu_step.specs.Numbers.{call_number, left_of};
 use instructions::Program;
 use lockstep::{Answer, step};
 
-/// Runs the instruction that the word at the pc says. 0: it went on; 1 and the number of a stop: it stops; -1: the word is
-/// no operation; -2: sizes that no program has. All is as it was after each answer but 0. A caller in C has to pass areas
-/// that are there, are aligned and do not overlap, since no proof sees it.
+/// Runs the instruction that the word at the pc says. 0: it went on; 1 and the number of a stop: it stops; -1: the word
+/// is no operation; -2: sizes that no program has. All is as it was after each answer but 0. A caller in C has to pass
+/// areas that are there, are aligned and do not overlap, since no proof sees it.
 #[unsafe(no_mangle)]
 pub extern "C" fn ruu_step(
     text: &[u32],
