@@ -17,7 +17,6 @@ use crate::decoded::Decoded;
 use crate::fetch::{fetch, fetch_known};
 use crate::leaver::guess;
 use crate::pipeline::Pipeline;
-use crate::places::next_station;
 use inorder::wrapped;
 use instructions::{Half, Leaver, Predictor};
 
@@ -59,7 +58,7 @@ impl<'a> Pipeline<'a> {
         ensures value { result ≡ (station + 1) % self.now.ring }
         ensures small { result < self.now.ring }
     {
-        next_station(station, self.ring)
+        wrapped(station + 1, self.ring)
     }
 
     // The pc where the path goes on, and the half that comes there.

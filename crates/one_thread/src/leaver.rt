@@ -60,7 +60,8 @@ pub fn guess<P: Predictor>(
     }
 }
 
-/// Asks a predictor as `guess` does. Where it is known what the instruction does, no more of it is looked at than that needs.
+/// Asks a predictor as `guess` does. Where it is known what the instruction does, no more of it is looked at than
+/// that needs.
 #[inline(always)]
 pub fn guess_behind<P: Predictor>(
     predictor: &mut P,

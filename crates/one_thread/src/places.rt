@@ -1,18 +1,6 @@
-//! Rings of stations and of slots.
+//! Slots of tenants and their places, in a ring of 32.
 ghost use Rattle.std.specs.Prelude.{◌≡◌, ◌<◌, ◌≤◌};
-ghost use Rattle.one_thread.specs.Slots.{place_from as place_in, slot_in as slot_by, slot_of as slot_in};
-
-/// The station behind another of so many.
-#[inline(always)]
-pub fn next_station(station: usize, size: usize) -> usize
-    requires there { station < size }
-    requires most { size ≤ 32 }
-    ensures value { result ≡ slot_by size station 1 }
-    ensures small { result < size }
-{
-    let next = station + 1;
-    if next == size { 0 } else { next }
-}
+ghost use Rattle.one_thread.specs.Slots.{place_from as place_in, slot_of as slot_in};
 
 /// The slot of the tenant at `i`.
 pub fn slot_of(start: usize, i: usize) -> usize
