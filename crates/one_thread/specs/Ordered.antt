@@ -1,13 +1,15 @@
 -- Turns in an order: the first that is possible, or the step that a chooser names.
-use Rattle.std.specs.Prelude.{ℕ}
+use Rattle.std.specs.Prelude.{⊤, ℕ}
 use Rattle.instructions.specs.Programs.{Program}
+use Rattle.instructions.specs.declared.end.Ending.{Ending}
 use Rattle.instructions.specs.declared.instr.Instr.{Instr}
+use Rattle.inorder.specs.Machine.{State}
 use Rattle.inorder.specs.Moves.{IsReached}
 use Rattle.inorder.specs.Unit.{Sizes, UpdateUnit}
 use Rattle.one_thread.specs.declared.bench.Turn.{Turn}
 use Rattle.one_thread.specs.declared.order.Order.{Order}
 use Rattle.one_thread.specs.declared.order.Order.TheVariants.{Chosen, First}
-use Rattle.one_thread.specs.Choices.{Picks, step_made}
+use Rattle.one_thread.specs.Choices.{HasRunBy, Picks, step_made}
 use Rattle.one_thread.specs.Order.{IsFirst}
 use Rattle.one_thread.specs.Possible.{possible}
 use Rattle.one_thread.specs.StandsFor.{StandsFor, sizes}
@@ -44,3 +46,9 @@ module _ {S Q : Type 0} (Predicts : S → ℕ → Instr → ℕ → S → Type 0
   IsTurnIn b old answer later new =
       (U : UpdateUnit) → IsReached b.pipeline.program.now (sizes b.pipeline) U → StandsFor b.pipeline U →
       TurnedIn b U old answer later new
+
+  -- A run in a chosen order has come to this end by the choices of its chooser, and left some later chooser. Of the
+  -- turns of a run in the first order nothing is said
+  abbrev pub HasRunIn : (limit : ℕ) → BenchFields S → Order Q → Ending × State → Type 0
+  HasRunIn limit b First end = ⊤
+  HasRunIn limit b (Chosen q) end = (r : Q) × HasRunBy Predicts Learns Chooses limit b q r end

@@ -2,7 +2,7 @@
 ghost use Rattle.std.specs.Prelude.{◌≡◌, ◌<◌, ◌≤◌, ◌-◌, ◌^◌, ◌%◌, length, slice_get, Some};
 ghost use Rattle.inorder.specs.Runs.{end_state};
 ghost use Rattle.one_thread.specs.Changes.{run_from};
-ghost use Rattle.one_thread.specs.Choices.{IsTurnBy};
+ghost use Rattle.one_thread.specs.Choices.{HasRunBy, IsTurnBy};
 ghost use Rattle.one_thread.specs.Turns.{Falls, SizesStay};
 
 use crate::bench::{Bench, Turn};
@@ -22,9 +22,9 @@ fn pick(steps: &[Step], choice: u32) -> Step
 impl<'a, P: Predictor + Drop> Bench<'a, P> {
     /// Makes one of the steps that are possible, that which the chooser names: a recovery from the oldest miss, the
     /// next let, the execution of a tenant that can be claimed, the load of one that is not blocked, the oldest
-    /// tenant's retirement. They are counted in this order, the older tenants before the younger ones, and the chooser is
-    /// asked once by their number. A unit that has ended, or has nobody live and no instruction to go on with, answers
-    /// Over and asks nobody.
+    /// tenant's retirement. They are counted in this order, the older tenants before the younger ones, and the chooser
+    /// is asked once by their number. A unit that has ended, or has nobody live and no instruction to go on with,
+    /// answers Over and asks nobody.
     pub fn turn_by<C: Chooser>(&mut self, chooser: &mut C) -> Turn
         requires { self.old.pipeline.committed.count < 2 ^ 64 - 1 }
         ensures turn { IsTurnBy P.Predicts P.Learns C.Chooses
@@ -47,7 +47,9 @@ impl<'a, P: Predictor + Drop> Bench<'a, P> {
 
     // Turns by choice until it stops, or its count has reached a limit.
     fn run_to_by<C: Chooser>(&mut self, limit: u64, chooser: &mut C) -> Ending
-        ensures { (result, self.new.pipeline.committed) ≡ run_from self.old.pipeline limit }
+        ensures end { (result, self.new.pipeline.committed) ≡ run_from self.old.pipeline limit }
+        ensures chooser { HasRunBy P.Predicts P.Learns C.Chooses limit
+            self.old chooser.old chooser.new (result, self.new.pipeline.committed) }
     {
         loop {
             if limit <= self.pipeline.committed.count() {
@@ -62,7 +64,9 @@ impl<'a, P: Predictor + Drop> Bench<'a, P> {
     /// Runs by choice until it stops, or its count has reached a limit: as the in-order machine does, whatever the
     /// chooser names.
     pub fn run_by<C: Chooser>(self, limit: u64, chooser: &mut C) -> End
-        ensures { end_state result ≡ run_from self.entry.pipeline limit }
+        ensures end { end_state result ≡ run_from self.entry.pipeline limit }
+        ensures chooser { HasRunBy P.Predicts P.Learns C.Chooses limit
+            self.entry chooser.old chooser.new (end_state result) }
     {
         let mut bench = self;
         let outcome = bench.run_to_by(limit, chooser);

@@ -2,7 +2,7 @@
 ghost use Rattle.std.specs.Prelude.{◌≡◌, ◌<◌, ◌≤◌, ◌-◌, ◌^◌};
 ghost use Rattle.inorder.specs.Runs.{end_state};
 ghost use Rattle.one_thread.specs.Changes.{run_from};
-ghost use Rattle.one_thread.specs.Ordered.{IsTurnIn};
+ghost use Rattle.one_thread.specs.Ordered.{HasRunIn, IsTurnIn};
 ghost use Rattle.one_thread.specs.Seeds.{order_by};
 ghost use Rattle.one_thread.specs.Turns.{Falls, SizesStay};
 
@@ -49,7 +49,9 @@ impl<'a, P: Predictor + Drop> Bench<'a, P> {
     /// Runs in an order until it stops, or its count has reached a limit: as the in-order machine does, whatever the
     /// order.
     pub fn run_in<C: Chooser + Drop>(self, limit: u64, order: Order<C>) -> End
-        ensures { end_state result ≡ run_from self.entry.pipeline limit }
+        ensures end { end_state result ≡ run_from self.entry.pipeline limit }
+        ensures order { HasRunIn P.Predicts P.Learns C.Chooses limit
+            self.entry order (end_state result) }
     {
         match order {
             Order::First => self.run(limit),
