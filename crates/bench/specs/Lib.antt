@@ -1,3 +1,4 @@
 pub mod Answer
 pub mod Enough
 pub mod Parsed
+pub mod Runs
