@@ -82,7 +82,7 @@ impl<'a, P: Predictor + Drop> Front<'a, P> {
         ensures core { self.new.core ≡ core.now }
         ensures reply { TurnsTo P.Predicts P.Learns core.now self.old self.new result }
         ensures told { self.new.told ≡ self.old.told }
-        ensures touched { IsTouched 16 self.old.touched self.new.touched }
+        ensures touched { IsTouched 9 self.old.touched self.new.touched }
     {
         self.rested = false;
         turn_on(
@@ -103,7 +103,7 @@ impl<'a, P: Predictor + Drop> Front<'a, P> {
         ensures core { self.new.core ≡ core.now }
         ensures reply { TurnsTo (always_answers next) P.Learns core.now self.old self.new result }
         ensures told { self.new.told ≡ self.old.told }
-        ensures touched { IsTouched 16 self.old.touched self.new.touched }
+        ensures touched { IsTouched 9 self.old.touched self.new.touched }
     {
         self.rested = false;
         turn_on(
@@ -124,7 +124,7 @@ impl<'a, P: Predictor + Drop> Front<'a, P> {
         ensures core { self.new.core ≡ core.now }
         ensures reply { FrontRecoversTo core.now self.old self.new result }
         ensures told { self.new.told ≡ self.old.told }
-        ensures touched { IsTouched (4 * squashed_by result) self.old.touched self.new.touched }
+        ensures touched { IsTouched (2 * squashed_by result) self.old.touched self.new.touched }
         ensures predictor { self.new.predictor ≡ self.old.predictor }
     {
         self.rested = false;

@@ -101,7 +101,7 @@ pub fn recover_on(
     ensures base { path.new.base ≡ path.old.base }
     ensures knows { KnowsPath core.now seat.new.seen path.new }
     ensures table { KnowsTable core.now seat.new.seen path.new.base creators.new }
-    ensures touched { IsTouched (4 * squashed_by result) creators.old.touched creators.new.touched }
+    ensures touched { IsTouched (2 * squashed_by result) creators.old.touched creators.new.touched }
 {
     // for the proof: a ring has 2 to 32 stations
     core.ring();

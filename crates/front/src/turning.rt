@@ -14,7 +14,7 @@ use crate::dispatch::dispatch;
 use crate::fetch::{Fetched, fetch};
 use crate::path::{Counted, Path};
 use crate::training::leaver;
-use instructions::{Leaver, Predictor, Program, tell};
+use instructions::{Leaver, Predictor, Program, guess, tell};
 use station::{Core, FrontSeat};
 
 // The predicted next pc of the tenant to be let: where that is not fixed, the given one or the predictor's.
@@ -27,14 +27,11 @@ fn predict<P: Predictor>(
     ensures { Guesses (given_or given P.Predicts) P.Learns departed next.now.instr next.now.half
         next.now.pc result predictor.old predictor.new }
 {
+    let Some(given) = given else {
+        return guess(predictor, departed, &next.instr, next.half, next.pc);
+    };
     tell(predictor, departed);
-    if let Some(fixed) = next.instr.fixed_next(next.half, next.pc) {
-        return fixed;
-    }
-    match given {
-        Some(next) => next,
-        None => predictor.predict(next.pc, &next.instr),
-    }
+    next.instr.fixed_next(next.half, next.pc).unwrap_or(given)
 }
 
 /// Lets the next instruction, if that can be let. A given guess stands in for the predictor's.

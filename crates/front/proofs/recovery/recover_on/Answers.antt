@@ -1,5 +1,5 @@
 -- A recovery.
-use Rattle.std.proofs.Common.{◌∙◌, refl, subst, arith}
+use Rattle.std.proofs.Common.{◌∙◌, refl, subst}
 use Rattle.inorder.specs.History.{front}
 use Rattle.station.specs.Recovery.{IsMended}
 use Rattle.front.proofs.FirstMiss.{recovered}
@@ -7,7 +7,7 @@ use Rattle.front.proofs.Misses.{no_miss}
 use Rattle.front.proofs.Stays.{still_knows}
 use Rattle.front.proofs.Recovered.{Mended, mend_allowed, mend_table_done}
 use Rattle.front.proofs.TableStays.{still_has_table}
-use Rattle.front.proofs.Touches.{touched_none, touched_within}
+use Rattle.front.proofs.Touches.{touched_none}
 use Rattle.front.proofs.recovery.recover_on.Goals.{After-redirect}
 use Rattle.front.proofs.recovery.recover_on.Goals as goal
 
@@ -65,6 +65,3 @@ returns-clause-table c =
     let s = c.squash_behind-squashed in
     mend_table_done c.args.core.now.program c.args.core.now.sizes s.new.seat.seen c.mend.new.seat.seen s.new.path.records s.new.path.base s.ensures.knows c.in-Some.missed s.ensures.miss
     s.ensures.last (mended c) s.new.creators.table s.ensures.table
-
-pub returns-clause-touched : goal.returns-clause-touched
-returns-clause-touched c = touched_within _ _ _ _ (omega arith) c.squash_behind-squashed.ensures.touched
