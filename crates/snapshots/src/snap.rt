@@ -2,6 +2,7 @@
 ghost use Rattle.std.specs.Prelude.{◌≡◌};
 ghost use Rattle.snapshots.specs.Snapshots.{opening};
 
+use instructions::Program;
 use left_right::Absorb;
 use std::alloc::AllocError;
 
@@ -20,7 +21,7 @@ impl Snap {
     {
         Snap {
             n: 0,
-            pc: 0x0040_0000,
+            pc: Program::START,
             registers: [0; 34],
         }
     }

@@ -19,7 +19,7 @@ pub struct Gone;
 /// No place was free for another snapper. One may be free at the next try.
 #[derive(Clone, Copy, Debug, Drop, PartialEq, Eq, Error)]
 #[error("no snapshot place is free")]
-pub struct NoPlace;
+pub struct NoPlace(());
 
 /// Takes the newest snapshot, with no lock. To a contract it is the greatest n that it has seen: of
 /// the snapshots that it took and of the marks that it learnt.
@@ -98,11 +98,11 @@ impl<J: Naming> Snapper<J> {
         ensures kept { self.new ≡ self.old }
     {
         let Some(reader) = &self.reader else {
-            return Err(NoPlace);
+            return Err(NoPlace(()));
         };
         match reader.factory().reader() {
             Ok(reader) => Ok(Snapper::of(Some(reader))),
-            Err(_) => Err(NoPlace),
+            Err(_) => Err(NoPlace(())),
         }
     }
 }
