@@ -19,8 +19,8 @@ abbrev pub Rises : (from : ℕ) → List ℕ → Type 0
 Rises from [] = ⊤
 Rises from (s ∷ ss) = (from ≤ s) × Rises (s + 1) ss
 
--- Of the stations below `below` whose bit is set each was offered to the queue once, the lowest first; those that it
--- took are hinted, and no other
+-- The queue took some of the stations below `below` whose bit is set, each once and the lowest first, and no other. As
+-- many were offered to it, modulo 2^64, as there are of these stations; which were offered and not taken is not said
 pub record HasHinted (woken below : ℕ) (old new : TheHinter) : Type 0 where
   pub of : new.of ≡ old.of
   pub stations : List ℕ

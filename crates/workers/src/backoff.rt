@@ -1,7 +1,7 @@
 //! The backoff of a thread that finds nothing to do.
 use std::thread::yield_now;
 
-/// Lets another thread run each time that so many turns in a row were fruitless.
+/// Lets another thread run at a fruitless turn before which so many others in a row were fruitless.
 #[derive(Clone, Copy)]
 pub struct Backoff {
     after: u32,
@@ -9,7 +9,7 @@ pub struct Backoff {
 }
 
 impl Backoff {
-    /// Lets another thread run after so many fruitless turns.
+    /// Lets another thread run at the fruitless turn that follows so many others.
     pub fn after(turns: u32) -> Backoff {
         Backoff {
             after: turns,
@@ -22,7 +22,7 @@ impl Backoff {
         self.turns_left = self.after;
     }
 
-    /// Counts a fruitless turn, and lets another thread run where there were enough of them.
+    /// Counts a fruitless turn; or lets another thread run where enough were counted, and begins again.
     pub fn snooze(&mut self) {
         if self.turns_left == 0 {
             yield_now();

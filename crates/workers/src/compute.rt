@@ -205,8 +205,8 @@ fn work_with<K: Bounds + Ring, G: Gate, R: Wait>(
     (unit.stop(shared), stopped)
 }
 
-/// Waits until the unit is active, looks for work at the stations that are hinted, and without a hint in ring order, one
-/// a turn, and finishes each job that it has claimed.
+/// Waits until the unit is active, looks for work at the stations that are hinted, and without a hint in ring order,
+/// one a turn, and finishes each job that it has claimed.
 pub(crate) fn work<K: Bounds + Ring, G: Gate, R: Wait>(
     shared: &TermShared<'_, K, G, R>,
     worker: Worker,

@@ -7,7 +7,7 @@ ghost use Rattle.workers.specs.Gathering.{CountsMore, CountsNoMore, HasGatheredN
 
 use counts::{Counts, Total, WorkerSeat};
 
-// A thread adds each time that it has counted so often.
+// A thread adds with the count that follows so many others.
 const ADDED_EACH: u32 = 64;
 
 /// A seat to count with, and how much was counted since it last added to the totals. `end` alone takes it apart, so
@@ -21,7 +21,7 @@ pub struct Gathered {
     squashes: u64,
     mends: u64,
     hints: u64,
-    // how often the thread may count until it adds
+    // how often the thread may count before the count with which it adds
     until_added: u32,
 }
 

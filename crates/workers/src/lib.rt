@@ -24,5 +24,5 @@ pub use hinting::hint_each;
 pub use shared::TermShared;
 pub use started::StartedUnits;
 pub use starting::{start_units, units_at_once};
-pub use state::{Activated, RunState, UnitTurns};
+pub use state::RunState;
 pub use turns::Turns;

@@ -47,6 +47,7 @@ fn start_unit<
     requires count { worker.count.of ≡ shared.now.state.now.counts }
     requires first { 1 ≤ worker.number }
     requires last { worker.number ≤ shared.now.state.now.units }
+    requires number { worker.number ≡ started.old + 1 }
     requires room { started.old < 64 }
     ensures one { result ≡ true → started.new ≡ started.old + 1 }
 {

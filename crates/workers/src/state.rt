@@ -15,7 +15,7 @@ use std::sync::{Mutex, Wait};
 /// The turns of a unit: as many as each thread of its run has. All are made with the state of the run, and taken one by
 /// one.
 #[derive(Drop)]
-pub struct UnitTurns<K: Bounds> {
+pub(crate) struct UnitTurns<K: Bounds> {
     turns: Turns,
     run: PhantomData<K>,
 }
@@ -61,17 +61,18 @@ impl<K: Bounds> UnitTurns<K> {
 
 /// Shows that a unit has no turn left: `UnitTurns::take` alone makes one.
 #[derive(Drop)]
-pub struct NoneLeft(());
+pub(crate) struct NoneLeft(());
 
 /// Shows that one unit more is active: `RunState::activate` alone makes one.
 #[derive(Drop)]
-pub struct Activated(());
+pub(crate) struct Activated(());
 
 /// Shows that the threads of a term are to end: `RunState::over` alone makes one.
 #[derive(Drop)]
-pub struct TermOver(());
+pub(crate) struct TermOver(());
 
-/// The state of a run, which outlives a renewal of the core: the totals, the hints, the turns of each unit, and whether threads are to end.
+/// The state of a run, which outlives a renewal of the core: the totals, the hints, the turns of each unit, and whether
+/// threads are to end.
 #[derive(Drop)]
 pub struct RunState<K: Bounds + Ring> {
     pub counts: Counts,
@@ -210,14 +211,14 @@ impl<K: Bounds + Ring> RunState<K> {
     }
 
     /// Activates one unit more.
-    pub fn activate(&self) -> Activated {
+    pub(crate) fn activate(&self) -> Activated {
         self.active.fetch_add(1, Release);
         self.active.wake_all();
         Activated(())
     }
 
     /// Activates one unit more, where that is not too many at once.
-    pub fn activate_for_work(&self) {
+    pub(crate) fn activate_for_work(&self) {
         if self.active.load(Acquire) < self.most_active.load(Acquire) {
             let _activated = self.activate();
         }
