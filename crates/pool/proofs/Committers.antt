@@ -16,7 +16,7 @@ use Rattle.workers.specs.Deeds.{deeds}
 use Rattle.workers.specs.Turns.{TheTurns}
 use Rattle.pool.specs.declared.commit.Why.{Why}
 use Rattle.pool.specs.declared.commit.Why.TheVariants.{AtEnd, AtLimit, Spent}
-use Rattle.pool.specs.Committing.{Because, HasCounted, IsCommitter, IsUnderWay, KeepsLimit, committer_of}
+use Rattle.pool.specs.Committing.{Because, HasCounted, IsCommitter, KeepsLimit, MayRenewCore, committer_of}
 use Rattle.pool.specs.Records.{TheTerm, configured_term}
 use Rattle.station.specs.Renewals.{HasLooked}
 use Rattle.station.specs.Seats.{Caller, TheCore}
@@ -137,16 +137,16 @@ module _ (counts : TableId) (config : Settings) (old new : TheBack) (turns : The
         first = λ thread none. absurd (ended none);
       }
 
--- a commit thread under way whose back has left its core and entered one
+-- a commit thread that may renew its core, and whose back has left that and entered one
 module _ {counts : TableId} {config : Settings} {old new : TheBack} {turns : TheTurns} {times : ℕ} {over : Result Why Refusal} {last : Option TheTerm} {count : Counter} {limit : ℕ} {seat : Caller}
-    (c : IsCommitter counts config (committer_of old turns times over last) count limit) (u : IsUnderWay (committer_of old turns times over last)) (e : HasEntered old new seat) where
+    (c : IsCommitter counts config (committer_of old turns times over last) count limit) (u : MayRenewCore (committer_of old turns times over last)) (e : HasEntered old new seat) where
   -- a renewed core
   pub renewed : (then : Counter) → old.by ≡ the_back → seat.by ≡ the_back → HasOneRenewal old.seen seat.seen → then.of ≡ counts → then.shares ≡ added_to Renewals 1 count.shares →
       IsCommitter counts config (committer_of new turns (times + 1) (Err Thread) last) then limit
   renewed then was_by is_by one of shares =
       let once : HasOneRenewal old.seen new.seen = subst (HasOneRenewal old.seen) (sym e.seen) one in
       renews counts config old new turns times last count then limit over c e.state e.ended
-      (counted_renewal counts old new count then e.state was_by (e.by ∙ is_by) c.counted once of shares) once.times u.worked u.ended
+      (counted_renewal counts old new count then e.state was_by (e.by ∙ is_by) c.counted once of shares) once.times u.worked u.recorded
 
   -- the one that it left
   pub refused : {core : TheCore} {left : Caller} → left.by ≡ old.by → left.seen ≡ old.seen → HasLooked core left seat → IsCommitter counts config (committer_of new turns times over last) count limit

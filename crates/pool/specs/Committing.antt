@@ -18,8 +18,8 @@ use Rattle.pool.specs.declared.commit.Why.{Why}
 use Rattle.pool.specs.declared.commit.Why.TheVariants.{AtEnd, AtLimit, Spent}
 use Rattle.pool.specs.Records.{TheTerm, configured_term}
 
--- The commit thread: its back, its turns, how often its core was renewed, why it commits no more, and the last term that
--- has come to an end
+-- The commit thread: its back, its turns, how often its core was renewed, why it commits no more, and the last term
+-- that has come to an end
 pub record TheCommitter : Type 0 where
   pub back : TheBack
   pub turns : TheTurns
@@ -57,12 +57,13 @@ abbrev pub IsReason : (limit : ℕ) → TheCommitter → Option Why → Type 0
 IsReason limit c None = HasWorked c
 IsReason limit c (Some why) = Because limit c.back (c.turns).left why
 
--- The run is not over: it has begun, and its program has not ended
-pub record IsUnderWay (c : TheCommitter) : Type 0 where
+-- The commit thread may renew its core: it has begun there and taken a turn, a term has come to an end, and the program
+-- has not ended
+pub record MayRenewCore (c : TheCommitter) : Type 0 where
   pub begun : c.over ≡ Err Memory
   pub going : c.back.ended ≡ None
   pub worked : HasWorked c
-  pub ended : c.last ≢ None
+  pub recorded : c.last ≢ None
 
 -- The back has not gone past the limit, and where it has ended has not come to the limit; each instruction took a turn,
 -- and so did each renewal

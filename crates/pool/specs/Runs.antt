@@ -6,8 +6,8 @@ use Rattle.pool.specs.declared.ends.Run.{Run}
 use Rattle.pool.specs.declared.ends.Run.TheVariants.{Ended, LimitReached, Refused}
 use Rattle.pool.specs.Records.{TheRan, configured_term}
 
--- Each instruction took the commit thread a turn, and it has the others left. Without all its threads a run takes none,
--- unless a term of it has come to an end
+-- Each instruction took the commit thread a turn, and it has at most the others left. Without all its threads a run
+-- takes none, unless a term of it has come to an end
 abbrev pub HasTurnsLeft : TheRan → Run → Type 0
 HasTurnsLeft ran (Ended end tally) = end.n + (ran.turns).left ≤ (ran.turns).all
 HasTurnsLeft ran (LimitReached end tally) = end.n + (ran.turns).left ≤ (ran.turns).all

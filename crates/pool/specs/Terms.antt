@@ -15,7 +15,7 @@ use Rattle.pool.specs.declared.dispatch.Begin.{Begin}
 use Rattle.pool.specs.declared.dispatch.Begin.TheVariants.{Again, Fresh}
 use Rattle.pool.specs.declared.dispatch.Dispatcher.{Dispatcher}
 use Rattle.pool.specs.declared.terms.Term.{Term}
-use Rattle.pool.specs.Committing.{IsUnderWay, TheCommitter}
+use Rattle.pool.specs.Committing.{MayRenewCore, TheCommitter}
 
 -- The seat is of this core, and a front that has departed from another enters with it
 pub record Enters (core : TheCore) (departed : TheCore) (seen : List Entry) (seat : Caller) : Type 0 where
@@ -71,7 +71,7 @@ pub record IsReturned {S : Type 0} (core : TheCore) (counts : TableId) (dispatch
   pub given : IsGivenBack core counts dispatcher
   pub unit_is : unit.core ≡ core
   pub back_is : committer.back.core ≡ core
-  pub may : IsUnderWay committer
+  pub may : MayRenewCore committer
 
 -- Another core of the same program and sizes, the front's seat and a unit's at it, and the back there
 pub record AreRenewed (old : TheCore) (seen : List Entry) (core : TheCore) (seat unit : Caller)

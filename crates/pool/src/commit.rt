@@ -35,8 +35,8 @@ pub(crate) struct Committer<K: Naming + Bounds + Ring> {
     limit: u32,
     turns: Turns,
     renewals: u32,
-    // why the commit thread commits no more: `Thread` until the threads of a term have begun, `Memory` while they work, and
-    // after the last term the reason
+    // why the commit thread commits no more: `Thread` until the threads of a term have begun, `Memory` while they work,
+    // and after the last term the reason
     over: Result<Why, Refusal>,
     last_term: Option<TermRecord>,
 }

@@ -15,8 +15,8 @@ use station::{Core, FrontSeat};
 use std::sync::Wait;
 use workers::{Backoff, Bounds, Gathered, TermShared, Turns};
 
-// After so many fruitless turns the dispatch thread lets another thread run.
-const PATIENCE: u32 = 4;
+// After so many fruitless turns a thread lets another one run.
+pub(crate) const PATIENCE: u32 = 4;
 
 // How a turn has ended.
 #[derive(Clone, Copy)]

@@ -7,6 +7,7 @@ mod commit;
 mod dispatch;
 mod ends;
 mod making;
+mod places;
 mod ran;
 mod running;
 mod snappers;

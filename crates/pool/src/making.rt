@@ -15,7 +15,8 @@ use station::Core;
 use std::alloc::Global;
 use workers::{Bounds, RunState, Turns};
 
-/// All that the terms of a run share: how its threads wait, where it allocates, the program, how it is to run, and its gate.
+/// All that the terms of a run share: how its threads wait, where it allocates, the program, how it is to run, and its
+/// gate.
 #[derive(Drop)]
 pub(crate) struct RunShared<'x, G, R> {
     pub wait: &'x R,

@@ -5,7 +5,7 @@ ghost use Rattle.back.specs.Backs.{back_state};
 ghost use Rattle.inorder.specs.History.{renewals as renewals_in};
 ghost use Rattle.std.specs.Option.{option_copied};
 
-use crate::snappers::Places;
+use crate::places::Places;
 use back::{Back, Naming};
 use station::Core;
 use std::marker::Model;

@@ -1,38 +1,14 @@
 //! Starts the snapshot threads of a run.
-ghost use Rattle.std.specs.Prelude.{◌≡◌, ◌≤◌, IfSome};
+ghost use Rattle.std.specs.Prelude.{◌≡◌, ◌+◌, ◌<◌, ◌≤◌, ◌^◌, IfSome, true};
+ghost use Rattle.pool.specs.PlaceNumbers.{next_place};
 
-use crate::watch::watch;
+use crate::places::Places;
+use crate::watch::{PlacedSnapper, watch};
 use back::{Naming, Snapper};
 use hints::Ring;
-use std::marker::Model;
 use std::sync::Wait;
 use std::thread::Scope;
 use workers::{Bounds, Gate, RunState};
-
-/// How many places of a run have a thread, or no snapper. `start_snappers` alone counts them.
-#[derive(Drop)]
-pub(crate) struct Places {
-    number: u32,
-}
-
-impl Model for Places {
-    ghost use Rattle.std.specs.Prelude.{ℕ};
-
-    ghost Value = { ℕ };
-
-    ghost view = { λ places. places.number };
-}
-
-impl Places {
-    ghost use Rattle.std.specs.Prelude.{◌≡◌};
-
-    /// How many places there are.
-    pub(crate) fn number(&self) -> u32
-        ensures { result ≡ self.now }
-    {
-        self.number
-    }
-}
 
 // Starts the thread of a place. False where the thread cannot be started.
 fn start_snapper<
@@ -46,15 +22,22 @@ fn start_snapper<
     wait: &'s R,
     state: &'s RunState<K>,
     gate: &'s G,
-    place: u32,
-    snapper: Snapper<K>,
-) -> bool {
-    scope
-        .spawn(move || watch(wait, state, gate, place, snapper))
-        .is_ok()
+    taker: PlacedSnapper<K>,
+    started: &mut Places,
+) -> bool
+    requires number { taker.place ≡ next_place (K.config).places started.old }
+    requires room { started.old + 1 < 2 ^ 32 }
+    ensures one { result ≡ true → started.new ≡ started.old + 1 }
+{
+    let Ok(thread) = scope.spawn(move || watch(wait, state, gate, taker)) else {
+        return false;
+    };
+    started.add(&thread);
+    true
 }
 
-/// Starts the snapshot threads of so many places. A place that gives no snapper has no thread.
+/// Starts the snapshot threads of so many places, that of the first place last. A place that gives no snapper has no
+/// thread.
 pub(crate) fn start_snappers<
     's,
     E: 's,
@@ -69,17 +52,31 @@ pub(crate) fn start_snappers<
     places: u32,
     mut first: Snapper<K>,
 ) -> Option<Places>
-    requires { 1 ≤ places }
+    requires least { 1 ≤ places }
+    requires all { places ≡ (K.config).places }
     ensures { IfSome result (λ started. started ≡ places) }
 {
-    let mut started = Places { number: 1 };
+    let mut started = Places::none();
     for place in 1..places {
-        if let Ok(snapper) = first.another() {
-            if !start_snapper(scope, wait, state, gate, place + 1, snapper) {
-                return None;
+        match first.another() {
+            Ok(snapper) => {
+                let taker = PlacedSnapper {
+                    place: place + 1,
+                    snapper,
+                };
+                if !start_snapper(scope, wait, state, gate, taker, &mut started) {
+                    return None;
+                }
             }
+            Err(none) => started.pass(&none),
         }
-        started.number += 1;
     }
-    start_snapper(scope, wait, state, gate, 1, first).then_some(started)
+    let taker = PlacedSnapper {
+        place: 1,
+        snapper: first,
+    };
+    if !start_snapper(scope, wait, state, gate, taker, &mut started) {
+        return None;
+    }
+    Some(started)
 }

@@ -7,7 +7,7 @@ ghost use Rattle.workers.specs.Turns.{IsTakenFrom};
 use crate::commit::Committer;
 use crate::dispatch::Dispatcher;
 use crate::making::RunShared;
-use crate::snappers::Places;
+use crate::places::Places;
 use crate::starting::start_dispatch;
 use back::Naming;
 use counts::WorkerSeat;
@@ -19,16 +19,16 @@ use std::thread;
 use std::thread::Threads;
 use workers::{Bounds, Gate, RunState, TermShared, start_units, units_at_once};
 
-/// The things that the threads of a term own and give back where the core is to be renewed: all that the dispatch thread
-/// owns, and the seat from which those of the units are cut.
+/// The things that the threads of a term own and give back where the core is to be renewed: all that the dispatch
+/// thread owns, and the seat from which those of the units are cut.
 #[derive(Drop)]
 pub(crate) struct Owned<P: Predictor + Drop> {
     pub dispatcher: Dispatcher<P>,
     pub unit: UnitSeat,
 }
 
-/// A term before its threads have begun, or after they have ended: the core, the things that they own or have given back,
-/// and the seat from which those that the units count with are cut.
+/// A term before its threads have begun, or after they have ended: the core, the things that they own or have given
+/// back, and the seat from which those that the units count with are cut.
 #[derive(Drop)]
 pub(crate) struct Term<P: Predictor + Drop> {
     pub core: Core,

@@ -1,7 +1,7 @@
 //! Renewal of the core: the back leaves the old one and enters another.
 ghost use Rattle.std.specs.Prelude.{◌≡◌, Err, IfNone, IfSome};
 ghost use Rattle.inorder.specs.History.{unit_of};
-ghost use Rattle.pool.specs.Committing.{IsUnderWay};
+ghost use Rattle.pool.specs.Committing.{MayRenewCore};
 ghost use Rattle.pool.specs.Terms.{AreRenewed, IsReturned, MayBegin};
 ghost use Rattle.station.specs.Renewals.{HasNobody};
 ghost use Rattle.workers.specs.Configured.{configured_sizes};
@@ -21,14 +21,14 @@ use std::alloc::Global;
 use workers::{Bounds, RunState};
 
 impl<K: Naming + Bounds + Ring> Committer<K> {
-    // Renews the core of a commit side that is owned. Without memory core and seats are lost, and the back is at the old
-    // core again.
+    // Renews the core of a commit side that is owned. Without memory core and seats are lost, and the back is at the
+    // old core again.
     fn renewed(
         self,
         parts: (Global, &RunState<K>, Core, FrontSeat, UnitSeat),
     ) -> (Self, Option<(Core, FrontSeat, UnitSeat)>)
         requires core { self.back.core ≡ parts.2 }
-        requires may { IsUnderWay self }
+        requires may { MayRenewCore self }
         requires front { parts.3.core ≡ parts.2 }
         requires nobody { HasNobody (unit_of parts.2.program parts.2.sizes parts.3.seen) }
         requires unit { parts.4.core ≡ parts.2 }
@@ -75,8 +75,9 @@ impl<K: Naming + Bounds + Ring> Committer<K> {
         (committer, now)
     }
 
-    /// The next term, at another core, whose tags begin again, where there is memory for it. The back leaves the old core
-    /// and enters the other one, and goes on with the turns that are left. Without memory it enters the old core again.
+    /// The next term, at another core, whose tags begin again, where there is memory for it. The back leaves the old
+    /// core and enters the other one, and goes on with the turns that are left. Without memory it enters the old core
+    /// again.
     pub(crate) fn renew<P: Predictor + Drop>(
         &mut self,
         alloc: Global,

@@ -4,13 +4,14 @@ ghost use Rattle.back.specs.Backs.{IsSameBack, back_state};
 ghost use Rattle.counts.specs.Reads.{WasTotal};
 ghost use Rattle.counts.specs.Totals.{tallied};
 ghost use Rattle.hints.specs.Hinted.{IsEndOf};
-ghost use Rattle.pool.specs.Committing.{Because, HintsLoaded, IsReason, IsUnderWay};
+ghost use Rattle.pool.specs.Committing.{Because, HintsLoaded, IsReason, MayRenewCore};
 ghost use Rattle.pool.specs.declared.commit.Why.{Why};
 
 use super::{Committer, Why};
+use crate::dispatch::PATIENCE;
 use crate::ends::Refusal;
+use crate::places::Places;
 use crate::ran::TermRecord;
-use crate::snappers::Places;
 use back::{Commit, Mark, Naming, Refresh};
 use counts::{CountSeat, Tally, Total};
 use hints::{Hinter, Ring};
@@ -22,11 +23,8 @@ use workers::{Backoff, Bounds, Gate, StartedUnits, TermShared, hint_each};
 // How many instructions the commit thread commits until it shows again.
 const SHOWN_EACH: u64 = 64;
 
-// After so many fruitless turns the commit thread lets another thread run.
-const PATIENCE: u32 = 4;
-
-// Passes a tally to the gate: its retirements are those of the snapshot that was shown, and each total is what it was at a
-// moment since `before`.
+// Passes a tally to the gate: its retirements are those of the snapshot that was shown, and each total is what it was
+// at a moment since `before`.
 fn pass_tally<G: Gate>(
     gate: &G,
     shown: &Mark,
@@ -59,8 +57,8 @@ impl<K: Naming + Bounds + Ring> Committer<K> {
         Ok(())
     }
 
-    // Commits once, counts an instruction that has retired, and shows the state after each `SHOWN_EACH` of these. Answers
-    // whether it has committed anything, or None where the program has ended.
+    // Commits once, counts an instruction that has retired, and shows the state after each `SHOWN_EACH` of these.
+    // Answers whether it has committed anything, or None where the program has ended.
     fn commit<G: Gate, R: Wait>(
         &mut self,
         shared: &TermShared<'_, K, G, R>,
@@ -122,9 +120,9 @@ impl<K: Naming + Bounds + Ring> Committer<K> {
         true
     }
 
-    /// Takes turns, in each of which it commits and refreshes once, until the program has ended, the limit is reached or no
-    /// turn is left, and then answers which. No reason is answered where the core is to be renewed. A refused snapshot is
-    /// want of memory.
+    /// Takes turns, in each of which it commits and refreshes once, until the program has ended, the limit is reached
+    /// or no turn is left, and then answers which. No reason is answered where the core is to be renewed. A refused
+    /// snapshot is want of memory.
     pub(crate) fn take_turns<G: Gate, R: Wait>(
         &mut self,
         shared: &TermShared<'_, K, G, R>,
@@ -156,8 +154,8 @@ impl<K: Naming + Bounds + Ring> Committer<K> {
         Ok(Some(Why::Spent))
     }
 
-    /// Records a term whose turns were taken. Where the run is over, the last state is shown, and the reason is kept. True
-    /// where the run is not over, and the core is to be renewed.
+    /// Records a term whose turns were taken. Where the run is over, the last state is shown, and the reason is kept.
+    /// True where the run is not over, and the core is to be renewed.
     pub(crate) fn record_term<G: Gate, R: Wait>(
         &mut self,
         shared: &TermShared<'_, K, G, R>,
@@ -172,7 +170,7 @@ impl<K: Naming + Bounds + Ring> Committer<K> {
         requires places { places.now ≡ (K.config).places }
         ensures core { self.new.back.core ≡ shared.now.core.now }
         ensures has_run { self.new.over ≢ Err Refusal.Thread }
-        ensures goes_on { result ≡ true → IsUnderWay self.new }
+        ensures goes_on { result ≡ true → MayRenewCore self.new }
     {
         let Ok(reason) = reason else {
             return false;

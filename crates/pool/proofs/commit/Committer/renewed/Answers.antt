@@ -5,7 +5,7 @@ use Rattle.inorder.specs.History.{unit_of}
 use Rattle.back.specs.Stills.{BackMayEnterAgain}
 use Rattle.station.specs.Renewals.{seats_of}
 use Rattle.station.specs.Seats.{Caller, TheCore}
-use Rattle.pool.specs.Committing.{IsUnderWay, TheCommitter, committer_of}
+use Rattle.pool.specs.Committing.{MayRenewCore, TheCommitter, committer_of}
 use Rattle.pool.proofs.Committers.{refused, renewed}
 use Rattle.pool.proofs.Renewed.{entered, may_again, renews_once}
 use Rattle.pool.proofs.commit.Committer.renewed.Given.{Over}
@@ -32,17 +32,17 @@ enter_again-requires-clause-goes_on g c = (again g c).goes_on
 pub enter_again-requires-clause-head : goal.enter_again-requires-clause-head
 enter_again-requires-clause-head g c = (again g c).head
 
-under_way : (g : Over) (c : After-leave-seat g) → let i = c.self.inside in IsUnderWay (committer_of i.back i.turns i.renewals i.over i.last_term)
-under_way g c = subst (λ (k : TheCommitter). IsUnderWay k) (sym c.self.view_is) c.requires.may
+may_renew : (g : Over) (c : After-leave-seat g) → let i = c.self.inside in MayRenewCore (committer_of i.back i.turns i.renewals i.over i.last_term)
+may_renew g c = subst (λ (k : TheCommitter). MayRenewCore k) (sym c.self.view_is) c.requires.may
 
 -- A renewal took a turn, so that there are no more of them than turns
 pub overflow_add-renewals : goal.overflow_add-renewals
-overflow_add-renewals g c = omega (arith, (under_way g (goal.at.overflow_add-renewals g c).After-leave-seat).worked, c.self.invariant.keeps.fits)
+overflow_add-renewals g c = omega (arith, (may_renew g (goal.at.overflow_add-renewals g c).After-leave-seat).worked, c.self.invariant.keeps.fits)
 
 pub invariant_of-committer : goal.invariant_of-committer
 invariant_of-committer g c =
     let left = c.leave-seat.ensures in
-    let may = under_way g (goal.at.invariant_of-committer g c).After-leave-seat in
+    let may = may_renew g (goal.at.invariant_of-committer g c).After-leave-seat in
     elim c.match-renew.branch [
       | in-Ok w ↦
           let is = w.in-Ok.ensures.ok in
