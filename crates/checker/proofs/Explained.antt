@@ -27,7 +27,5 @@ module _ (file bytes : List ℕ) (d : TextFault) (old text new : List ℕ) where
 
 -- the line of a fault and its diagnostics are those of the listing
 pub fault_checked : (file : List ℕ) (all : Bool) (bytes : List ℕ) (found : Result Program (ℕ × FaultKind)) (line : ℕ) (kind : FaultKind)
-    (name text : List ℕ) → found ≡ Err (line, kind) → name ≡ file → IsExplained name all bytes line kind text
-    → IsCheckOf file all bytes found 2 text
-fault_checked file all bytes found line kind name text is same explained =
-    rw is (refl, subst (λ (f : List ℕ). IsExplained f all bytes line kind text) same explained)
+    (text : List ℕ) → found ≡ Err (line, kind) → IsExplained file all bytes line kind text → IsCheckOf file all bytes found 2 text
+fault_checked file all bytes found line kind text is explained = rw is (refl, explained)

@@ -1,10 +1,12 @@
 mod Explained
 mod FaultsFound
 mod Keys
+mod LabelsWalked
 mod Lengths
 mod LinesCounted
 mod LongerTexts
 mod Remaining
+mod PartTexts
 mod Reached
 mod Texts
 mod Warned

@@ -1,8 +1,9 @@
 -- Sets of instructions that are looked at one by one.
-use Rattle.std.proofs.Common.{◌≡◌, ◌+◌, ◌<◌, ℕ, zero, suc, Bool, false, true, List, [], ◌∷◌, Some, slice_get, slice_index_or, subst, arith, inl, inr}
+use Rattle.std.proofs.Common.{◌≡◌, ◌∙◌, ◌+◌, ◌<◌, ℕ, zero, suc, Bool, false, true, List, [], ◌∷◌, ◌++◌, length, take, replicate, Some, slice_get, slice_index_or, ap, refl, subst, sym, arith, inl, inr}
+use Rattle.std.proofs.lemmas.List.{take_all}
 use Rattle.std.proofs.lemmas.Bool.{cases_lt}
 use Rattle.instructions.specs.Programs.{Program}
-use Rattle.checker.specs.Reach.{HasSuccessors}
+use Rattle.checker.specs.Reach.{HasPath, HasSuccessors, HavePaths, HavePathsTo}
 
 -- all below k go right, and so does k
 pub below_and : (P : Program) (S : List Bool) (k : ℕ)
@@ -26,3 +27,34 @@ pub not_in : {A : Type 0} (S : List Bool) (k : ℕ) → slice_index_or S k false
 not_in S k other is =
     let other_is : slice_index_or S k false ≡ true = got S k true false is in
     absurd cc
+
+-- ---- paths
+
+not_marked : {A : Type 0} (n k : ℕ) → slice_get (replicate n false) k ≡ Some true → A
+not_marked zero k is = absurd cc
+not_marked (suc n) zero is = absurd cc
+not_marked (suc n) (suc k) is = not_marked n k is
+
+-- nothing is marked at first
+pub none_marked : (P : Program) (m n : ℕ) (old new : List Bool) → old ≡ [] → new ≡ take m old ++ replicate n false → HavePaths P new
+none_marked P m n old new empty is k at =
+    let nothing : take m old ≡ [] = rw empty (take_all m [] (omega arith)) in
+    not_marked n k (subst (λ (S : List Bool). slice_get S k ≡ Some true) (is ∙ ap (λ (S : List Bool). S ++ replicate n false) nothing) at)
+
+last_is : (ks : List ℕ) (k : ℕ) → slice_get (ks ++ k ∷ []) (length ks) ≡ Some k
+last_is [] k = refl
+last_is (x ∷ xs) k = last_is xs k
+
+front_is : (ks : List ℕ) (k i j : ℕ) → slice_get ks i ≡ Some j → slice_get (ks ++ k ∷ []) i ≡ Some j
+front_is [] k i j is = absurd cc
+front_is (x ∷ xs) k zero j is = is
+front_is (x ∷ xs) k (suc i) j is = front_is xs k i j is
+
+module _ (P : Program) (ks old : List ℕ) (k : ℕ) (is : old ≡ ks ++ k ∷ []) (have : HavePathsTo P old) where
+  -- a path leads to the last one of a list
+  pub last_path : HasPath P k
+  last_path = have (length ks) k (subst (λ (s : List ℕ). slice_get s (length ks) ≡ Some k) (sym is) (last_is ks k))
+
+  -- and to the others
+  pub other_paths : HavePathsTo P ks
+  other_paths i j at = have i j (subst (λ (s : List ℕ). slice_get s i ≡ Some j) (sym is) (front_is ks k i j at))

@@ -11,6 +11,7 @@ use Rattle.instructions.specs.Programs.{Program}
 use Rattle.bench.specs.Answer.{most_taken}
 use Rattle.checker.specs.Checked.{IsCheck}
 use Rattle.checker.specs.Diagnostics.{IsCheckOf, IsExplained, AreExplained}
+use Rattle.checker.specs.Names.{name_text}
 
 -- the fault of a listing that is too long
 abbrev no_line : TextFault
@@ -38,11 +39,11 @@ told_of_all : (file : List ℕ) (all : Bool) (input : List ℕ) (status : ℕ) (
 told_of_all file all input status text is = elim (cases_lt 4194304 (length input)) [
   | inl more ↦
       let short : 4194304 < length (take most_taken input) = omega (arith, length-take most_taken input, more) in
-      let told : IsCheckOf file all (take most_taken input) (Err (0, TooLong)) status text =
-      subst (λ (found : Result Program (ℕ × FaultKind)). IsCheckOf file all (take most_taken input) found status text)
+      let told : IsCheckOf (name_text file) all (take most_taken input) (Err (0, TooLong)) status text =
+      subst (λ (found : Result Program (ℕ × FaultKind)). IsCheckOf (name_text file) all (take most_taken input) found status text)
       (too_long (take most_taken input) short) is in
-      rw (too_long input more) (told.0, same_told file all (take most_taken input) input text told.1)
-  | inr less ↦ subst (λ (bytes : List ℕ). IsCheckOf file all bytes (listing bytes) status text) (take_all most_taken input (omega arith)) is
+      rw (too_long input more) (told.0, same_told (name_text file) all (take most_taken input) input text told.1)
+  | inr less ↦ subst (λ (bytes : List ℕ). IsCheckOf (name_text file) all bytes (listing bytes) status text) (take_all most_taken input (omega arith)) is
 ]
 
 -- so are those of the bytes that were taken

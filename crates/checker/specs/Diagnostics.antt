@@ -16,7 +16,7 @@ use Rattle.checker.specs.Quotes.{on_layer}
 use Rattle.checker.specs.Spots.{spot_text}
 use Rattle.checker.specs.Faults.{AreChosen}
 use Rattle.checker.specs.Warnings.{AreWarned}
-use Rattle.checker.specs.declared.quoting.Layer.TheVariants.{Line, Name}
+use Rattle.checker.specs.declared.quoting.Layer.TheVariants.{Line}
 use Rattle.checker.specs.declared.parts.Part.{Part}
 
 -- ---- a listing without a fault
@@ -66,9 +66,9 @@ abbrev pub remedy_line : List ℕ → List ℕ
 remedy_line [] = []
 remedy_line (b ∷ bs) = flat_map (on_layer Line) (b ∷ bs) ++ newline
 
--- the diagnostic of a fault of the listing as a whole
+-- the diagnostic of a fault of the listing as a whole, behind the name of the file as it is shown
 abbrev pub whole : (file : List ℕ) → FaultKind → List ℕ
-whole file kind = flat_map (on_layer Name) file ++ (codes ": " ++ (error ++ (sentence kind ++ newline)))
+whole file kind = file ++ (codes ": " ++ (error ++ (sentence kind ++ newline)))
 
 -- the diagnostic of a fault: the line with its place and a mark under some part, the rule that is broken, the forms of the
 -- operation, and some remedy without control characters; a fault of the listing as a whole has no line
@@ -96,7 +96,7 @@ IsExplained file all bytes line kind text = (chosen : List TextFault)
 
 -- ---- any listing
 
--- the status and the text for the program of a listing, or for its fault
+-- the status and the text for the program of a listing, or for its fault, with the name of the file as it is shown
 abbrev pub IsCheckOf : (file : List ℕ) → (all : Bool) → (bytes : List ℕ) → Result Program (ℕ × FaultKind) → ℕ → List ℕ → Type 0
 IsCheckOf file all bytes (Ok P) status text =
     (status ≡ 0)

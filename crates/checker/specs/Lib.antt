@@ -4,6 +4,7 @@ pub mod Forms
 pub mod Lines
 pub mod Parts
 pub mod Quotes
+pub mod Names
 pub mod Spots
 pub mod Faults
 pub mod Reach

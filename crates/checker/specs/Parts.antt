@@ -1,5 +1,5 @@
 -- Parts of a line.
-use Rattle.std.specs.Prelude.{◌≤◌, ℕ, List, length}
+use Rattle.std.specs.Prelude.{◌≤◌, ℕ, List, length, slice_range}
 use Rattle.checker.specs.declared.parts.Part.{Part}
 
 -- the part lies in the line
@@ -10,3 +10,7 @@ IsPartOf line part = (part.from ≤ part.to) × (part.to ≤ length line)
 abbrev pub LiesIn : (outer inner : Part) → Type 0
 LiesIn outer inner =
     (outer.from ≤ inner.from) × ((inner.from ≤ inner.to) × (inner.to ≤ outer.to))
+
+-- the text of a part
+abbrev pub part_text : List ℕ → Part → List ℕ
+part_text line part = slice_range line part.from part.to

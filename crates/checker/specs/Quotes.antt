@@ -1,10 +1,10 @@
 -- A line of a listing as it is shown: without control characters, shortened where it is long, with a mark below a part.
-use Rattle.std.specs.Prelude.{ℕ, ◌+◌, ◌-◌, ◌/◌, ◌%◌, ◌==◌, ◌&&◌, ◌||◌, min, Bool, not, nat_le, nat_lt, List, [], ◌∷◌, ◌++◌, length, codes, slice_range, flat_map, if◌then◌else◌}
+use Rattle.std.specs.Prelude.{ℕ, ◌+◌, ◌-◌, ◌/◌, ◌%◌, ◌==◌, min, Bool, nat_lt, List, [], ◌∷◌, ◌++◌, length, codes, slice_range, flat_map, if◌then◌else◌}
 use Rattle.lexical.specs.Name.{is_plain}
 use Rattle.isa.specs.Report.{hex_digit, newline}
 use Rattle.checker.specs.declared.parts.Part.{Part}
 use Rattle.checker.specs.declared.quoting.Layer.{Layer}
-use Rattle.checker.specs.declared.quoting.Layer.TheVariants.{Line, Blank, Mark, Name}
+use Rattle.checker.specs.declared.quoting.Layer.TheVariants.{Line, Blank, Mark}
 
 -- the escape of a byte: `\x` and two hexadecimal digits
 abbrev pub escape : ℕ → List ℕ
@@ -22,20 +22,11 @@ blank_below b = if b == 9 then 9 ∷ [] else (if is_plain b then codes " " else 
 abbrev pub mark_below : ℕ → List ℕ
 mark_below b = if is_plain b then codes "^" else codes "^^^^"
 
--- whether a byte of a file's name can be printed, or is part of a character beyond ASCII that is no control character
-abbrev pub is_in_name : ℕ → Bool
-is_in_name b = (nat_le 0x20 b && nat_le b 0x7e) || (nat_le 0x80 b && not (b == 0xc2))
-
--- a byte in a file's name
-abbrev pub shown_in_name : ℕ → List ℕ
-shown_in_name b = if is_in_name b then b ∷ [] else escape b
-
 -- a byte as it is shown on a layer
 abbrev pub on_layer : Layer → ℕ → List ℕ
 on_layer Line b = shown b
 on_layer Blank b = blank_below b
 on_layer Mark b = mark_below b
-on_layer Name b = shown_in_name b
 
 -- the bytes of a line that are shown: all of at most 200, and else 200, of which 100 stand before the byte at which the
 -- marked part begins, where there are as many

@@ -70,6 +70,26 @@ pub record IsUnreached (P : Program) (k : ℕ) : Type 0 where
   pub closed : IsClosedSet P set
   pub is_out : slice_get set k ≡ Some false
 
+-- ---- a path
+
+-- A path leads to an instruction: the first one, one behind an instruction that a path reaches and that falls through, or the
+-- target that such an instruction names.
+pub data HasPath (P : Program) : ℕ → Type 0 where
+  First : 0 < length P.code → HasPath P 0
+  Behind : (k : ℕ) → HasPath P k → ends_path (instr_of P k) ≡ false → k + 1 < length P.code → HasPath P (k + 1)
+  Target : (k j : ℕ) → HasPath P k → names_target (instr_of P k).op ≡ true → j < length P.code
+      → (instr_of P k).number ≡ address j → HasPath P j
+
+-- a path leads to each instruction of a set
+abbrev pub HavePaths : Program → List Bool → Type 0
+HavePaths P S = (k : ℕ) → slice_get S k ≡ Some true → HasPath P k
+
+-- a path leads to each instruction of a list
+abbrev pub HavePathsTo : Program → List ℕ → Type 0
+HavePathsTo P list = (i k : ℕ) → slice_get list i ≡ Some k → HasPath P k
+
+-- ---- the end
+
 -- whether a run can go on from instruction k past the last one
 abbrev pub may_run_past_end : Program → ℕ → Bool
 may_run_past_end P k =

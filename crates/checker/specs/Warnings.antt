@@ -1,5 +1,5 @@
 -- Warnings of a listing without a fault.
-use Rattle.std.specs.Prelude.{◌≡◌, ◌++◌, ℕ, Bool, false, true, List, [], ◌∷◌, codes, Some, is_some, slice_get, slice_range}
+use Rattle.std.specs.Prelude.{◌≡◌, ◌++◌, ℕ, Bool, false, true, List, [], ◌∷◌, codes, Some, is_some, slice_get}
 use Rattle.std.specs.List.{flat_map, after_first}
 use Rattle.std.specs.Borrow.{Bor}
 use Rattle.std.specs.BTreeMap.{BTreeMap, get_by}
@@ -10,10 +10,10 @@ use Rattle.lexical.specs.Label.{statement_of}
 use Rattle.lexical.specs.Line.{before_comment, lines_of}
 use Rattle.lexical.specs.Operand.{operands}
 use Rattle.instructions.specs.Programs.{Program}
-use Rattle.isa.specs.Listing.{Lines, stands_in, instruction_lines}
+use Rattle.isa.specs.Listing.{Lines, labels, stands_in, instruction_lines}
 use Rattle.checker.specs.Lines.{numbered_line}
-use Rattle.checker.specs.Parts.{IsPartOf}
-use Rattle.checker.specs.Reach.{IsUnreached, may_run_past_end}
+use Rattle.checker.specs.Parts.{IsPartOf, part_text}
+use Rattle.checker.specs.Reach.{HasPath, IsUnreached, may_run_past_end}
 use Rattle.checker.specs.Spots.{spot_text}
 use Rattle.checker.specs.declared.parts.Part.{Part}
 use Rattle.checker.specs.declared.warnings.Warning.{Warning}
@@ -53,15 +53,16 @@ StandsOn bytes k n = slice_get (instruction_lines bytes) k ≡ Some n
 abbrev pub IsOfInstruction : Program → (k : ℕ) → Warning → Type 0
 IsOfInstruction P k NeverUsed = ⊥
 IsOfInstruction P k Unreached = IsUnreached P k
-IsOfInstruction P k PastEnd = may_run_past_end P k ≡ true
+IsOfInstruction P k PastEnd = HasPath P k × (may_run_past_end P k ≡ true)
 
--- the warning is true of a part of line n: the label is no operand, or no run reaches the line's instruction, or a run can
--- go on from it past the last one
+-- the warning is true of a part of line n: the part is one of the line's labels and no operand, or no run reaches the line's
+-- instruction, or a path leads to it and a run can go on from it past the last one
 abbrev pub Applies : (bytes : List ℕ) → Program → (n : ℕ) → (line : List ℕ) → Part → Warning → Type 0
 Applies bytes P n line part NeverUsed =
-    stands_in (all_operands (lines_of bytes)) (slice_range line part.from part.to) ≡ false
+    (stands_in (labels line) (part_text line part) ≡ true)
+    × (stands_in (all_operands (lines_of bytes)) (part_text line part) ≡ false)
 Applies bytes P n line part Unreached = (k : ℕ) × (StandsOn bytes k n × IsUnreached P k)
-Applies bytes P n line part PastEnd = (k : ℕ) × (StandsOn bytes k n × (may_run_past_end P k ≡ true))
+Applies bytes P n line part PastEnd = (k : ℕ) × (StandsOn bytes k n × (HasPath P k × (may_run_past_end P k ≡ true)))
 
 -- a warning: its line, its part and its kind
 pub record Warned : Type 0 where

@@ -2,27 +2,25 @@
 ghost use Rattle.std.specs.Prelude.{IfOk};
 ghost use Rattle.isa.specs.Listing.{listing};
 ghost use Rattle.checker.specs.Diagnostics.{IsCheckOf};
+ghost use Rattle.checker.specs.Names.{name_text};
 
 use crate::explanation::explained;
+use crate::file_name::shown_name;
 use crate::summary::counted;
 use crate::warnings::push_warnings;
 use isa::{FaultKind, parse_with_lines};
 use std::alloc::{AllocError, Global};
 
-/// The status and the text for a listing, with the name of its file. Without a fault the status is 0, and the text has
-/// the numbers of instructions, labels and bytes of data, and warnings. With a fault the status is 2, and the text is
-/// the line that a report has for that fault, and the diagnostic of the fault, or where `all` are wanted those of the first
-/// fault of each line.
-pub fn diagnostics(
+// The status and the text for a listing, with the name of its file as it is shown.
+fn diagnosed(
     alloc: Global,
-    file: &str,
+    file: &[u8],
     bytes: &[u8],
     all: bool,
 ) -> Result<(u8, Vec<u8>), AllocError>
-    ensures ok { IfOk result (λ found.
+    ensures { IfOk result (λ found.
         IsCheckOf file.now all bytes.now (listing bytes.now) found.0 found.1.items) }
 {
-    let file = file.as_bytes();
     match parse_with_lines(alloc, bytes) {
         Ok((program, lines)) => {
             let mut text = counted(alloc, &program, bytes)?;
@@ -35,4 +33,21 @@ pub fn diagnostics(
             Ok((2, text))
         },
     }
+}
+
+/// The status and the text for a listing, with the name of its file. Without a fault the status is 0, and the text has
+/// the numbers of instructions, labels and bytes of data, and warnings. With a fault the status is 2, and the text is
+/// the line that a report has for that fault, and the diagnostic of the fault, or where `all` are wanted those of the first
+/// fault of each line.
+pub fn diagnostics(
+    alloc: Global,
+    file: &str,
+    bytes: &[u8],
+    all: bool,
+) -> Result<(u8, Vec<u8>), AllocError>
+    ensures ok { IfOk result (λ found.
+        IsCheckOf (name_text file.now) all bytes.now (listing bytes.now) found.0 found.1.items) }
+{
+    let name = shown_name(alloc, file)?;
+    diagnosed(alloc, name.as_slice(), bytes, all)
 }

@@ -20,7 +20,7 @@ use std::alloc::{AllocError, Global};
 // The beginning of a diagnostic of a fault.
 const ERROR: &str = "error: ";
 
-// A listing: the name of its file, and its bytes.
+// A listing: the name of its file as it is shown, and its bytes.
 #[derive(Clone, Copy)]
 struct Source<'a> {
     file: &'a [u8],
@@ -109,7 +109,7 @@ fn push_whole(text: &mut Vec<u8>, file: &[u8], fault: TextFault) -> Result<(), A
     ensures { OnOk result (IsExplanationBehind file.now fault.line fault.kind
         None text.old.items text.new.items) }
 {
-    push_bytes(text, Layer::Name, file)?;
+    text.extend_from_slice(file)?;
     text.extend_from_slice(b": ")?;
     text.extend_from_slice(ERROR.as_bytes())?;
     text.extend_from_slice(sentence(fault.kind).as_bytes())?;

@@ -7,6 +7,7 @@ mod clearing;
 mod diagnostics;
 mod explanation;
 mod faults;
+mod file_name;
 mod forms;
 mod lines;
 mod parts;

@@ -1,8 +1,12 @@
 //! The parts of a line: its labels, its statement, its word and its operands.
-ghost use Rattle.std.specs.Prelude.{◌≤◌, ◌<◌, IfSome};
-ghost use Rattle.checker.specs.Parts.{IsPartOf, LiesIn};
+ghost use Rattle.std.specs.Prelude.{◌≡◌, ◌+◌, ◌≤◌, ◌<◌, ◌∷◌, IfSome, slice_range};
+ghost use Rattle.std.specs.List.{prefix_len};
+ghost use Rattle.lexical.specs.Blank.{is_blank, trim};
+ghost use Rattle.lexical.specs.Label.{labels_of};
+ghost use Rattle.lexical.specs.Line.{before_comment};
+ghost use Rattle.checker.specs.Parts.{IsPartOf, LiesIn, part_text};
 
-use lexical::{is_blank, is_name};
+use lexical::{before_comment, cut, is_blank, is_name, trim};
 
 /// A part of a line: from the byte `from` up to the byte `to`, which is behind it.
 #[derive(Clone, Copy)]
@@ -24,18 +28,11 @@ pub(crate) fn find(line: &[u8], part: Part, byte: u8) -> Option<usize>
     None
 }
 
-// The place of the first byte of a part that is no blank, or the end.
-fn behind_blanks(line: &[u8], part: Part) -> usize
-    requires { IsPartOf line.now part }
-    ensures least { part.from ≤ result }
-    ensures most { result ≤ part.to }
+// The number of blanks at the front of a text.
+fn blanks(text: &[u8]) -> usize
+    ensures { result ≡ prefix_len is_blank text.now }
 {
-    for at in part.from..part.to {
-        if !is_blank(line[at]) {
-            return at;
-        }
-    }
-    part.to
+    text.iter().take_while(|byte| is_blank(**byte)).count()
 }
 
 // The place of the first blank of a part, or the end.
@@ -52,59 +49,38 @@ fn before_blank(line: &[u8], part: Part) -> usize
     part.to
 }
 
-// The place at which the blanks at the end of a part begin.
-fn before_blanks(line: &[u8], part: Part) -> usize
-    requires { IsPartOf line.now part }
-    ensures least { part.from ≤ result }
-    ensures most { result ≤ part.to }
-{
-    let mut end = part.from;
-    for at in part.from..part.to {
-        if !is_blank(line[at]) {
-            end = at + 1;
-        }
-    }
-    end
-}
-
 /// A part without the blanks at its ends.
 pub(crate) fn trimmed(line: &[u8], part: Part) -> Part
     requires { IsPartOf line.now part }
-    ensures { LiesIn part result }
+    ensures inside { LiesIn part result }
+    ensures text { part_text line.now result ≡ trim (part_text line.now part) }
 {
-    let from = behind_blanks(line, part);
-    let inner = Part { from, to: part.to };
-    let to = before_blanks(line, inner);
+    let text = &line[part.from..part.to];
+    let from = part.from + blanks(text);
+    let to = from + trim(text).len();
     Part { from, to }
 }
 
 /// The part of a line before its comment.
 pub(crate) fn code(line: &[u8]) -> Part
-    ensures { IsPartOf line.now result }
+    ensures inside { IsPartOf line.now result }
+    ensures text { part_text line.now result ≡ before_comment line.now }
 {
-    let all = Part {
-        from: 0,
-        to: line.len(),
-    };
-    match find(line, all, b'#') {
-        Some(to) => Part { from: 0, to },
-        None => all,
-    }
+    let to = before_comment(line).len();
+    Part { from: 0, to }
 }
 
 // The place of the colon behind the label at the front of a part, if there is one.
 fn colon(line: &[u8], part: Part) -> Option<usize>
     requires { IsPartOf line.now part }
-    ensures { IfSome result (λ at. (part.from ≤ at) × (at < part.to)) }
+    ensures inside { IfSome result (λ at. (part.from ≤ at) × (at < part.to)) }
+    ensures label { IfSome result (λ at. labels_of (part_text line.now part)
+        ≡ trim (slice_range line.now part.from at)
+        ∷ labels_of (slice_range line.now (at + 1) part.to)) }
 {
-    let at = find(line, part, b':')?;
-    let front = Part {
-        from: part.from,
-        to: at,
-    };
-    let name = trimmed(line, front);
-    if is_name(&line[name.from..name.to]) {
-        Some(at)
+    let (front, behind) = cut(&line[part.from..part.to], b':');
+    if behind.is_some() && is_name(trim(front)) {
+        Some(part.from + front.len())
     } else {
         None
     }
@@ -116,6 +92,8 @@ pub(crate) fn label_at(line: &[u8], part: Part) -> Option<(Part, Part)>
     ensures name { IfSome result (λ found. LiesIn part found.0) }
     ensures behind { IfSome result (λ found. LiesIn part found.1) }
     ensures shorter { IfSome result (λ found. part.from < found.1.from) }
+    ensures label { IfSome result (λ found. labels_of (part_text line.now part)
+        ≡ part_text line.now found.0 ∷ labels_of (part_text line.now found.1)) }
 {
     let at = colon(line, part)?;
     let front = Part {

@@ -2,7 +2,7 @@
 ghost use Rattle.std.specs.Prelude.{◌≡◌, ◌≤◌, ◌<◌, ◌++◌, OnOk, flat_map, length};
 ghost use Rattle.isa.specs.Report.{hex_digit};
 ghost use Rattle.checker.specs.Parts.{IsPartOf};
-ghost use Rattle.checker.specs.Quotes.{caret, escape, excerpt, is_in_name, on_layer, quote, quoted, three_if, underline};
+ghost use Rattle.checker.specs.Quotes.{caret, escape, excerpt, on_layer, quote, quoted, three_if, underline};
 
 use super::parts::Part;
 use lexical::is_plain;
@@ -11,20 +11,12 @@ use std::alloc::AllocError;
 /// How many bytes of a line are shown at most.
 const MOST_SHOWN: usize = 200;
 
-// Where a byte is shown: in a line, as a blank below the line or as a mark below it, and in the name of a file.
+// Where a byte is shown: in a line, as a blank below the line or as a mark below it.
 #[derive(Clone, Copy)]
 pub(crate) enum Layer {
     Line,
     Blank,
     Mark,
-    Name,
-}
-
-// Whether a byte of a file's name can be printed, or is part of a character beyond ASCII that is no control character.
-fn is_in_name(byte: u8) -> bool
-    ensures { result ≡ is_in_name byte }
-{
-    (0x20 <= byte && byte <= 0x7e) || (0x80 <= byte && byte != 0xc2)
 }
 
 // The hexadecimal digit of a number below 16.
@@ -35,8 +27,8 @@ fn hex_digit(n: u8) -> u8
     if n < 10 { b'0' + n } else { b'a' - 10 + n }
 }
 
-// The escape of a byte: `\x` and two hexadecimal digits.
-fn escape(byte: u8) -> [u8; 4]
+/// The escape of a byte: `\x` and two hexadecimal digits.
+pub(crate) fn escape(byte: u8) -> [u8; 4]
     ensures { result ≡ escape byte }
 {
     [b'\\', b'x', hex_digit(byte / 16), hex_digit(byte % 16)]
@@ -56,8 +48,7 @@ fn push_byte(text: &mut Vec<u8>, layer: Layer, byte: u8) -> Result<(), AllocErro
         Layer::Blank => b"    ",
         Layer::Mark if plain => b"^",
         Layer::Mark => b"^^^^",
-        Layer::Name if is_in_name(byte) => &itself,
-        Layer::Line | Layer::Name => &escape,
+        Layer::Line => &escape,
     };
     text.extend_from_slice(shown)
 }

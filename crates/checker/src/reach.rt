@@ -1,8 +1,9 @@
 //! The instructions that a run can reach.
-ghost use Rattle.std.specs.Prelude.{◌≡◌, ◌+◌, ◌<◌, ℕ, IfOk, Some, length, slice_get, false, true};
+ghost use Rattle.std.specs.Prelude.{◌≡◌, ◌+◌, ◌<◌, ℕ, IfOk, IfSome, OnOk, Some, length, slice_get, false, true};
 ghost use Rattle.instructions.specs.Targets.{names_target};
 ghost use Rattle.instructions.specs.Programs.{address, instr_of};
-ghost use Rattle.checker.specs.Reach.{HasSuccessors, IsClosedSet, ends_path, is_always_taken, is_opaque};
+ghost use Rattle.checker.specs.Reach.{HasPath, HasSuccessors, HavePaths, HavePathsTo, IsClosedSet};
+ghost use Rattle.checker.specs.Reach.{ends_path, is_always_taken, is_opaque};
 
 use instructions::{Instr, Op, Program, Reg};
 use std::alloc::{AllocError, Global};
@@ -89,43 +90,84 @@ pub(crate) fn is_closed(program: &Program, reached: &[bool]) -> bool
 }
 
 // Marks an instruction as reached, and puts it on the list of those whose successors are to be found.
-fn reach(reached: &mut Vec<bool>, next: &mut Vec<usize>, k: usize) -> Result<(), AllocError>
-    ensures { length reached.new.items ≡ length reached.old.items }
+fn reach(
+    program: &Program,
+    reached: &mut Vec<bool>,
+    next: &mut Vec<usize>,
+    k: usize,
+) -> Result<(), AllocError>
+    requires size { length reached.old.items ≡ length program.now.code }
+    requires path { k < length program.now.code → HasPath program.now k }
+    requires marked { HavePaths program.now reached.old.items }
+    requires listed { HavePathsTo program.now next.old.items }
+    ensures size { length reached.new.items ≡ length reached.old.items }
+    ensures marked { OnOk result (HavePaths program.now reached.new.items) }
+    ensures listed { OnOk result (HavePathsTo program.now next.new.items) }
 {
-    if k < reached.len() && !reached[k] {
+    if k < program.len() && !reached[k] {
         reached[k] = true;
         next.push(k)?;
     }
     Ok(())
 }
 
-// The number of the instruction at an address.
-fn index_of(number: u32) -> usize {
-    (number.wrapping_sub(Program::START) / 4) as usize
+// The number of the instruction at an address, if one can stand there.
+fn index_of(number: u32) -> Option<usize>
+    ensures { IfSome result (λ k. number ≡ address k) }
+{
+    let offset = number.checked_sub(Program::START)?;
+    if offset % 4 == 0 {
+        Some((offset / 4) as usize)
+    } else {
+        None
+    }
+}
+
+// Marks the instructions to which instruction k leads, if there is one.
+fn reach_successors(
+    program: &Program,
+    reached: &mut Vec<bool>,
+    next: &mut Vec<usize>,
+    k: usize,
+) -> Result<(), AllocError>
+    requires size { length reached.old.items ≡ length program.now.code }
+    requires path { HasPath program.now k }
+    requires marked { HavePaths program.now reached.old.items }
+    requires listed { HavePathsTo program.now next.old.items }
+    ensures size { length reached.new.items ≡ length reached.old.items }
+    ensures marked { OnOk result (HavePaths program.now reached.new.items) }
+    ensures listed { OnOk result (HavePathsTo program.now next.new.items) }
+{
+    if k >= program.len() {
+        return Ok(());
+    }
+    let instr = program.instr(k);
+    if !ends_path(instr) {
+        reach(program, reached, next, k + 1)?;
+    }
+    if instr.op.names_target() {
+        if let Some(target) = index_of(instr.number) {
+            reach(program, reached, next, target)?;
+        }
+    }
+    Ok(())
 }
 
 /// The instructions to which paths lead from the first one, by falling through and by labels alone: a flag for each
 /// instruction.
 pub(crate) fn reached(alloc: Global, program: &Program) -> Result<Vec<bool>, AllocError>
-    ensures { IfOk result (λ reached. length reached.items ≡ length program.now.code) }
+    ensures size { IfOk result (λ reached. length reached.items ≡ length program.now.code) }
+    ensures paths { IfOk result (λ reached. HavePaths program.now reached.items) }
 {
     let mut reached = Vec::new(alloc);
     reached.resize(program.len(), false)?;
     let mut next = Vec::new(alloc);
-    reach(&mut reached, &mut next, 0)?;
+    reach(program, &mut reached, &mut next, 0)?;
     for _ in 0..program.len() {
         let Some(k) = next.pop() else {
             break;
         };
-        if k < program.len() {
-            let instr = program.instr(k);
-            if !ends_path(instr) {
-                reach(&mut reached, &mut next, k + 1)?;
-            }
-            if instr.op.names_target() {
-                reach(&mut reached, &mut next, index_of(instr.number))?;
-            }
-        }
+        reach_successors(program, &mut reached, &mut next, k)?;
     }
     Ok(reached)
 }

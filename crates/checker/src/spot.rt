@@ -4,10 +4,10 @@ ghost use Rattle.checker.specs.Parts.{IsPartOf};
 ghost use Rattle.checker.specs.Spots.{spot_text};
 
 use super::parts::Part;
-use super::quoting::{Layer, push_bytes, push_quote};
+use super::quoting::push_quote;
 use std::alloc::{AllocError, Global};
 
-/// A line of a listing, with its number and the name of the file.
+/// A line of a listing, with its number and the name of the file as it is shown.
 #[derive(Clone, Copy)]
 pub(crate) struct Spot<'a> {
     pub file: &'a [u8],
@@ -32,7 +32,7 @@ pub(crate) fn push_spot(
 {
     let number = spot.number;
     let column = part.from + 1;
-    push_bytes(text, Layer::Name, spot.file)?;
+    text.extend_from_slice(spot.file)?;
     let said = format!(in alloc; ":{number}:{column}: {severity}{sentence}\n")?;
     text.extend_from_slice(said.as_bytes())?;
     push_quote(text, spot.line, part)?;

@@ -4,7 +4,7 @@ ghost use Rattle.lexical.specs.Line.{lines_of};
 ghost use Rattle.isa.specs.Listing.{instruction_lines};
 ghost use Rattle.checker.specs.Lines.{numbered_line};
 ghost use Rattle.checker.specs.Parts.{IsPartOf};
-ghost use Rattle.checker.specs.Reach.{IsClosedSet, may_run_past_end};
+ghost use Rattle.checker.specs.Reach.{HavePaths, IsClosedSet, may_run_past_end};
 ghost use Rattle.checker.specs.Warnings.{AreOperandsOf, AreWarned, Applies, IsOfInstruction, said};
 
 mod operands;
@@ -119,6 +119,7 @@ fn push_labels(
 fn warning_at(good: &Good<'_>, k: usize) -> Option<Warning>
     requires inside { k < length good.now.program.now.code }
     requires size { length good.now.reached.now ≡ length good.now.program.now.code }
+    requires paths { HavePaths good.now.program.now good.now.reached.now }
     requires closed { good.now.is_closed ≡ true →
         IsClosedSet good.now.program.now good.now.reached.now }
     ensures { IfSome result (IsOfInstruction good.now.program.now k) }
@@ -156,6 +157,7 @@ fn push_numbered(
     requires line { numbered_line spot.number (lines_of good.now.bytes.now) ≡ Some spot.line.now }
     requires lines { good.now.lines.now ≡ instruction_lines good.now.bytes.now }
     requires size { length good.now.reached.now ≡ length good.now.program.now.code }
+    requires paths { HavePaths good.now.program.now good.now.reached.now }
     requires closed { good.now.is_closed ≡ true →
         IsClosedSet good.now.program.now good.now.reached.now }
     ensures { IfOk result (λ _. AreWarned good.now.file.now good.now.bytes.now good.now.program.now
@@ -181,6 +183,7 @@ fn push_lines(
     requires operands { AreOperandsOf (lines_of good.now.bytes.now) operands.now }
     requires lines { good.now.lines.now ≡ instruction_lines good.now.bytes.now }
     requires size { length good.now.reached.now ≡ length good.now.program.now.code }
+    requires paths { HavePaths good.now.program.now good.now.reached.now }
     requires closed { good.now.is_closed ≡ true →
         IsClosedSet good.now.program.now good.now.reached.now }
     ensures { OnOk result (AreWarned good.now.file.now good.now.bytes.now good.now.program.now

@@ -1,9 +1,7 @@
 use Rattle.std.proofs.Common.{◌∙◌, ◌+◌, ◌++◌, ap, codes, decimal}
-use Rattle.std.specs.Prelude.{flat_map}
 use Rattle.isa.specs.Report.{newline}
-use Rattle.checker.specs.Quotes.{on_layer, quote}
+use Rattle.checker.specs.Quotes.{quote}
 use Rattle.checker.specs.Spots.{spot_text}
-use Rattle.checker.specs.declared.quoting.Layer.TheVariants.{Name}
 use Rattle.checker.proofs.Texts.{placed}
 use Rattle.checker.proofs.spot.push_spot.Goals as goal
 
@@ -11,9 +9,9 @@ pub returns : goal.returns
 unfolding spot_text
 returns c =
     let spot = c.args.spot in
-    let said = c.in_ok-extend_from_slice.ensures.items
-    ∙ ap (λ t. c.push_bytes.new.text.items ++ t) (c.as_bytes.ensures.value ∙ c.in_ok-said.ensures.ok) in
-    placed c.args.text.now.items (flat_map (on_layer Name) spot.file.now) (codes ":") (decimal spot.number) (codes ":")
+    let said = c.in_ok-extend_from_slice-2.ensures.items
+    ∙ ap (λ t. c.extend_from_slice.new.self.items ++ t) (c.as_bytes.ensures.value ∙ c.in_ok-said.ensures.ok) in
+    placed c.args.text.now.items spot.file.now (codes ":") (decimal spot.number) (codes ":")
     (decimal (c.args.part.from + 1)) (codes ": ") c.args.severity.now c.args.sentence.now newline (quote spot.line.now c.args.part)
-    c.push_bytes.new.text.items c.extend_from_slice.new.self.items c.push_quote.new.text.items c.in_ok-push_bytes.ensures said
+    c.extend_from_slice.new.self.items c.extend_from_slice-2.new.self.items c.push_quote.new.text.items c.in_ok-extend_from_slice.ensures.items said
     c.in_ok-push_quote.ensures
