@@ -10,6 +10,7 @@ pub mod WordsRead
 pub mod TableRows
 pub mod Renewing
 pub mod Looks
+pub mod Choosing
 pub mod Played
 pub mod Woken
 pub mod Advancing

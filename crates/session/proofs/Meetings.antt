@@ -1,11 +1,11 @@
 -- Some that meet the seat that has seen all, one after another.
-use Rattle.std.proofs.Common.{List, Option, ◌∙◌}
+use Rattle.std.proofs.Common.{◌≢◌, List, Option, ◌∙◌}
 use Rattle.instructions.specs.Histories.{StartsWith}
 use Rattle.back.specs.Backs.{IsSameBack, TheBack}
 use Rattle.session.specs.declared.parties.Party.{Party}
 use Rattle.session.specs.declared.parties.Party.TheVariants.{Back, Front, Unit}
 use Rattle.session.specs.declared.units.Worker.{Worker}
-use Rattle.session.specs.Sessions.{HasToldAll, TwoHaveMet, StaysAsSeen, TheSession, seen_by}
+use Rattle.session.specs.Sessions.{HasToldAll, IsSomebody, seen_by, StaysAsSeen, TheSession, TwoHaveMet}
 use Rattle.session.specs.Workers.{StaySeen, seen_at}
 use Rattle.instructions.proofs.Histories.{starts_on}
 
@@ -32,8 +32,12 @@ stays_on a b c s t = record {
 }
 
 -- One meets it, then the other, then the one again
-pub have_met : (a b c d : TheSession) (one other : Party) → HasToldAll a b one → HasToldAll b c other → HasToldAll c d one → TwoHaveMet a d one other
-have_met a b c d one other first second third = record {
+pub have_met : (a b c d : TheSession) (one other : Party) → IsSomebody one → IsSomebody other → one ≢ other → HasToldAll a b one → HasToldAll b c other → HasToldAll c d one →
+    TwoHaveMet a d one other
+have_met a b c d one other one_is other_is two first second third = record {
+  one_is = one_is;
+  other_is = other_is;
+  two = two;
   stays = stays_on a c d (stays_on a b c first.stays second.stays) third.stays;
   one_told = starts_on (seen_by other a) (seen_by other b) (seen_by one d) (first.stays.keeps other)
       (starts_on (seen_by other b) (seen_by other c) (seen_by one d) (second.stays.keeps other) (starts_on (seen_by other c) c.seen (seen_by one d) second.tells third.learns));

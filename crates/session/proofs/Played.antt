@@ -5,7 +5,7 @@ use Rattle.session.specs.Plays.{MayHaveLooked, IsChosenLine, IsPlayOf, IsWritten
 use Rattle.session.specs.Sessions.{TheSession}
 
 pub one_more_played : (begin from to : Lcg) (a b looked c : TheSession) (n : ℕ) (line before after : List ℕ) →
-    IsPlayOf begin a n before from b → MayHaveLooked b looked → IsChosenLine from to line → IsWrittenBehind looked c (n + 1) line before after →
+    IsPlayOf begin a n before from b → MayHaveLooked b looked → IsChosenLine b looked from to line → IsWrittenBehind looked c (n + 1) line before after →
     IsPlayOf begin a (n + 1) after to c
 one_more_played begin from to a b looked c n line before after (lines, len, play) looks named written = (
   line ∷ lines,

@@ -8,7 +8,6 @@ use Rattle.front.specs.declared.answers.Recovery.TheVariants.{Mended}
 use Rattle.front.specs.declared.answers.Turn.TheVariants.{Let}
 use Rattle.session.specs.declared.advance.Progress.{Progress}
 use Rattle.session.specs.declared.advance.Progress.TheVariants as progress
-use Rattle.session.specs.declared.advances.TheConstants.{MOST_TURNS}
 use Rattle.session.specs.declared.commands.Command.{Command}
 use Rattle.session.specs.declared.commands.Command.TheVariants as ask
 use Rattle.session.specs.declared.reading.Goal.{Goal}
@@ -109,10 +108,10 @@ AreTurnsTaken goal number first (suc n) retired text last =
     × (retired ≡ earlier + retired_in come)
     × (text ≡ before ++ told)
 
--- No turn more is taken: the goal is met, or as many were taken as one line may
+-- No turn more is taken: the goal is met, or a million were taken
 pub record IsEnough (goal : Goal) (count retired : ℕ) (middle new : TheSession) (before text : List ℕ) :
     Type 0 where
-  pub enough : (is_met goal middle retired ≡ true) ⊎ (count ≡ MOST_TURNS)
+  pub enough : (is_met goal middle retired ≡ true) ⊎ (count ≡ 1000000)
   pub same : new ≡ middle
   pub text_is : text ≡ before
 

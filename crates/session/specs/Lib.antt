@@ -20,4 +20,5 @@ pub mod Listed
 pub mod Help
 pub mod Transcripts
 pub mod Scripts
+pub mod Choices
 pub mod Plays

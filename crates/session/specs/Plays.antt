@@ -1,11 +1,12 @@
 -- Sessions that are driven by a seed.
-use Rattle.std.specs.Prelude.{◌≡◌, ◌⊎◌, ℕ, suc, ◌+◌, ◌%◌, true, List, [], ◌∷◌, ◌++◌, length, codes, decimal, Option, None, Some, slice_get, take, ◌<◌, ◌≤◌}
+use Rattle.std.specs.Prelude.{◌≡◌, ◌⊎◌, ℕ, suc, ◌+◌, ◌%◌, true, List, [], ◌∷◌, ◌++◌, length, codes, decimal, Option, None, Some, IsSome, slice_get, take, ◌<◌, ◌≤◌}
 use Rattle.std.specs.Io.KnownBytes.{Appends}
 use Rattle.isa.specs.Report.{hexadecimal}
 use Rattle.rand_pcg.specs.Lcg.{Lcg}
 use Rattle.one_thread.specs.Seeds.{ChoosesNext, seeded}
 use Rattle.session.specs.declared.commands.Command.{Command}
 use Rattle.session.specs.declared.commands.Command.TheVariants as ask
+use Rattle.session.specs.Choices.{AreChoices}
 use Rattle.session.specs.Moments.{GrowsLegally}
 use Rattle.session.specs.Sessions.{KeepsCommits, TheSession}
 use Rattle.session.specs.Texts.{unit_text}
@@ -36,13 +37,14 @@ command_text (ask.Finish unit station) = unit_command (codes "finish") unit stat
 command_text ask.Refresh = codes "refresh"
 command_text command = codes "commit"
 
--- The line of one of some commands, which the next word of the generator names
-pub record IsChosenLine (from to : Lcg) (line : List ℕ) : Type 0 where
+-- The line of one of the commands that make sense, which the next word of the generator names
+pub record IsChosenLine (old looked : TheSession) (from to : Lcg) (line : List ℕ) : Type 0 where
   pub choices : List Command
-  pub word : ℕ
-  pub next : ChoosesNext from (length choices) word to
+  pub are : AreChoices old looked choices
+  pub choice : ℕ
+  pub next : ChoosesNext from (length choices) choice to
   pub command : Command
-  pub is : slice_get choices (word % length choices) ≡ Some command
+  pub is : slice_get choices (choice % length choices) ≡ Some command
   pub line_is : line ≡ command_text command
 
 -- What is written for a line was added
@@ -59,7 +61,7 @@ IsPlay begin first (line ∷ earlier) text chooser last =
     (middle looked : TheSession) × (before : List ℕ) × (from : Lcg)
     × IsPlay begin first earlier before from middle
     × MayHaveLooked middle looked
-    × IsChosenLine from chooser line
+    × IsChosenLine middle looked from chooser line
     × IsWrittenBehind looked last (suc (length earlier)) line before text
 
 -- So many lines were chosen and answered
@@ -74,13 +76,15 @@ pub record ArePlayed (begin : Lcg) (old new : TheSession) (text : List ℕ) (cou
   pub played : IsPlayOf begin old count text chooser middle
   pub looked : MayHaveLooked middle new
 
--- The transcript of a session that a seed drives: of so many lines at most, and of a table and a report
+-- The transcript of a session that a seed drives: of so many lines, or of fewer where the run has ended, and of a table
+-- and a report
 pub record HasPlayed (seed steps : ℕ) (old new : TheSession) (text : List ℕ) : Type 0 where
   pub count : ℕ
   pub few : count ≤ steps
   pub before : List ℕ
   pub played : TheSession
   pub lines : ArePlayed (seeded seed) old played before count
+  pub all : (count ≡ steps) ⊎ IsSome played.commits.ended
   pub shown : TheSession
   pub between : List ℕ
   pub table : IsWrittenBehind played shown (count + 1) (codes "table") before between

@@ -34,7 +34,7 @@ pub record HasBegunAgain (old new : TheCore) (seen new_seen : List Entry) (commi
   pub state : back_state new_commits ≡ back_state commits
   pub told : new_told ≡ length (unit_of old.program old.sizes last).tenants
 
--- There was no memory for another core: it is the old one, whose seats have met, and what was committed stays
+-- There was no memory for another core: it is the old one, more of whose history was seen, and what was committed stays
 pub record HasStayed (old new : TheCore) (seen new_seen : List Entry) (commits new_commits : TheBack) :
     Type 0 where
   pub core_is : new ≡ old

@@ -1,5 +1,5 @@
 -- Commits, with the tenant that they are of.
-use Rattle.std.specs.Prelude.{ℕ, List, Option}
+use Rattle.std.specs.Prelude.{◌≡◌, ℕ, List, Option}
 use Rattle.inorder.specs.declared.history.Entry.{Entry}
 use Rattle.back.specs.Backs.{IsSameBack, TheBack}
 use Rattle.back.specs.declared.answers.Commit.{Commit}
@@ -17,3 +17,4 @@ pub record HasCommittedTold (core : TheCore) (from to : TheBack) (old new : List
   pub same : IsSameBack from looked
   pub oldest_is : IsOldestTold core old middle units oldest
   pub says : IsCommit looked to middle new commit
+  pub shown : to.shown ≡ from.shown

@@ -15,7 +15,7 @@ use Rattle.front.specs.declared.answers.Rest.{Rest}
 use Rattle.front.specs.Rests.{rested_after}
 use Rattle.snapshots.specs.declared.mark.Mark.{Mark}
 use Rattle.snapshots.specs.declared.snap.Snap.{Snap}
-use Rattle.snapshots.specs.Snapshots.{IsSnapshotOf}
+use Rattle.snapshots.specs.Snapshots.{IsSnapshotOf, snapshot}
 use Rattle.station.specs.Seats.{Caller, TheCore}
 use Rattle.session.specs.declared.commands.Command.{Command}
 use Rattle.session.specs.declared.commands.Command.TheVariants as ask
@@ -95,20 +95,22 @@ pub record HasLearnt (old new : TheSession) : Type 0 where
 abbrev pub KeepsCommits : TheSession → TheSession → Type 0
 KeepsCommits old new = IsSameBack old.commits new.commits
 
--- What was committed is as it was, and a snapshot of it may have been shown
+-- What was committed is as it was, and another snapshot may have been shown
 abbrev pub ShowsCommits : TheSession → TheSession → Type 0
 ShowsCommits old new = IsSameBack (record old.commits { shown = new.commits.shown }) new.commits
 
--- A snapshot was shown
+-- A snapshot of what was committed was shown
 pub record HasShown (old new : TheSession) (mark : Mark) : Type 0 where
   pub says : IsShown old.core old.seen new.seen mark
+  pub count : mark.n ≡ (back_state old.commits).count
+  pub shown : new.commits.shown ≡ snapshot (back_state old.commits)
   pub kept : new.mark ≡ Some mark
   pub commits : ShowsCommits old new
 
--- There was no memory to show one: the mark that was shown last stays so
+-- There was no memory to show a snapshot: the one that was shown last stays so, and its mark
 pub record WasNotShown (old new : TheSession) : Type 0 where
   pub mark : new.mark ≡ old.mark
-  pub commits : ShowsCommits old new
+  pub commits : KeepsCommits old new
 
 -- The front has rested, if nobody was live
 pub record SessionHasRested (old new : TheSession) (rest : Rest) : Type 0 where
@@ -133,12 +135,6 @@ pub record HasToldAll (old new : TheSession) (p : Party) : Type 0 where
   pub learns : StartsWith (seen_by p new) old.seen
   pub tells : StartsWith new.seen (seen_by p new)
 
--- Two have met: each has seen what either had seen
-pub record TwoHaveMet (old new : TheSession) (one other : Party) : Type 0 where
-  pub stays : StaysAsSeen old new
-  pub one_told : StartsWith (seen_by one new) (seen_by other old)
-  pub other_told : StartsWith (seen_by other new) (seen_by one old)
-
 -- Nothing can be of this name
 abbrev pub IsNobody : Party → Type 0
 IsNobody (party.Unit unit) = unit_count ≤ unit
@@ -148,6 +144,15 @@ IsNobody p = ⊥
 abbrev pub IsSomebody : Party → Type 0
 IsSomebody (party.Unit unit) = unit < unit_count
 IsSomebody p = ⊤
+
+-- Two have met: each has seen what either had seen
+pub record TwoHaveMet (old new : TheSession) (one other : Party) : Type 0 where
+  pub one_is : IsSomebody one
+  pub other_is : IsSomebody other
+  pub two : one ≢ other
+  pub stays : StaysAsSeen old new
+  pub one_told : StartsWith (seen_by one new) (seen_by other old)
+  pub other_told : StartsWith (seen_by other new) (seen_by one old)
 
 -- The committed state, and how the run has ended, if it has
 pub record HasReported (old new : TheSession) (end : End) : Type 0 where
@@ -168,6 +173,10 @@ pub record WasNotRenewed (old new : TheSession) : Type 0 where
   pub stays : HasStayed old.core new.core old.seen new.seen old.commits new.commits
   pub rests_no_more : new.rested ≡ false
   pub units : new.units ≡ old.units
+
+-- The ring has this station
+abbrev pub IsStationOf : TheSession → (station : ℕ) → Type 0
+IsStationOf s station = station < s.core.sizes.ring
 
 -- Why a command is refused
 abbrev pub MayRefuseCommand : TheSession → Command → Refusal → Type 0
@@ -213,19 +222,23 @@ Answers old new ask.Take (say.Taken snap) = HasTaken old new snap
 Answers old new ask.Take say.Gone = new ≡ old
 Answers old new ask.Learn say.Learnt = HasLearnt old new
 Answers old new (ask.Look station) (say.Look seen) =
-    IsLook old.core old.seen new.seen station seen
+    IsStationOf old station × IsLook old.core old.seen new.seen station seen
 Answers old new (ask.Creator register) (say.Creator made) =
-    IsCreatorNow old.core old.seen new.seen old.told register made
+    (register < register_count)
+    × IsCreatorNow old.core old.seen new.seen old.told register made
 Answers old new ask.Touched (say.Touched count) = (count ≡ old.touched) × (new ≡ old)
 Answers old new (ask.Info station) (say.Info info) =
-    IsInfoSeen old.core old.seen new.seen station info × KeepsCommits old new
+    IsStationOf old station
+    × IsInfoSeen old.core old.seen new.seen station info × KeepsCommits old new
 Answers old new (ask.Operand station k) (say.Operand told operand) =
-    (told ≡ k)
+    IsStationOf old station × (told ≡ k)
     × IsOperandTold old.core old.seen new.seen station k operand × KeepsCommits old new
 Answers old new (ask.Link station k) (say.Link from) =
-    IsLinkTold old.core old.seen new.seen station k from × KeepsCommits old new
+    IsStationOf old station
+    × IsLinkTold old.core old.seen new.seen station k from × KeepsCommits old new
 Answers old new (ask.Station station) (say.Station row) =
-    IsRowSeen old.core old.seen new.seen old.units station row × KeepsCommits old new
+    IsStationOf old station
+    × IsRowSeen old.core old.seen new.seen old.units station row × KeepsCommits old new
 Answers old new ask.Ring (say.Ring head ahead) =
     IsRingTold old.core old.seen new.seen head ahead × KeepsCommits old new
 Answers old new ask.Rest (say.Rest rest) = SessionHasRested old new rest

@@ -11,7 +11,7 @@ use std::alloc::{AllocError, Global};
 use std::sync::Wait;
 
 /// The most turns that one line takes.
-pub const MOST_TURNS: u32 = 1_000_000;
+const MOST_TURNS: u32 = 1_000_000;
 
 // The goal is met, where so many instructions have retired in the turns.
 fn is_met<P: Predictor + Drop, J: Naming>(

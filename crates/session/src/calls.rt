@@ -1,9 +1,10 @@
 //! The calls of units and of the back, each between two meetings with the seat that has seen all.
-ghost use Rattle.std.specs.Prelude.{◌≡◌, ◌<◌, ◌-◌, ◌^◌, IfOk};
+ghost use Rattle.std.specs.Prelude.{◌≡◌, ◌<◌, ◌-◌, ◌^◌, IfOk, OnErr, OnOk};
 ghost use Rattle.back.specs.Backs.{IsSameBack, back_state};
 ghost use Rattle.session.specs.Accounts.{IsFinish};
 ghost use Rattle.session.specs.Moments.{GrowsLegally};
 ghost use Rattle.session.specs.Replies.{HoldsWhatIs, IsClaim, IsCommit, IsRefresh, IsShown};
+ghost use Rattle.snapshots.specs.Snapshots.{snapshot};
 ghost use Rattle.station.specs.Claiming.{Holds};
 ghost use Rattle.station.specs.Seats.{IsSameSeat};
 
@@ -91,6 +92,7 @@ pub fn commit<J: Naming>(core: &Core, all: &mut UnitSeat, back: &mut Back<J>) ->
     ensures all { IsSameSeat all.old all.new }
     ensures core { back.new.core ≡ core.now }
     ensures by { back.new.by ≡ back.old.by }
+    ensures shown { back.new.shown ≡ back.old.shown }
     ensures grows { GrowsLegally core.now all.old.seen all.new.seen }
     ensures reply { IsCommit back.old back.new all.old.seen all.new.seen result }
 {
@@ -111,8 +113,11 @@ pub fn show<J: Naming, R: Wait>(
     requires back { back.old.core ≡ core.now }
     ensures all { IsSameSeat all.old all.new }
     ensures back { IsSameBack (record back.old { shown = back.new.shown }) back.new }
+    ensures shown { OnOk result (back.new.shown ≡ snapshot (back_state back.old)) }
+    ensures unshown { OnErr result (IsSameBack back.old back.new) }
     ensures grows { GrowsLegally core.now all.old.seen all.new.seen }
     ensures reply { IfOk result (IsShown core.now all.old.seen all.new.seen) }
+    ensures count { IfOk result (λ mark. mark.n ≡ (back_state back.old).count) }
 {
     back.meet(core, all);
     back.show(wait)

@@ -1,5 +1,5 @@
-//! A shared unit driven by hand, on one thread: a script of commands, each of which makes one
-//! public call, and the transcript of what they answer.
+//! A shared unit driven by hand, on one thread: a script of commands, the public calls that they make,
+//! and the transcript of what is answered.
 #![tactic(auto)]
 
 mod accounts;

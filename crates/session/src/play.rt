@@ -1,5 +1,5 @@
 //! A session that is driven by a seed.
-ghost use Rattle.std.specs.Prelude.{◌≡◌, ◌≢◌, ◌<◌, ◌≤◌, ◌+◌, ◌-◌, ◌^◌, ◌%◌, IfErr, IfOk, IfSome, OnOk, [], length, slice_get, string_bytes};
+ghost use Rattle.std.specs.Prelude.{◌≡◌, ◌≢◌, ◌<◌, ◌≤◌, ◌+◌, ◌-◌, ◌^◌, ◌%◌, ◌⊎◌, IfErr, IfNone, IfOk, IfSome, IsSome, OnOk, Some, [], length, slice_get, string_bytes};
 ghost use Rattle.counted_io.specs.Counted.{failures_of, known_by};
 ghost use Rattle.session.specs.Plays.{ArePlayed, HasPlayed, HasPlayedPart, IsChosenLine, IsPlayed, IsWrittenBehind, MayHaveLooked, command_text, unit_command};
 ghost use Rattle.session.specs.Scripts.{write_failures};
@@ -18,7 +18,7 @@ use std::alloc::{AllocError, Global};
 use std::io::Write;
 use std::sync::Wait;
 
-// The most commands to choose from: one a station, one a unit, a turn and a commit.
+// More than there are commands to choose from: one a station, one a unit, a turn and a commit.
 const MOST_CHOICES: usize = 64;
 
 // A command of a unit, as a script has it.
@@ -49,15 +49,16 @@ fn command_text(alloc: Global, command: Command) -> Result<String, AllocError>
     }
 }
 
-// The command that a word names.
-fn named(choices: &[Command], word: u32) -> Option<Command>
+// The command that a number names, modulo how many there are.
+fn named(choices: &[Command], choice: u32) -> Command
     requires { 0 < length choices.now }
-    ensures { result ≡ slice_get choices.now (word % length choices.now) }
+    ensures { slice_get choices.now (choice % length choices.now) ≡ Some result }
 {
-    choices.get(word as usize % choices.len()).copied()
+    let at = choice as usize % choices.len();
+    choices[at]
 }
 
-// The line of the command that the seed names of those that make sense, if any does.
+// The line of the command that the seed names of those that make sense; none where the run has ended.
 fn chosen<P: Predictor + Drop, J: Naming>(
     alloc: Global,
     session: &mut Session<'_, P, J>,
@@ -65,21 +66,17 @@ fn chosen<P: Predictor + Drop, J: Naming>(
 ) -> Result<Option<String>, AllocError>
     ensures looks { OnOk result (MayHaveLooked session.old session.new) }
     ensures named { IfOk result (λ chosen. IfSome chosen (λ line.
-        IsChosenLine chooser.old chooser.new (string_bytes line))) }
+        IsChosenLine session.old session.new chooser.old chooser.new (string_bytes line))) }
+    ensures ended { IfOk result (λ chosen. IfNone chosen (IsSome session.new.commits.ended)) }
 {
-    let choices = session.choices(alloc)?;
-    let count = choices.len();
-    if count == 0 || count > MOST_CHOICES {
+    let Some(choices) = session.choices(alloc)? else {
         return Ok(None);
-    }
-    let word = chooser.choose(count as u32);
-    match named(choices.as_slice(), word) {
-        Some(command) => {
-            let line = command_text(alloc, command)?;
-            Ok(Some(line))
-        }
-        None => Ok(None),
-    }
+    };
+    let count = choices.len().min(MOST_CHOICES);
+    let choice = chooser.choose(count as u32);
+    let command = named(choices.as_slice(), choice);
+    let line = command_text(alloc, command)?;
+    Ok(Some(line))
 }
 
 // Adds what is written for a line of this number.
@@ -98,7 +95,7 @@ fn push_line<P: Predictor + Drop, J: Naming, R: Wait>(
     out.extend_from_slice(text.as_slice())
 }
 
-// Adds what is written for up to so many chosen commands, and gives how many there were.
+// Adds what is written for so many chosen commands, or for fewer where the run ends, and gives how many there were.
 fn push_lines<P: Predictor + Drop, J: Naming, R: Wait>(
     wait: &R,
     alloc: Global,
@@ -111,6 +108,8 @@ fn push_lines<P: Predictor + Drop, J: Naming, R: Wait>(
     requires empty { out.old.items ≡ [] }
     ensures played { IfOk result (ArePlayed chooser.old session.old session.new out.new.items) }
     ensures few { IfOk result (λ count. count ≤ steps) }
+    ensures all { IfOk result (λ count.
+        (count ≡ steps) ⊎ IsSome session.new.commits.ended) }
 {
     for number in 0..steps {
         match chosen(alloc, session, chooser)? {
@@ -124,7 +123,7 @@ fn push_lines<P: Predictor + Drop, J: Naming, R: Wait>(
     Ok(steps)
 }
 
-/// Answers up to so many commands that a seed chooses of those that make sense, each behind the command itself, until
+/// Answers so many commands that a seed chooses of those that make sense, each behind the command itself, or fewer where
 /// the run has ended; and then a table and a report. Gives the transcript.
 pub(crate) fn play<P: Predictor + Drop, J: Naming, R: Wait>(
     wait: &R,

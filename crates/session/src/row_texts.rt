@@ -2,6 +2,7 @@
 ghost use Rattle.std.specs.Prelude.{◌≡◌, ◌++◌, ◌<◌, IfOk, OnOk, string_bytes};
 ghost use Rattle.session.specs.Texts.{holder_text, letter_text, ring_text, some_station, station_text, unit_text, word_text};
 
+use crate::names::UNITS;
 use crate::replies::{Ahead, Head, Row};
 use crate::texts::state;
 use crate::word_texts::{push_operand, push_tenant};
@@ -10,50 +11,24 @@ use isa::Hexadecimal;
 use station::Source;
 use std::alloc::{AllocError, Global};
 
-fn letter(at: usize) -> &'static str
+// Adds a letter, by its place in the alphabet.
+fn push_letter(out: &mut String, at: usize) -> Result<(), AllocError>
     requires { at < 26 }
-    ensures { result.now ≡ letter_text at }
+    ensures { OnOk result (string_bytes out.new ≡ string_bytes out.old ++ letter_text at) }
 {
-    match at {
-        0 => "A",
-        1 => "B",
-        2 => "C",
-        3 => "D",
-        4 => "E",
-        5 => "F",
-        6 => "G",
-        7 => "H",
-        8 => "I",
-        9 => "J",
-        10 => "K",
-        11 => "L",
-        12 => "M",
-        13 => "N",
-        14 => "O",
-        15 => "P",
-        16 => "Q",
-        17 => "R",
-        18 => "S",
-        19 => "T",
-        20 => "U",
-        21 => "V",
-        22 => "W",
-        23 => "X",
-        24 => "Y",
-        _ => "Z",
-    }
+    out.push(char::from(b'A' + at as u8))
 }
 
 /// Adds the name of a unit.
 pub(crate) fn push_unit(out: &mut String, unit: usize) -> Result<(), AllocError>
     ensures { OnOk result (string_bytes out.new ≡ string_bytes out.old ++ unit_text unit) }
 {
-    let at = unit % 64;
+    let at = unit % UNITS;
     if at < 26 {
-        return out.push_str(letter(at));
+        return push_letter(out, at);
     }
-    out.push_str(letter(at / 26 - 1))?;
-    out.push_str(letter(at % 26))
+    push_letter(out, at / 26 - 1)?;
+    push_letter(out, at % 26)
 }
 
 // Adds the unit that holds the job, if one does.
@@ -97,7 +72,7 @@ pub(crate) fn station_text(
     Ok(out)
 }
 
-/// Adds a station, if there is one.
+/// Adds a station, or that there is none.
 pub(crate) fn push_some_station(out: &mut String, station: Option<usize>) -> Result<(), AllocError>
     ensures { OnOk result (string_bytes out.new ≡ string_bytes out.old ++ some_station station) }
 {

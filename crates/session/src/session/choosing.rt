@@ -1,6 +1,6 @@
 //! The commands that make sense for a session as it is.
 use super::Session;
-use crate::choices::{PLAYERS, may_commit, push_of_row};
+use crate::choices::{PLAYERS, may_commit, or_commit, push_of_row, push_turn};
 use crate::commands::Command;
 use crate::rows;
 use crate::units::held_station;
@@ -9,12 +9,13 @@ use instructions::Predictor;
 use std::alloc::{AllocError, Global};
 
 impl<'a, P: Predictor + Drop, J: Naming> Session<'a, P, J> {
-    ghost use Rattle.std.specs.Prelude.{◌<◌, IfSome, OnOk};
-    ghost use Rattle.session.specs.Plays.{OnlyLooked, MayHaveLooked};
+    ghost use Rattle.std.specs.Prelude.{◌≡◌, ◌++◌, ◌<◌, IfNone, IfOk, IfSome, IsSome, OnOk, length};
+    ghost use Rattle.session.specs.Choices.{AreChoices, IsCommitAdded, IsIdle, IsOfRowAdded, IsTurnAdded, OfRowsAreAdded, finishes, player_count};
+    ghost use Rattle.session.specs.Plays.{MayHaveLooked, OnlyLooked};
 
     // The first of the units that holds no job, if one does not.
     fn idle(&self) -> Option<usize>
-        ensures { IfSome result (λ unit. unit < 64) }
+        ensures { IsIdle self.now.units result }
     {
         for unit in 0..PLAYERS {
             if held_station(&self.units, unit).is_none() {
@@ -25,57 +26,69 @@ impl<'a, P: Predictor + Drop, J: Naming> Session<'a, P, J> {
     }
 
     // The finishes of jobs that units hold.
-    fn push_finishes(&self, choices: &mut Vec<Command>) -> Result<(), AllocError> {
+    fn push_finishes(&self, choices: &mut Vec<Command>) -> Result<(), AllocError>
+        ensures { OnOk result (choices.new.items ≡ choices.old.items
+            ++ finishes self.now.core.sizes.ring self.now.units player_count) }
+    {
+        let ring = self.core.ring();
         for unit in 0..PLAYERS {
-            if let Some(station) = held_station(&self.units, unit) {
-                choices.push(Command::Finish(unit, (station % 32) as u32))?;
+            match held_station(&self.units, unit) {
+                Some(station) if station < ring => {
+                    choices.push(Command::Finish(unit, station as u32))?;
+                }
+                _ => {}
             }
         }
         Ok(())
     }
 
-    // The commands for a station's tenant.
+    // The command for a station's tenant, where this unit holds no job.
     fn push_of_station(
         &mut self,
         choices: &mut Vec<Command>,
         station: u32,
+        idle: Option<usize>,
     ) -> Result<(), AllocError>
-        ensures { OnOk result (OnlyLooked self.old self.new) }
+        requires { station < self.old.core.sizes.ring }
+        ensures looks { OnOk result (OnlyLooked self.old self.new) }
+        ensures added { OnOk result (IsOfRowAdded self.old self.new idle station
+            choices.old.items choices.new.items) }
     {
-        let idle = self.idle();
-        let program = self.program;
-        let at = station as usize;
         let (core, all, back) = (&self.core, &mut self.all, &mut self.back);
-        let row = rows::row(core, all, back, &self.units, at % core.ring());
-        push_of_row(choices, program, station, &row, idle)
+        let row = rows::row(core, all, back, &self.units, station as usize);
+        push_of_row(choices, self.program, station, &row, idle)
     }
 
-    // The commands for all stations.
+    // The commands for the tenants of all stations.
     fn push_of_stations(&mut self, choices: &mut Vec<Command>) -> Result<(), AllocError>
-        ensures { OnOk result (MayHaveLooked self.old self.new) }
+        ensures looks { OnOk result (MayHaveLooked self.old self.new) }
+        ensures added { OnOk result (OfRowsAreAdded self.old self.new
+            choices.old.items choices.new.items) }
     {
+        let idle = self.idle();
         let ring = self.core.ring();
         for station in 0..ring as u32 {
-            self.push_of_station(choices, station)?;
+            self.push_of_station(choices, station, idle)?;
         }
         Ok(())
     }
 
-    // A turn, where a station is free and an instruction stands at the next pc.
+    // A turn, where it may find something to do.
     fn push_turn(&mut self, choices: &mut Vec<Command>) -> Result<(), AllocError>
-        ensures { OnOk result (OnlyLooked self.old self.new) }
+        ensures looks { OnOk result (OnlyLooked self.old self.new) }
+        ensures added { OnOk result (IsTurnAdded self.old self.new
+            choices.old.items choices.new.items) }
     {
         let (core, all, back) = (&self.core, &mut self.all, &mut self.back);
         let (head, ahead) = rows::ring(core, all, &mut self.front, back);
-        if head.free > 0 && self.program.fetch(ahead.pc).is_some() {
-            choices.push(Command::Turn(None))?;
-        }
-        Ok(())
+        push_turn(choices, self.program, &head, &ahead)
     }
 
-    // A commit, where the oldest tenant may have its value, or nobody is live.
+    // A commit, where it may find something to do.
     fn push_commit(&mut self, choices: &mut Vec<Command>) -> Result<(), AllocError>
-        ensures { OnOk result (OnlyLooked self.old self.new) }
+        ensures looks { OnOk result (OnlyLooked self.old self.new) }
+        ensures added { OnOk result (IsCommitAdded self.old self.new
+            choices.old.items choices.new.items) }
     {
         let (core, all, back) = (&self.core, &mut self.all, &mut self.back);
         let oldest = rows::oldest(core, all, &mut self.front, back, &self.units);
@@ -85,18 +98,23 @@ impl<'a, P: Predictor + Drop, J: Naming> Session<'a, P, J> {
         Ok(())
     }
 
-    /// The commands that make sense now; none where the run has ended.
-    pub(crate) fn choices(&mut self, alloc: Global) -> Result<Vec<Command>, AllocError>
-        ensures { OnOk result (MayHaveLooked self.old self.new) }
+    /// The commands that make sense now, of which there is one at least; none where the run has ended.
+    pub(crate) fn choices(&mut self, alloc: Global) -> Result<Option<Vec<Command>>, AllocError>
+        ensures looks { OnOk result (MayHaveLooked self.old self.new) }
+        ensures are { IfOk result (λ found. IfSome found (λ choices.
+            AreChoices self.old self.new choices.items)) }
+        ensures some { IfOk result (λ found. IfSome found (λ choices. 0 < length choices.items)) }
+        ensures ended { IfOk result (λ found. IfNone found (IsSome self.new.commits.ended)) }
     {
-        let mut choices = Vec::new(alloc);
         if self.back.ended().is_some() {
-            return Ok(choices);
+            return Ok(None);
         }
+        let mut choices = Vec::new(alloc);
         self.push_turn(&mut choices)?;
         self.push_of_stations(&mut choices)?;
         self.push_finishes(&mut choices)?;
         self.push_commit(&mut choices)?;
-        Ok(choices)
+        or_commit(&mut choices)?;
+        Ok(Some(choices))
     }
 }

@@ -8,7 +8,7 @@ loop-number-preserved g c =
     let at = c.loop-number in
     let chosen = c.chosen.new in
     let told = c.push_line.new in
-    let named = subst (λ x. IfSome x (λ line. IsChosenLine at.chooser chosen.chooser (string_bytes line))) c.in-Some.is c.in_ok-line.ensures.named in
+    let named = subst (λ x. IfSome x (λ line. IsChosenLine at.session chosen.session at.chooser chosen.chooser (string_bytes line))) c.in-Some.is c.in_ok-line.ensures.named in
     let written = subst (λ (line : List ℕ). IsWrittenBehind chosen.session told.session (at.number + 1) line at.out.items told.out.items)
     (c.as_bytes-bytes.ensures.value ∙ c.as_str.ensures.value) c.in_ok-push_line-in-Some.ensures in
     one_more_played c.args.chooser.now at.chooser chosen.chooser c.args.session.now at.session chosen.session told.session at.number

@@ -1,4 +1,5 @@
-use Rattle.std.proofs.Common.{◌∙◌, subst}
+use Rattle.std.proofs.Common.{◌≡◌, ◌≢◌, ◌∙◌, false, subst, arith, rules}
+use Rattle.std.proofs.lemmas.Grind.{common_steps}
 use Rattle.session.specs.Moments.{GrowsLegally}
 use Rattle.session.proofs.Histories.{grows_on}
 use Rattle.session.proofs.Meetings.{have_met}
@@ -17,4 +18,9 @@ returns-clause-grows g c =
 
 pub returns-clause-reply : goal.returns-clause-reply
 returns-clause-reply g c =
-    have_met c.args.self.now c.tell.new.self c.tell-2.new.self c.tell-3.new.self c.args.one c.args.other c.tell.ensures.told c.tell-2.ensures.told c.tell-3.ensures.told
+    let nobody : c.is_nobody.result ≡ false = grind (arith, common_steps, c.if-is_nobody.false) in
+    let none : c.is_nobody-else-is_nobody.result ≡ false = grind (arith, common_steps, c.if-is_nobody-2.false) in
+    let one_is = c.is_nobody.ensures.not nobody in
+    let other_is = c.is_nobody-else-is_nobody.ensures.not none in
+    let two : c.args.one ≢ c.args.other = search rules in
+    have_met c.args.self.now c.tell.new.self c.tell-2.new.self c.tell-3.new.self c.args.one c.args.other one_is other_is two c.tell.ensures.told c.tell-2.ensures.told c.tell-3.ensures.told
