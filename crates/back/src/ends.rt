@@ -5,21 +5,21 @@ ghost use Rattle.back.specs.Ends.{EndIsInOrder, ending_of};
 ghost use Rattle.inorder.specs.Runs.{state_in};
 
 use crate::backs::Back;
-use instructions::{End, Ending, Stop};
+use instructions::{End, Ending};
 use snapshots::Naming;
 use std::sync::Wait;
 
-// How a run ends that has ended with this code, if it has.
-fn outcome(ended: Option<Stop>) -> Ending
-    ensures { result ≡ ending_of ended }
-{
-    match ended {
-        Some(code) => Ending::Stop(code),
-        None => Ending::Limit,
-    }
-}
-
 impl<J: Naming> Back<J> {
+    /// The outcome of the run if it ends now: the code that `commit` answered with `Ended`, or `Limit` where it did not.
+    pub fn outcome(&self) -> Ending
+        ensures { result ≡ ending_of self.now.ended }
+    {
+        match self.ended {
+            Some(code) => Ending::Stop(code),
+            None => Ending::Limit,
+        }
+    }
+
     /// Ends the run, and gives the committed state, which is that of the machine in order after n instructions: between
     /// two halves of an instruction the state before it. The outcome is `Limit` unless `commit` answered `Ended`. The call
     /// waits until no snapper reads; from then on each is answered `Gone`.
@@ -28,15 +28,16 @@ impl<J: Naming> Back<J> {
         ensures state { state_in result ≡ back_state self }
         ensures outcome { result.outcome ≡ ending_of self.ended }
     {
+        let outcome = self.outcome();
         let Back {
             seat: _,
             committed,
             low: _,
             head: _,
-            ended,
+            ended: _,
             publisher,
         } = self;
         publisher.end(wait);
-        committed.into_end(outcome(ended))
+        committed.into_end(outcome)
     }
 }

@@ -1,8 +1,9 @@
-use Rattle.std.proofs.Common.{◌≡◌, Some, sym, ap, subst}
+use Rattle.std.proofs.Common.{◌≡◌, ◌∙◌, Some, sym, ap, subst}
 use Rattle.instructions.specs.declared.end.Ending.{Ending}
 use Rattle.inorder.specs.Machine.{State}
 use Rattle.inorder.specs.Runs.{after}
-use Rattle.back.specs.Ends.{StopsThere}
+use Rattle.back.specs.Backs.{TheBack}
+use Rattle.back.specs.Ends.{StopsThere, ending_of}
 use Rattle.back.proofs.SeatKept.{after_is, outcome_stops, plain}
 use Rattle.back.proofs.backs.Back.end.Goals as goal
 
@@ -17,5 +18,5 @@ returns-clause-in_order g c =
     record {
       state = subst (λ (s : State). after P s.count ≡ Some s) (sym (ap (λ (z : Ending × State). z.1) c.into_end.ensures)) after_it;
       stops = subst (λ (z : Ending × State). StopsThere P z.1.count z.0) (sym c.into_end.ensures)
-          (subst (StopsThere P b.committed.count) (sym c.outcome.ensures) stops);
+          (subst (StopsThere P b.committed.count) (ap (λ (z : TheBack). ending_of z.ended) c.self.view_is ∙ sym c.outcome-outcome.ensures) stops);
     }
