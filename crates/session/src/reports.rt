@@ -8,18 +8,9 @@ ghost use Rattle.station.specs.Seats.{IsSameSeat};
 
 use back::{Back, Naming};
 use inorder::Machine;
-use instructions::{End, Ending, Memory, Program, Stop};
+use instructions::{End, Memory, Program};
 use station::{Core, UnitSeat};
 use std::alloc::Global;
-
-fn outcome(ended: Option<Stop>) -> Ending
-    ensures { result ≡ ending_of ended }
-{
-    match ended {
-        Some(code) => Ending::Stop(code),
-        None => Ending::Limit,
-    }
-}
 
 /// The committed state. A back gives its memory away only at its end, so the machine in order runs as many
 /// instructions as were committed: its state behind them is the committed one.
@@ -47,7 +38,7 @@ pub(crate) fn report<J: Naming>(
     Ok(End {
         n: machine.count(),
         pc: machine.pc(),
-        outcome: outcome(back.ended()),
+        outcome: back.outcome(),
         registers: *machine.registers(),
         memory,
     })

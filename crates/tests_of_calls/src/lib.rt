@@ -32,6 +32,8 @@ mod operations;
 #[cfg(test)]
 mod passed_on;
 #[cfg(test)]
+mod places;
+#[cfg(test)]
 mod programs;
 #[cfg(test)]
 mod reports;

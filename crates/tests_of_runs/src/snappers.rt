@@ -4,7 +4,7 @@ ghost use Rattle.snapshots.specs.Snapshots.{IsSnapshotOf};
 
 use crate::same::same;
 use instructions::Memory;
-use snapshots::{Gone, Mark, Naming, NoPlace, Publisher, Snap, Snapper};
+use snapshots::{Gone, Mark, Naming, Publisher, Snap, Snapper};
 use std::alloc::Global;
 use std::sync::Wait;
 use std::test::*;
@@ -118,10 +118,10 @@ fn second_place_takes_a_second_snapper(rt: HostRuntime) -> Result<(), Fail> {
 #[test]
 fn one_place_takes_no_second_snapper(rt: HostRuntime) -> Result<(), Fail> {
     let (publisher, mut first) = Publisher::<ThreeAdds>::new(rt.alloc(), 1)?;
-    let second = first.another().map(|_| ());
+    let is_refused = first.another().is_err();
     let taken = first.take();
     publisher.end(&rt);
-    same(&rt, &second, &Err(NoPlace));
+    assert!(rt; is_refused);
     same(&rt, &taken?, &Snap::opening());
     Ok(())
 }
