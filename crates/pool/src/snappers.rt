@@ -1,6 +1,6 @@
 //! Starts the snapshot threads of a run.
 ghost use Rattle.std.specs.Prelude.{◌≡◌, ◌+◌, ◌<◌, ◌≤◌, ◌^◌, IfSome, true};
-ghost use Rattle.pool.specs.PlaceNumbers.{next_place};
+ghost use Rattle.pool.specs.PlaceNumbers.{number_of_next};
 
 use crate::places::Places;
 use crate::watch::{PlacedSnapper, watch};
@@ -25,7 +25,7 @@ fn start_snapper<
     taker: PlacedSnapper<K>,
     started: &mut Places,
 ) -> bool
-    requires number { taker.place ≡ next_place (K.config).places started.old }
+    requires number { taker.place ≡ number_of_next (K.config).places started.old }
     requires room { started.old + 1 < 2 ^ 32 }
     ensures one { result ≡ true → started.new ≡ started.old + 1 }
 {

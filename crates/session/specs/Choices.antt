@@ -26,20 +26,20 @@ abbrev pub player_count : ℕ
 player_count = 3
 
 -- The operand is not there yet
-abbrev pub waits : SourceState → Bool
-waits Wait = true
-waits other = false
+abbrev pub lacks_value : SourceState → Bool
+lacks_value Wait = true
+lacks_value other = false
 
 -- An instruction is there, and stores
-abbrev pub stores : Option Instr → Bool
-stores None = false
-stores (Some i) = is_store (kind i.op)
+abbrev pub is_store_there : Option Instr → Bool
+is_store_there None = false
+is_store_there (Some i) = is_store (kind i.op)
 
 -- A claim would find what it needs: a store needs its address alone
 abbrev pub is_ready : Program → Row → Bool
 is_ready P row =
-    not (waits row.first.seen.state)
-    && (stores (indexed P row.first.info.index) || not (waits row.second.seen.state))
+    not (lacks_value row.first.seen.state)
+    && (is_store_there (indexed P row.first.info.index) || not (lacks_value row.second.seen.state))
 
 -- A claim of a station's tenant by the unit that holds no job, if there is one and the tenant is ready
 abbrev pub claim_by : Option ℕ → (station : ℕ) → (ready : Bool) → List Command

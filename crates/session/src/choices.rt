@@ -1,6 +1,6 @@
 //! The commands that make sense now, of which a seed names one.
 ghost use Rattle.std.specs.Prelude.{◌≡◌, ◌++◌, ◌<◌, OnOk, length};
-ghost use Rattle.session.specs.Choices.{choice_of_row, is_ready, may_commit, may_turn, or_commit, turn_choice, waits};
+ghost use Rattle.session.specs.Choices.{choice_of_row, is_ready, lacks_value, may_commit, may_turn, or_commit, turn_choice};
 
 use crate::commands::Command;
 use crate::instruction_texts::indexed;
@@ -12,8 +12,8 @@ use std::alloc::AllocError;
 /// How many units the chosen commands are for.
 pub(crate) const PLAYERS: usize = 3;
 
-fn waits(state: SourceState) -> bool
-    ensures { result ≡ waits state }
+fn lacks_value(state: SourceState) -> bool
+    ensures { result ≡ lacks_value state }
 {
     match state {
         SourceState::Wait => true,
@@ -29,7 +29,7 @@ fn is_ready(program: &Program, row: &Row) -> bool
         Some(instr) => matches!(instr.op().kind(), Kind::Stores),
         None => false,
     };
-    !waits(row.first.seen.state) && (is_store || !waits(row.second.seen.state))
+    !lacks_value(row.first.seen.state) && (is_store || !lacks_value(row.second.seen.state))
 }
 
 /// Adds the command that makes sense for the tenant of a station, where this unit holds no job.
