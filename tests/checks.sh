@@ -68,8 +68,24 @@ while IFS= read -r row; do
   ! LC_ALL=C grep -q "[^[:print:]$(printf '\t')]" "$work/out" || fail "$row: a byte that cannot be shown"
   rows=$((rows + 1))
 done < tests/listings/remedies.txt
-[ $rows -gt 80 ] || fail "only $rows rows"
+[ $rows -gt 250 ] || fail "only $rows rows"
 echo "$rows faults are told with what helps"
+
+# The name of a file is told with its characters beyond ASCII, and its control characters by their bytes.
+while read -r name shown; do
+  printf -v file %b "$work/$name.s"
+  echo 'adu $t0,$t1,$t2' > "$file"
+  "$check" check "$file" > "$work/out" 2> "$work/err"
+  [[ $(sed -n 2p "$work/out") == "$work/$shown.s:1:1: error: "* ]] || { cat "$work/out"; fail "the name $name is told otherwise"; }
+done << 'NAMES'
+plain plain
+30\xc2\xb0 30°
+\xc3\xa9\xe2\x82\xac\xf0\x9f\x98\x80 é€😀
+a\x1b[1mb a\x1b[1mb
+a\x7f\xc2\x9bb a\x7f\xc2\x9bb
+\xc2\x80\xc2\x9f\xc2\xa1 \xc2\x80\xc2\x9f¡
+NAMES
+echo 'names of files are told without control characters'
 
 # With --all each line is told once, in the order of the lines, and 200 at most.
 for n in 200 201; do

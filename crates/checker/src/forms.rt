@@ -3,7 +3,7 @@ ghost use Rattle.std.specs.Prelude.{◌≡◌, ◌∷◌, ◌++◌, [], false, m
 ghost use Rattle.isa.specs.Forms.{form_text, form_view, has_word};
 ghost use Rattle.checker.specs.Forms.{alternatives, lead, word_note};
 
-use isa::{Form, Operands, directive_text, form_of, forms};
+use isa::{Form, Operands, Slot, directive_text, form_of, forms};
 use std::alloc::AllocError;
 
 // The words before a form: the beginning of the sentence before the first one.
@@ -67,6 +67,14 @@ pub(crate) fn push_forms(text: &mut Vec<u8>, word: &[u8]) -> Result<(), AllocErr
 pub(crate) fn has_offset(word: &[u8]) -> bool {
     match form_of(word, 2) {
         Ok(form) => matches!(form.operands, Operands::Load | Operands::Store),
+        Err(_) => false,
+    }
+}
+
+/// Whether an operand of a word with so many, the first of which is number 0, is a label.
+pub(crate) fn takes_label(word: &[u8], count: usize, at: usize) -> bool {
+    match form_of(word, count) {
+        Ok(form) => matches!(form.operands.slots().get(at), Some(Slot::Label)),
         Err(_) => false,
     }
 }

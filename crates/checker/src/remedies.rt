@@ -1,6 +1,7 @@
 //! Remedies of faults, in a sentence or two. Proved of a remedy is alone that each of its bytes is shown without harm.
 
 mod characters;
+mod instead;
 mod labels;
 mod lists;
 mod numbered;
@@ -8,22 +9,25 @@ mod numbers;
 mod operands;
 mod registers;
 mod sentences;
+mod tried;
 mod words;
 
 use super::blame::other_comment;
 use super::clearing::Labels;
 use super::parts::code;
 use super::statements::{Statement, statement_in};
+use instead::instead;
 use isa::{FaultKind, TextFault};
 use lexical::before_comment;
+use lists::{SENTENCES, row_of};
 use sentences::{Remedy, filled, said};
 use std::alloc::{AllocError, Global};
 
 // The first bytes of an executable.
 const EXECUTABLE: &[u8] = b"\x7fELF";
 
-// The remedy of the fault of a line, if one is known.
-fn found<'a>(
+// What is said of the fault of a line before instructions are tried in its place, if anything is.
+fn said_first<'a>(
     bytes: &'a [u8],
     labels: &Labels<'_>,
     line: &'a [u8],
@@ -41,12 +45,27 @@ fn found<'a>(
         FaultKind::UnknownLabel => return labels::unknown(bytes, statement),
         FaultKind::TooLong | FaultKind::Memory => return None,
         _ if has_other_comment => "A comment begins with #.",
-        FaultKind::UnknownOp => return words::remedy(code_text, statement),
-        FaultKind::BadOperands => return operands::of_other_kind(statement),
+        FaultKind::UnknownOp => row_of(&SENTENCES, statement.word)?,
+        FaultKind::BadOperands => return operands::odd_operand(statement),
         FaultKind::BadRegister => return registers::bad_register(statement),
         FaultKind::BadNumber => return numbers::bad_number(statement),
     };
     Some(said(sentence))
+}
+
+// What is said where no instructions can be written in place of a statement, if anything is.
+fn said_last<'a>(
+    line: &'a [u8],
+    statement: &Statement<'a>,
+    fault: TextFault,
+) -> Option<Remedy<'a>> {
+    match fault.kind {
+        FaultKind::UnknownOp => words::unknown(before_comment(line), statement),
+        _ => {
+            numbers::bare_number(statement)?;
+            Some(said("There are no octal numbers: write a decimal one, without a zero before it."))
+        },
+    }
 }
 
 /// The remedy of the fault of a line; a text without a byte where none is known.
@@ -58,8 +77,29 @@ pub(crate) fn remedy(
     fault: TextFault,
 ) -> Result<Vec<u8>, AllocError> {
     let statement = statement_in(line);
-    match found(bytes, labels, line, &statement, fault) {
-        Some(remedy) => filled(alloc, &remedy, &statement),
+    if let Some(remedy) = said_first(bytes, labels, line, &statement, fault) {
+        return filled(alloc, &remedy, &statement);
+    }
+    match fault.kind {
+        FaultKind::UnknownOp | FaultKind::BadOperands | FaultKind::BadNumber => {
+            in_place(alloc, line, &statement, fault)
+        },
+        _ => Ok(Vec::new(alloc)),
+    }
+}
+
+// The instructions to write in place of a statement, or else what is said of it last.
+fn in_place(
+    alloc: Global,
+    line: &[u8],
+    statement: &Statement<'_>,
+    fault: TextFault,
+) -> Result<Vec<u8>, AllocError> {
+    if let Some(sentence) = instead(alloc, statement)? {
+        return Ok(sentence);
+    }
+    match said_last(line, statement, fault) {
+        Some(remedy) => filled(alloc, &remedy, statement),
         None => Ok(Vec::new(alloc)),
     }
 }

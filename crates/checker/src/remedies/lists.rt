@@ -1,9 +1,11 @@
-//! The tables of remedies. In a sentence @1, @2 and @3 are the operands.
+//! The tables of remedies: sentences, and instructions in which @1, @2 and @3 are the operands.
 
-/// A word, and the text that belongs to it.
+use super::tried::Number;
+
+/// A word, and the sentence that belongs to it.
 pub(crate) type Row = (&'static str, &'static str);
 
-/// The text of a word, by the first row that has the word in letters of either case.
+/// The sentence of a word, by the row that has the word in letters of either case.
 pub(crate) fn row_of(table: &[Row], word: &[u8]) -> Option<&'static str> {
     for row in table {
         if row.0.as_bytes().eq_ignore_ascii_case(word) {
@@ -13,48 +15,11 @@ pub(crate) fn row_of(table: &[Row], word: &[u8]) -> Option<&'static str> {
     None
 }
 
-/// The remedies of operations of other assemblers and of directives.
-pub(crate) static WORDS: [Row; 73] = [
-    ("move", "Write addu @1,@2,$zero."),
-    ("b", "Write beq $zero,$zero,@1."),
-    ("bal", "Write jal @1."),
-    ("beqz", "Write beq @1,$zero,@2."),
-    ("bnez", "Write bne @1,$zero,@2."),
-    ("blt", "Write slt $at,@1,@2 and then bne $at,$zero,@3."),
-    ("bge", "Write slt $at,@1,@2 and then beq $at,$zero,@3."),
-    ("bgt", "Write slt $at,@2,@1 and then bne $at,$zero,@3."),
-    ("ble", "Write slt $at,@2,@1 and then beq $at,$zero,@3."),
-    ("bltu", "Write sltu $at,@1,@2 and then bne $at,$zero,@3."),
-    ("bgeu", "Write sltu $at,@1,@2 and then beq $at,$zero,@3."),
-    ("bgtu", "Write sltu $at,@2,@1 and then bne $at,$zero,@3."),
-    ("bleu", "Write sltu $at,@2,@1 and then beq $at,$zero,@3."),
-    ("mul", "Write mult @2,@3 and then mflo @1."),
-    ("mulo", "Write mult @2,@3 and then mflo @1."),
-    ("rem", "Write div @2,@3 and then mfhi @1."),
-    ("remu", "Write divu @2,@3 and then mfhi @1."),
-    ("not", "Write nor @1,@2,$zero."),
-    ("neg", "Write sub @1,$zero,@2."),
-    ("negu", "Write subu @1,$zero,@2."),
-    ("seq", "Write xor @1,@2,@3 and then sltiu @1,@1,1."),
-    ("sne", "Write xor @1,@2,@3 and then sltu @1,$zero,@1."),
-    ("sgt", "Write slt @1,@3,@2."),
-    ("sgtu", "Write sltu @1,@3,@2."),
-    ("sge", "Write slt @1,@2,@3 and then xori @1,@1,1."),
-    ("sgeu", "Write sltu @1,@2,@3 and then xori @1,@1,1."),
-    ("sle", "Write slt @1,@3,@2 and then xori @1,@1,1."),
-    ("sleu", "Write sltu @1,@3,@2 and then xori @1,@1,1."),
+/// The remedies of words for which no instruction with their operands is written.
+pub(crate) static SENTENCES: [Row; 36] = [
     ("ret", "Write jr $ra."),
-    ("call", "Write jal @1."),
-    ("jmp", "Write j @1."),
-    ("mov", "Write addu @1,@2,$zero."),
-    ("push", "Write addiu $sp,$sp,-4 and then sw @1,0($sp)."),
-    ("pop", "Write lw @1,0($sp) and then addiu $sp,$sp,4."),
     ("halt", "Write break."),
     ("exit", "Write break."),
-    ("lwu", "Write lw @1,@2."),
-    ("dec", "Write addiu @1,@1,-1."),
-    ("inc", "Write addiu @1,@1,1."),
-    ("clear", "Write addu @1,$zero,$zero."),
     (
         ".data",
         "There are no sections: leave it out. .space and .word may stand anywhere.",
@@ -68,7 +33,7 @@ pub(crate) static WORDS: [Row; 73] = [
     (".section", "There are no sections: leave it out."),
     (
         ".bss",
-        "There are no sections: leave it out, and write .space n for n bytes of 0.",
+        "There are no sections: leave it out, and write .space n for n bytes of 0, n a multiple of 4.",
     ),
     (".rdata", "There are no sections: leave it out."),
     (
@@ -135,38 +100,79 @@ pub(crate) static WORDS: [Row; 73] = [
     ),
 ];
 
-/// The remedy of an operation with so many operands.
-pub(crate) struct Counted {
+/// The instructions to write in place of a word with so many operands.
+pub(crate) struct Instead {
     pub word: &'static str,
     pub count: usize,
-    pub sentence: &'static str,
+    pub number: Number,
+    pub lines: &'static str,
 }
 
-macro_rules! counted {
-    ($word:literal, $count:literal, $sentence:literal) => {
-        Counted {
+macro_rules! instead {
+    ($word:literal, $count:literal, $lines:literal) => {
+        Instead {
             word: $word,
             count: $count,
-            sentence: $sentence,
+            number: Number::AsItStands,
+            lines: $lines,
         }
     };
 }
 
-pub(crate) static COUNTS: [Counted; 16] = [
-    counted!("div", 3, "Write div @2,@3 and then mflo @1."),
-    counted!("divu", 3, "Write divu @2,@3 and then mflo @1."),
-    counted!("mult", 3, "Write mult @2,@3 and then mflo @1."),
-    counted!("multu", 3, "Write multu @2,@3 and then mflo @1."),
-    counted!("break", 1, "Write break."),
-    counted!("jr", 0, "Write jr $ra."),
-    counted!("addu", 2, "Write addu @1,@1,@2."),
-    counted!("add", 2, "Write add @1,@1,@2."),
-    counted!("subu", 2, "Write subu @1,@1,@2."),
-    counted!("sub", 2, "Write sub @1,@1,@2."),
-    counted!("addiu", 2, "Write addiu @1,@1,@2."),
-    counted!("addi", 2, "Write addi @1,@1,@2."),
-    counted!("and", 2, "Write and @1,@1,@2."),
-    counted!("or", 2, "Write or @1,@1,@2."),
-    counted!("sll", 2, "Write sll @1,@1,@2."),
-    counted!("srl", 2, "Write srl @1,@1,@2."),
+/// The instructions to write in place of operations of other assemblers, or of operations with other operands.
+pub(crate) static INSTEAD: [Instead; 54] = [
+    instead!("move", 2, "addu @1,@2,$zero"),
+    instead!("mov", 2, "addu @1,@2,$zero"),
+    instead!("clear", 1, "addu @1,$zero,$zero"),
+    instead!("inc", 1, "addiu @1,@1,1"),
+    instead!("dec", 1, "addiu @1,@1,-1"),
+    instead!("not", 2, "nor @1,@2,$zero"),
+    instead!("neg", 2, "sub @1,$zero,@2"),
+    instead!("negu", 2, "subu @1,$zero,@2"),
+    instead!("b", 1, "beq $zero,$zero,@1"),
+    instead!("bal", 1, "jal @1"),
+    instead!("beqz", 2, "beq @1,$zero,@2"),
+    instead!("bnez", 2, "bne @1,$zero,@2"),
+    instead!("blt", 3, "slt $at,@1,@2\nbne $at,$zero,@3"),
+    instead!("bge", 3, "slt $at,@1,@2\nbeq $at,$zero,@3"),
+    instead!("bgt", 3, "slt $at,@2,@1\nbne $at,$zero,@3"),
+    instead!("ble", 3, "slt $at,@2,@1\nbeq $at,$zero,@3"),
+    instead!("bltu", 3, "sltu $at,@1,@2\nbne $at,$zero,@3"),
+    instead!("bgeu", 3, "sltu $at,@1,@2\nbeq $at,$zero,@3"),
+    instead!("bgtu", 3, "sltu $at,@2,@1\nbne $at,$zero,@3"),
+    instead!("bleu", 3, "sltu $at,@2,@1\nbeq $at,$zero,@3"),
+    instead!("mul", 3, "mult @2,@3\nmflo @1"),
+    instead!("mulo", 3, "mult @2,@3\nmflo @1"),
+    instead!("rem", 3, "div @2,@3\nmfhi @1"),
+    instead!("remu", 3, "divu @2,@3\nmfhi @1"),
+    instead!("mult", 3, "mult @2,@3\nmflo @1"),
+    instead!("multu", 3, "multu @2,@3\nmflo @1"),
+    instead!("div", 3, "div @2,@3\nmflo @1"),
+    instead!("divu", 3, "divu @2,@3\nmflo @1"),
+    instead!("seq", 3, "xor @1,@2,@3\nsltiu @1,@1,1"),
+    instead!("sne", 3, "xor @1,@2,@3\nsltu @1,$zero,@1"),
+    instead!("sgt", 3, "slt @1,@3,@2"),
+    instead!("sgtu", 3, "sltu @1,@3,@2"),
+    instead!("sge", 3, "slt @1,@2,@3\nxori @1,@1,1"),
+    instead!("sgeu", 3, "sltu @1,@2,@3\nxori @1,@1,1"),
+    instead!("sle", 3, "slt @1,@3,@2\nxori @1,@1,1"),
+    instead!("sleu", 3, "sltu @1,@3,@2\nxori @1,@1,1"),
+    instead!("sub", 3, "sub @1,@2,@3"),
+    instead!("subu", 3, "subu @1,@2,@3"),
+    instead!("subi", 3, "sub @1,@2,@3"),
+    instead!("subiu", 3, "subu @1,@2,@3"),
+    instead!("nor", 3, "nor @1,@2,@3"),
+    instead!("push", 1, "addiu $sp,$sp,-4\nsw @1,0($sp)"),
+    instead!("pop", 1, "lw @1,0($sp)\naddiu $sp,$sp,4"),
+    instead!("lwu", 2, "lw @1,@2"),
+    instead!("call", 1, "jal @1"),
+    instead!("call", 1, "jalr @1"),
+    instead!("jmp", 1, "j @1"),
+    instead!("jmp", 1, "jr @1"),
+    instead!("j", 1, "jr @1"),
+    instead!("jal", 1, "jalr @1"),
+    instead!("jr", 1, "j @1"),
+    instead!("jalr", 1, "jal @1"),
+    instead!("jr", 0, "jr $ra"),
+    instead!("break", 1, "break"),
 ];

@@ -1,85 +1,71 @@
-//! The tables of remedies for operations of which an operand is a number.
+//! The tables of instructions to write in place of operations of which an operand is a number.
 
-use super::lists::Row;
+use super::lists::Instead;
+use super::tried::Number;
 
-/// The remedies of branches that compare a register with a number, which is the second operand.
-pub(crate) static COMPARED: [Row; 10] = [
-    ("blt", "Write slti $at,@1,@2 and then bne $at,$zero,@3."),
-    ("bge", "Write slti $at,@1,@2 and then beq $at,$zero,@3."),
-    ("bltu", "Write sltiu $at,@1,@2 and then bne $at,$zero,@3."),
-    ("bgeu", "Write sltiu $at,@1,@2 and then beq $at,$zero,@3."),
-    (
-        "bgt",
-        "Write addiu $at,$zero,@2 and then slt $at,$at,@1 and then bne $at,$zero,@3.",
-    ),
-    (
-        "ble",
-        "Write addiu $at,$zero,@2 and then slt $at,$at,@1 and then beq $at,$zero,@3.",
-    ),
-    (
-        "bgtu",
-        "Write addiu $at,$zero,@2 and then sltu $at,$at,@1 and then bne $at,$zero,@3.",
-    ),
-    (
-        "bleu",
-        "Write addiu $at,$zero,@2 and then sltu $at,$at,@1 and then beq $at,$zero,@3.",
-    ),
-    ("beq", "Write addiu $at,$zero,@2 and then beq @1,$at,@3."),
-    ("bne", "Write addiu $at,$zero,@2 and then bne @1,$at,@3."),
-];
+macro_rules! instead {
+    ($number:ident, $word:literal, $count:literal, $lines:literal) => {
+        Instead {
+            word: $word,
+            count: $count,
+            number: Number::$number,
+            lines: $lines,
+        }
+    };
+}
 
-/// The remedies of operations whose last operand is a number.
-pub(crate) static WITH_LAST: [Row; 16] = [
-    (
-        "mul",
-        "Write addiu $at,$zero,@3 and then mult @2,$at and then mflo @1.",
-    ),
-    (
-        "mulo",
-        "Write addiu $at,$zero,@3 and then mult @2,$at and then mflo @1.",
-    ),
-    (
-        "mult",
-        "Write addiu $at,$zero,@3 and then mult @2,$at and then mflo @1.",
-    ),
-    (
-        "multu",
-        "Write addiu $at,$zero,@3 and then multu @2,$at and then mflo @1.",
-    ),
-    (
-        "div",
-        "Write addiu $at,$zero,@3 and then div @2,$at and then mflo @1.",
-    ),
-    (
-        "divu",
-        "Write addiu $at,$zero,@3 and then divu @2,$at and then mflo @1.",
-    ),
-    (
-        "rem",
-        "Write addiu $at,$zero,@3 and then div @2,$at and then mfhi @1.",
-    ),
-    (
-        "remu",
-        "Write addiu $at,$zero,@3 and then divu @2,$at and then mfhi @1.",
-    ),
-    ("seq", "Write xori @1,@2,@3 and then sltiu @1,@1,1."),
-    ("sne", "Write xori @1,@2,@3 and then sltu @1,$zero,@1."),
-    ("sge", "Write slti @1,@2,@3 and then xori @1,@1,1."),
-    ("sgeu", "Write sltiu @1,@2,@3 and then xori @1,@1,1."),
-    ("sgt", "Write addiu $at,$zero,@3 and then slt @1,$at,@2."),
-    ("sgtu", "Write addiu $at,$zero,@3 and then sltu @1,$at,@2."),
-    (
-        "sle",
-        "Write addiu $at,$zero,@3 and then slt @1,$at,@2 and then xori @1,@1,1.",
-    ),
-    (
-        "sleu",
-        "Write addiu $at,$zero,@3 and then sltu @1,$at,@2 and then xori @1,@1,1.",
-    ),
+/// The instructions to write in place of an operation whose last operand is a number, or of a branch whose second is.
+pub(crate) static WITH_NUMBER: [Instead; 46] = [
+    instead!(AsItStands, "blt", 3, "slti $at,@1,@2\nbne $at,$zero,@3"),
+    instead!(Loaded, "blt", 3, "slt $at,@1,$at\nbne $at,$zero,@3"),
+    instead!(AsItStands, "bge", 3, "slti $at,@1,@2\nbeq $at,$zero,@3"),
+    instead!(Loaded, "bge", 3, "slt $at,@1,$at\nbeq $at,$zero,@3"),
+    instead!(AsItStands, "bltu", 3, "sltiu $at,@1,@2\nbne $at,$zero,@3"),
+    instead!(Loaded, "bltu", 3, "sltu $at,@1,$at\nbne $at,$zero,@3"),
+    instead!(AsItStands, "bgeu", 3, "sltiu $at,@1,@2\nbeq $at,$zero,@3"),
+    instead!(Loaded, "bgeu", 3, "sltu $at,@1,$at\nbeq $at,$zero,@3"),
+    instead!(AsItStands, "seq", 3, "xori @1,@2,@3\nsltiu @1,@1,1"),
+    instead!(Loaded, "seq", 3, "xor @1,@2,$at\nsltiu @1,@1,1"),
+    instead!(AsItStands, "sne", 3, "xori @1,@2,@3\nsltu @1,$zero,@1"),
+    instead!(Loaded, "sne", 3, "xor @1,@2,$at\nsltu @1,$zero,@1"),
+    instead!(AsItStands, "sge", 3, "slti @1,@2,@3\nxori @1,@1,1"),
+    instead!(Loaded, "sge", 3, "slt @1,@2,$at\nxori @1,@1,1"),
+    instead!(AsItStands, "sgeu", 3, "sltiu @1,@2,@3\nxori @1,@1,1"),
+    instead!(Loaded, "sgeu", 3, "sltu @1,@2,$at\nxori @1,@1,1"),
+    instead!(Loaded, "bgt", 3, "slt $at,$at,@1\nbne $at,$zero,@3"),
+    instead!(Loaded, "ble", 3, "slt $at,$at,@1\nbeq $at,$zero,@3"),
+    instead!(Loaded, "bgtu", 3, "sltu $at,$at,@1\nbne $at,$zero,@3"),
+    instead!(Loaded, "bleu", 3, "sltu $at,$at,@1\nbeq $at,$zero,@3"),
+    instead!(Loaded, "beq", 3, "beq @1,$at,@3"),
+    instead!(Loaded, "bne", 3, "bne @1,$at,@3"),
+    instead!(Loaded, "mul", 3, "mult @2,$at\nmflo @1"),
+    instead!(Loaded, "mulo", 3, "mult @2,$at\nmflo @1"),
+    instead!(Loaded, "mult", 3, "mult @2,$at\nmflo @1"),
+    instead!(Loaded, "multu", 3, "multu @2,$at\nmflo @1"),
+    instead!(Loaded, "div", 3, "div @2,$at\nmflo @1"),
+    instead!(Loaded, "divu", 3, "divu @2,$at\nmflo @1"),
+    instead!(Loaded, "rem", 3, "div @2,$at\nmfhi @1"),
+    instead!(Loaded, "remu", 3, "divu @2,$at\nmfhi @1"),
+    instead!(Loaded, "sgt", 3, "slt @1,$at,@2"),
+    instead!(Loaded, "sgtu", 3, "sltu @1,$at,@2"),
+    instead!(Loaded, "sle", 3, "slt @1,$at,@2\nxori @1,@1,1"),
+    instead!(Loaded, "sleu", 3, "sltu @1,$at,@2\nxori @1,@1,1"),
+    instead!(Loaded, "nor", 3, "nor @1,@2,$at"),
+    instead!(Negative, "sub", 3, "addi @1,@2,@6"),
+    instead!(Loaded, "sub", 3, "sub @1,@2,$at"),
+    instead!(Negative, "subu", 3, "addiu @1,@2,@6"),
+    instead!(Loaded, "subu", 3, "subu @1,@2,$at"),
+    instead!(Negative, "subi", 3, "addi @1,@2,@6"),
+    instead!(Loaded, "subi", 3, "sub @1,@2,$at"),
+    instead!(Negative, "subiu", 3, "addiu @1,@2,@6"),
+    instead!(Loaded, "subiu", 3, "subu @1,@2,$at"),
+    instead!(IntoFirst, "li", 2, ""),
+    instead!(IntoFirst, "move", 2, ""),
+    instead!(IntoFirst, "mov", 2, ""),
 ];
 
 /// An operation on registers, and the one whose last operand is a number.
-pub(crate) static NUMBERED: [Row; 10] = [
+pub(crate) static NUMBERED: [(&str, &str); 10] = [
     ("addu", "addiu"),
     ("add", "addi"),
     ("and", "andi"),

@@ -1,72 +1,10 @@
-//! Remedies of operands that are not those of the form.
+//! Remedies of single operands.
 
-use super::super::forms::has_offset;
+use super::super::forms::takes_label;
 use super::super::statements::Statement;
-use super::lists::COUNTS;
-use super::numbers::{less, other_form, with_number};
 use super::registers::without_dollar;
-use super::sentences::{Remedy, naming, said};
-use lexical::{begins_number, first_is, is_name, parenthesized};
-
-// The sentence for an offset without its register, or a register without its offset.
-fn address(statement: &Statement<'_>) -> Option<&'static str> {
-    let [first, second, _] = statement.operands;
-    if first.contains(&b'(') && first_is(second, b'$') {
-        Some("The register stands first: write @0 @2,@1.")
-    } else if is_name(second) {
-        Some("Data has no labels: write the number of the byte, from 0 on, as @0 @1,4($zero).")
-    } else if begins_number(second) && !second.contains(&b'(') {
-        Some("Write @0 @1,@2($zero).")
-    } else if first_is(second, b'$') {
-        Some("Write @0 @1,0(@2).")
-    } else {
-        None
-    }
-}
-
-// The remedy of a last operand that is a number in place of a register, or a register in place of a number.
-fn third<'a>(statement: &Statement<'a>) -> Option<Remedy<'a>> {
-    let word = statement.word;
-    let [_, _, last] = statement.operands;
-    let is_number = begins_number(last);
-    let is_less = word.eq_ignore_ascii_case(b"sub") || word.eq_ignore_ascii_case(b"subu");
-    if is_number && is_less {
-        return Some(less(statement));
-    }
-    if let Some(sentence) = with_number(statement) {
-        return Some(said(sentence));
-    }
-    let other = other_form(word, is_number)?;
-    if is_number || first_is(last, b'$') {
-        return Some(naming("Write @4 @1,@2,@3.", other.as_bytes()));
-    }
-    None
-}
-
-// The sentence for a jump to a register by the operation for labels, or to a label by the one for registers.
-fn jump(statement: &Statement<'_>) -> Option<&'static str> {
-    let [to, _, _] = statement.operands;
-    let is_register = first_is(to, b'$');
-    let word = statement.word;
-    match is_register {
-        true if word.eq_ignore_ascii_case(b"j") => Some("Write jr @1."),
-        true if word.eq_ignore_ascii_case(b"jal") => Some("Write jalr @1."),
-        false if word.eq_ignore_ascii_case(b"jr") && is_name(to) => Some("Write j @1."),
-        false if word.eq_ignore_ascii_case(b"jalr") && is_name(to) => Some("Write jal @1."),
-        _ => None,
-    }
-}
-
-// The sentence for an operation with another number of operands.
-fn other_count(statement: &Statement<'_>) -> Option<&'static str> {
-    for row in &COUNTS {
-        let is_word = row.word.as_bytes().eq_ignore_ascii_case(statement.word);
-        if is_word && row.count == statement.count {
-            return Some(row.sentence);
-        }
-    }
-    None
-}
+use super::sentences::{Remedy, said};
+use lexical::parenthesized;
 
 // The remedy of an operand that is no register, number or address.
 fn operand<'a>(operand: &'a [u8]) -> Option<Remedy<'a>> {
@@ -92,22 +30,14 @@ fn operand<'a>(operand: &'a [u8]) -> Option<Remedy<'a>> {
     found
 }
 
-/// The remedy of operands that are missing, too many, or of another kind.
-pub(crate) fn of_other_kind<'a>(statement: &Statement<'a>) -> Option<Remedy<'a>> {
-    for text in statement.operands {
-        let found = operand(text);
-        if found.is_some() {
+/// The remedy of the first operand that is of no kind, where no label is to stand.
+pub(crate) fn odd_operand<'a>(statement: &Statement<'a>) -> Option<Remedy<'a>> {
+    let operands = statement.operands;
+    for at in 0..operands.len() {
+        let found = operand(operands[at]);
+        if found.is_some() && !takes_label(statement.word, statement.count, at) {
             return found;
         }
     }
-    let sentence = match statement.count {
-        1 => jump(statement),
-        2 if has_offset(statement.word) => address(statement),
-        3 => match third(statement) {
-            Some(found) => return Some(found),
-            None => None,
-        },
-        _ => None,
-    };
-    Some(said(sentence.or(other_count(statement))?))
+    None
 }

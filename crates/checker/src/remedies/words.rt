@@ -1,11 +1,12 @@
 //! Remedies of words that are no operation.
 
 use super::super::statements::Statement;
-use super::lists::{WORDS, row_of};
-use super::numbers::{less, loading, with_number};
+use super::instead::is_known as is_instead;
+use super::operands::odd_operand;
+use super::registers::bad_register;
 use super::sentences::{Remedy, naming, said};
 use isa::{FaultKind, directive_text, form_of, forms};
-use lexical::{cut, cut_word, is_name, number_in, trim};
+use lexical::{cut, cut_word, is_name, trim};
 
 // The number of bytes that two texts have in common at their front, in letters of either case.
 fn common(one: &[u8], other: &[u8]) -> usize {
@@ -69,22 +70,6 @@ fn nearest(word: &[u8]) -> Option<&'static str> {
     None
 }
 
-// The remedy of `li`, which is no operation.
-fn load(statement: &Statement<'_>) -> Remedy<'static> {
-    let [_, number, _] = statement.operands;
-    match number_in(number, 0x8000_0000, 0xffff_ffff) {
-        Some(value) => {
-            let load = loading(value);
-            Remedy {
-                sentence: load.into,
-                text: b"",
-                numbers: load.numbers,
-            }
-        },
-        None => said("Write addiu @1,$zero,n with n from -32768 to 32767."),
-    }
-}
-
 // The sentence for a label that is no name, or a colon that is missing behind a label.
 fn label(code: &[u8], statement: &Statement<'_>) -> Option<&'static str> {
     let (front, colon) = cut(code, b':');
@@ -99,20 +84,7 @@ fn label(code: &[u8], statement: &Statement<'_>) -> Option<&'static str> {
     None
 }
 
-// The sentence for a word of the tables, or for a label.
-fn sentence(code: &[u8], statement: &Statement<'_>) -> Option<&'static str> {
-    let found = with_number(statement);
-    if found.is_some() {
-        return found;
-    }
-    let found = row_of(&WORDS, statement.word);
-    if found.is_some() {
-        return found;
-    }
-    label(code, statement)
-}
-
-// The remedy of a word that is not in the tables: the word that may be meant, or a label that it may be.
+// The word that may be meant, or a label that it may be.
 fn meant(statement: &Statement<'_>) -> Option<Remedy<'static>> {
     if let Some(word) = nearest(statement.word) {
         return Some(naming("Is @4 meant?", word.as_bytes()));
@@ -123,16 +95,18 @@ fn meant(statement: &Statement<'_>) -> Option<Remedy<'static>> {
     Some(said("If it is a label, a colon stands behind it: write @0:."))
 }
 
-/// The instructions to write for a word that is no operation, or the word that may be meant.
-pub(crate) fn remedy<'a>(code: &[u8], statement: &Statement<'a>) -> Option<Remedy<'a>> {
-    let word = statement.word;
-    if word.eq_ignore_ascii_case(b"li") {
-        return Some(load(statement));
+/// The remedy of a word that is no operation, and for which no instructions can be written: of its operands, of a label,
+/// or the word that may be meant.
+pub(crate) fn unknown<'a>(code: &[u8], statement: &Statement<'a>) -> Option<Remedy<'a>> {
+    if is_instead(statement.word) {
+        let found = odd_operand(statement).or(bad_register(statement));
+        let is_load = statement.word.eq_ignore_ascii_case(b"li");
+        return match found {
+            None if is_load => Some(said("Write addiu @1,$zero,n with n from -32768 to 32767.")),
+            _ => found,
+        };
     }
-    if word.eq_ignore_ascii_case(b"subi") || word.eq_ignore_ascii_case(b"subiu") {
-        return Some(less(statement));
-    }
-    match sentence(code, statement) {
+    match label(code, statement) {
         Some(sentence) => Some(said(sentence)),
         None => meant(statement),
     }
