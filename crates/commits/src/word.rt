@@ -12,13 +12,7 @@ use std::fmt;
 pub(crate) fn word_of(pc: u32, instr: &Instr) -> Option<u32>
     ensures { result ≡ word_at pc instr.now }
 {
-    let decoded = Decoded {
-        op: instr.op,
-        target: instr.target,
-        first: instr.first,
-        second: instr.second,
-        number: instr.number,
-    };
+    let decoded = Decoded::from(*instr);
     encode(&decoded, pc)
 }
 
