@@ -1,5 +1,5 @@
 #!/usr/bin/env python3
-"""What the gate costs, by crate and part: benchmarks/gate.py [--to FILE] COMMAND .., as benchmarks/gate.py rt ci lsq.
+"""What the gate costs, by crate and part: benchmarks/gate.py [--to FILE] COMMAND .., as benchmarks/gate.py ./check --anew.
 
 Runs the command, looks each half second at the processes of the checker, and prints behind it a table of the seconds of one
 processor (user and system) of each crate: of its proof, of its tests, and of the edits that have to be refused. With --to the
@@ -35,7 +35,8 @@ def is_below(process, top):
 
 
 def part_of(process, words):
-    if os.path.basename(os.readlink(f"/proc/{process}/cwd")).startswith("rt-edit-"):
+    folders = os.readlink(f"/proc/{process}/cwd").split("/")
+    if any(it.startswith(("edits-", "rt-edit-")) for it in folders):
         return "edits"
     return "tests" if "--test" in words else "proof"
 

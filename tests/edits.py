@@ -1,12 +1,17 @@
-"""The must-fail edits that `rt ci` does not try: those of each crate's folder `must-fail-more`.
+"""The edits: wrong bodies, each of which a check has to refuse.
 
-    tests/edits.py                   each of them still applies: its file is there, and each text that it replaces once. Those
-                                     that name a function are tried: a check of that function has to refuse each
-    tests/edits.py --try [CRATE ..]  tries all edits of the crates named, or of all, those of `must-fail` among them, by checks
-                                     of whole crates. The last line is 'N refused, M not refused'
+    tests/edits.py                 looks that each edit applies: each text that it replaces stands once in its file; and tries those
+                                   of the crates' folders `edits`
+    tests/edits.py --all CRATE ..  tries those of `more_edits` too, of the crates named, or of all
 
-Where a crate's proof takes minutes, and an edit is of a function that calls few others, a line `function: MODULE::NAME` has it
-tried in seconds. The others are tried by `rt must-fail`, in a view of the repository in which both folders are one."""
+The last line is 'N refused, M not refused'. What the crates stand on is proved first: with BUILT=1 that was done just now.
+
+One check tries many. A function is proved from the contracts of those that it calls and never from their bodies, so an edit of
+one body opens goals of that function alone, and a check of one takes most of its time to read what it stands on. A check takes
+at most one edit of each function. An edit is refused if a goal is open in a function whose body it changes. If none is, but the
+function calls one that is not proved, the edit waits for the next check. If a goal is open in a function that no edit of the
+check changes, or if no edit would be settled, each of them is tried alone. So is an edit of what stands in no body: by a check
+of what its line `function: MODULE::NAME` names, or of the whole crate."""
 import concurrent.futures
 import importlib.machinery
 import importlib.util
@@ -16,111 +21,197 @@ import shutil
 import subprocess
 import sys
 import tempfile
+from typing import NamedTuple
 
 ROOT = os.path.dirname(os.path.dirname(os.path.realpath(__file__)))
 MEMORY = 2_000_000_000
+FOLDERS = ("edits", "more_edits")
+
+sys.dont_write_bytecode = True
+sys.path.insert(0, f"{ROOT}/tests")
+from functions import functions, is_end  # noqa: E402
 
 
-def prove():
-    """The script `prove`, whose functions know the crates."""
-    loader = importlib.machinery.SourceFileLoader("prove", f"{ROOT}/prove")
-    made = importlib.util.module_from_spec(importlib.util.spec_from_loader("prove", loader))
-    sys.dont_write_bytecode = True
-    loader.exec_module(made)
-    return made
-
-
-def edits(name, folder):
-    at = f"{ROOT}/crates/{name}/{folder}"
-    return sorted(it for it in os.listdir(at) if it.endswith(".edit")) if os.path.isdir(at) else []
+class Change(NamedTuple):
+    path: str
+    old: str
+    new: str
 
 
 class Edit:
-    """An edit as its file has it: the texts of the files that it changes, and the function that it names, or why it does not apply."""
+    """An edit as its file has it: its changes, each within a line, and where it has to be refused, if it says so."""
 
-    def __init__(self, crate, file):
-        self.texts, self.function, self.fault = {}, None, None
-        with open(file, encoding="utf-8") as it:
-            self.fault = self.read(crate, it.read().split("\n"))
-
-    def read(self, crate, lines):
-        path, old, pairs = "", None, 0
+    def __init__(self, crate, folder, file):
+        self.name, self.changes, self.named = f"{crate}/{folder}/{file}", [], []
+        with open(f"{ROOT}/crates/{self.name}", encoding="utf-8") as it:
+            lines = it.read().split("\n")
+        path, old = "", None
         for line in lines:
             word, _, rest = line.partition(": ") if not line.startswith("new:") else ("new", "", line[5:])
             if word == "function":
-                self.function = rest.strip()
+                self.named.append(rest.strip())
             elif word == "file":
                 path = rest.strip()
-                if path not in self.texts:
-                    if not os.path.isfile(f"{crate}/{path}"):
-                        return f"there is no file {path}"
-                    with open(f"{crate}/{path}", encoding="utf-8") as it:
-                        self.texts[path] = it.read()
             elif word == "old":
                 old = rest
             elif word == "new" and path and old:
-                found = self.texts[path].count(old)
-                if found != 1:
-                    return f"an old text is in {path} {found} times, and not once"
-                self.texts[path] = self.texts[path].replace(old, rest)
-                old, pairs = None, pairs + 1
-        return None if pairs else "it replaces nothing"
+                self.changes.append(Change(path, old, rest))
+                old = None
+
+    def apply(self, texts):
+        """Makes the changes in the texts of a crate's files, by their paths, and returns why they cannot be made."""
+        for path, old, new in self.changes:
+            if path not in texts:
+                return f"there is no file {path}"
+            if texts[path].count(old) != 1:
+                return f"an old text is in {path} {texts[path].count(old)} times, and not once"
+            texts[path] = texts[path].replace(old, new)
+        return None if self.changes else "it replaces nothing"
+
+    def bodies(self, texts):
+        """The functions whose bodies it changes, or none where it changes anything else."""
+        after, found = dict(texts), set()
+        if self.apply(after):
+            return set()
+        for path in {it.path for it in self.changes}:
+            pairs = zip(texts[path].split("\n"), after[path].split("\n"), strict=False)
+            known = functions(path, texts[path]) if path.startswith("src/") else []
+            for at in [at for at, (one, other) in enumerate(pairs) if one != other]:
+                inner = next((it for it in reversed(known) if it.has(at)), None)
+                if not inner or at < inner.body:
+                    return set()
+                found.add(inner.name)
+        return found
 
 
-def edit_of(name, file):
-    return Edit(f"{ROOT}/crates/{name}", f"{ROOT}/crates/{name}/must-fail-more/{file}")
+def edits_of(crate, folders):
+    at = [(folder, f"{ROOT}/crates/{crate}/{folder}") for folder in folders]
+    return [Edit(crate, folder, it) for folder, path in at if os.path.isdir(path) for it in sorted(os.listdir(path)) if it.endswith(".edit")]
 
 
-def look(names):
-    """Whether each edit beyond `must-fail` applies, and has a name of its own."""
-    wrong, count = [], 0
-    for name in names:
-        for file in edits(name, "must-fail-more"):
-            count += 1
-            fault = edit_of(name, file).fault
-            if file in edits(name, "must-fail"):
-                fault = "another of that name is in must-fail"
-            if fault:
-                wrong.append(f"{name}/must-fail-more/{file}: {fault}")
-    print("\n".join([*wrong, f"{count} edits beyond those of rt ci, {count - len(wrong)} of which apply"]), flush=True)
-    return 0 if count and not wrong else 1
-
-
-def view(script, uses, names, room):
-    """A folder as the repository is, in which `must-fail` of each crate named holds all its edits."""
-    shutil.copy2(f"{ROOT}/crates.txt", room)
-    shutil.copy2(f"{ROOT}/HANDLES", room)
-    for name in uses:
-        script.copied(f"{ROOT}/crates/{name}", f"{room}/crates/{name}", "out")
-        script.copied(f"{ROOT}/crates/{name}/out/rlib", f"{room}/crates/{name}/out/rlib")
-        if name in names:
-            script.copied(f"{ROOT}/crates/{name}/out/incremental", f"{room}/crates/{name}/out/incremental")
-            for edit in edits(name, "must-fail-more"):
-                os.makedirs(f"{room}/crates/{name}/must-fail", exist_ok=True)
-                shutil.copy2(f"{ROOT}/crates/{name}/must-fail-more/{edit}", f"{room}/crates/{name}/must-fail/{edit}")
-
-
-def lanes(script):
-    return max(min(script.processors(), script.free_memory() // MEMORY), 1)
+def texts_of(crate):
+    """The texts of a crate's files, by their paths."""
+    found, base = {}, f"{ROOT}/crates/{crate}"
+    for part in ("src", "specs", "proofs"):
+        for at, _, names in os.walk(f"{base}/{part}"):
+            for path in (f"{at}/{name}" for name in names):
+                with open(path, encoding="utf-8") as it:
+                    found[os.path.relpath(path, base)] = it.read()
+    return found
 
 
 def run(words, folder):
     return subprocess.run(words, cwd=folder, stdin=subprocess.DEVNULL, stdout=subprocess.PIPE, stderr=subprocess.STDOUT, text=True, errors="replace")
 
 
-def tried(name, room):
-    """How many edits of a crate `rt must-fail` says are refused, and how many not."""
-    went = run(["rt", "must-fail", name], room)
-    said = re.findall(rf"^rt: (must-fail {name}/.*)$", went.stdout, re.M)
-    count = len(os.listdir(f"{room}/crates/{name}/must-fail"))
-    refused = [it for it in said if ": refused, as it must be" in it]
-    print(went.stdout if len(said) < count else "\n".join(said), flush=True)
-    return len(refused), count - len(refused)
+class Trial:
+    """What a check of some functions of a crate, or of all, says of these texts of its files."""
+
+    # a goal that is not proved; and a proof that names what an edit took away
+    OPEN = re.compile(r"note: (\S+?):(\d+):\d+: |(\S+?):(\d+):\d+: error")
+    NAMED = re.compile(r"(note: )?(\./)?proofs/.*(has no field|is not in scope|has no `|was not admitted)")
+
+    def __init__(self, words, room, texts, names):
+        shutil.rmtree(f"{room}/crate", ignore_errors=True)
+        for path, text in texts.items():
+            os.makedirs(os.path.dirname(f"{room}/crate/{path}"), exist_ok=True)
+            with open(f"{room}/crate/{path}", "w", encoding="utf-8") as it:
+                it.write(text)
+        went = run([*words, "--incremental", f"{room}/kept", *(f"--only={it}" for it in names)], f"{room}/crate")
+        self.texts, self.output = texts, went.stdout
+        self.is_over = went.returncode in (0, 1) and bool(re.search(r"^(only=\d+ proved=\d+$|logic=)", self.output, re.M))
+        self.told = dict(re.findall(r"^fn \w+::(\S+): (.*)$", self.output, re.M))
+        lines = self.output.split("\n") if self.is_over and went.returncode else []
+        self.open = [it for it in lines if self.OPEN.match(it) and not self.NAMED.match(it)]
+
+    def is_proved(self, name):
+        return any(is_end(name, whole) and told == "proved" for whole, told in self.told.items())
+
+    def where(self, line, names):
+        """The function in which a goal is open: as one of these names if it is one."""
+        found = self.OPEN.match(line)
+        path, at = (found[1] or found[3]).removeprefix("./"), int(found[2] or found[4]) - 1
+        if path.startswith("src/"):
+            return next((it.name for it in reversed(functions(path, self.texts[path])) if it.has(at)), path)
+        whole = "::".join(path.removeprefix("proofs/").split("/")[:-1])
+        return next((it for it in names if is_end(it, whole)), whole)
 
 
-# What a check says of a goal that is not proved, and what of a proof that names what an edit took away.
-OPEN = re.compile(r"note: \S+:\d+:\d+:|\S+:\d+:\d+: error")
-NAMED = re.compile(r"(note: )?(\./)?proofs/.*(has no field|is not in scope|has no `|was not admitted)")
+class Trials:
+    """The trials of a crate's edits."""
+
+    def __init__(self, crate, words, room, edits):
+        self.words, self.room, self.texts = words, room, texts_of(crate)
+        self.refused, self.missed = [], []
+        is_grouped = [not it.named and bool(it.bodies(self.texts)) for it in edits]
+        self.waiting = [it for it, holds in zip(edits, is_grouped, strict=True) if holds]
+        self.alone = [it for it, holds in zip(edits, is_grouped, strict=True) if not holds]
+
+    def run(self):
+        while self.waiting:
+            self.try_group()
+        for it in self.alone:
+            self.try_alone(it)
+        return len(self.refused), len(self.missed)
+
+    def next_group(self):
+        """The edits of the next check, by the functions that each changes, and the files' texts with them."""
+        chosen, texts, later = {}, dict(self.texts), []
+        for it in self.waiting:
+            names = it.bodies(self.texts)
+            if names & chosen.keys() or it.apply(texts):
+                later.append(it)
+            else:
+                chosen.update(dict.fromkeys(names, it))
+        self.waiting = later
+        return chosen, texts
+
+    def try_group(self):
+        chosen, texts = self.next_group()
+        trial, goals = Trial(self.words, self.room, texts, chosen), {}
+        for line in trial.open:
+            goals.setdefault(trial.where(line, chosen), line)
+        edits, unsettled = list(dict.fromkeys(chosen.values())), []
+        if not trial.is_over or goals.keys() - chosen.keys():
+            self.alone += edits
+            return
+        for it in edits:
+            names = [name for name, edit in chosen.items() if edit is it]
+            goal = next((goals[name] for name in names if name in goals and not trial.is_proved(name)), None)
+            if goal or all(trial.is_proved(name) for name in names):
+                self.tell(it, goal, f"proved: {', '.join(names)}")
+            else:
+                unsettled.append(it)
+        is_stuck = len(unsettled) == len(edits)
+        (self.alone if is_stuck else self.waiting).extend(unsettled)
+
+    def try_alone(self, edit):
+        texts = dict(self.texts)
+        fault = edit.apply(texts)
+        if fault:
+            self.tell(edit, None, fault)
+            return
+        trial = Trial(self.words, self.room, texts, edit.named or edit.bodies(self.texts))
+        self.tell(edit, next(iter(trial.open), None), trial.output[-2000:])
+
+    def tell(self, edit, goal, why):
+        (self.refused if goal else self.missed).append(edit)
+        print(f"{edit.name}: {f'refused, as it must be: {goal[:160]}' if goal else f'NOT REFUSED: {why}'}", flush=True)
+
+
+def prove():
+    """The script `prove`, whose functions know the crates."""
+    loader = importlib.machinery.SourceFileLoader("prove", f"{ROOT}/prove")
+    made = importlib.util.module_from_spec(importlib.util.spec_from_loader("prove", loader))
+    loader.exec_module(made)
+    return made
+
+
+def is_built(script, names):
+    """Whether all below these crates is built."""
+    uses = script.crates_of(ROOT)
+    lower = sorted({it for name in names for it in script.below(uses, name)})
+    return not lower or not subprocess.run([f"{ROOT}/prove", "--statements", *lower], check=False).returncode
 
 
 # The words of a check of a crate over the libraries as they stand: those that `rt ci` leaves have no stamp, by which `rt check`
@@ -137,71 +228,49 @@ print("\\n".join([rtlib.RATTLE, "check", *crate.words(["--jobs", "1"], keeps=Fal
 """
 
 
-def tried_alone(name, file, words):
-    """Whether a check of the function that an edit names refuses it."""
-    edit = edit_of(name, file)
-    with tempfile.TemporaryDirectory(prefix="edit-") as room:
-        for part in ("src", "specs", "proofs"):
-            if os.path.isdir(f"{ROOT}/crates/{name}/{part}"):
-                shutil.copytree(f"{ROOT}/crates/{name}/{part}", f"{room}/{part}")
-        for path, text in edit.texts.items():
-            with open(f"{room}/{path}", "w", encoding="utf-8") as it:
-                it.write(text)
-        went = run([*words, f"--only={edit.function}"], room)
-    counts = re.search(r"^only=(\d+) proved=(\d+)$", went.stdout, re.M)
-    why = next((it for it in went.stdout.split("\n") if OPEN.match(it) and not NAMED.match(it)), None)
-    is_refused = went.returncode == 1 and counts and int(counts[2]) < int(counts[1]) and why
-    print(f"must-fail {name}/{file}: {f'refused, as it must be: {why[:160]}' if is_refused else f'NOT REFUSED: {went.stdout}'}", flush=True)
-    return bool(is_refused)
+def trials(script, name, edits):
+    words = run([sys.executable, "-c", WORDS, script.kit(), ROOT, name], ROOT).stdout.split("\n")[:-1]
+    with tempfile.TemporaryDirectory(prefix="edits-") as room:
+        return Trials(name, words, room, edits).run()
 
 
-def built(script, names):
-    """Whether all below these crates is built, and which crates there are with what each stands on."""
-    uses = script.crates_of(ROOT)
-    lower = sorted({it for name in names for it in script.below(uses, name)})
-    return not lower or not subprocess.run([f"{ROOT}/prove", "--statements", *lower]).returncode, uses
+def look(names):
+    """Whether each edit applies, and no two of a crate have one name."""
+    wrong, count = [], 0
+    for name in names:
+        texts, seen = texts_of(name), set()
+        for it in edits_of(name, FOLDERS):
+            file, count = os.path.basename(it.name), count + 1
+            fault = it.apply(dict(texts)) or (f"another is named {file}" if file in seen else None)
+            seen.add(file)
+            wrong += [f"{it.name}: {fault}"] if fault else []
+    print("\n".join([*wrong, f"{count} edits, {count - len(wrong)} of which apply"]), flush=True)
+    return bool(count) and not wrong
 
 
-def told(refused, count):
-    print(f"{refused} refused, {count - refused} not refused")
-    return 1 if refused < count else 0
-
-
-def try_all(names):
-    names = [it for it in names if edits(it, "must-fail") or edits(it, "must-fail-more")]
-    script = prove()
-    is_built, uses = built(script, names)
-    if not is_built:
+def try_all(names, folders):
+    found = {name: edits_of(name, folders) for name in names}
+    names, script = sorted((it for it in names if found[it]), key=lambda it: -len(found[it])), prove()
+    if not os.environ.get("BUILT") and not is_built(script, names):
         return 1
-    beside = f"{ROOT}/.git" if os.path.isdir(f"{ROOT}/.git") else None
-    with tempfile.TemporaryDirectory(prefix="edits-", dir=beside) as room:
-        view(script, uses, names, room)
-        longest = sorted(names, key=lambda it: -len(os.listdir(f"{room}/crates/{it}/must-fail")))
-        with concurrent.futures.ThreadPoolExecutor(lanes(script)) as pool:
-            counts = [*pool.map(lambda it: tried(it, room), longest)]
-    return told(sum(refused for refused, _ in counts), sum(map(sum, counts)))
-
-
-def try_alone(names):
-    """Tries the edits that name a function, over what stands below their crates: with BUILT=1 that was built just now."""
-    found = [(name, edit) for name in names for edit in edits(name, "must-fail-more") if edit_of(name, edit).function]
-    script, crates = prove(), sorted({name for name, _ in found})
-    if not os.environ.get("BUILT") and not built(script, crates)[0]:
-        return 1
-    words = {it: run([sys.executable, "-c", WORDS, script.kit(), ROOT, it], ROOT).stdout.split("\n")[:-1] for it in crates}
-    with concurrent.futures.ThreadPoolExecutor(lanes(script)) as pool:
-        refused = sum(pool.map(lambda it: tried_alone(*it, words[it[0]]), found))
-    return told(refused, len(found))
+    lanes = max(min(script.processors(), script.free_memory() // MEMORY), 1)
+    with concurrent.futures.ThreadPoolExecutor(lanes) as pool:
+        counts = [*pool.map(lambda it: trials(script, it, found[it]), names)]
+    refused, missed = (sum(it[at] for it in counts) for at in (0, 1))
+    print(f"{refused} refused, {missed} not refused")
+    return 1 if missed else 0
 
 
 def main(words):
     known = sorted(it for it in os.listdir(f"{ROOT}/crates") if os.path.isdir(f"{ROOT}/crates/{it}/src"))
     names = words[1:] or known
     unknown = [it for it in names if it not in known]
-    if words and words[0] != "--try" or unknown:
+    if words and words[0] != "--all" or unknown:
         print(f"edits: there is no crate {unknown[0]}" if unknown else __doc__, file=sys.stderr)
         return 2
-    return try_all(names) if words else look(known) or try_alone(known)
+    if words:
+        return try_all(names, FOLDERS)
+    return try_all(known, FOLDERS[:1]) if look(known) else 1
 
 
 if __name__ == "__main__":

@@ -155,11 +155,11 @@ def check_spans(page, known):
 
 
 def check_rooms(page, names):
-    """Each place below `src/`, `specs/`, `proofs/` or `must-fail/` is in the crate that is named before it, or else in some crate."""
+    """Each place below `src/`, `specs/`, `proofs/` or `edits/` is in the crate that is named before it, or else in some crate."""
     count = 0
     for line in prose(page).splitlines():
         for span in re.findall(r"`([^`]+)`", line):
-            named = re.fullmatch(r"(?:(\w+)/)?((?:src|specs|proofs|must-fail)/[\w./-]+)", span)
+            named = re.fullmatch(r"(?:(\w+)/)?((?:src|specs|proofs|edits|more_edits)/[\w./-]+)", span)
             if not named or named[1] == "crates" or ".." in span or "FILE" in span:
                 continue
             count += 1
@@ -317,14 +317,11 @@ def check_edits():
     """An edit that has to be refused changes code: one of a definition or a proof shows nothing of a body. That of a law changes it."""
     count = 0
     for crate in crates():
-        for edit in sorted(glob.glob(f"crates/{crate}/must-fail*/*.edit")):
+        for edit in sorted(glob.glob(f"crates/{crate}/edits/*.edit")):
             with open(edit, encoding="utf-8") as it:
-                first, *more = it.read().split("\n")
-            if "/must-fail/" not in edit and not first.startswith("function: "):
-                continue
+                files = re.findall(r"^file: (.*)$", it.read(), re.M)
             count += 1
-            file = more[0] if first.startswith("function: ") else first
-            if not file.startswith("file: src/" if has_body(crate) else "file: specs/"):
+            if not all(it.startswith("src/" if has_body(crate) else "specs/") for it in files):
                 wrong("docs/CONTRIBUTING.md", f"{edit} changes no code")
     return count
 
