@@ -32,6 +32,20 @@ for text in "${words[@]}" version; do
   [ "${1:-}" != renew ] || cp "$work/text" docs/help/$text.txt
   cmp -s "$work/text" docs/help/$text.txt || { diff docs/help/$text.txt "$work/text"; fail "docs/help/$text.txt is not what the program prints: tests/script.sh renew"; }
 done
+# the program of a word is asked in other ways too
+for word in run check chart commits drive; do
+  start_by $word
+  asks() { # text, words
+    (exec -a ruu "$program" "${@:2}") < /dev/null 2> "$work/err" | cmp -s - "docs/help/$1" || fail "the program of $word, ${*:2}: not the text $1"
+  }
+  asks $word.txt help $word
+  asks version.txt $word -V
+  asks version.txt --version
+  for other in run check chart commits drive; do
+    [ $other = $word ] || { (exec -a ruu "$program" $other examples/sum.s) < /dev/null > "$work/out" 2> "$work/err"; [ $? -eq 3 ]; } || fail "the program of $word takes the word $other"
+  done
+  (exec -a ruu "$program" help) | grep -q "^  $word " || fail "the help of the program of $word does not name it"
+done
 echo 'the texts of docs/help are those of the programs'
 
 # the help of all names each word as its own help begins
@@ -231,6 +245,24 @@ drive examples/sum.s --ruu-size 33
 drive examples/sum.s --steps 3
 drive examples/sum.s --seed 3 --steps 0
 drive examples/sum.s --seed 3 --steps 1000001
+run examples/sum.s --lsq-size 1
+run examples/sum.s --units 65
+run examples/sum.s --turns 4294967296
+run examples/sum.s --limit 18446744073709551616
+run examples/sum.s --limit -1
+run examples/sum.s --limit 0x10
+run examples/sum.s --bpred Taken
+run examples/sum.s --alone=true y
+run examples/sum.s --tags 3
+run examples/sum.s --limit
+check examples/sum.s --limit 1
+commits examples/sum.s --units 1
+drive examples/sum.s --lsq-size 1
+drive examples/sum.s --ruu-size 64
+drive examples/sum.s --first-tag 0
+drive examples/sum.s --bpred none
+drive examples/sum.s --limit 2
+drive examples/sum.s --seed -1
 listing
 listing examples/sum.s examples/double.s
 listing --bogus
@@ -245,7 +277,29 @@ for of in 'prove ruu' '--unproved prove'; do
   answer $of
   [ $status -eq 3 ] && [ "$(cat "$work/err")" = "error: 'prove' stands alone" ] || fail "ruu $of: status $status"
 done
-[ $count -gt 70 ] || fail "only $count mistakes"
+# how a mistake begins and ends: with the help of its word, or with the sizes of rings alone
+begins() { # line, words
+  mistake "${@:2}"
+  [ "$(head -n 1 "$work/err")" = "$1" ] && [ "$(tail -n 1 "$work/err")" = "For more information, try 'ruu $2 --help'." ] || fail "ruu ${*:2}: another mistake"
+}
+begins 'error: --seed needs --alone' run examples/sum.s --seed 1
+begins 'error: --shake cannot stand with --alone' run examples/sum.s --alone --shake 1
+begins 'error: --trace names the file of the listing' chart examples/sum.s --trace examples/sum.s
+begins 'error: --trace names the file of the listing' chart - --trace -
+begins 'error: --trace takes a file' chart examples/sum.s --trace -
+begins 'error: --steps needs --seed' drive examples/sum.s --steps 7
+for word in run chart commits; do
+  for size in 0 1 3 15 17 64 18446744073709551615; do
+    mistake $word examples/sum.s --ruu-size $size
+    [ "$(cat "$work/err")" = 'ruu: ruu-size must be 2, 4, 8, 16 or 32' ] || fail "ruu $word, a ring of $size: another mistake"
+  done
+done
+mistake run examples/sum.s --ruu-size 3 --units 0
+! grep -q 'ruu-size must' "$work/err" || fail 'a ring is told of before another mistake'
+for value in --limit= '--limit=1 ' --bpred=; do
+  mistake run examples/sum.s "$value"
+done
+[ $count -gt 80 ] || fail "only $count mistakes"
 echo "$count mistakes are told where nothing is built, as the programs tell them"
 
 # words without a mistake: then the kit is looked for

@@ -1,7 +1,6 @@
 //! Command lines of units that are driven by hand.
 use crate::same::same;
 use command_line::*;
-use std::alloc::Global;
 use std::test::Fail;
 
 const WORDS: [&str; 8] = [
@@ -14,10 +13,6 @@ const WORDS: [&str; 8] = [
     "7",
     "--quiet-prompt",
 ];
-
-fn is_usage(alloc: Global, words: &[&str]) -> bool {
-    matches!(driven(alloc, words), Err(NoRun::Usage(_)))
-}
 
 #[test]
 fn a_command_line_asks_for_a_unit_to_drive(rt: HostRuntime) -> Result<(), Fail> {
@@ -71,36 +66,8 @@ fn a_unit_to_drive_may_choose_its_commands(rt: HostRuntime) -> Result<(), Fail> 
     Ok(())
 }
 
-/// Options and values that no unit to drive takes.
-const VALUES: &[(&str, &str)] = &[
-    ("--ruu-size", "3"),
-    ("--ruu-size", "64"),
-    ("--lsq-size", "1"),
-    ("--first-tag", "0"),
-    ("--first-tag", "268435455"),
-    ("--bpred", "none"),
-    ("--units", "2"),
-    ("--limit", "2"),
-    ("--steps", "7"),
-    ("--seed", "-1"),
-];
-
-#[test]
-fn values_out_of_range_are_mistakes(rt: HostRuntime) {
-    for &(option, value) in VALUES {
-        let words = ["ruu", "drive", "double.s", option, value];
-        assert!(rt; is_usage(rt.alloc(), words.as_slice()), "{option} {value}");
-    }
-}
-
 #[test]
 fn the_last_first_tag_is_taken(rt: HostRuntime) {
     let words = ["ruu", "drive", "double.s", "--first-tag", "268435454"];
     assert!(rt; driven(rt.alloc(), words.as_slice()).is_ok());
-}
-
-#[test]
-fn what_is_to_be_driven_is_no_run(rt: HostRuntime) {
-    let words = WORDS;
-    assert!(rt; matches!(asked(rt.alloc(), words.as_slice()), Err(NoRun::Usage(_))));
 }
