@@ -48,7 +48,9 @@ def owner(head):
         return None
     own = {it.split(":")[0].strip() for it in arguments(found["own"] or "")}
     given = "".join(f"+{last_name(it)}" for it in arguments(found["type"]) if it not in own)
-    return last_name(found["type"]) + given + last_name(found["trait"] or "")
+    trait = found["trait"] or ""
+    of = "".join(last_name(it) for it in arguments(trait) if it not in own and it != found["type"])
+    return last_name(found["type"]) + given + last_name(trait) + of
 
 
 def module(path):
