@@ -1,10 +1,7 @@
-//! Tests of single calls: of the language, that is operations, listings, reports and machine words; of devices
-//! and the load/store queue; of the words, the totals and the hints that threads share; and of one core by hand, where
-//! no script reaches.
+//! Tests of single calls: of one core by hand, where no script reaches; of the totals and the hints that threads share;
+//! and of devices.
 #![tactic(auto)]
 
-#[cfg(test)]
-mod assembled;
 #[cfg(test)]
 mod calls;
 #[cfg(test)]
@@ -18,25 +15,9 @@ mod hands;
 #[cfg(test)]
 mod hinted;
 #[cfg(test)]
-mod layouts;
-#[cfg(test)]
-mod listings;
-#[cfg(test)]
-mod loads;
-#[cfg(test)]
-mod making;
-#[cfg(test)]
-mod one_station;
-#[cfg(test)]
-mod operations;
-#[cfg(test)]
 mod passed_on;
 #[cfg(test)]
 mod places;
-#[cfg(test)]
-mod programs;
-#[cfg(test)]
-mod reports;
 #[cfg(test)]
 mod same;
 #[cfg(test)]

@@ -1,21 +1,13 @@
-//! Whole runs: their ends, turns, gates and tallies; devices that fail; what the words of a command line ask for; and
-//! snapshots that one thread takes while another publishes.
+//! Whole runs: their ends, turns, gates and tallies; devices that fail; and snapshots that one thread takes while another
+//! publishes.
 #![tactic(auto)]
 
 #[cfg(test)]
-mod asked;
-#[cfg(test)]
 mod bytes;
-#[cfg(test)]
-mod choices;
-#[cfg(test)]
-mod command_lines;
 #[cfg(test)]
 mod commands;
 #[cfg(test)]
 mod failing;
-#[cfg(test)]
-mod lines;
 #[cfg(test)]
 mod meeting;
 #[cfg(test)]
@@ -24,5 +16,3 @@ mod same;
 mod snappers;
 #[cfg(test)]
 mod threads;
-#[cfg(test)]
-mod turns;

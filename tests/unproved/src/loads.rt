@@ -1,5 +1,4 @@
 //! Rows of the queue and of its rule for loads.
-use crate::same::{same, same_in};
 use lsq::Answer::{Blocked, Forward, Memory};
 use lsq::Width::{Byte, Half, Word};
 use lsq::{Answer, Entry, Full, Queue, Width, loads_read_the_last_stores};
@@ -44,8 +43,8 @@ fn word_forwards_and_byte_without_data_blocks(rt: HostRuntime) -> Result<(), Fai
         queue.push(store(base, Byte, None))?;
         queue.push(load(2, Half))?;
         queue.push(load(1, Byte))?;
-        same(&rt, &answered(&rt, &queue, 2), &want);
-        same(&rt, &answered(&rt, &queue, 3), &Blocked(1));
+        assert_eq!(rt; answered(&rt, &queue, 2), want);
+        assert_eq!(rt; answered(&rt, &queue, 3), Blocked(1));
     }
     Ok(())
 }
@@ -112,7 +111,7 @@ fn answered_behind(
 fn one_store_answers_by_what_it_covers(rt: HostRuntime) -> Result<(), Fail> {
     for &(base, stored, address, width, want) in COVERED {
         let answer = answered_behind(&rt, (base, stored), (address, width))?;
-        same_in(&rt, &(stored, base, width, address), &answer, &want);
+        assert_eq!(rt; answer, want, "{:?}", (stored, base, width, address));
     }
     Ok(())
 }
@@ -127,14 +126,13 @@ fn youngest_overlapping_store_alone_decides(rt: HostRuntime) -> Result<(), Fail>
     queue.push(load(0, Word))?;
     queue.push(store(Some(0), Word, Some(0)))?;
     queue.push(load(4, Word))?;
-    same(&rt, &answered(&rt, &queue, 2), &Forward(0x17));
-    same_in(
-        &rt,
-        &"no bytes of two stores are joined",
-        &answered(&rt, &queue, 3),
-        &Blocked(1),
+    assert_eq!(rt; answered(&rt, &queue, 2), Forward(0x17));
+    assert_eq!(rt;
+        answered(&rt, &queue, 3),
+        Blocked(1),
+        "no bytes of two stores are joined"
     );
-    same(&rt, &answered(&rt, &queue, 5), &Memory);
+    assert_eq!(rt; answered(&rt, &queue, 5), Memory);
     Ok(())
 }
 
@@ -142,21 +140,21 @@ fn youngest_overlapping_store_alone_decides(rt: HostRuntime) -> Result<(), Fail>
 fn entries_come_learn_and_leave(rt: HostRuntime) -> Result<(), Fail> {
     let mut queue = Queue::new(2);
     let empty = queue.shift();
-    same(&rt, &empty, &None);
+    assert_eq!(rt; empty, None);
     queue.push(store(None, Word, None))?;
     queue.push(load(8, Word))?;
     let refused = queue.push(load(0, Byte));
-    same(&rt, &refused, &Err(Full));
-    same(&rt, &queue.len(), &2);
-    same(&rt, &answered(&rt, &queue, 1), &Blocked(0));
+    assert_eq!(rt; refused, Err(Full));
+    assert_eq!(rt; queue.len(), 2);
+    assert_eq!(rt; answered(&rt, &queue, 1), Blocked(0));
     queue.know(0, 8);
-    same(&rt, &answered(&rt, &queue, 1), &Blocked(0));
+    assert_eq!(rt; answered(&rt, &queue, 1), Blocked(0));
     queue.give(0, 7);
-    same(&rt, &answered(&rt, &queue, 1), &Forward(7));
+    assert_eq!(rt; answered(&rt, &queue, 1), Forward(7));
     let oldest = queue.shift();
-    same(&rt, &oldest, &Some(store(Some(8), Word, Some(7))));
-    same(&rt, &answered(&rt, &queue, 0), &Memory);
+    assert_eq!(rt; oldest, Some(store(Some(8), Word, Some(7))));
+    assert_eq!(rt; answered(&rt, &queue, 0), Memory);
     queue.cut(0);
-    same(&rt, &queue.get(0), &None);
+    assert_eq!(rt; queue.get(0), None);
     Ok(())
 }

@@ -1,6 +1,5 @@
 //! Words of an assembler, and the instructions that they say.
 use crate::making::reg;
-use crate::same::{same, same_in};
 use encoding::{Decoded, decode, encode};
 use instructions::Op;
 
@@ -30,17 +29,17 @@ fn a_word_of_each_shape(rt: HostRuntime) {
         (0x0000_f810, decoded(Op::Mfhi, 31, 33, 0, 0)),
     ];
     for (word, wanted) in cases {
-        same_in(&rt, &word, &decode(word, 0x0040_0000), &Some(wanted));
-        same_in(&rt, &wanted, &encode(&wanted, 0x0040_0000), &Some(word));
+        assert_eq!(rt; decode(word, 0x0040_0000), Some(wanted), "{word:?}");
+        assert_eq!(rt; encode(&wanted, 0x0040_0000), Some(word), "{wanted:?}");
     }
 }
 
 #[test]
 fn targets_wrap_and_stay_in_their_region(rt: HostRuntime) {
     let back = decoded(Op::Beq, 0, 0, 0, 0xffff_fffc);
-    same(&rt, &decode(0x1000_fffe, 0), &Some(back));
+    assert_eq!(rt; decode(0x1000_fffe, 0), Some(back));
     let far = decoded(Op::J, 0, 0, 0, 0x1fff_fffc);
-    same(&rt, &decode(0x0bff_ffff, 0x0fff_fffc), &Some(far));
+    assert_eq!(rt; decode(0x0bff_ffff, 0x0fff_fffc), Some(far));
 }
 
 #[test]
@@ -60,6 +59,6 @@ fn no_word_for_what_does_not_fit(rt: HostRuntime) {
         decoded(Op::Mthi, 0, 1, 0, 0),
     ];
     for wanted in cases {
-        same_in(&rt, &wanted, &encode(&wanted, 0x0040_0000), &None);
+        assert_eq!(rt; encode(&wanted, 0x0040_0000), None, "{wanted:?}");
     }
 }

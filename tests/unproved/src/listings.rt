@@ -2,16 +2,15 @@
 mod crowded;
 mod written;
 
-use crate::same::same;
 use instructions::{Half, Reg};
 use isa::{FaultKind, TextFault, parse};
 use std::test::Fail;
 
 #[test]
 fn faults_have_names(rt: HostRuntime) {
-    same(&rt, &FaultKind::NotAscii.code(), &1);
-    same(&rt, &FaultKind::Memory.code(), &9);
-    same(&rt, &FaultKind::UnknownLabel.name(), &"UnknownLabel");
+    assert_eq!(rt; FaultKind::NotAscii.code(), 1);
+    assert_eq!(rt; FaultKind::Memory.code(), 9);
+    assert_eq!(rt; FaultKind::UnknownLabel.name(), "UnknownLabel");
 }
 
 #[test]
@@ -28,9 +27,9 @@ fn moves_name_lo_and_hi(rt: HostRuntime) -> Result<(), Fail> {
     ];
     for (i, (read, written)) in wanted.iter().enumerate() {
         let moved = program.instr(i);
-        same(&rt, &moved.source(1), &*read);
-        same(&rt, &moved.source(2), &None);
-        same(&rt, &moved.written(Half::Low), &*written);
+        assert_eq!(rt; moved.source(1), *read);
+        assert_eq!(rt; moved.source(2), None);
+        assert_eq!(rt; moved.written(Half::Low), *written);
     }
     Ok(())
 }
@@ -40,6 +39,6 @@ fn a_fault_says_its_line_and_why(rt: HostRuntime) -> Result<(), Fail> {
     let kind = FaultKind::UnknownLabel;
     let fault = TextFault { line: 3, kind };
     let text = format!(in rt.alloc(); "{fault}")?;
-    same(&rt, &text.as_str(), &"line 3: no line has this label");
+    assert_eq!(rt; text.as_str(), "line 3: no line has this label");
     Ok(())
 }

@@ -1,5 +1,4 @@
 //! Labels whose buckets are taken.
-use crate::same::same;
 use instructions::Program;
 use isa::{FaultKind, TextFault, parse};
 use std::alloc::Global;
@@ -33,7 +32,7 @@ fn finds_crowded_names(rt: HostRuntime) -> Result<(), Fail> {
     assert!(rt; program.len() == NAMES.len() + 1);
     for i in 0..NAMES.len() {
         let target = Program::START + 4 * (NAMES.len() - 1 - i) as u32;
-        same(&rt, &program.instr(i).number(), &target);
+        assert_eq!(rt; program.instr(i).number(), target);
     }
     Ok(())
 }
@@ -50,7 +49,7 @@ fn faults_name_crowded_labels(rt: HostRuntime) -> Result<(), Fail> {
     for &(last, kind) in LAST {
         let text = crowded(rt.alloc(), last)?;
         let fault = parse(rt.alloc(), text.as_slice()).err();
-        same(&rt, &fault, &Some(TextFault { line: 27, kind }));
+        assert_eq!(rt; fault, Some(TextFault { line: 27, kind }));
     }
     Ok(())
 }

@@ -1,5 +1,4 @@
 //! The lines that tell of a run.
-use crate::same::same;
 use command::{Line, Progress, Refusal};
 use pool::Tally;
 use std::process::Abort;
@@ -36,7 +35,7 @@ fn a_line_names_what_was_refused_or_done(rt: HostRuntime) -> Result<(), Fail> {
     ];
     for (line, text) in lines {
         let shown = line.to_string(rt.alloc())?;
-        same(&rt, &shown.as_str(), &text);
+        assert_eq!(rt; shown.as_str(), text);
     }
     Ok(())
 }
@@ -45,11 +44,10 @@ fn a_line_names_what_was_refused_or_done(rt: HostRuntime) -> Result<(), Fail> {
 #[test]
 fn progress_is_told_in_the_words_of_a_tally(rt: HostRuntime) -> Result<(), Fail> {
     let line = Progress { tally: TALLY }.to_string(rt.alloc())?;
-    same(
-        &rt,
-        &line.as_str(),
-        &"progress lets 1 claims 20 finishes 300 stale 4 loads 50 retires 600 squashes 7 \
-         mends 18446744073709551615 hints 9 renewals 10",
+    assert_eq!(rt;
+        line.as_str(),
+        "progress lets 1 claims 20 finishes 300 stale 4 loads 50 retires 600 squashes 7 \
+         mends 18446744073709551615 hints 9 renewals 10"
     );
     Ok(())
 }

@@ -1,6 +1,5 @@
 //! Border values of products and quotients, and the registers of the operations that make them.
 use crate::making::instr;
-use crate::same::{same, same_in};
 use instructions::{Half, Kind, Op, Outcome, Reg, outcome, outcome_of};
 
 const MINUS_1: u32 = 0xffff_ffff;
@@ -39,11 +38,11 @@ fn products_and_quotients(rt: HostRuntime) {
     ];
     for (op, a, b, low, high) in cases {
         let whole = outcome(&instr(op, 0, 31, 0, 0), PC, a, b, 0);
-        same_in(&rt, &(a, b), &whole, &Outcome::Pair(low, high));
+        assert_eq!(rt; whole, Outcome::Pair(low, high), "{:?}", (a, b));
         let first = outcome_of(&instr(op, 0, 31, 0, 0), Half::Low, PC, a, b, 0);
-        same(&rt, &first, &Outcome::Value(low));
+        assert_eq!(rt; first, Outcome::Value(low));
         let second = outcome_of(&instr(op, 0, 31, 0, 0), Half::High, PC, a, b, 0);
-        same(&rt, &second, &Outcome::Value(high));
+        assert_eq!(rt; second, Outcome::Value(high));
     }
 }
 
@@ -51,10 +50,9 @@ fn products_and_quotients(rt: HostRuntime) {
 fn moves_pass_their_source_on(rt: HostRuntime) {
     for op in [Op::Mflo, Op::Mfhi, Op::Mtlo, Op::Mthi] {
         assert!(rt; !op.is_pair());
-        same(
-            &rt,
-            &outcome(&instr(op, 0, 31, 0, 0), PC, LEAST, 5, 0),
-            &Outcome::Value(LEAST),
+        assert_eq!(rt;
+            outcome(&instr(op, 0, 31, 0, 0), PC, LEAST, 5, 0),
+            Outcome::Value(LEAST)
         );
     }
 }
@@ -65,14 +63,14 @@ fn halves_write_lo_and_hi(rt: HostRuntime) {
         let pair = instr(op, 0, 31, 0, 0);
         assert!(rt; op.is_pair());
         assert!(rt; op.kind() == Kind::Computes);
-        same(&rt, &pair.source(1), &Some(Reg::LINK));
-        same(&rt, &pair.source(2), &Some(Reg::ZERO));
-        same(&rt, &pair.written(Half::Low), &Some(Reg::LO));
-        same(&rt, &pair.written(Half::High), &Some(Reg::HI));
-        same(&rt, &pair.destination(Half::High), &Reg::HI);
+        assert_eq!(rt; pair.source(1), Some(Reg::LINK));
+        assert_eq!(rt; pair.source(2), Some(Reg::ZERO));
+        assert_eq!(rt; pair.written(Half::Low), Some(Reg::LO));
+        assert_eq!(rt; pair.written(Half::High), Some(Reg::HI));
+        assert_eq!(rt; pair.destination(Half::High), Reg::HI);
         assert!(rt; pair.is_first_half(Half::Low));
         assert!(rt; !pair.is_first_half(Half::High));
-        same(&rt, &pair.fixed_next(Half::Low, PC), &Some(PC));
-        same(&rt, &pair.fixed_next(Half::High, PC), &Some(PC + 4));
+        assert_eq!(rt; pair.fixed_next(Half::Low, PC), Some(PC));
+        assert_eq!(rt; pair.fixed_next(Half::High, PC), Some(PC + 4));
     }
 }

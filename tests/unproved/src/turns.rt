@@ -1,5 +1,4 @@
 //! Turns of the one-thread unit.
-use crate::same::{same, same_in};
 use instructions::{Config, Ending, NotTaken, Predictor, Program, Stop};
 use isa::parse;
 use one_thread::{Bench, Turn};
@@ -22,7 +21,7 @@ fn takes_turns(
     let mut bench = Bench::new(alloc, &program, config, NotTaken)?;
     for turn in turns {
         assert!(rt; bench.has_room());
-        same_in(rt, &listing, &bench.turn(), &*turn);
+        assert_eq!(rt; bench.turn(), *turn, "{listing:?}");
     }
     Ok(())
 }
@@ -151,11 +150,11 @@ fn an_ended_unit_stays_ended(rt: HostRuntime) -> Result<(), Fail> {
         let mut bench = Bench::new(rt.alloc(), &program, &config(ring, 2)?, NotTaken)?;
         turns_on(&rt, &mut bench, Turn::Over(Stop::Break));
         let end = bench.run(1000);
-        same_in(&rt, &ring, &end.outcome, &Ending::Stop(Stop::Break));
-        same_in(&rt, &ring, &(end.n, end.pc), &(1, 0x0040_0004));
+        assert_eq!(rt; end.outcome, Ending::Stop(Stop::Break), "{ring:?}");
+        assert_eq!(rt; (end.n, end.pc), (1, 0x0040_0004), "{ring:?}");
         let registers = (end.registers[1], end.registers[2], end.registers[3]);
-        same_in(&rt, &ring, &registers, &(3, 0, 0));
-        same_in(&rt, &ring, &end.memory.as_slice(), &[0, 0, 0, 0].as_slice());
+        assert_eq!(rt; registers, (3, 0, 0), "{ring:?}");
+        assert_eq!(rt; end.memory.as_slice(), [0, 0, 0, 0].as_slice(), "{ring:?}");
     }
     Ok(())
 }
@@ -184,13 +183,13 @@ fn between_two_halves_all_is_as_before_the_first(rt: HostRuntime) -> Result<(), 
     let program = parse(rt.alloc(), b"addiu $1,$0,3\nmult $1,$1\nmflo $2\nbreak\n")?;
     for ring in [2, 4, 8, 16, 32] {
         let end = halved(&rt, rt.alloc(), &program, ring)?.run(1);
-        same_in(&rt, &ring, &end.outcome, &Ending::Limit);
-        same_in(&rt, &ring, &(end.n, end.pc), &(1, 0x0040_0004));
-        same_in(&rt, &ring, &(end.registers[1], end.registers[32]), &(3, 0));
+        assert_eq!(rt; end.outcome, Ending::Limit, "{ring:?}");
+        assert_eq!(rt; (end.n, end.pc), (1, 0x0040_0004), "{ring:?}");
+        assert_eq!(rt; (end.registers[1], end.registers[32]), (3, 0), "{ring:?}");
         let end = halved(&rt, rt.alloc(), &program, ring)?.run(1000);
-        same_in(&rt, &ring, &end.outcome, &Ending::Stop(Stop::Break));
-        same_in(&rt, &ring, &(end.n, end.pc), &(3, 0x0040_000c));
-        same_in(&rt, &ring, &(end.registers[2], end.registers[32]), &(9, 9));
+        assert_eq!(rt; end.outcome, Ending::Stop(Stop::Break), "{ring:?}");
+        assert_eq!(rt; (end.n, end.pc), (3, 0x0040_000c), "{ring:?}");
+        assert_eq!(rt; (end.registers[2], end.registers[32]), (9, 9), "{ring:?}");
     }
     Ok(())
 }

@@ -1,7 +1,6 @@
 //! What a run asks its predictor and tells it: as its turns one by one do.
 ghost use Rattle.std.specs.Prelude.{⊤};
 
-use crate::same::same_in;
 use instructions::{Bimod, Config, Instr, Predictor, Program};
 use isa::parse;
 use one_thread::{Bench, Turn};
@@ -85,11 +84,11 @@ fn is_asked_alike(rt: &impl Abort, alloc: Global, listing: &[u8]) -> Result<(), 
         let config = Config::new(ring, queue, 1, 1, 1, 1_000_000, 1_000_000)?;
         for &limit in LIMITS {
             let run = seen(alloc, &program, &config, limit, false)?;
-            same_in(
-                rt,
-                &(ring, queue, limit),
-                &run,
-                &seen(alloc, &program, &config, limit, true)?,
+            assert_eq!(rt;
+                run,
+                seen(alloc, &program, &config, limit, true)?,
+                "{:?}",
+                (ring, queue, limit)
             );
         }
     }

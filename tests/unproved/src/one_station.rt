@@ -1,5 +1,4 @@
 //! Runs of the unit that issues in order.
-use crate::same::same_in;
 use in_order_issue::run;
 use inorder::{Ended, Machine};
 use instructions::{Ending, Program};
@@ -37,11 +36,11 @@ fn ends_in_order(
         Ended::Stopped(code) => Ending::Stop(code),
         Ended::Limit => Ending::Limit,
     };
-    same_in(rt, &limit, &end.outcome, &outcome);
-    same_in(rt, &limit, &end.n, &machine.count());
-    same_in(rt, &limit, &end.pc, &machine.pc());
-    same_in(rt, &limit, &end.registers, machine.registers());
-    same_in(rt, &limit, &end.memory.as_slice(), &machine.memory());
+    assert_eq!(rt; end.outcome, outcome, "{limit:?}");
+    assert_eq!(rt; end.n, machine.count(), "{limit:?}");
+    assert_eq!(rt; end.pc, machine.pc(), "{limit:?}");
+    assert_eq!(rt; end.registers, *machine.registers(), "{limit:?}");
+    assert_eq!(rt; end.memory.as_slice(), machine.memory(), "{limit:?}");
     Ok(())
 }
 

@@ -1,5 +1,4 @@
 //! Command lines of checks, and what is told where there is no run.
-use crate::same::same;
 use command_line::*;
 use std::test::Fail;
 
@@ -9,8 +8,8 @@ fn a_check_takes_its_file_and_whether_all_is_wanted(rt: HostRuntime) -> Result<(
     let Ok(checked) = checked(rt.alloc(), words.as_slice()) else {
         return Err(Fail::new("there is nothing to check"));
     };
-    same(&rt, &checked.file, &"sum.s");
-    same(&rt, &checked.all, &true);
+    assert_eq!(rt; checked.file, "sum.s");
+    assert!(rt; checked.all);
     Ok(())
 }
 
@@ -25,7 +24,7 @@ fn a_dash_alone_is_standard_input(rt: HostRuntime) {
 #[test]
 fn want_of_memory_is_named(rt: HostRuntime) -> Result<(), Fail> {
     let text = NoRun::Memory.to_string(rt.alloc())?;
-    same(&rt, &text.as_str(), &"ruu: memory");
-    same(&rt, &status(&NoRun::Memory), &5);
+    assert_eq!(rt; text.as_str(), "ruu: memory");
+    assert_eq!(rt; status(&NoRun::Memory), 5);
     Ok(())
 }

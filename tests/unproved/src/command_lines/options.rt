@@ -1,5 +1,4 @@
 //! Command lines of runs: each option, its default, and its limits.
-use crate::same::{same, same_in};
 use command_line::*;
 use std::alloc::{AllocError, Global};
 use std::test::Fail;
@@ -99,7 +98,7 @@ const SIZES: &[(&[&str], [u32; 5])] = &[
 fn each_option_is_taken_up_to_its_limits(rt: HostRuntime) {
     for &(options, wanted) in SIZES {
         let sizes = sizes(rt.alloc(), options);
-        same_in(&rt, &options, &sizes, &Some(wanted));
+        assert_eq!(rt; sizes, Some(wanted), "{options:?}");
     }
 }
 
@@ -135,8 +134,8 @@ fn a_predictor_and_flags_are_taken(rt: HostRuntime) -> Result<(), Fail> {
             Ok(asked) => {
                 let flags = (asked.predictor == predictor, asked.alone, asked.progress);
                 let usual = (asked.file, asked.config.places(), asked.config.first_tag());
-                same_in(&rt, &options, &flags, &(true, alone, progress));
-                same_in(&rt, &options, &usual, &("sum.s", 1, 1));
+                assert_eq!(rt; flags, (true, alone, progress), "{options:?}");
+                assert_eq!(rt; usual, ("sum.s", 1, 1), "{options:?}");
             },
             Err(_no_run) => assert!(rt; false, "{options:?}"),
         }
@@ -150,6 +149,6 @@ fn a_file_may_begin_like_an_option(rt: HostRuntime) -> Result<(), Fail> {
     let Ok(asked) = asked(rt.alloc(), words.as_slice()) else {
         return Err(Fail::new("there is no run"));
     };
-    same(&rt, &asked.file, &"-x.s");
+    assert_eq!(rt; asked.file, "-x.s");
     Ok(())
 }

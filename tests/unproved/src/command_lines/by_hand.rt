@@ -1,5 +1,4 @@
 //! Command lines of units that are driven by hand.
-use crate::same::same;
 use command_line::*;
 use std::test::Fail;
 
@@ -21,9 +20,9 @@ fn a_command_line_asks_for_a_unit_to_drive(rt: HostRuntime) -> Result<(), Fail> 
         return Err(Fail::new("there is nothing to drive"));
     };
     let sizes = (hand.config.ring(), hand.config.queue());
-    same(&rt, &hand.file, &"double.s");
-    same(&rt, &(sizes, hand.config.first_tag()), &((2, 2), 7));
-    same(&rt, &(hand.quiet_prompt, hand.echo), &(true, false));
+    assert_eq!(rt; hand.file, "double.s");
+    assert_eq!(rt; (sizes, hand.config.first_tag()), ((2, 2), 7));
+    assert_eq!(rt; (hand.quiet_prompt, hand.echo), (true, false));
     Ok(())
 }
 
@@ -34,11 +33,10 @@ fn a_unit_to_drive_has_its_usual_sizes(rt: HostRuntime) -> Result<(), Fail> {
         return Err(Fail::new("there is nothing to drive"));
     };
     let sizes = (hand.config.ring(), hand.config.queue());
-    same(&rt, &(sizes, hand.config.first_tag()), &((16, 8), 1));
-    same(
-        &rt,
-        &(hand.quiet_prompt, hand.seed, hand.steps),
-        &(false, None, 400),
+    assert_eq!(rt; (sizes, hand.config.first_tag()), ((16, 8), 1));
+    assert_eq!(rt;
+        (hand.quiet_prompt, hand.seed, hand.steps),
+        (false, None, 400)
     );
     assert!(rt; hand.predictor == BranchPredictor::Bimod);
     Ok(())
@@ -58,11 +56,7 @@ fn a_unit_to_drive_may_choose_its_commands(rt: HostRuntime) -> Result<(), Fail> 
     let Ok(hand) = driven(rt.alloc(), words.as_slice()) else {
         return Err(Fail::new("there is nothing to drive"));
     };
-    same(
-        &rt,
-        &(hand.echo, hand.seed, hand.steps),
-        &(true, Some(9), 7),
-    );
+    assert_eq!(rt; (hand.echo, hand.seed, hand.steps), (true, Some(9), 7));
     Ok(())
 }
 

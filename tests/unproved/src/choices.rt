@@ -1,7 +1,6 @@
 //! Turns of the one-thread unit in any order.
 ghost use Rattle.std.specs.Prelude.{⊤};
 
-use crate::same::same_in;
 use inorder::{Ended, Machine};
 use instructions::{Bimod, Config, Ending, NotTaken, Predictor, Program};
 use isa::parse;
@@ -56,15 +55,14 @@ fn ends_in_order<P: Predictor + Drop>(
     let mut machine = Machine::new(alloc, program)?;
     let ended = machine.run(limit);
     let end = bench.run_by(limit, &mut Seeded::new(seed));
-    same_in(rt, &seed, &end.outcome, &ending(ended));
-    same_in(
-        rt,
-        &seed,
-        &(end.n, end.pc),
-        &(machine.count(), machine.pc()),
+    assert_eq!(rt; end.outcome, ending(ended), "{seed:?}");
+    assert_eq!(rt;
+        (end.n, end.pc),
+        (machine.count(), machine.pc()),
+        "{seed:?}"
     );
-    same_in(rt, &seed, &end.registers, machine.registers());
-    same_in(rt, &seed, &end.memory.as_slice(), &machine.memory());
+    assert_eq!(rt; end.registers, *machine.registers(), "{seed:?}");
+    assert_eq!(rt; end.memory.as_slice(), machine.memory(), "{seed:?}");
     Ok(())
 }
 
@@ -132,7 +130,7 @@ fn a_younger_tenant_runs_before_an_older_one(rt: HostRuntime) -> Result<(), Fail
 fn takes_first(rt: &impl Abort, ordered: &mut Bench<Bimod>, chosen: &mut Bench<Bimod>) {
     for turn in 0..400 {
         assert!(rt; ordered.has_room() && chosen.has_room());
-        same_in(rt, &turn, &chosen.turn_by(&mut First), &ordered.turn());
+        assert_eq!(rt; chosen.turn_by(&mut First), ordered.turn(), "{turn:?}");
     }
 }
 

@@ -1,6 +1,5 @@
 //! Instructions and their registers, programs, the limits of a configuration, and what predictors learn.
 use crate::making::{numbered, reg};
-use crate::same::same;
 use instructions::{
     BadConfig, Bimod, Config, Half, Instr, Memory, NotTaken, Op, Predictor, Program, Reg, Stop,
     Taken, pc_plus_4,
@@ -36,21 +35,12 @@ fn names_registers_of_an_instruction(rt: HostRuntime) {
     ];
     for (op, first, second, written) in cases {
         let i = numbered(op, 0);
-        same(
-            &rt,
-            &i.source(1),
-            &if first { Some(Reg::ZERO) } else { None },
-        );
-        same(
-            &rt,
-            &i.source(2),
-            &if second { Some(Reg::ZERO) } else { None },
-        );
-        same(&rt, &i.source(3), &None);
-        same(
-            &rt,
-            &i.written(Half::Low),
-            &if written { Some(Reg::LINK) } else { None },
+        assert_eq!(rt; i.source(1), if first { Some(Reg::ZERO) } else { None });
+        assert_eq!(rt; i.source(2), if second { Some(Reg::ZERO) } else { None });
+        assert_eq!(rt; i.source(3), None);
+        assert_eq!(rt;
+            i.written(Half::Low),
+            if written { Some(Reg::LINK) } else { None }
         );
     }
 }
@@ -77,7 +67,7 @@ fn names_the_first_bad_field(rt: HostRuntime) {
     ];
     for (s, wanted) in cases {
         let made = Config::new(s[0], s[1], s[2], s[3], s[4], s[5], s[6]);
-        same(&rt, &made.err(), &wanted);
+        assert_eq!(rt; made.err(), wanted);
     }
 }
 
@@ -97,28 +87,28 @@ fn bimodal_counters_learn(rt: HostRuntime) {
         (ON, ON),
         (ON, ON),
     ];
-    same(&rt, &bimod.predict(PC, &branch), &ON);
+    assert_eq!(rt; bimod.predict(PC, &branch), ON);
     for (told, wanted) in steps {
         bimod.told(PC, told);
-        same(&rt, &bimod.predict(PC, &branch), &wanted);
+        assert_eq!(rt; bimod.predict(PC, &branch), wanted);
     }
     bimod.told(PC + 4 * 2048, TO);
     bimod.told(PC + 4 * 2048, TO);
-    same(&rt, &bimod.predict(PC, &branch), &TO);
-    same(&rt, &bimod.predict(PC, &numbered(Op::Jr, 0)), &ON);
-    same(&rt, &Taken.predict(PC, &branch), &TO);
-    same(&rt, &NotTaken.predict(PC, &branch), &ON);
+    assert_eq!(rt; bimod.predict(PC, &branch), TO);
+    assert_eq!(rt; bimod.predict(PC, &numbered(Op::Jr, 0)), ON);
+    assert_eq!(rt; Taken.predict(PC, &branch), TO);
+    assert_eq!(rt; NotTaken.predict(PC, &branch), ON);
 }
 
 #[test]
 fn there_are_34_registers(rt: HostRuntime) {
-    same(&rt, &Reg::new(31), &Some(Reg::LINK));
-    same(&rt, &Reg::new(32), &Some(Reg::LO));
-    same(&rt, &Reg::new(33), &Some(Reg::HI));
-    same(&rt, &Reg::new(34), &None);
-    same(&rt, &Reg::general(31), &Some(Reg::LINK));
-    same(&rt, &Reg::general(32), &None);
-    same(&rt, &Stop::BadPc.code(), &4);
+    assert_eq!(rt; Reg::new(31), Some(Reg::LINK));
+    assert_eq!(rt; Reg::new(32), Some(Reg::LO));
+    assert_eq!(rt; Reg::new(33), Some(Reg::HI));
+    assert_eq!(rt; Reg::new(34), None);
+    assert_eq!(rt; Reg::general(31), Some(Reg::LINK));
+    assert_eq!(rt; Reg::general(32), None);
+    assert_eq!(rt; Stop::BadPc.code(), 4);
 }
 
 #[test]
@@ -126,10 +116,10 @@ fn a_copy_is_the_same_program(rt: HostRuntime) -> Result<(), Fail> {
     let program = jump_and_break(rt.alloc())?;
     let copy = program.copied(rt.alloc()).map_err(|_| "no memory")?;
     assert!(rt; copy.size() == 4 && copy.len() == 2);
-    same(&rt, &copy.bytes(), &[2, 1, 0, 0].as_slice());
-    same(&rt, &copy.byte(1), &1);
-    same(&rt, &copy.is_empty(), &false);
-    same(&rt, &copy.instr(1).op(), &Op::Break);
+    assert_eq!(rt; copy.bytes(), [2, 1, 0, 0].as_slice());
+    assert_eq!(rt; copy.byte(1), 1);
+    assert_eq!(rt; copy.is_empty(), false);
+    assert_eq!(rt; copy.instr(1).op(), Op::Break);
     Ok(())
 }
 
@@ -145,7 +135,7 @@ fn instructions_are_fetched_at_their_addresses(rt: HostRuntime) -> Result<(), Fa
     ];
     for (pc, op) in cases {
         let found = program.fetch(pc);
-        same(&rt, &found.map(|instr| instr.op()), &op);
+        assert_eq!(rt; found.map(|instr| instr.op()), op);
     }
     Ok(())
 }
@@ -153,19 +143,19 @@ fn instructions_are_fetched_at_their_addresses(rt: HostRuntime) -> Result<(), Fa
 #[test]
 fn an_instruction_has_its_registers(rt: HostRuntime) {
     let sum = Instr::new(Op::Addiu, reg(4), reg(5), Reg::ZERO, MINUS_1);
-    same(&rt, &sum.op(), &Op::Addiu);
-    same(&rt, &sum.number(), &MINUS_1);
-    same(&rt, &sum.destination(Half::Low).number(), &4);
-    same(&rt, &sum.fixed_next(Half::Low, PC), &Some(PC + 4));
+    assert_eq!(rt; sum.op(), Op::Addiu);
+    assert_eq!(rt; sum.number(), MINUS_1);
+    assert_eq!(rt; sum.destination(Half::Low).number(), 4);
+    assert_eq!(rt; sum.fixed_next(Half::Low, PC), Some(PC + 4));
     let store = Instr::new(Op::Sw, Reg::ZERO, reg(7), reg(6), 8);
-    same(&rt, &store.first().number(), &7);
-    same(&rt, &store.second().number(), &6);
-    same(&rt, &store.destination(Half::Low), &Reg::ZERO);
+    assert_eq!(rt; store.first().number(), 7);
+    assert_eq!(rt; store.second().number(), 6);
+    assert_eq!(rt; store.destination(Half::Low), Reg::ZERO);
     let branch = numbered(Op::Beq, 0x0040_000c);
-    same(&rt, &branch.fixed_next(Half::Low, PC), &None);
+    assert_eq!(rt; branch.fixed_next(Half::Low, PC), None);
     let call = numbered(Op::Jal, 0x0040_000c);
-    same(&rt, &call.fixed_next(Half::Low, PC), &Some(0x0040_000c));
-    same(&rt, &pc_plus_4(0xffff_fffc), &0);
+    assert_eq!(rt; call.fixed_next(Half::Low, PC), Some(0x0040_000c));
+    assert_eq!(rt; pc_plus_4(0xffff_fffc), 0);
 }
 
 #[test]
@@ -179,20 +169,20 @@ fn limits_of_a_program_are_exact(rt: HostRuntime) {
         (1, 65_532, true),
     ];
     for (instructions, bytes, fits) in cases {
-        same(&rt, &Program::fits(instructions, bytes), &fits);
+        assert_eq!(rt; Program::fits(instructions, bytes), fits);
     }
 }
 
 #[test]
 fn a_configuration_has_its_numbers(rt: HostRuntime) -> Result<(), Fail> {
     let config = Config::new(16, 8, 2, 3, 4, 5, 6).map_err(|_| "refused")?;
-    same(&rt, &config.ring(), &16);
-    same(&rt, &config.queue(), &8);
-    same(&rt, &config.units(), &2);
-    same(&rt, &config.places(), &3);
-    same(&rt, &config.first_tag(), &4);
-    same(&rt, &config.limit(), &5);
-    same(&rt, &config.turns(), &6);
+    assert_eq!(rt; config.ring(), 16);
+    assert_eq!(rt; config.queue(), 8);
+    assert_eq!(rt; config.units(), 2);
+    assert_eq!(rt; config.places(), 3);
+    assert_eq!(rt; config.first_tag(), 4);
+    assert_eq!(rt; config.limit(), 5);
+    assert_eq!(rt; config.turns(), 6);
     Ok(())
 }
 
@@ -200,14 +190,10 @@ fn a_configuration_has_its_numbers(rt: HostRuntime) -> Result<(), Fail> {
 fn refusals_say_why(rt: HostRuntime) -> Result<(), Fail> {
     let bad = BadConfig::Queue;
     let text = format!(in rt.alloc(); "{bad}")?;
-    same(
-        &rt,
-        &text.as_str(),
-        &"the queue size is from 2 to the ring size",
-    );
+    assert_eq!(rt; text.as_str(), "the queue size is from 2 to the ring size");
     let memory = Memory;
     let text = format!(in rt.alloc(); "{memory}")?;
-    same(&rt, &text.as_str(), &"out of memory");
+    assert_eq!(rt; text.as_str(), "out of memory");
     Ok(())
 }
 

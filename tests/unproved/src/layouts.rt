@@ -1,5 +1,4 @@
 //! The words of the table of layouts.
-use crate::same::same;
 use inorder::history::Source;
 use instructions::Half;
 use ruu_words::{
@@ -15,12 +14,11 @@ fn words_are_those_of_the_layout(rt: HostRuntime) {
     ];
     for (tag, state, value, word) in words {
         let fields = StationWord { tag, state, value };
-        same(&rt, &fields.pack(), &word);
+        assert_eq!(rt; fields.pack(), word);
         let read = StationWord::unpack(word);
-        same(
-            &rt,
-            &(read.tag, read.state.code(), read.value),
-            &(tag, state.code(), value),
+        assert_eq!(rt;
+            (read.tag, read.state.code(), read.value),
+            (tag, state.code(), value)
         );
     }
 }
@@ -31,9 +29,9 @@ fn other_words_are_those_of_the_layout(rt: HostRuntime) {
         producer: 1,
         consumer: 1,
     };
-    same(&rt, &link.pack(), &0x0000_0010_0000_0100);
+    assert_eq!(rt; link.pack(), 0x0000_0010_0000_0100);
     let read = LinkWord::unpack(0x0000_0010_0000_0100).map(|it| (it.producer, it.consumer));
-    same(&rt, &read, &Some((1, 1)));
+    assert_eq!(rt; read, Some((1, 1)));
     assert!(rt; LinkWord::unpack(0).is_none());
     let infos = [
         (Half::Low, 1, 0x0040_0008, 0x0000_0001_0040_0008),
@@ -46,12 +44,11 @@ fn other_words_are_those_of_the_layout(rt: HostRuntime) {
             index,
             predicted,
         };
-        same(&rt, &info.pack(), &word);
+        assert_eq!(rt; info.pack(), word);
         let read = InfoWord::unpack(word);
-        same(
-            &rt,
-            &(read.half == half, read.index, read.predicted),
-            &(true, index, predicted),
+        assert_eq!(rt;
+            (read.half == half, read.index, read.predicted),
+            (true, index, predicted)
         );
     }
     let operand = OperandWord {
@@ -59,9 +56,9 @@ fn other_words_are_those_of_the_layout(rt: HostRuntime) {
         state: OperandState::Val,
         value: 7,
     };
-    same(&rt, &operand.pack(), &0x0000_0022_0000_0007);
+    assert_eq!(rt; operand.pack(), 0x0000_0022_0000_0007);
     let read = OperandWord::unpack(0x0000_0022_0000_0007);
-    same(&rt, &(read.tag, read.value), &(2, 7));
+    assert_eq!(rt; (read.tag, read.value), (2, 7));
     assert!(rt; matches!(read.state, OperandState::Val));
 }
 
@@ -74,14 +71,14 @@ fn words_stand_at_their_places(rt: HostRuntime) {
         (Place::Link(3, 3, Source::Second), 47),
     ];
     for (place, index) in places {
-        same(&rt, &place.index(4), &index);
+        assert_eq!(rt; place.index(4), index);
     }
-    same(&rt, &word_count(4), &48);
+    assert_eq!(rt; word_count(4), 48);
     let left = StationWord {
         tag: 1,
         state: StationState::Stop,
         value: 0,
     }
     .left(7);
-    same(&rt, &left.pack(), &0x0000_0020_0000_0007);
+    assert_eq!(rt; left.pack(), 0x0000_0020_0000_0007);
 }

@@ -2,7 +2,6 @@
 mod products;
 
 use crate::making::numbered;
-use crate::same::{same, same_in};
 use instructions::{Kind, Op, Outcome, Stop, loaded, outcome};
 
 const MINUS_1: u32 = 0xffff_ffff;
@@ -49,7 +48,7 @@ fn computes_values(rt: HostRuntime) {
     ];
     for (op, a, b, i, wanted) in cases {
         let got = outcome(&numbered(op, i), PC, a, b, 0);
-        same_in(&rt, &(a, b, i), &got, &Outcome::Value(wanted));
+        assert_eq!(rt; got, Outcome::Value(wanted), "{:?}", (a, b, i));
     }
 }
 
@@ -65,7 +64,7 @@ fn stops_at_signed_overflow_and_break(rt: HostRuntime) {
     ];
     for (op, a, b, i, wanted) in cases {
         let got = outcome(&numbered(op, i), PC, a, b, 0);
-        same_in(&rt, &(a, b, i), &got, &Outcome::Stop(wanted));
+        assert_eq!(rt; got, Outcome::Stop(wanted), "{:?}", (a, b, i));
     }
 }
 
@@ -94,7 +93,7 @@ fn jumps_and_branches(rt: HostRuntime) {
     ];
     for (op, a, b, wanted) in cases {
         let got = outcome(&numbered(op, TO), PC, a, b, 0);
-        same_in(&rt, &(a, b), &got, &Outcome::Next(wanted));
+        assert_eq!(rt; got, Outcome::Next(wanted), "{:?}", (a, b));
     }
 }
 
@@ -113,7 +112,7 @@ fn checks_addresses(rt: HostRuntime) {
     ];
     for (op, a, offset, wanted) in cases {
         let got = outcome(&numbered(op, offset), PC, a, 0, 8);
-        same_in(&rt, &(a, offset), &got, &wanted);
+        assert_eq!(rt; got, wanted, "{:?}", (a, offset));
     }
 }
 
@@ -129,7 +128,7 @@ fn extends_loaded_bytes(rt: HostRuntime) {
         (Op::Lw, LEAST, LEAST),
     ];
     for (op, raw, wanted) in cases {
-        same_in(&rt, &raw, &loaded(op, raw), &wanted);
+        assert_eq!(rt; loaded(op, raw), wanted, "{raw:?}");
     }
 }
 
@@ -148,7 +147,7 @@ fn sorts_operations(rt: HostRuntime) {
     ];
     for (op, kind, width, branch) in cases {
         assert!(rt; op.kind() == kind);
-        same(&rt, &op.width(), &width);
-        same(&rt, &op.is_branch(), &branch);
+        assert_eq!(rt; op.width(), width);
+        assert_eq!(rt; op.is_branch(), branch);
     }
 }

@@ -1,5 +1,4 @@
 //! Reports, word by word.
-use crate::same::same;
 use instructions::{End, Ending, Stop};
 use isa::{FaultKind, TextFault, fault_text, report_text};
 use std::alloc::Global;
@@ -25,10 +24,9 @@ fn registers_and_words_that_are_0_are_left_out(rt: HostRuntime) -> Result<(), Fa
     let memory = [0, 0, 0, 0, 0xff, 0, 0xff, 0xff, 0, 0, 0, 0, 0x80, 0, 0, 0];
     let end = end(rt.alloc(), Ending::Stop(Stop::Break), &memory)?;
     let text = report_text(rt.alloc(), &end)?;
-    same(
-        &rt,
-        &text.as_str(),
-        &"stop break\n\
+    assert_eq!(rt;
+        text.as_str(),
+        "stop break\n\
         count 4294967296\n\
         pc 0x00400008\n\
         r2 0x0000000a\n\
@@ -36,7 +34,7 @@ fn registers_and_words_that_are_0_are_left_out(rt: HostRuntime) -> Result<(), Fa
         lo 0xffffffe8\n\
         hi 0xffffffff\n\
         m 0x00000004 0xffff00ff\n\
-        m 0x0000000c 0x00000080\n",
+        m 0x0000000c 0x00000080\n"
     );
     Ok(())
 }
@@ -63,6 +61,6 @@ fn the_first_line_says_how_the_run_ended(rt: HostRuntime) -> Result<(), Fail> {
 fn a_fault_is_named_with_its_line(rt: HostRuntime) -> Result<(), Fail> {
     let kind = FaultKind::BadOperands;
     let text = fault_text(rt.alloc(), &TextFault { line: 3, kind })?;
-    same(&rt, &text.as_str(), &"fault line 3 BadOperands\n");
+    assert_eq!(rt; text.as_str(), "fault line 3 BadOperands\n");
     Ok(())
 }

@@ -1,5 +1,4 @@
 //! Seeds, charts and logs, and the words that ask for them.
-use crate::same::{same, same_in};
 use command_line::*;
 
 const MOST: u64 = 18_446_744_073_709_551_615;
@@ -24,8 +23,8 @@ fn a_run_takes_a_seed_of_its_order(rt: HostRuntime) {
     for (words, seed, shake) in cases {
         match asked(rt.alloc(), words) {
             Ok(asked) => {
-                same_in(&rt, &words, &asked.seed, &seed);
-                same_in(&rt, &words, &asked.shake, &shake);
+                assert_eq!(rt; asked.seed, seed, "{words:?}");
+                assert_eq!(rt; asked.shake, shake, "{words:?}");
             },
             Err(_no_run) => assert!(rt; false, "{words:?}"),
         }
@@ -50,9 +49,9 @@ fn takes_a_chart_and_a_log(rt: HostRuntime) {
     for (words, seed, log) in cases {
         match charted(rt.alloc(), words) {
             Ok(charted) => {
-                same_in(&rt, &words, &charted.run.seed, &seed);
-                same_in(&rt, &words, &charted.log, &log);
-                same(&rt, &charted.run.file, &"sum.s");
+                assert_eq!(rt; charted.run.seed, seed, "{words:?}");
+                assert_eq!(rt; charted.log, log, "{words:?}");
+                assert_eq!(rt; charted.run.file, "sum.s");
             },
             Err(_no_run) => assert!(rt; false, "{words:?}"),
         }
@@ -72,11 +71,11 @@ fn takes_a_log_of_commits(rt: HostRuntime) {
     ];
     match committed(rt.alloc(), words.as_slice()) {
         Ok(committed) => {
-            same(&rt, &committed.file, &"sum.s");
-            same(&rt, &committed.config.limit(), &9);
-            same(&rt, &committed.config.ring(), &4);
-            same(&rt, &committed.config.units(), &2);
-            same(&rt, &committed.seed, &Some(2));
+            assert_eq!(rt; committed.file, "sum.s");
+            assert_eq!(rt; committed.config.limit(), 9);
+            assert_eq!(rt; committed.config.ring(), 4);
+            assert_eq!(rt; committed.config.units(), 2);
+            assert_eq!(rt; committed.seed, Some(2));
             assert!(rt; committed.predictor == BranchPredictor::Bimod);
         },
         Err(_no_run) => assert!(rt; false, "a log of commits"),

@@ -1,5 +1,4 @@
 //! The predictor of each name.
-use crate::same::same;
 use command_line::{BranchPredictor, choose};
 use instructions::{Instr, Op, Predictor, Reg};
 
@@ -20,8 +19,8 @@ fn each_answers_as_its_name_says(rt: HostRuntime) {
     for (which, before, learnt) in cases {
         let branch = Instr::new(Op::Bne, Reg::ZERO, Reg::ZERO, Reg::ZERO, TARGET);
         let mut predictor = choose(which);
-        same(&rt, &predictor.predict(PC, &branch), &before);
+        assert_eq!(rt; predictor.predict(PC, &branch), before);
         predictor.told(PC, TARGET);
-        same(&rt, &predictor.predict(PC, &branch), &learnt);
+        assert_eq!(rt; predictor.predict(PC, &branch), learnt);
     }
 }

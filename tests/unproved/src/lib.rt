@@ -1,0 +1,31 @@
+//! Tests that are compiled and run, and not proved: rows of calls, of the words of a command line, and of the one-thread
+//! unit's turns. What they call is proved; that they may call it is, for each of these functions, in a crate that does.
+
+#[cfg(test)]
+mod asked;
+#[cfg(test)]
+mod assembled;
+#[cfg(test)]
+mod choices;
+#[cfg(test)]
+mod command_lines;
+#[cfg(test)]
+mod layouts;
+#[cfg(test)]
+mod lines;
+#[cfg(test)]
+mod listings;
+#[cfg(test)]
+mod loads;
+#[cfg(test)]
+mod making;
+#[cfg(test)]
+mod one_station;
+#[cfg(test)]
+mod operations;
+#[cfg(test)]
+mod programs;
+#[cfg(test)]
+mod reports;
+#[cfg(test)]
+mod turns;
