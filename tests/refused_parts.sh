@@ -18,5 +18,5 @@ while read -r crate name; do
   [ $n -gt 1 ] || fail "$crate, $name: no allocation was refused"
   echo "$crate, $name: each of $((n - 1)) allocations was refused in turn"
 done <<'END_OF_TESTS'
-tests_of_runs threads::renewals::a_run_that_is_refused_memory_renews_at_the_next_try
+proved_tests threads::renewals::a_run_that_is_refused_memory_renews_at_the_next_try
 END_OF_TESTS

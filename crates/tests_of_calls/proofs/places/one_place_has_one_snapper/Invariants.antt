@@ -1,4 +1,0 @@
-use Rattle.tests_of_calls.proofs.places.one_place_has_one_snapper.Given as goal
-
-abbrev pub ghosts-has_one_snapper : goal.ghosts-has_one_snapper
-ghosts-has_one_snapper g a = record { program = a.setup.now.program }
