@@ -1,27 +1,50 @@
 //! Runs each listing of the examples and of the worked rows in each form, and tells where one does not go as the report
-//! beside it says.
+//! beside it says; or, with the word `time`, times the listing of standard input.
 #![tactic(auto)]
 
 mod example;
 mod forms;
 mod slow;
+mod times;
 
 use example::Example;
 use forms::{Answer, FORMS, HELD, from_bytes_to_bytes, in_order, is_named_twice, run};
 use pool::Open;
 use slow::Slow;
-use std::io;
+use std::env;
+use std::io::{self, Eprint};
+use std::process::ExitCode;
 use std::sync::Wait;
 use std::thread::Threads;
 
 /// The folders of listings, and how the names of their listings begin.
 const FOLDERS: &[(&str, &str)] = &[(".", ""), ("rows", "rows/")];
 
-fn main(rt: HostRuntime) -> io::Result<()> {
+fn main(rt: HostRuntime) -> ExitCode {
+    let Ok(words) = words(&rt) else {
+        return ExitCode::from(5);
+    };
+    if words.get(1).is_some_and(|word| word.as_str() == "time") {
+        return times::time(&rt, &rt, &words[2..]);
+    }
+    if let Err(error) = tell_all(&rt, &rt) {
+        let _ = eprintln!(rt; "examples: {error}");
+        return ExitCode::from(5);
+    }
+    ExitCode::from(0)
+}
+
+// The words of the command line, its own name among them.
+fn words(rt: &HostRuntime) -> io::Result<Vec<String>> {
+    Ok(env::args(rt)?.collect(rt.alloc())?)
+}
+
+// Runs each listing.
+fn tell_all<T: Threads + Wait + Sync>(rt: &HostRuntime, wait: &T) -> io::Result<()> {
     for &(folder, begin) in FOLDERS {
-        for name in &example::names(&rt, folder, begin)? {
-            let example = Example::read(&rt, name.as_str())?;
-            tell(&rt, &rt, &example)?;
+        for name in &example::names(rt, folder, begin)? {
+            let example = Example::read(rt, name.as_str())?;
+            tell(rt, wait, &example)?;
         }
     }
     Ok(())

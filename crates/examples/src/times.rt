@@ -1,9 +1,7 @@
-//! Times the parser, the in-order machine and the one-thread unit on the listing of standard input; or, given a
+//! Times of the parser, the in-order machine and the one-thread unit on the listing of standard input; or, given a
 //! number of units and a limit of instructions, and then also the stations, the first tag, and how many nanoseconds
-//! longer each unit takes for what it has claimed, the one-thread unit and the unit shared by threads, whose reports
+//! longer each unit takes for what it has claimed, of the one-thread unit and the unit shared by threads, whose reports
 //! have to be the same. Standard output stays empty; the count and the times in microseconds go to standard error.
-#![tactic(auto)]
-
 use counted_io::{Counted, read_up_to};
 use inorder::Machine;
 use instructions::{Bimod, Config, End, Program};
@@ -12,7 +10,6 @@ use one_thread::Bench;
 use pool::{Gate, Open, Run, Tally, run};
 use snapshots::Snap;
 use std::alloc::Global;
-use std::env;
 use std::io::Eprint;
 use std::process::ExitCode;
 use std::sync::Wait;
@@ -76,16 +73,13 @@ fn take<R: Clock>(clock: &R, nanos: u64) {
     }
 }
 
-fn main(rt: HostRuntime) -> ExitCode {
-    let result = match asked(&rt) {
-        Ok(None) => time_alone(&rt),
-        Ok(Some(shape)) => match read(&rt) {
-            Ok(bytes) => time_pool(&rt, rt.alloc(), bytes.as_slice(), &shape),
-            Err(failure) => Err(failure),
-        },
-        Err(failure) => Err(failure),
-    };
-    ExitCode::from(match result {
+/// Times what the words behind `time` ask for, and gives the exit status.
+pub fn time<R: Clock + Eprint + Threads + Wait + Sync>(
+    rt: &HostRuntime,
+    wait: &R,
+    words: &[String],
+) -> ExitCode {
+    ExitCode::from(match timed(rt, wait, words) {
         Ok(()) => 0,
         Err(Failure::Text) => 2,
         Err(Failure::Words) => 3,
@@ -94,24 +88,30 @@ fn main(rt: HostRuntime) -> ExitCode {
     })
 }
 
-// What the threads are to run, if the command line has it.
-fn asked(rt: &HostRuntime) -> Result<Option<Shape>, Failure> {
-    let Ok(words) = env::args(rt) else {
-        return Err(Failure::Words);
-    };
-    let Ok(words) = words.collect(rt.alloc()) else {
-        return Err(Failure::Resource);
-    };
-    let words: &Vec<String> = &words;
-    if words.len() <= 1 {
+fn timed<R: Clock + Eprint + Threads + Wait + Sync>(
+    rt: &HostRuntime,
+    wait: &R,
+    words: &[String],
+) -> Result<(), Failure> {
+    let asked = asked(words)?;
+    let bytes = read(rt)?;
+    match asked {
+        None => time_alone(wait, rt.alloc(), bytes.as_slice()),
+        Some(shape) => time_pool(wait, rt.alloc(), bytes.as_slice(), &shape),
+    }
+}
+
+// What the threads are to run, if there are words for it.
+fn asked(words: &[String]) -> Result<Option<Shape>, Failure> {
+    if words.is_empty() {
         return Ok(None);
     }
     Ok(Some(Shape {
-        units: number(words.get(1), None)?,
-        limit: number(words.get(2), None)?,
-        ring: number(words.get(3), Some(16))?,
-        first_tag: number(words.get(4), Some(1))?,
-        longer: number(words.get(5), Some(0))?,
+        units: number(words.first(), None)?,
+        limit: number(words.get(1), None)?,
+        ring: number(words.get(2), Some(16))?,
+        first_tag: number(words.get(3), Some(1))?,
+        longer: number(words.get(4), Some(0))?,
     }))
 }
 
@@ -173,12 +173,11 @@ fn report(alloc: Global, end: &End) -> Result<String, Failure> {
     report_text(alloc, end).map_err(|_| Failure::Resource)
 }
 
-fn time_alone(rt: &HostRuntime) -> Result<(), Failure> {
-    let bytes = read(rt)?;
+fn time_alone<R: Clock + Eprint>(rt: &R, alloc: Global, bytes: &[u8]) -> Result<(), Failure> {
     let started = now(rt)?;
-    let program = parsed(rt.alloc(), bytes.as_slice())?;
+    let program = parsed(alloc, bytes)?;
     let parsed = now(rt)?;
-    let Ok(mut machine) = Machine::new(rt.alloc(), &program) else {
+    let Ok(mut machine) = Machine::new(alloc, &program) else {
         return Err(Failure::Resource);
     };
     let _ended = machine.run(LIMIT);
@@ -190,7 +189,7 @@ fn time_alone(rt: &HostRuntime) -> Result<(), Failure> {
         first_tag: 1,
         longer: 0,
     };
-    let n = run_alone(rt.alloc(), &program, &configured(&shape)?)?.n;
+    let n = run_alone(alloc, &program, &configured(&shape)?)?.n;
     let ended = now(rt)?;
     let parse_time = parsed.duration_since(started).as_micros();
     let run_time = ran.duration_since(parsed).as_micros();
