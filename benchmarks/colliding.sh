@@ -1,18 +1,18 @@
 #!/usr/bin/env bash
 # Prints how long the parser takes for labels whose names were chosen so that their hashes meet, beside names that just
-# come and beside the C splitter, for growing numbers of labels, all measured in this run. Crate speed is built first.
+# come and beside the C splitter, for growing numbers of labels, all measured in this run. Program examples is built first.
 set -eu
 cd "$(dirname "$0")/.."
 work=$(mktemp -d)
 trap 'rm -rf "$work"' EXIT
 
-(cd crates/speed && rt run < /dev/null > "$work/build.log" 2>&1) || { cat "$work/build.log"; exit 1; }
+(cd crates/examples && rt run -- time < /dev/null > "$work/build.log" 2>&1) || { cat "$work/build.log"; exit 1; }
 cc -O2 -o "$work/colliding" benchmarks/colliding.c
 cc -O2 -o "$work/split" benchmarks/split.c
 
 # the least of seven times, in milliseconds
 parsed() { # listing
-  for _ in 1 2 3 4 5 6 7; do crates/speed/out/speed < "$1" 2>&1 > /dev/null; done |
+  for _ in 1 2 3 4 5 6 7; do crates/examples/out/examples time < "$1" 2>&1 > /dev/null; done |
     awk 'NR == 1 || $2 < least { least = $2 } END { print least / 1000 }'
 }
 

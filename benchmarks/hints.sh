@@ -14,9 +14,24 @@ work=$(mktemp -d)
 trap 'rm -rf "$work"' EXIT
 
 [ -d "$before" ] || git worktree add -q --detach "$before" "$commit"
-for tree in "$before" .; do
-  (cd "$tree/crates/speed" && rt run < /dev/null > "$work/build.log" 2>&1) || { cat "$work/build.log"; exit 1; }
-done
+
+# In older commits the program that times a listing is a crate of its own.
+built() { # tree
+  local crate=examples words=(-- time)
+  [ ! -d "$1/crates/speed" ] || { crate=speed; words=(); }
+  (cd "$1/crates/$crate" && rt run "${words[@]}" < /dev/null > "$work/build.log" 2>&1) || { cat "$work/build.log"; exit 1; }
+}
+
+timed() { # tree, words
+  if [ -d "$1/crates/speed" ]; then
+    "$1/crates/speed/out/speed" "${@:2}"
+  else
+    "$1/crates/examples/out/examples" time "${@:2}"
+  fi
+}
+
+built .
+built "$before"
 
 # the least and the middle of a column of times
 shown() { # column, file
@@ -30,8 +45,8 @@ for program in loop mixed; do
   for units in 1 2 4 16 64; do
     rm -f "$work/with" "$work/before"
     for _ in $(seq "$times"); do
-      crates/speed/out/speed $units "$limit" < "benchmarks/$program.s" 2>> "$work/with"
-      "$before/crates/speed/out/speed" $units "$limit" < "benchmarks/$program.s" 2>> "$work/before"
+      timed . $units "$limit" < "benchmarks/$program.s" 2>> "$work/with"
+      timed "$before" $units "$limit" < "benchmarks/$program.s" 2>> "$work/before"
     done
     echo "$program $units $limit $(shown 4 with) $(shown 4 before)" |
       awk '{ r = $3 * 1e6; printf "%-7s %5d %8.0f %8.0f %9.0f %8.0f %12.2f %7.2f\n", $1, $2, r / $4, r / $5, r / $6, r / $7, $6 / $4, $7 / $5 }'

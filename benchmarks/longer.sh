@@ -10,7 +10,7 @@ times=${TIMES:-3}
 work=$(mktemp -d)
 trap 'rm -rf "$work"' EXIT
 
-(cd crates/speed && rt run < /dev/null > "$work/build.log" 2>&1) || { cat "$work/build.log"; exit 1; }
+(cd crates/examples && rt run -- time < /dev/null > "$work/build.log" 2>&1) || { cat "$work/build.log"; exit 1; }
 
 echo "program  longer by   one thread, reckoned / shared: with 1 unit   2 units   4 units"
 for program in loop mixed; do
@@ -19,7 +19,7 @@ for program in loop mixed; do
     for units in 1 2 4; do
       rm -f "$work/times"
       for _ in $(seq "$times"); do
-        crates/speed/out/speed "$units" "$limit" 16 1 "$longer" < "benchmarks/$program.s" 2>> "$work/times"
+        crates/examples/out/examples time "$units" "$limit" 16 1 "$longer" < "benchmarks/$program.s" 2>> "$work/times"
       done
       line="$line $(awk -v longer="$longer" \
         'NR == 1 || $3 < alone { alone = $3 } NR == 1 || $4 < shared { shared = $4 }

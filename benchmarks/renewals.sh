@@ -10,11 +10,11 @@ units=${UNITS:-2}
 work=$(mktemp -d)
 trap 'rm -rf "$work"' EXIT
 
-(cd crates/speed && rt run < /dev/null > "$work/build.log" 2>&1) || { cat "$work/build.log"; exit 1; }
+(cd crates/examples && rt run -- time < /dev/null > "$work/build.log" 2>&1) || { cat "$work/build.log"; exit 1; }
 
 # microseconds on threads, instructions, renewals; the program ends with a status above 0 where the reports differ
 timed() { # first tag
-  crates/speed/out/speed "$units" "$limit" 2 "$1" < benchmarks/loop.s 2> "$work/said" || { echo "other reports, or no run: $(cat "$work/said")" >&2; exit 1; }
+  crates/examples/out/examples time "$units" "$limit" 2 "$1" < benchmarks/loop.s 2> "$work/said" || { echo "other reports, or no run: $(cat "$work/said")" >&2; exit 1; }
   sed -nE 's/^[0-9]+ ([0-9]+) [0-9]+ ([0-9]+) .*renewals: ([0-9]+).*$/\2 \1 \3/p' "$work/said"
 }
 

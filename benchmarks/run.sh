@@ -8,15 +8,15 @@ cd "$(dirname "$0")/.."
 work=$(mktemp -d)
 trap 'rm -rf "$work"' EXIT
 
-(cd crates/speed && rt run < /dev/null > "$work/build.log" 2>&1) || { cat "$work/build.log"; exit 1; }
+(cd crates/examples && rt run -- time < /dev/null > "$work/build.log" 2>&1) || { cat "$work/build.log"; exit 1; }
 
-# runs the yardstick and crate speed on a listing in turn, seven times
+# runs the yardstick and program examples on a listing in turn, seven times
 measure() { # listing, yardstick with its arguments
   local listing=$1
   shift
   for _ in 1 2 3 4 5 6 7; do
     "$@" >> "$work/yardstick"
-    crates/speed/out/speed < "$listing" 2>> "$work/here"
+    crates/examples/out/examples time < "$listing" 2>> "$work/here"
   done
 }
 
@@ -68,7 +68,7 @@ for program in loop mixed; do
   for units in 1 2 4 64; do
     rm -f "$work/here"
     for _ in 1 2 3 4 5; do
-      crates/speed/out/speed $units 300000 < "benchmarks/$program.s" 2>> "$work/here"
+      crates/examples/out/examples time $units 300000 < "benchmarks/$program.s" 2>> "$work/here"
     done
     awk -v name="threads, $program, $units units" -v alone="$(least 3 here)" -v pool="$(least 4 here)" \
       'BEGIN { printf "%-28s %9.0f instructions/s   one thread %9.0f   ratio %.3f\n", name, 3e11 / pool, 3e11 / alone, alone / pool }'

@@ -14,7 +14,7 @@ times=${TIMES:-9}
 work=$(mktemp -d)
 trap 'rm -rf "$work"' EXIT
 
-(cd crates/speed && rt run < /dev/null > "$work/build.log" 2>&1) || { cat "$work/build.log"; exit 1; }
+(cd crates/examples && rt run -- time < /dev/null > "$work/build.log" 2>&1) || { cat "$work/build.log"; exit 1; }
 cc -std=c11 -O2 -pthread -o "$work/twin" benchmarks/twin.c
 cc -std=c11 -O2 -pthread -DTOGETHER -o "$work/together" benchmarks/twin.c
 cc -std=c11 -O2 -pthread -DNO_HINTS -o "$work/unhinted" benchmarks/twin.c
@@ -34,7 +34,7 @@ for listing in "${listings[@]}"; do
   for units in 1 2 4 64; do
     rm -f "$work/here" "$work"/*.times
     for _ in $(seq "$times"); do
-      crates/speed/out/speed $units "$limit" < "$listing" 2>> "$work/here"
+      crates/examples/out/examples time $units "$limit" < "$listing" 2>> "$work/here"
       for it in twin together unhinted padded; do
         "$work/$it" "$work/numbers" $units "$limit" >> "$work/$it.times"
       done

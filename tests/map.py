@@ -18,7 +18,7 @@ LAYERS = [
     ("Threads", "hints counts workers pool"),
     ("What a command line asks for", "command_line command"),
     ("Programs", "alone ruu checker chart commits drive listing"),
-    ("Tests and measurements", "examples proved_tests speed"),
+    ("Tests and measurements", "examples proved_tests"),
 ]
 
 PICTURE = """\
