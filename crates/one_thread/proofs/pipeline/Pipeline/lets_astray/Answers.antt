@@ -6,9 +6,18 @@ use Rattle.one_thread.specs.Flow.{in_order, window_of}
 use Rattle.one_thread.specs.Window.{access_of, reaches_memory}
 use Rattle.one_thread.specs.declared.pipeline.Pipeline.{Pipeline}
 use Rattle.one_thread.proofs.BenchTurns.{guess_fixed}
+use Rattle.one_thread.proofs.FlowIn.{entered_room, enters}
 use Rattle.one_thread.proofs.LetAstray.{astray_decoded, astray_instr, astray_open, goes_astray, gone_astray, more_astray}
 use Rattle.one_thread.proofs.pipeline.Pipeline.lets_astray.Goals.{else-is_access-via-then-is_access+else-self-accesses, else-is_access-via-else-is_access}
 use Rattle.one_thread.proofs.pipeline.Pipeline.lets_astray.Goals as goal
+
+pub overflow_add-accesses : goal.overflow_add-accesses
+overflow_add-accesses g c =
+    let b = c.args.self.now in
+    let flow = c.args.flow.now in
+    let n = c.requires in
+    let few = (entered_room (in_order n.placed.before flow) (in_order b flow) flow n.instr c.args.predicted n.placed.from (enters b flow c.args.predicted n)).2 in
+    omega (arith, few, c.access.ensures.small)
 
 pub loop-count-init : goal.loop-count-init
 loop-count-init g c =

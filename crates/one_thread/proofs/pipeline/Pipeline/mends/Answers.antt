@@ -1,4 +1,4 @@
-use Rattle.std.proofs.Common.{◌≡◌, ◌<◌, ◌≤◌, length, Some, sym, ap, ◌∙◌, subst, arith}
+use Rattle.std.proofs.Common.{◌≡◌, ◌<◌, ◌≤◌, ◌∷◌, [], length, length-append, Some, sym, ap, ◌∙◌, subst, arith}
 use Rattle.instructions.specs.Instruction.{fixed_next}
 use Rattle.std.specs.Prelude.{IfSome}
 use Rattle.instructions.specs.Programs.{instr_at}
@@ -6,6 +6,7 @@ use Rattle.instructions.specs.declared.instr.Instr.{Instr}
 use Rattle.one_thread.specs.Astray.{FindsOperands}
 use Rattle.one_thread.specs.Flow.{Completes, completed_as, in_order}
 use Rattle.one_thread.specs.Kept.{kept_with}
+use Rattle.one_thread.specs.Slots.{slot_in}
 use Rattle.one_thread.specs.declared.pipeline.Pipeline.{Pipeline}
 use Rattle.one_thread.proofs.FlowEnters.{Joins, joins_mended, joins_order}
 use Rattle.one_thread.proofs.FlowIn.{entered_room, enters}
@@ -32,6 +33,11 @@ joins-requires-clause-few g c = (room g (goal.at.joins-requires-clause-few g c).
 
 pub joins-requires-clause-accesses : goal.joins-requires-clause-accesses
 joins-requires-clause-accesses g c = (room g (goal.at.joins-requires-clause-accesses g c).After-lets_astray).2
+
+pub joins-requires-clause-station : goal.joins-requires-clause-station
+joins-requires-clause-station g c =
+    let ring = c.args.flow.now.ring in
+    c.station_at-station.ensures.value ∙ ap (slot_in ring.size ring.oldest) c.len.ensures.value
 
 -- It has joined
 
@@ -73,6 +79,9 @@ returns-clause-flows g c =
     let a = c.lets_astray in
     joins_mended c.args.self.now c.args.flow.now c.joins.new.self c.args.predicted c.args.done (joins g (goal.at.returns-clause-flows g c).After-joins)
     a.new.self a.ensures.rest a.ensures.astray c.requires.misses
+
+pub returns-clause-longer : goal.returns-clause-longer
+returns-clause-longer g c = omega (arith, ap length c.joins.ensures.completed, length-append c.args.flow.now.ring.completed (c.completed-completed.result ∷ []))
 
 pub returns-clause-order : goal.returns-clause-order
 returns-clause-order g c =

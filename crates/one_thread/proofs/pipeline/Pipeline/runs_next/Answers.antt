@@ -1,10 +1,13 @@
 use Rattle.std.proofs.Common.{◌≡◌, ◌≤◌, ◌+◌, ℕ, ◌∷◌, [], length, length-append, Some, inl, inr, refl, sym, ap, ◌∙◌, subst, arith}
+use Rattle.std.specs.Prelude.{IfSome}
 use Rattle.instructions.specs.Guesses.{Guesses}
 use Rattle.instructions.specs.Instruction.{fixed_next, width}
+use Rattle.instructions.specs.declared.op.Half.TheVariants.{Low}
 use Rattle.instructions.specs.declared.stop.Outcome.TheVariants.{Address}
 use Rattle.lsq.specs.LoadRule.{lacks_address, youngest}
 use Rattle.one_thread.specs.Astray.{FindsOperands, IsUpcoming}
 use Rattle.one_thread.specs.Changes.{registers_of}
+use Rattle.one_thread.specs.Decoding.{KnownAs}
 use Rattle.one_thread.specs.Flow.{CanRestore, Completes, IsLeftOpen, Reopens, completed_as, enters_as, in_order, outcome_in, window_of}
 use Rattle.one_thread.specs.Kept.{kept_with}
 use Rattle.one_thread.specs.declared.flow.Flow.{Flow}
@@ -16,7 +19,7 @@ use Rattle.one_thread.proofs.FlowJoins.{HasJoined, has_joined}
 use Rattle.one_thread.proofs.FlowStays.{all_closed}
 use Rattle.one_thread.proofs.StoresKnown.{stores_known}
 use Rattle.one_thread.proofs.pipeline.Pipeline.runs_next.Given.{Over}
-use Rattle.one_thread.proofs.pipeline.Pipeline.runs_next.Goals.{After-closed, After-operands-operands}
+use Rattle.one_thread.proofs.pipeline.Pipeline.runs_next.Goals.{After-closed, After-fetch_known-instr, After-operands-operands}
 use Rattle.one_thread.proofs.pipeline.Pipeline.runs_next.Goals as goal
 
 -- The next instruction, as it was fetched, predicted and read
@@ -46,7 +49,49 @@ finds g c =
     let read = c.operands-operands.ensures in
     record { first_small = read.registers.0; second_small = read.registers.1; first = read.first; second = read.second }
 
+-- What is known of it
+
+known : (g : Over) (c : After-fetch_known-instr g) → KnownAs c.args.known c.fetch_known-instr.result.now
+known g c =
+    let place = c.requires.place.placed in
+    let P = place.before.program.now in
+    c.requires.kind P c.fetch_known-instr.result.now (place_decoded c.args.self.now c.args.flow.now c.args.self.now.code.items place refl)
+    (c.fetch_known-instr.ensures P (place_decoded c.args.self.now c.args.flow.now c.as_slice.result.now place c.as_slice.ensures.value))
+
+pub fetch_known-instr-requires : goal.fetch_known-instr-requires
+fetch_known-instr-requires g c =
+    let place = c.requires.place.placed in
+    record {
+      program = place.before.program.now;
+      decoded = place_decoded c.args.self.now c.args.flow.now c.as_slice.result.now place c.as_slice.ensures.value;
+      instr = place.can.instr;
+      is = place.can.is;
+    }
+
+pub guess_behind-predicted-requires : goal.guess_behind-predicted-requires
+guess_behind-predicted-requires g c = known g (goal.at.guess_behind-predicted-requires g c).After-fetch_known-instr
+
+pub completes-requires-clause-kind : goal.completes-requires-clause-kind
+completes-requires-clause-kind g c = known g (goal.at.completes-requires-clause-kind g c).After-fetch_known-instr
+
+pub completed-completed-requires-clause-kind : goal.completed-completed-requires-clause-kind
+completed-completed-requires-clause-kind g c = known g (goal.at.completed-completed-requires-clause-kind g c).After-fetch_known-instr
+
+pub joins-requires-clause-kind : goal.joins-requires-clause-kind
+joins-requires-clause-kind g c = known g (goal.at.joins-requires-clause-kind g c).After-fetch_known-instr
+
+pub joins-requires-clause-first : goal.joins-requires-clause-first
+joins-requires-clause-first g c = subst (λ h. IfSome c.args.known (λ k. h ≡ Low)) c.requires.half c.requires.first
+
+-- What it reads
+
 -- It is left as it was let
+
+pub returns-in_default-clause-order : goal.returns-in_default-clause-order
+returns-in_default-clause-order g c = ap (in_order c.args.self.now) c.stays.ensures
+
+pub returns-then-has_load_behind-clause-order : goal.returns-then-has_load_behind-clause-order
+returns-then-has_load_behind-clause-order g c = ap (in_order c.args.self.now) c.stays-then-has_load_behind.ensures
 
 stays : (g : Over) (c : After-operands-operands g) → let flow = c.args.flow.now in
     let left : Flow = record flow { last = Some (enters_as flow c.fetch_known-instr.result.now c.guess_behind-predicted.result) } in
@@ -156,3 +201,9 @@ returns-clause-entered g c =
       ];
       longer = omega (arith, ap length c.joins.ensures.completed, length-append c.args.flow.now.ring.completed (c.completed-completed.result ∷ []));
     }
+
+pub returns-then-not-is_alone-clause-order : goal.returns-then-not-is_alone-clause-order
+returns-then-not-is_alone-clause-order g c = c.mends.ensures.order
+
+pub returns-then-not-is_alone-clause-rest : goal.returns-then-not-is_alone-clause-rest
+returns-then-not-is_alone-clause-rest g c = c.mends.ensures.rest
