@@ -49,7 +49,7 @@ finds g c =
     let read = c.operands-operands.ensures in
     record { first_small = read.registers.0; second_small = read.registers.1; first = read.first; second = read.second }
 
--- What is known of it
+-- The kind that is known of the next instruction
 
 known : (g : Over) (c : After-fetch_known-instr g) → KnownAs c.args.known c.fetch_known-instr.result.now
 known g c =
@@ -82,8 +82,6 @@ joins-requires-clause-kind g c = known g (goal.at.joins-requires-clause-kind g c
 
 pub joins-requires-clause-first : goal.joins-requires-clause-first
 joins-requires-clause-first g c = subst (λ h. IfSome c.args.known (λ k. h ≡ Low)) c.requires.half c.requires.first
-
--- What it reads
 
 -- It is left as it was let
 
@@ -187,6 +185,12 @@ returns-then-not-is_alone-clause-entered g c =
       longer = on.longer;
     }
 
+pub returns-then-not-is_alone-clause-order : goal.returns-then-not-is_alone-clause-order
+returns-then-not-is_alone-clause-order g c = c.mends.ensures.order
+
+pub returns-then-not-is_alone-clause-rest : goal.returns-then-not-is_alone-clause-rest
+returns-then-not-is_alone-clause-rest g c = c.mends.ensures.rest
+
 pub returns-clause-entered : goal.returns-clause-entered
 returns-clause-entered g c =
     let on = joins g c in
@@ -201,9 +205,3 @@ returns-clause-entered g c =
       ];
       longer = omega (arith, ap length c.joins.ensures.completed, length-append c.args.flow.now.ring.completed (c.completed-completed.result ∷ []));
     }
-
-pub returns-then-not-is_alone-clause-order : goal.returns-then-not-is_alone-clause-order
-returns-then-not-is_alone-clause-order g c = c.mends.ensures.order
-
-pub returns-then-not-is_alone-clause-rest : goal.returns-then-not-is_alone-clause-rest
-returns-then-not-is_alone-clause-rest g c = c.mends.ensures.rest
