@@ -1,10 +1,28 @@
 use Rattle.std.proofs.Common.{◌≡◌, Some, refl, sym, ap, ◌∙◌, subst}
 use Rattle.std.specs.Prelude.{option_copied, slice_get, slice_set}
+use Rattle.std.proofs.lemmas.Option.{slice_get_within}
+use Rattle.circular_buffer.proofs.Places.{slice_get-set_same}
 use Rattle.one_thread.specs.Changes.{registers_of}
-use Rattle.one_thread.specs.Notes.{AreNoted}
+use Rattle.one_thread.specs.Notes.{AreNoted, settled_at, settled_by}
 use Rattle.one_thread.specs.Window.{station_after}
 use Rattle.one_thread.proofs.Noted.{noted_ran}
 use Rattle.one_thread.proofs.pipeline.Pipeline.claims.Goals as goal
+
+pub finish-requires : goal.finish-requires
+finish-requires c =
+    slice_get_within c.args.self.now.window c.args.ready.at c.in-Some.station.now (sym c.peek.ensures ∙ ap option_copied c.in-Some.is)
+
+pub returns-clause-settles : goal.returns-clause-settles
+returns-clause-settles c =
+    let W = c.args.self.now.window in
+    let at = c.args.ready.at in
+    let w = c.in-Some.station.now in
+    let is : slice_get W at ≡ Some w = sym c.peek.ensures ∙ ap option_copied c.in-Some.is in
+    let y = station_after w c.outcome_of-outcome.result in
+    ap (λ l. settled_at (slice_get l at)) (c.finish.ensures.window w is refl)
+    ∙ ap settled_at (slice_get-set_same W at y (slice_get_within W at w is))
+    ∙ ap (λ k. settled_by k y.stage) (sym c.kind-kind.ensures)
+    ∙ sym c.finish.ensures.settles
 
 pub returns-clause-noted : goal.returns-clause-noted
 returns-clause-noted c =
