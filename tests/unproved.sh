@@ -9,11 +9,11 @@ tar cf - HANDLES crates/*/src crates/*/specs crates/*/proofs | tar xf - -C "$wor
 crate=$work/crates/unproved from=$PWD/tests/unproved
 while read -r file; do
   install -D -m 644 "$from/$file" "$crate/${file%.rs}.rt"
-done < <(cd "$from" && find . -name '*.rs')
+done < <(cd "$from" && find src -name '*.rs')
 cd "$crate" || exit 1
 rt fmt > "$work/log" 2>&1 || { cat "$work/log"; fail 'rt fmt'; }
 while read -r file; do
   cmp -s "$file" "$from/${file%.rt}.rs" || fail "tests/unproved/${file%.rt}.rs is not as rt fmt writes it"
-done < <(find . -name '*.rt')
+done < <(find src -name '*.rt')
 rt try --test > "$work/log" 2>&1 || { tail -n 40 "$work/log"; fail 'a test of tests/unproved'; }
 grep '^test result: ' "$work/log"
