@@ -1,5 +1,5 @@
 //! Tests that are compiled and run, and not proved: rows of calls, of the words of a command line, and of the one-thread
-//! unit's turns. What they call is proved; that they may call it is, for each of these functions, in a crate that does.
+//! unit's turns. What they call is proved; that its conditions hold where they call it is not.
 
 #[cfg(test)]
 mod asked;
