@@ -1,5 +1,5 @@
 #!/usr/bin/env python3
-"""What the gate costs, by crate and part: benchmarks/gate.py [--to FILE] COMMAND .., as benchmarks/gate.py ./check --anew.
+"""What the gate costs, by crate and part: benchmarks/gate.py [--to FILE] COMMAND .., as benchmarks/gate.py rt ci --anew.
 
 Runs the command, looks each half second at the processes of the checker, and prints behind it a table of the seconds of one
 processor (user and system) of each crate: of its proof, of its tests, and of the edits that have to be refused. With --to the

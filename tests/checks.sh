@@ -110,6 +110,8 @@ if command -v script > /dev/null; then
   behind "$work/fault.s" "$("$check" check "$work/fault.s" | tail -n +2)" 2 2
   behind examples/sum.s '' 0 100
   echo 'a run on a terminal tells where it stopped'
+else
+  echo 'without the command script no run on a terminal was looked at'
 fi
 
 : > "$work/none"
@@ -154,7 +156,7 @@ for name in good bad_register; do
   echo "$name: each of $((n - 1)) allocations was refused in turn, $refused told"
 done
 
-# each word has its help and the version
+# four words have their help and the version; tests/script.sh asks all
 "$ruu" --version > "$work/version" || fail 'ruu --version'
 for words in 'ruu run' 'checker check' 'drive drive' listing; do
   read -r program word <<< "$words"
@@ -169,7 +171,7 @@ for words in 'ruu run' 'checker check' 'drive drive' listing; do
     grep -q '^Usage: ' "$work/out" && [ ! -s "$work/err" ] || fail "$words $option is told otherwise"
   done
 done
-echo 'each word tells its help and the version'
+echo 'four words tell their help and the version'
 
 # a run from standard input is that of the file
 for listing in examples/*.s; do

@@ -198,7 +198,7 @@ def page():
         of_crate = {key[1:]: said for key, said in found.items() if key[0] == crate}
         calls = {}
         for (file, function), said in of_crate.items():
-            for name in [] if crate.startswith("tests_") else names_outside(crate, file, function, said):
+            for name in [] if crate == "proved_tests" else names_outside(crate, file, function, said):
                 calls.setdefault(name.rpartition("::")[0], []).append((name, said))
         if calls:
             lines += [f"## {crate}\n", *(row for owner, of in calls.items() for row in rows_of(owner, of)), ""]

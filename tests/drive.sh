@@ -143,6 +143,8 @@ for name in relet queue steps snapshot renewed renewed_twice; do
       [ "$status" -eq 0 ] && sed 's/^Memory$/Renewed/' "$work/out" | cmp -s - "examples/drive/$name.told" \
         || fail "$name, allocation $n refused: the answers behind a refused renewal differ"
       kept=$((kept + 1))
+    else
+      [ "$status" -eq 0 ] || fail "$name, allocation $n refused: status $status"
     fi
   done
   [ $refused -gt 0 ] || fail "$name: no refusal was told of, of $((n - 1))"

@@ -50,7 +50,7 @@ Written by `tests/map.py` from `crates.txt` and the first sentence of each crate
 {picture}
 ```
 
-The picture has the crates that a run passes through. The list has all, the lowest layer first: a crate stands on crates of its own
+The picture has the main crates. The list has all, the lowest layer first: a crate stands on crates of its own
 layer and of earlier ones. [CONTRIBUTING.md](CONTRIBUTING.md) tells a crate's folders; `ruu` runs the programs, `prove` proves
 crates side by side, `check` is the gate.
 """

@@ -204,7 +204,7 @@ def check_rows(page):
             with open(at, encoding="utf-8", errors="replace") as it:
                 text = it.read()
             for name in re.findall(r"`([^`]+)`", names):
-                if (f"fn {name}(" if at.endswith(".rt") else name) not in text:
+                if (f"fn {name}(" if at.endswith((".rt", ".rs")) else name) not in text:
                     wrong(page, f"no {name} in {at}")
     with open(page, encoding="utf-8") as it:
         lines = [line for line in it if line.startswith("- ")]

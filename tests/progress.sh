@@ -10,7 +10,8 @@ for units in 1 4; do
   $ruu run examples/double.s --units $units > "$work/out" 2> "$work/err" || fail "$units units: status $?"
   grep -qxE 'tally lets 3 claims 3 finishes 3 stale 0 loads 0 retires 2 squashes 0 mends 0 hints [0-3] renewals 0' "$work/err" \
     || fail "$units units: another tally"
-  $ruu run examples/rows/two_mispredictions.s --bpred nottaken --ruu-size 2 --units $units > "$work/out" 2> "$work/err"
+  $ruu run examples/rows/two_mispredictions.s --bpred nottaken --ruu-size 2 --units $units > "$work/out" 2> "$work/err" \
+    || fail "$units units: status $?"
   grep -qE '^tally .* mends 2 ' "$work/err" || fail "$units units: not two mispredictions"
 done
 echo 'ruu: each step is counted once, and two mispredictions are two'

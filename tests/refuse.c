@@ -5,7 +5,7 @@
    joined.
    Where blocks were not given back when the program ends, 'held' is said. What the C library takes for itself, for its
    threads, is neither counted nor looked at: that is what it takes by calloc, which the programs do not call.
-   It names what it needs of the C library itself, so that a compiler without that library's headers builds it. */
+   This file names what it needs of the C library itself, so that a compiler without that library's headers builds it. */
 typedef __SIZE_TYPE__ size_t;
 typedef unsigned long thread;
 typedef int create(thread *, const void *, void *(*)(void *), void *);

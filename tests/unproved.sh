@@ -16,4 +16,5 @@ while read -r file; do
   cmp -s "$file" "$from/${file%.rt}.rs" || fail "tests/unproved/${file%.rt}.rs is not as rt fmt writes it"
 done < <(find src -name '*.rt')
 rt try --test > "$work/log" 2>&1 || { tail -n 40 "$work/log"; fail 'a test of tests/unproved'; }
-grep '^test result: ' "$work/log"
+count=$(find src -name '*.rt' -exec cat {} + | grep -c '^ *#\[test\]')
+grep "^test result: ok\. $count passed" "$work/log" || fail "not each of the $count tests of tests/unproved ran: is a mod line missing?"
