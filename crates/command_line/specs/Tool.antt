@@ -114,7 +114,7 @@ app_of_word Drive = drive_word
 
 -- what clap reads of an argument
 abbrev pub rule_of_argument : Argument → Rule
-rule_of_argument File = file_rule
+rule_of_argument (File help) = file_rule
 rule_of_argument (Valued name value help) = option_rule name.now
 rule_of_argument (Flag name help) = flag_rule name.now
 

@@ -10,8 +10,8 @@ use std::alloc::{AllocError, Global};
 /// An argument of a command, with its help.
 #[derive(Clone, Copy)]
 pub(crate) enum Argument {
-    /// The file of the listing.
-    File,
+    /// The file of the listing, with its help.
+    File(&'static str),
     /// An option with one value, and what help calls the value.
     Valued {
         name: &'static str,
@@ -25,16 +25,13 @@ pub(crate) enum Argument {
     },
 }
 
-const FILE: &str =
-    "The listing, one instruction a line, or - for standard input: see docs/LISTING.md";
-
 fn made<'a>(alloc: Global, argument: Argument) -> Arg<'a>
     ensures { IsArg (rule_of_argument argument) result }
 {
     match argument {
-        Argument::File => {
+        Argument::File(help) => {
             let file = Arg::new(alloc, "FILE");
-            file.required(true).help(FILE)
+            file.required(true).help(help)
         },
         Argument::Valued { name, value, help } => {
             let option = Arg::new(alloc, name);

@@ -81,6 +81,10 @@ macro_rules! flag {
     };
 }
 
+const FILE: Argument = Argument::File(
+    "The listing, one instruction a line, or - for standard input: see docs/LISTING.md",
+);
+
 const RING: Argument = valued!(
     "ruu-size",
     "N",
@@ -112,7 +116,7 @@ const SEED: Argument = valued!(
 );
 
 static RUN_ARGUMENTS: [Argument; 11] = [
-    Argument::File,
+    FILE,
     RING,
     QUEUE,
     valued!(
@@ -151,7 +155,7 @@ Exit status: 0 the listing ran to a break, 1 it stopped otherwise, 2 a fault in 
 5 no memory, no thread, or a file could not be opened, read or written.";
 
 static CHART_ARGUMENTS: [Argument; 7] = [
-    Argument::File,
+    FILE,
     RING,
     QUEUE,
     PREDICTOR,
@@ -176,7 +180,7 @@ Exit status: 0 the listing ran to a break, 1 it stopped otherwise, 2 a fault in 
 3 a mistake on the command line, 4 the limit of instructions was reached,
 5 no memory, or a file could not be opened, read or written.";
 
-static COMMITS_ARGUMENTS: [Argument; 6] = [Argument::File, RING, QUEUE, PREDICTOR, LIMIT, SEED];
+static COMMITS_ARGUMENTS: [Argument; 6] = [FILE, RING, QUEUE, PREDICTOR, LIMIT, SEED];
 
 const COMMITS_ABOUT: &str =
     "Runs a listing on one thread and writes a line for each instruction that is committed";
@@ -192,8 +196,8 @@ Exit status: 0 the listing ran to a break, 1 it stopped otherwise, 2 a fault in 
 5 no memory, or a file could not be opened, read or written.";
 
 static CHECK_ARGUMENTS: [Argument; 2] = [
-    Argument::File,
-    flag!("all", "Tell each fault, and not the first alone"),
+    FILE,
+    flag!("all", "Tell the first fault of each line, 200 at most"),
 ];
 
 const CHECK_ABOUT: &str =
@@ -206,7 +210,7 @@ Exit status: 0 a good listing, 2 a fault in it, 3 a mistake on the command line,
 5 no memory, or a file could not be opened, read or written.";
 
 static DRIVE_ARGUMENTS: [Argument; 9] = [
-    Argument::File,
+    Argument::File("The listing, one instruction a line: see docs/LISTING.md"),
     RING,
     QUEUE,
     PREDICTOR,
