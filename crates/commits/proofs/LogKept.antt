@@ -20,7 +20,7 @@ use Rattle.one_thread.specs.declared.station.Station.{Station}
 use Rattle.one_thread.specs.Changes.{registers_of, run_from}
 use Rattle.one_thread.specs.StandsFor.{StandsFor, StandsForSome}
 use Rattle.one_thread.specs.Turns.{Falls, Moves, SizesStay}
-use Rattle.one_thread.proofs.Ends.{one_over}
+use Rattle.one_thread.proofs.Ends.{ends_over}
 use Rattle.commits.specs.Lines.{commit_line}
 use Rattle.commits.specs.Logs.{last_line, line_of_step, log, log_after, log_from}
 use Rattle.commits.specs.Retirements.{HasCommittedNext, HasLogged, IsBeginning, HasOnlyItsEnd, final_line, log_ahead}
@@ -49,10 +49,10 @@ halts_by P s t c h = go (step P s) refl h
 step_of_one : (b later : Pipeline) (w : Station) → HasCommittedNext b w later → step b.program.now b.committed ≡ Goes later.committed
 step_of_one b later w h =
     let n = suc b.committed.count in
-    let zero_left : n - later.committed.count ≡ 0 = omega (arith, h.one.0) in
+    let zero_left : n - later.committed.count ≡ 0 = omega (arith, h.one) in
     let one_left : n - b.committed.count ≡ 1 = omega arith in
     goes_by b.program.now b.committed later.committed
-    (sym (ap (λ k. end_from later.program.now k later.committed) zero_left) ∙ h.one.1 n (omega arith)
+    (sym (ap (λ k. end_from later.program.now k later.committed) zero_left) ∙ h.ends n (omega arith)
     ∙ ap (λ k. end_from b.program.now k b.committed) one_left)
 
 pub log_next : (b later : Pipeline) (w : Station) (limit : ℕ) (registers : List ℕ) → HasCommittedNext b w later → b.committed.count < limit → registers ≡ registers_of later →
@@ -61,7 +61,7 @@ log_next b later w limit registers h less is =
     let P = b.program.now in
     let s = b.committed in
     let k = limit - later.committed.count in
-    let left : limit - s.count ≡ suc k = omega (arith, h.one.0, less) in
+    let left : limit - s.count ≡ suc k = omega (arith, h.one, less) in
     ap (λ n. log_from P n s) left
     ∙ ap (log_after (log_from P k) s.pc (instr_at P s.pc)) (step_of_one b later w h)
     ∙ ap (λ o. line_of_step s.pc o later.committed.registers ++ log_from P k later.committed) h.instr
@@ -71,7 +71,7 @@ log_next b later w limit registers h less is =
 
 -- The end
 
-run_alike : (start b : Pipeline) (limit : ℕ) → b.program ≡ start.program → b.committed ≡ start.committed → run_from b limit ≡ run_from start limit
+pub run_alike : (start b : Pipeline) (limit : ℕ) → b.program ≡ start.program → b.committed ≡ start.committed → run_from b limit ≡ run_from start limit
 run_alike start b limit p e =
     ap (λ q. end_from q.now (limit - b.committed.count) b.committed) p ∙ ap (λ s. end_from start.program.now (limit - s.count) s) e
 
@@ -89,13 +89,13 @@ pub at_stop : (start b later : Pipeline) (limit : ℕ) (c : Stop) → StandsForS
 at_stop start b later limit c h moves same falls p e less =
     let P = start.program.now in
     let s = start.committed in
-    let over = one_over start b later c h moves same p e falls in
     let n = suc s.count in
     let k = limit - s.count - 1 in
     let one_left : n - s.count ≡ 1 = omega arith in
-    let below : s.count < limit = omega (arith, ap (λ x. x.count) e, less) in
-    let left : limit - s.count ≡ suc k = omega (arith, below) in
-    let halts : step P s ≡ Halts c = halts_by P s later.committed c (over n (omega arith) ∙ ap (λ x. end_from P x s) one_left) in
+    let count = ap (λ x. x.count) e in
+    let left : limit - s.count ≡ suc k = omega (arith, count, less) in
+    let over = ends_over n b later c h moves same (omega (arith, count)) falls in
+    let halts : step P s ≡ Halts c = halts_by P s later.committed c (over ∙ run_alike start b n p e ∙ ap (λ x. end_from P x s) one_left) in
     record {
       ends = run_alike start later limit (same.program ∙ p) (falls ∙ e);
       log = ap (λ x. log_from P x s) left ∙ ap (log_after (log_from P k) s.pc (instr_at P s.pc)) halts

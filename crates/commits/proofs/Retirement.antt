@@ -1,5 +1,5 @@
 -- What a turn does to the registers that retirements have written, and what a retirement commits.
-use Rattle.std.proofs.Common.{◌≡◌, ◌≢◌, ℕ, suc, Bool, true, false, cond, not, List, [], ◌∷◌, ◌++◌, length, Option, Some, None, refl, sym, ap, ◌∙◌, subst, arith}
+use Rattle.std.proofs.Common.{◌≡◌, ◌≢◌, ◌<◌, ◌-◌, ℕ, suc, Bool, true, false, cond, not, List, [], ◌∷◌, ◌++◌, length, Option, Some, None, refl, sym, ap, ◌∙◌, subst, arith}
 use Rattle.std.specs.Prelude.{is_some, slice_get, unwrap_or}
 use Rattle.std.specs.List.{AllByRecursion}
 use Rattle.instructions.specs.Programs.{Program, instr_at}
@@ -10,6 +10,7 @@ use Rattle.inorder.specs.Committed.{ahead, commits, commits_by, committed, compl
 use Rattle.inorder.specs.Legal.{Allowed}
 use Rattle.inorder.specs.Machine.{write}
 use Rattle.inorder.specs.Moves.{IsReached}
+use Rattle.inorder.specs.Runs.{end_from}
 use Rattle.inorder.specs.Steps.{IsNoRetiredStop, MayRetire, made_at_end, retired}
 use Rattle.inorder.specs.Tenants.{Addr, Busy, Done, Fate, IsNotLive, Live, Miss, Open, Retired as RetiredStanding, Squashed, Standing, Stopped, Tenant, destination_of, instr, is_first, stands_on_path}
 use Rattle.inorder.specs.Unit.{Sizes, UpdateUnit, at, older}
@@ -30,11 +31,12 @@ use Rattle.one_thread.specs.Changes.{registers_of}
 use Rattle.one_thread.specs.StandsFor.{StandsFor, StandsForSome, sizes}
 use Rattle.one_thread.specs.Turns.{Falls, Halves, Moves, Retires, SizesStay}
 use Rattle.one_thread.specs.Window.{station_of, window}
-use Rattle.one_thread.proofs.Ends.{one_retired}
+use Rattle.one_thread.proofs.Ends.{ends_same}
 use Rattle.one_thread.proofs.Found.{window_middle, window_none}
 use Rattle.one_thread.proofs.Known.{ahead_stands}
 use Rattle.one_thread.proofs.Waiting.{first_writes}
 use Rattle.commits.specs.Retirements.{HasCommittedNext, registers_after}
+use Rattle.commits.proofs.LogKept.{run_alike}
 
 -- Who has left
 
@@ -227,7 +229,11 @@ committed_by start b later h moves U V ru su rv sv r same falls p e oldest is =
         instr = ap (λ q. instr_at q.now start.committed.pc) (sym p)
             ∙ ap (λ s. instr_at P s.pc) (sym e ∙ su.committed) ∙ oldest_instr P C U V r ru;
         program = same.program ∙ p;
-        one = one_retired start b later h moves same p e falls;
+        one = falls ∙ ap (λ s. suc s.count) e;
+        ends = λ limit less.
+            let below : b.committed.count < limit = omega (arith, ap (λ s. s.count) e, less) in
+            ap (λ q. end_from q.now (limit - later.committed.count) later.committed) same.program
+            ∙ ends_same limit b later Retired h moves same below (λ c o. absurd (cc)) falls ∙ run_alike start b limit p e;
         registers = now ∙ sym (ap (λ s. s.registers) (committed_behind_turn b later V same sv));
       };
       written = ap (λ o. registers_after o (registers_of b)) station

@@ -1,12 +1,12 @@
 -- Retirements of the unit as steps of the in-order machine.
-use Rattle.std.specs.Prelude.{◌≡◌, ℕ, ◌-◌, ◌≤◌, List, ◌++◌, length, take, Option, None, Some, unwrap_or}
+use Rattle.std.specs.Prelude.{◌≡◌, ℕ, suc, ◌-◌, ◌<◌, ◌≤◌, List, ◌++◌, length, take, Option, None, Some, unwrap_or}
 use Rattle.std.specs.Io.KnownBytes.{Appends}
 use Rattle.instructions.specs.Programs.{instr_at}
 use Rattle.instructions.specs.declared.end.Ending.{Ending}
 use Rattle.inorder.specs.Machine.{State, write}
 use Rattle.one_thread.specs.declared.pipeline.Pipeline.{Pipeline}
 use Rattle.one_thread.specs.declared.station.Station.{Station}
-use Rattle.one_thread.specs.Changes.{RetiresOne, registers_of, run_from}
+use Rattle.one_thread.specs.Changes.{registers_of, run_from}
 use Rattle.commits.specs.Logs.{last_line, log_from}
 
 -- the registers after the retirement of a station's tenant
@@ -14,13 +14,15 @@ abbrev pub registers_after : Option Station → List ℕ → List ℕ
 registers_after None registers = registers
 registers_after (Some w) registers = write registers w.destination (unwrap_or w.made 0)
 
--- The instruction of a station has committed: it stood at the committed pc, and the unit has now committed a step more. The
--- registers that its retirements have written are those that it has committed.
+-- The instruction of a station has committed: it stood at the committed pc, and the unit has now committed a step more. Each
+-- run with a limit that was not reached goes on as it did. The registers that the unit's retirements have written are those
+-- that it has committed.
 pub record HasCommittedNext (b : Pipeline) (w : Station) (later : Pipeline) : Type 0 where
   pub pc : w.pc ≡ b.committed.pc
   pub instr : instr_at b.program.now b.committed.pc ≡ Some w.instr
   pub program : later.program ≡ b.program
-  pub one : RetiresOne None b later
+  pub one : later.committed.count ≡ suc b.committed.count
+  pub ends : (limit : ℕ) → b.committed.count < limit → run_from later limit ≡ run_from b limit
   pub registers : registers_of later ≡ later.committed.registers
 
 -- the log of the steps that remain of a run

@@ -1,4 +1,6 @@
 -- One live tenant has come further, and all that is due was delivered.
+use Rattle.std.proofs.Common.{arith}
+use Rattle.std.proofs.lemmas.Grind.{common_steps}
 use Rattle.std.proofs.Common.{◌≡◌, ℕ, List, ◌∷◌, ◌++◌, None, sym, ap, ◌∙◌, subst}
 use Rattle.std.specs.Prelude.{slice_set}
 use Rattle.std.specs.List.{AllByRecursion}
@@ -10,7 +12,6 @@ use Rattle.inorder.specs.Unit.{UpdateUnit, how_many}
 use Rattle.inorder.specs.Tenants.{is_live}
 use Rattle.one_thread.proofs.Windows.{window_length}
 use Rattle.inorder.specs.Moves.{IsDeliver, IsReached, Leads, with_tenants}
-use Rattle.inorder.specs.Still.{AreStill}
 use Rattle.inorder.proofs.OneCaller.Execution.{ActRun}
 use Rattle.inorder.proofs.OneCaller.Sequences.{all_more, all_weaker, committed_on, deliver_quiet, sound_of}
 use Rattle.one_thread.specs.declared.pipeline.Pipeline.{Pipeline}
@@ -23,16 +24,15 @@ use Rattle.one_thread.proofs.Found.{window_alike, window_middle}
 use Rattle.one_thread.proofs.Leavers.{leaver_alike, leaver_put, told_live}
 use Rattle.one_thread.proofs.Scan.{set_middle}
 use Rattle.one_thread.proofs.Turns.{FoundIn, stand_on}
-use Rattle.one_thread.proofs.Known.{IsSplit}
 
 -- One tenant is changed in place, and all that is due delivered
 pub changed_stands : (b later : Pipeline) (U : UpdateUnit) (ys : List Tenant) (t u : Tenant) (ts : List Tenant) (steps : List Step) (w : Station) → b.over ≡ None →
     IsReached b.program.now (sizes b) U →
     StandsFor b U → U.tenants ≡ ys ++ t ∷ ts → t.standing ≡ Live → u.standing ≡ Live → u.station ≡ t.station → AllByRecursion IsNoRetire steps →
     (k : ActRun b.program.now (sizes b) 0 U ys t u ts steps) → Leads b.program.now (sizes b) 0 U (k.delivers ++ steps) (with_tenants U k.later) → station_of b.program.now u ≡ w →
-    later.window ≡ window b.program.now ts ++ w ∷ window b.program.now ys → StandsFor (record b { window = later.window; missed = later.missed; settled = later.settled }) (with_tenants U k.later)
+    later.window ≡ window b.program.now ts ++ w ∷ window b.program.now ys → StandsFor (record b { window = later.window }) (with_tenants U k.later)
 changed_stands b later U ys t u ts steps w none r s split lt lu st quiet k leads sw wl =
-    stand_on b later.window later.missed later.settled U (with_tenants U k.later) none s
+    stand_on b later.window U (with_tenants U k.later) none s
     (committed_on P (sizes b) 0 U (k.delivers ++ steps) (with_tenants U k.later) leads (sound_of P (sizes b) U r)
     (all_more IsNoRetire k.delivers steps (all_weaker IsDeliver IsNoRetire deliver_quiet k.delivers k.are) quiet))
     (λ n. leaver_alike P n (ys ++ u ∷ ts) k.later k.alike ∙ leaver_put P n ys t u ts st (told_live P u lu ∙ sym (told_live P t lt)) ∙ ap (λ X. leaver P X n) (sym split))
@@ -44,22 +44,7 @@ changed_stands b later U ys t u ts steps w none r s split lt lu st quiet k leads
     P = b.program.now
 
 pub set_shown : (P : Program) (W : List Station) (U : List Tenant) (i : ℕ) (w v : Station) → (f : FoundIn P W U i w) → slice_set W i v ≡ window P f.found.ts ++ v ∷ window P f.found.ys
-set_shown P W U i w v f =
-    ap (λ l. slice_set l i v) f.whole
-    ∙ ap (λ n. slice_set (window P f.found.ts ++ station_of P f.found.t ∷ window P f.found.ys) n v) f.found.place
-    ∙ set_middle (window P f.found.ts) (window P f.found.ys) (station_of P f.found.t) v
-
--- A live tenant has come further by these steps of its own, and all that is due was delivered
-pub record GoesOn (b : Pipeline) (U : UpdateUnit) (i : ℕ) (w : Station) (steps : List Tenant → List Step) (now : Pipeline) : Type 0 where
-  pub there : FoundIn b.program.now b.window U.tenants i w
-  pub split : IsSplit b there.found.ys there.found.t there.found.ts
-  pub unit : UpdateUnit
-  pub reached : IsReached b.program.now (sizes b) unit
-  pub stands : StandsFor now unit
-  pub delivers : List Step
-  pub are : AllByRecursion IsDeliver delivers
-  pub leads : Leads b.program.now (sizes b) 0 U (delivers ++ steps there.found.ts) unit
-  pub still : AreStill unit.tenants
+set_shown P W U i w v f = grind (arith, common_steps, set_middle)
 
 -- the age of the tenant that was found
 pub age_is : (b : Pipeline) (U : UpdateUnit) (i : ℕ) (w : Station) (f : FoundIn b.program.now b.window U.tenants i w) → how_many is_live f.found.ts ≡ i

@@ -1,5 +1,6 @@
 -- Turns by choice.
-use Rattle.std.proofs.Common.{◌≡◌, ℕ, suc, ◌%◌, ◌<◌, ◌++◌, true, false, Bool, cond, List, [], ◌∷◌, length, Option, Some, None, refl, sym, ap, ◌∙◌, subst, arith, eqb}
+use Rattle.std.proofs.lemmas.Grind.{common_steps}
+use Rattle.std.proofs.Common.{◌≡◌, ℕ, ◌%◌, ◌<◌, ◌++◌, true, false, Bool, cond, List, [], ◌∷◌, length, Some, None, refl, sym, ap, ◌∙◌, subst, arith, eqb}
 use Rattle.std.specs.Prelude.{option_map, slice_get}
 use Rattle.std.proofs.lemmas.List.{length-map}
 use Rattle.std.proofs.lemmas.Option.{slice_get-map}
@@ -8,23 +9,14 @@ use Rattle.instructions.specs.declared.stop.Stop.{Stop}
 use Rattle.instructions.specs.declared.stop.Stop.TheVariants.{BadPc}
 use Rattle.one_thread.specs.declared.bench.Turn.{Turn}
 use Rattle.one_thread.specs.declared.bench.Turn.TheVariants.{Over}
-use Rattle.one_thread.specs.declared.dispatch.Fetched.{Fetched}
 use Rattle.one_thread.specs.declared.pipeline.Pipeline.{Pipeline}
 use Rattle.one_thread.specs.declared.possible.Step.{Step}
-use Rattle.one_thread.specs.declared.possible.Step.TheVariants.{Retire}
-use Rattle.one_thread.specs.declared.recovery.Missed.{Missed}
-use Rattle.one_thread.specs.declared.station.Station.{Station}
-use Rattle.one_thread.specs.Changes.{NextOf, registers_of}
 use Rattle.one_thread.specs.Choices.{IsTurnBy, Nothing, OneOf}
-use Rattle.one_thread.specs.Loads.{load_in}
-use Rattle.one_thread.specs.Notes.{settled_at}
 use Rattle.one_thread.specs.Possible.{possible, steps_of}
-use Rattle.one_thread.specs.Stages.{FirstMiss}
 use Rattle.one_thread.specs.StandsFor.{HasStopped, OverIs, StandsForSome, sizes}
-use Rattle.one_thread.specs.Steps.{ArePossible, Makes, load_at, loads_of, named, next_let, recovery, retirement_of, run_at, runs_of}
+use Rattle.one_thread.specs.Steps.{ArePossible, IsFirstStep, Makes, named}
 use Rattle.one_thread.specs.Turns.{Before, BenchFields, Moves}
-use Rattle.one_thread.specs.Window.{operands_in}
-use Rattle.one_thread.proofs.CanLeave.{Refused, refused_settles}
+use Rattle.one_thread.proofs.FirstSteps.{nobody_first}
 use Rattle.one_thread.proofs.Leaving.{nowhere_turn}
 use Rattle.one_thread.proofs.Listed.{given_none}
 use Rattle.one_thread.proofs.PossibleUnit.{one_stopped, possible_is}
@@ -32,14 +24,12 @@ use Rattle.one_thread.proofs.PossibleUnit.{one_stopped, possible_is}
 -- The list that is chosen from
 
 pub none_listed : (steps : List Step) (b : Bool) → b ≡ eqb (length steps) 0 → b ≡ true → steps ≡ []
-none_listed [] b e t = refl
-none_listed (x ∷ xs) b e t = let no : eqb (suc (length xs)) 0 ≡ true = sym e ∙ t in absurd (grind (arith, no))
+none_listed steps b e t = grind (arith, common_steps)
 
 pub some_listed : (steps : List Step) (b : Bool) → b ≡ eqb (length steps) 0 → b ≡ false → 0 < length steps
-some_listed [] b e f = let no : true ≡ false = sym e ∙ f in absurd (cc)
-some_listed (x ∷ xs) b e f = omega arith
+some_listed steps b e f = grind (arith, common_steps)
 
--- Where no step is possible nobody is live
+-- Where none is listed there is no first
 
 first_empty : (xs ys : List Step) → xs ++ ys ≡ [] → xs ≡ []
 first_empty [] ys e = refl
@@ -49,68 +39,8 @@ second_empty : (xs ys : List Step) → xs ++ ys ≡ [] → ys ≡ []
 second_empty [] ys e = e
 second_empty (x ∷ xs) ys e = absurd (cc e)
 
-pub record IsIdle (b : Pipeline) : Type 0 where
-  pub lets : NextOf b None
-  pub nobody : slice_get b.window 0 ≡ None
-
-pub none_possible : (b : Pipeline) → StandsForSome b → b.over ≡ None → ArePossible b [] → IsIdle b
-none_possible b h none p = record { lets = refused.lets; nobody = go (slice_get b.window 0) refl }
-  where
-    regs : List ℕ
-    regs = registers_of b
-
-    misses : List Step
-    misses = recovery p.miss
-
-    lets : List Step
-    lets = next_let p.next
-
-    runs : List Step
-    runs = runs_of regs b.window (length b.window)
-
-    loads : List Step
-    loads = loads_of regs b.committed.memory b.window (length b.window)
-
-    retires : List Step
-    retires = retirement_of (slice_get b.window 0)
-
-    four : misses ++ lets ++ runs ++ loads ≡ []
-    four = first_empty (misses ++ lets ++ runs ++ loads) retires (sym p.list)
-
-    three : misses ++ lets ++ runs ≡ []
-    three = first_empty (misses ++ lets ++ runs) loads four
-
-    two : misses ++ lets ≡ []
-    two = first_empty (misses ++ lets) runs three
-
-    no_miss : (m : Option Missed) → recovery m ≡ [] → m ≡ None
-    no_miss None e = refl
-    no_miss (Some m) e = absurd (cc e)
-
-    no_let : (n : Option Fetched) → next_let n ≡ [] → n ≡ None
-    no_let None e = refl
-    no_let (Some n) e = absurd (cc e)
-
-    refused : Refused b
-    refused =
-        record {
-          none = none;
-          miss = subst (FirstMiss b.window) (no_miss p.miss (first_empty misses lets two)) p.is_miss;
-          lets = subst (NextOf b) (no_let p.next (second_empty misses lets two)) p.is_next;
-          ready = given_none (operands_in regs) run_at b.window (length b.window) (second_empty (misses ++ lets) runs three);
-          loads = given_none (load_in regs b.committed.memory) load_at b.window (length b.window) (second_empty (misses ++ lets ++ runs) loads four);
-        }
-
-    left : (x : Bool) → cond x (Retire ∷ []) [] ≡ [] → x ≡ true → ⊥
-    left true e q = cc e
-    left false e q = cc q
-
-    go : (o : Option Station) → slice_get b.window 0 ≡ o → o ≡ None
-    go None e = refl
-    go (Some w) e =
-        absurd
-        (left (settled_at (slice_get b.window 0)) (second_empty (misses ++ lets ++ runs ++ loads) retires (sym p.list))
-        (ap settled_at e ∙ refused_settles b h refused w e))
+pub none_possible : (b : Pipeline) → ArePossible b [] → IsFirstStep b None
+none_possible b p = grind (arith, common_steps, first_empty, second_empty, given_none)
 
 module _ {S Q : Type 0} (Predicts : S → ℕ → Instr → ℕ → S → Type 0) (Learns : S → ℕ → ℕ → S → Type 0) (Chooses : Q → ℕ → ℕ → Q → Type 0) where
   -- The unit has ended before
@@ -126,8 +56,8 @@ module _ {S Q : Type 0} (Predicts : S → ℕ → Instr → ℕ → S → Type 0
   pub nothing_by : (b : BenchFields S) (q : Q) → StandsForSome b.pipeline → b.pipeline.over ≡ None → ArePossible b.pipeline [] →
       IsTurnBy Predicts Learns Chooses b q (Over BadPc) b q
   nothing_by b q h none p U r s =
-      let i = none_possible b.pipeline h none p in
-      let m = nowhere_turn b.pipeline none h.room i.lets h.least i.nobody U r s in
+      let first = none_possible b.pipeline p in
+      let m = nowhere_turn b.pipeline none h.room first.1 h.least (nobody_first b.pipeline h first) U r s in
       record {
         made = record { unit = m.unit; reached = m.reached; stands = m.stands; does = m.does; trains = refl };
         picks = Nothing (sym (possible_is b.pipeline U [] none r s p)) m.is refl;
@@ -147,10 +77,6 @@ module _ {S Q : Type 0} (Predicts : S → ℕ → Instr → ℕ → S → Type 0
             (m.is ∙ ap (option_map named) (sym at) ∙ sym (slice_get-map named steps (choice % length steps)) ∙ ap (λ l. slice_get l (choice % length steps)) all
             ∙ ap (λ n. slice_get (possible b.pipeline.program.now (sizes b.pipeline) U) (choice % n)) long);
       }
-
-  -- The fields that a bench had before
-  pub seen_by : (b b' later : BenchFields S) (q r : Q) (turn : Turn) → b ≡ b' → IsTurnBy Predicts Learns Chooses b q turn later r → IsTurnBy Predicts Learns Chooses b' q turn later r
-  seen_by b b' later q r turn e t = subst (λ x. IsTurnBy Predicts Learns Chooses x q turn later r) e t
 
   -- Such a turn is made of legal steps
   pub moves_by : (b later : BenchFields S) (q r : Q) (turn : Turn) → IsTurnBy Predicts Learns Chooses b q turn later r → Moves b.pipeline turn later.pipeline

@@ -1,11 +1,12 @@
 -- How a run ends.
+use Rattle.std.proofs.lemmas.Grind.{common_steps}
 use Rattle.std.proofs.Common.{◌≡◌, ℕ, suc, ◌+◌, ◌-◌, ◌*◌, ◌^◌, ◌<◌, ◌≤◌, true, Option, Some, None, refl, sym, ap, ◌∙◌, subst, arith, mul-le-mul_right, suc-mul, true≢false}
 use Rattle.std.specs.Prelude.{is_some}
 use Rattle.instructions.specs.Programs.{Program}
 use Rattle.instructions.specs.declared.stop.Stop.{Stop}
 use Rattle.instructions.specs.declared.end.Ending.TheVariants.{Stop as ByStop}
 use Rattle.inorder.specs.Committed.{committed}
-use Rattle.inorder.specs.Machine.{Goes, Halts, Ran as RanStep, State, fetched, step}
+use Rattle.inorder.specs.Machine.{Goes, Halts, Ran as RanStep, State, step}
 use Rattle.inorder.specs.Runs.{after, end_after, end_from, next_state, stop, stop_of, then_state, then_stop}
 use Rattle.inorder.specs.Unit.{Sizes, UpdateUnit}
 use Rattle.inorder.proofs.Follows.{in_order}
@@ -14,7 +15,6 @@ use Rattle.inorder.proofs.OneCaller.Sequences.{sound_of}
 use Rattle.one_thread.specs.declared.bench.Turn.{Turn}
 use Rattle.one_thread.specs.declared.bench.Turn.TheVariants.{Halved, Let, Loaded, Over, Ran, Recovered, Retired}
 use Rattle.one_thread.specs.declared.pipeline.Pipeline.{Pipeline}
-use Rattle.one_thread.specs.Changes.{RetiresOne, run_from}
 use Rattle.one_thread.specs.StandsFor.{StandsForSome, sizes}
 use Rattle.one_thread.specs.Turns.{Before, EndsHere, Falls, Moves, Now, Nowhere, SizesStay, rank}
 use Rattle.one_thread.proofs.Ranks.{rank_bound}
@@ -29,11 +29,7 @@ state_is b h =
 over_stop : (P : Program) (C : Sizes) (U V : UpdateUnit) (c : Stop) → IsReached P C U → IsReached P C V → EndsHere P C U V c → stop P (committed P V.tenants).count ≡ Some c
 over_stop P C U V c r q (Before s e) = (in_order P V.tenants (sound_of P C V q)).stops s.p s.tenant c s.is s.retired s.fate
 over_stop P C U V c r q (Now k s) = (in_order P V.tenants (sound_of P C V q)).stops s.p s.tenant c s.is s.retired s.fate
-over_stop P C U V c r q (Nowhere b n e) =
-    ap (λ W. stop P (committed P W.tenants).count) e
-    ∙ ap (then_stop P) (in_order P U.tenants (sound_of P C U r)).state
-    ∙ ap (λ i. stop_of (fetched P (committed P U.tenants) i)) n.no_instr
-    ∙ ap Some (sym b)
+over_stop P C U V c r q (Nowhere b n e) = grind (arith, common_steps, sound_of P C U r, in_order)
 
 over_is : (b later : Pipeline) (c : Stop) → StandsForSome b → Moves b (Over c) later → SizesStay b later → stop b.program.now later.committed.count ≡ Some c
 over_is b later c h t e =
@@ -44,21 +40,15 @@ over_is b later c h t e =
 
 -- the state behind a turn is that of the machine in order
 state_next : (b later : Pipeline) (answer : Turn) → StandsForSome b → Moves b answer later → SizesStay b later → after b.program.now later.committed.count ≡ Some later.committed
-state_next b later answer h t e =
-    let P = b.program.now in
-    let n = t h.unit h.reached h.stands in
-    let same : later.committed ≡ committed P n.unit.tenants = n.stands.committed ∙ ap (λ Q. committed Q n.unit.tenants) (ap (λ p. p.now) e.program) in
-    subst (λ s. after P s.count ≡ Some s) (sym same) (in_order P n.unit.tenants (sound_of P (sizes b) n.unit n.reached)).state
+state_next b later answer h t e = grind (arith, common_steps, in_order, sound_of)
 
 -- One more step of the machine in order
 
 goes_of : (r : RanStep) (t : State) → next_state r ≡ Some t → r ≡ Goes t
-goes_of (Goes s) t e = let same : s ≡ t = cc in ap Goes same
-goes_of (Halts c) t e = absurd (cc)
+goes_of r t e = grind (arith, common_steps)
 
 halts_of : (r : RanStep) (c : Stop) → stop_of r ≡ Some c → r ≡ Halts c
-halts_of (Goes s) c e = absurd (cc)
-halts_of (Halts d) c e = let same : d ≡ c = cc in ap Halts same
+halts_of r c e = grind (arith, common_steps)
 
 end_goes : (P : Program) (k : ℕ) (s t : State) → step P s ≡ Goes t → end_from P (suc k) s ≡ end_from P k t
 end_goes P k s t e = ap (end_after (end_from P k) s) e
@@ -99,12 +89,10 @@ halves_left None = 1
 halves_left (Some v) = 0
 
 halves_most : (low : Option ℕ) → halves_left low ≤ 1
-halves_most None = omega arith
-halves_most (Some v) = omega arith
+halves_most low = grind (arith, common_steps)
 
 halves_none : (low : Option ℕ) → is_some low ≡ true → halves_left low ≡ 0
-halves_none None e = absurd (true≢false (sym e))
-halves_none (Some v) e = refl
+halves_none low e = grind (arith, common_steps, true≢false)
 
 abbrev pub retirements_left : ℕ → ℕ → Option ℕ → ℕ
 retirements_left limit count low = 2 * (limit - count) + halves_left low
@@ -114,50 +102,15 @@ left limit b = retirements_left limit b.committed.count b.low * 7 ^ 32 + rank 32
 
 -- a turn that retires nothing
 turn_falls : (limit : ℕ) (b later : Pipeline) → later.committed ≡ b.committed → later.low ≡ b.low → rank 32 later.window < rank 32 b.window → left limit later < left limit b
-turn_falls limit b later c l r =
-    let e : retirements_left limit later.committed.count later.low * 7 ^ 32 ≡ retirements_left limit b.committed.count b.low * 7 ^ 32 = ap
-    (λ s. retirements_left limit s.count later.low * 7 ^ 32) c ∙ ap (λ x. retirements_left limit b.committed.count x * 7 ^ 32) l in
-    omega (arith, e, r)
+turn_falls limit b later c l r = grind (arith, common_steps)
 
 -- one that does
 retirement_falls : (limit : ℕ) (b later : Pipeline) → suc (retirements_left limit later.committed.count later.low) ≤ retirements_left limit b.committed.count b.low → left limit later < left limit b
-retirement_falls limit b later less =
-    let m = mul-le-mul_right (7 ^ 32) less in
-    omega (arith, m, suc-mul (retirements_left limit later.committed.count later.low) (7 ^ 32), rank_bound 32 later.window)
+retirement_falls limit b later less = grind (arith, common_steps, mul-le-mul_right (7 ^ 32) less, rank_bound 32 later.window, suc-mul)
 
 pub left_falls : (limit : ℕ) (b later : Pipeline) (answer : Turn) → b.committed.count < limit → ((c : Stop) → answer ≡ Over c → ⊥) → Falls answer b later → left limit later < left limit b
-left_falls limit b later Recovered h n f = turn_falls limit b later f.0 f.1 f.2
-left_falls limit b later Let h n f = turn_falls limit b later f.0 f.1 f.2
-left_falls limit b later Ran h n f = turn_falls limit b later f.0 f.1 f.2
-left_falls limit b later Loaded h n f = turn_falls limit b later f.0 f.1 f.2
-left_falls limit b later Halved h n f =
-    retirement_falls limit b later (omega (arith, ap (λ s. s.count) f.0, ap halves_left f.1, halves_none later.low f.2))
-left_falls limit b later Retired h n f =
-    retirement_falls limit b later (omega (arith, h, f, halves_most later.low))
-left_falls limit b later (Over c) h n f = absurd (n c refl)
+left_falls limit b later answer h n f = grind (arith, common_steps, turn_falls, retirement_falls, halves_none, halves_most)
 
--- Turns up to a retirement
-
-run_alike : (b start : Pipeline) (limit : ℕ) → b.program ≡ start.program → b.committed ≡ start.committed → run_from b limit ≡ run_from start limit
-run_alike b start limit p e = ap (λ q. end_from q.now (limit - b.committed.count) b.committed) p ∙ ap (λ s. end_from start.program.now (limit - s.count) s) e
-
--- the last of them retires an instruction
-pub one_retired : (start b later : Pipeline) → StandsForSome b → Moves b Retired later → SizesStay b later → b.program ≡ start.program → b.committed ≡ start.committed →
-    Falls Retired b later → RetiresOne None start later
-one_retired start b later h l e p s f =
-    let count : b.committed.count ≡ start.committed.count = ap (λ x. x.count) s in (
-      f ∙ ap suc count,
-      λ limit less.
-          let below : b.committed.count < limit = omega (arith, count, less) in
-          ap (λ q. end_from q.now (limit - later.committed.count) later.committed) e.program
-          ∙ ends_same limit b later Retired h l e below (λ c o. absurd (cc)) f
-          ∙ run_alike b start limit p s,
-    )
-
--- the last of them ends the unit
-pub one_over : (start b later : Pipeline) (c : Stop) → StandsForSome b → Moves b (Over c) later → SizesStay b later → b.program ≡ start.program → b.committed ≡ start.committed →
-    Falls (Over c) b later → RetiresOne (Some c) start later
-one_over start b later c h l e p s f limit less =
-    let count : b.committed.count ≡ start.committed.count = ap (λ x. x.count) s in
-    let below : b.committed.count < limit = omega (arith, count, less) in
-    ends_over limit b later c h l e below f ∙ run_alike b start limit p s
+-- The count does not fall
+pub counts_on : (b later : Pipeline) (answer : Turn) → Falls answer b later → b.committed.count ≤ later.committed.count
+counts_on b later answer f = grind (arith, common_steps)

@@ -1,15 +1,12 @@
 -- The queue of a window, as it is built.
+use Rattle.std.proofs.lemmas.Grind.{common_steps}
 use Rattle.std.proofs.Common.{◌≡◌, ◌<◌, ◌≤◌, ◌-◌, ℕ, zero, suc, ◌+◌, Bool, true, false, cond, List, [], ◌∷◌, ◌++◌, length, take, Option, Some, None, refl, sym, ap, ◌∙◌, arith, length-append}
 use Rattle.std.proofs.Common.{length-take, true≢false}
 use Rattle.std.specs.Prelude.{slice_get, is_some, min}
 use Rattle.one_thread.specs.declared.station.Station.{Station}
 use Rattle.one_thread.specs.Givers.{given_at}
-use Rattle.one_thread.specs.Loads.{entries, entry_at, entry_behind, load_in, loaded_over, waits, waits_at, with_entry}
-use Rattle.one_thread.specs.Window.{reaches_memory}
+use Rattle.one_thread.specs.Loads.{entries, entry_at, load_in, waits, waits_at, with_entry}
 use Rattle.one_thread.proofs.Scan.{get_left, take_left}
-
-pub entries_step : (registers : List ℕ) (W : List Station) (k : ℕ) → entries registers W (k + 1) ≡ with_entry (entries registers W k) (entry_at registers W (slice_get W k) k)
-entries_step registers W k = let one : k + 1 ≡ suc k = omega arith in rw one refl
 
 -- the first k stations alone matter
 pub entries_left : (registers : List ℕ) (xs zs : List Station) (k : ℕ) → k ≤ length xs → entries registers (xs ++ zs) k ≡ entries registers xs k
@@ -22,17 +19,11 @@ entries_left registers xs zs (suc k) h =
     ∙ ap (with_entry (entries registers xs k)) (same (slice_get xs k) le)
   where
     same : (o : Option Station) → k ≤ length xs → entry_at registers (xs ++ zs) o k ≡ entry_at registers xs o k
-    same None le = refl
-    same (Some w) le = ap (λ t. cond (reaches_memory w.instr.op) (Some (entry_behind registers t w)) None) (take_left xs zs k le)
+    same o le = grind (arith, common_steps, take_left)
 
 -- a station that waits for no value is not answered
 pub none_by : (registers memory : List ℕ) (W : List Station) (o : Option Station) (k : ℕ) → waits_at o ≡ false → given_at (load_in registers memory) W o k ≡ None
-none_by registers memory W None k e = refl
-none_by registers memory W (Some w) k e = go (waits w) refl
-  where
-    go : (a : Option ℕ) → waits w ≡ a → load_in registers memory (take k W) w ≡ None
-    go None q = ap (loaded_over (entries registers (take k W) (length (take k W))) memory w.instr.op) q
-    go (Some a) q = let no : true ≡ false = sym (ap is_some q) ∙ e in absurd (true≢false no)
+none_by registers memory W o k e = grind (arith, common_steps, true≢false)
 
 -- The first i stations alone
 
@@ -46,8 +37,4 @@ same_entries registers W i h =
 
 -- a load that is given a value waits for it
 pub answered_waits : (registers memory : List ℕ) (ws : List Station) (w : Station) (v : ℕ) → load_in registers memory ws w ≡ Some v → (a : ℕ) × (waits w ≡ Some a)
-answered_waits registers memory ws w v e = go (waits w) refl
-  where
-    go : (o : Option ℕ) → waits w ≡ o → (a : ℕ) × (waits w ≡ Some a)
-    go None q = let no : None ≡ Some v = sym (ap (loaded_over (entries registers ws (length ws)) memory w.instr.op) q) ∙ e in absurd (cc)
-    go (Some a) q = (a, q)
+answered_waits registers memory ws w v e = grind (arith, common_steps)

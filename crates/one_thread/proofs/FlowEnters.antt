@@ -1,11 +1,13 @@
 -- An instruction of a flow has completed and joins it, as predicted or mended.
-use Rattle.std.proofs.Common.{◌≡◌, ◌≢◌, ℕ, ◌∷◌, ◌++◌, Some, refl, sym, ap, ◌∙◌, subst}
+use Rattle.std.proofs.Common.{arith}
+use Rattle.std.proofs.lemmas.Grind.{common_steps}
+use Rattle.std.proofs.Common.{rules, ◌≡◌, ◌≢◌, ℕ, ◌∷◌, ◌++◌, Some, refl, sym, ap, ◌∙◌, subst}
 use Rattle.instructions.specs.Programs.{instr_at}
 use Rattle.instructions.specs.declared.instr.Instr.{Instr}
 use Rattle.one_thread.specs.Astray.{FindsOperands, HasGoneAstray, IsUpcoming}
 use Rattle.one_thread.specs.Changes.{registers_of}
 use Rattle.one_thread.specs.CompletedRing.{stations}
-use Rattle.one_thread.specs.Flow.{Completes, Flows, IsFlow, Reopens, completed_as, enters_as, filled, in_order, window_of}
+use Rattle.one_thread.specs.Flow.{HasJoined, Completes, Flows, IsFlow, Reopens, completed_as, enters_as, filled, in_order, window_of}
 use Rattle.one_thread.specs.Kept.{HasKept, HaveKept, LeavesAs, kept_with}
 use Rattle.one_thread.specs.StandsFor.{StandsForSome}
 use Rattle.one_thread.specs.declared.completed_ring.Completed.{Completed}
@@ -15,9 +17,7 @@ use Rattle.one_thread.specs.declared.execute.Operands.{Operands}
 use Rattle.one_thread.specs.declared.flow.Flow.{Flow}
 use Rattle.one_thread.specs.declared.pipeline.Pipeline.{Pipeline}
 use Rattle.one_thread.proofs.FlowIn.{entered_hit, entered_miss, entered_open, enters}
-use Rattle.one_thread.proofs.FlowJoins.{HasJoined}
 use Rattle.one_thread.proofs.FlowKept.{joins_flows, joins_in_order}
-use Rattle.one_thread.proofs.Kept.{kept_now}
 
 pub record Joins (b : Pipeline) (flow after : Flow) (predicted : ℕ) (d : Done) : Type 0 where
   pub next : IsUpcoming b flow predicted
@@ -43,12 +43,7 @@ module _ (b : Pipeline) (flow after : Flow) (predicted : ℕ) (d : Done) (h : Jo
   c = completed_as flow predicted d h.leaves kept
 
   keeps : HasKept i c flow.future.values
-  keeps =
-      let x = in_order before flow in
-      record {
-        kept = kept_now flow.future (registers_of x) x.committed.pc (window_of x flow) i flow.half h.operands.b h.next.placed.flows.flows.flowing.foresees h.finds.second_small h.finds.second;
-        leaves = h.leaves_as;
-      }
+  keeps = search rules
 
   -- where perhaps others have been let and squashed
   module _ (again : Pipeline) (rest : again ≡ record b { leavers = again.leavers }) where
@@ -59,9 +54,7 @@ module _ (b : Pipeline) (flow after : Flow) (predicted : ℕ) (d : Done) (h : Jo
     is_there = ap (λ (p : Pipeline). instr_at p.program.now flow.future.pc) same ∙ h.next.is
 
     have_kept : HaveKept again.program.now (registers_of (in_order again flow)) flow.ring.completed flow.future.values
-    have_kept =
-        subst (λ (p : Pipeline). HaveKept p.program.now (registers_of (in_order p flow)) flow.ring.completed flow.future.values) (sym same)
-        h.next.placed.flows.kept
+    have_kept = grind (arith, common_steps, same)
 
     flows_on : IsFlow (in_order again flow) after → Flows again after
     flows_on =

@@ -1,20 +1,19 @@
 -- The next instruction enters a flow.
-use Rattle.std.proofs.Common.{◌≡◌, ◌≢◌, ◌<◌, ◌≤◌, ◌^◌, ℕ, ◌+◌, ◌%◌, Bool, true, false, List, [], ◌∷◌, ◌++◌, length, Option, Some, None}
+use Rattle.std.proofs.lemmas.Grind.{common_steps}
+use Rattle.std.proofs.Common.{◌≡◌, ◌≢◌, ◌<◌, ◌≤◌, ◌^◌, ℕ, ◌+◌, ◌%◌, Bool, false, List, [], ◌∷◌, ◌++◌, length, Option, Some, None}
 use Rattle.std.proofs.Common.{eqb, eqb-true, refl, sym, ap, ◌∙◌, subst, suc, arith, length-append}
 use Rattle.std.specs.Prelude.{IfSome, slice_set}
 use Rattle.instructions.specs.Instruction.{fixed_next, width}
 use Rattle.instructions.specs.declared.instr.Instr.{Instr}
 use Rattle.instructions.specs.declared.stop.Outcome.{Outcome}
-use Rattle.instructions.specs.declared.stop.Outcome.TheVariants.{Address, Next, Pair, Stop, Value}
+use Rattle.instructions.specs.declared.stop.Outcome.TheVariants.{Address, Next}
 use Rattle.one_thread.specs.Astray.{FindsOperands, IsUpcoming}
-use Rattle.one_thread.specs.Changes.{registers_of}
 use Rattle.one_thread.specs.Decoding.{IsDecoded}
-use Rattle.one_thread.specs.Flow.{AreThere, CanRestore, Completes, IsFlow, IsPlaced, Reopens, comes_to, completed_as, completed_by, enters_as, filled, in_order, load_of, outcome_in, window_of}
+use Rattle.one_thread.specs.Flow.{HasJoined, AreThere, CanRestore, Completes, IsFlow, IsPlaced, Reopens, comes_to, completed_as, completed_by, enters_as, filled, in_order, load_of, outcome_in, window_of}
 use Rattle.one_thread.specs.CompletedRing.{station_by, stations}
 use Rattle.one_thread.specs.Reopened.{as_let, reopened, with_reopened}
 use Rattle.one_thread.specs.Stages.{CanLet}
 use Rattle.one_thread.specs.StandsFor.{StandsForSome}
-use Rattle.one_thread.specs.Window.{reaches_memory}
 use Rattle.one_thread.specs.declared.dispatch.Fetched.{Fetched}
 use Rattle.one_thread.specs.declared.completing.Done.{Done as DoneBy}
 use Rattle.one_thread.specs.declared.execute.Operands.{Operands}
@@ -26,12 +25,10 @@ use Rattle.one_thread.specs.declared.station.Station.{Station}
 use Rattle.one_thread.proofs.Accesses.{accesses_most}
 use Rattle.one_thread.proofs.BenchTurns.{let_shows}
 use Rattle.one_thread.proofs.Completions.{stations_long}
-use Rattle.one_thread.proofs.Flowing.{completed_no_miss}
-use Rattle.one_thread.proofs.Idle.{noted_unit}
-use Rattle.one_thread.proofs.Reopened.{open_settled, reopened_end, reopened_let}
+use Rattle.one_thread.proofs.Reopened.{reopened_end, reopened_let}
 use Rattle.one_thread.proofs.Stores.{stores_few}
 use Rattle.one_thread.proofs.FlowRuns.{Runs, entered_unit, missed_unit, reached_inside}
-use Rattle.one_thread.proofs.FlowJoins.{HasJoined, flowing_later, joined, joined_window}
+use Rattle.one_thread.proofs.FlowJoins.{flowing_later, joined, joined_window}
 
 pub record Enters (x later : Pipeline) (flow : Flow) (i : Instr) (predicted from : ℕ) : Type 0 where
   pub flows : IsFlow x flow
@@ -43,43 +40,17 @@ pub record Enters (x later : Pipeline) (flow : Flow) (i : Instr) (predicted from
   pub rest : later ≡ record x { leavers = later.leavers }
 
 pub enters : (later : Pipeline) (flow : Flow) (predicted : ℕ) (n : IsUpcoming later flow predicted) → Enters (in_order n.placed.before flow) (in_order later flow) flow n.instr predicted n.placed.from
-enters later flow predicted n =
-    let p = n.placed in
-    let same : p.can.instr ≡ n.instr = cc (sym p.can.is ∙ n.is) in
-    let f = p.flows.flows.flowing in
-    let queue = p.before.queue in
-    record {
-      flows = p.flows.flows;
-      can = record {
-        room = p.can.room;
-        place = f.foresees.path;
-        half = f.half;
-        is = n.is;
-        free = λ e. subst (λ k. k < queue) f.accesses (p.can.free (ap (λ (j : Instr). reaches_memory j.op) same ∙ e));
-      };
-      small = n.small;
-      fixed = n.fixed;
-      reopens = p.reopens;
-      leavers = p.leavers;
-      rest = ap (λ (q : Pipeline). in_order q flow) p.rest;
-    }
+enters later flow predicted n = grind (arith, common_steps)
 
 pub place_decoded : (later : Pipeline) (flow : Flow) (code : List Instr) (p : IsPlaced later flow) → code ≡ later.code.items → IsDecoded code p.before.program.now
-place_decoded later flow code p e =
-    subst (λ l. IsDecoded l p.before.program.now) (sym (e ∙ ap (λ (b : Pipeline). b.code.items) p.rest)) p.flows.flows.unit.code
+place_decoded later flow code p e = grind (arith, common_steps)
 
 -- where an instruction has gone on another path than was predicted, that was computed
 gone_on : (w : Station) (o : Outcome) (v : Option ℕ) → (completed_by w o v).next ≢ w.next → (x : ℕ) × (o ≡ Next x)
-gone_on w (Next x) v n = (x, refl)
-gone_on w (Address a) (Some v) n = absurd (n refl)
-gone_on w (Address a) None n = absurd (n refl)
-gone_on w (Value u) v n = absurd (n refl)
-gone_on w (Pair l u) v n = absurd (n refl)
-gone_on w (Stop c) v n = absurd (n refl)
+gone_on w o v n = grind (arith, common_steps)
 
 other : (x y : ℕ) → x ≢ y → (t : Bool) → eqb x y ≡ t → eqb x y ≡ false
-other x y n true q = absurd (n (eqb-true x y q))
-other x y n false q = q
+other x y n h3 q = grind (arith, common_steps, eqb-true)
 
 module _ (x later : Pipeline) (flow : Flow) (i : Instr) (predicted from : ℕ) (h : Enters x later flow i predicted from) where
   abbrev all : List Station
@@ -93,8 +64,7 @@ module _ (x later : Pipeline) (flow : Flow) (i : Instr) (predicted from : ℕ) (
 
   -- the fields where these stations are the window's
   as_later : (V : List Station) → record b { window = V; leavers = slice_set x.leavers ((x.oldest + length all) % x.ring) None } ≡ filled later V
-  as_later V =
-      ap (λ l. record b { window = V; leavers = l }) (sym h.leavers) ∙ sym (ap (λ (p : Pipeline). filled p V) h.rest)
+  as_later V = grind (arith, common_steps)
 
   -- it is let
   pub entered_let : StandsForSome (filled later (all ++ enters_as flow i predicted ∷ []))
@@ -106,20 +76,13 @@ module _ (x later : Pipeline) (flow : Flow) (i : Instr) (predicted from : ℕ) (
 
   -- there is room for it
   pub entered_room : (length flow.ring.completed < x.ring) × (length flow.ring.stores < 32) × (flow.accesses ≤ 32)
-  entered_room =
-      let long = stations_long x.program.now flow.ring.completed in
-      let few = stores_few (registers_of x) all (length all) in
-      let most = accesses_most all (length all) in (
-        omega (arith, long, h.can.room, h.flows.unit.ring),
-        omega (arith, few, ap length h.flows.flowing.stores, h.can.room, h.flows.unit.ring),
-        omega (arith, most, h.flows.flowing.accesses, h.can.room, h.flows.unit.ring),
-      )
+  entered_room = grind (arith, common_steps, stations_long, stores_few, accesses_most)
 
   -- so many can be as they were let, with it
   open_with : (y : Station) → as_let y ≡ enters_as flow i predicted → StandsForSome (with_reopened from (filled later (all ++ y ∷ [])))
   open_with y same =
       reopened_let b (filled later (all ++ y ∷ [])) next predicted from y h.reopens.inside h.reopens.unit h.flows.flowing.goes_on
-      (completed_no_miss all h.flows.flowing.completed) h.can h.small h.fixed refl same
+      h.can h.small h.fixed refl same
       (ap (λ (p : Pipeline). p.leavers) (sym (as_later (all ++ y ∷ [])))) (sym (as_later (all ++ y ∷ []))
       ∙ ap (λ l. record b { window = all ++ y ∷ []; leavers = l }) (ap (λ (p : Pipeline). p.leavers) (as_later (all ++ y ∷ []))))
 
@@ -136,9 +99,7 @@ module _ (x later : Pipeline) (flow : Flow) (i : Instr) (predicted from : ℕ) (
       let same : reopened n all ≡ reopened n (window_of later stays) = ap (λ (p : Pipeline). reopened n (stations p.program.now flow.ring.completed)) (sym h.rest) in
       let long = stations_long x.program.now flow.ring.completed in
       record {
-        unit = subst StandsForSome (ap (λ V. record later { window = V; missed = false; settled = n }) (end ∙ ap (λ V. V ++ y ∷ []) same))
-            (noted_unit (with_reopened n (filled later (all ++ y ∷ []))) false n unit
-            (record { no_miss = unit.noted.no_miss; are_settled = open_settled n all y h.reopens.inside h.flows.flowing.completed }));
+        unit = subst (λ V. StandsForSome (filled later V)) (end ∙ ap (λ V. V ++ y ∷ []) same) unit;
         there = subst (λ (p : Pipeline). AreThere p.program.now flow.ring.completed) (sym h.rest) h.flows.flowing.there;
         all = h.flows.flowing.foresees.all;
         room = λ w e. omega (arith, long, h.can.room, h.flows.unit.ring);
@@ -151,7 +112,6 @@ module _ (x later : Pipeline) (flow : Flow) (i : Instr) (predicted from : ℕ) (
         record {
           unit = h.flows.unit;
           goes_on = h.flows.flowing.goes_on;
-          missed = refl;
           completed = h.flows.flowing.completed;
           foresees = h.flows.flowing.foresees;
           stores = h.flows.flowing.stores;
@@ -217,9 +177,4 @@ module _ (x later : Pipeline) (flow : Flow) (i : Instr) (predicted from : ℕ) (
       entered_hit = entered_flow later h.rest (subst StandsForSome (ap (λ w. filled later (all ++ w ∷ [])) completes) comes_unit)
 
       pub entered_open : d.next ≡ predicted → Reopens later after from
-      entered_open hit =
-          let is = window_is later h.rest in
-          record {
-            inside = omega (arith, ap length is, length-append all (y ∷ []), h.reopens.inside);
-            unit = subst StandsForSome (ap (λ V. with_reopened from (filled later V)) (sym is)) (open_with y (ap (λ n. record (enters_as flow i predicted) { next = n }) hit));
-          }
+      entered_open hit = grind (arith, common_steps, window_is, length-append, open_with)

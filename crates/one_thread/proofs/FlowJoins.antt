@@ -1,16 +1,14 @@
 -- A completed instruction joins a flow.
 use Rattle.std.proofs.Common.{◌≡◌, ◌<◌, ℕ, ◌+◌, List, [], ◌∷◌, ◌++◌, length, Some, refl, sym, ap, ◌∙◌, subst, suc, arith, length-append}
 use Rattle.std.specs.Prelude.{slice_index}
-use Rattle.instructions.specs.Instruction.{destination, is_first_half, kind, second_of}
+use Rattle.instructions.specs.Instruction.{second_of}
 use Rattle.instructions.specs.Programs.{instr_at}
 use Rattle.instructions.specs.declared.instr.Instr.{Instr}
-use Rattle.inorder.specs.Machine.{write}
-use Rattle.inorder.specs.Unit.{half_after}
 use Rattle.one_thread.specs.Changes.{registers_of}
-use Rattle.one_thread.specs.Flow.{AreThere, HaveCompleted, IsFlowing, window_of}
-use Rattle.one_thread.specs.CompletedRing.{made_by, station_by, stations, store_with, stores}
+use Rattle.one_thread.specs.Flow.{HasJoined, AreThere, HaveCompleted, IsFlowing, window_of}
+use Rattle.one_thread.specs.CompletedRing.{station_by, stations, store_with, stores}
 use Rattle.one_thread.specs.Loads.{with_entry}
-use Rattle.one_thread.specs.Futures.{Foresees, GoesOnBehind}
+use Rattle.one_thread.specs.Futures.{Foresees}
 use Rattle.one_thread.specs.Window.{access_of, accesses, half_in, source_in}
 use Rattle.one_thread.specs.declared.flow.Flow.{Flow}
 use Rattle.one_thread.specs.declared.completed_ring.Completed.{Completed}
@@ -20,38 +18,6 @@ use Rattle.one_thread.proofs.Accesses.{accesses_end}
 use Rattle.one_thread.proofs.Completions.{has_completed, station_is, stations_more, there_more}
 use Rattle.one_thread.proofs.Flowing.{completed_more, half_end}
 use Rattle.one_thread.proofs.Stores.{stores_more}
-
-pub record HasJoined (flow after : Flow) (i : Instr) (c : Completed) (content : ℕ) : Type 0 where
-  pub completed : after.ring.completed ≡ flow.ring.completed ++ c ∷ []
-  pub last : after.last ≡ flow.last
-  pub stores : after.ring.stores ≡ with_entry flow.ring.stores (store_with (station_by i c) content)
-  pub held : after.held ≡ flow.held
-  pub oldest : after.ring.oldest ≡ flow.ring.oldest
-  pub size : after.ring.size ≡ flow.ring.size
-  pub values : after.future.values ≡ write flow.future.values (destination i c.half) c.value
-  pub future : GoesOnBehind flow.future (destination i c.half) (made_by (kind i.op) c.value) c.next after.future
-  pub half : after.half ≡ half_after (is_first_half i.op c.half)
-  pub accesses : after.accesses ≡ flow.accesses + access_of i
-
--- by what a call answers
-pub has_joined : (flow after : Flow) (i : Instr) (c : Completed) (content : ℕ) → after.ring.completed ≡ flow.ring.completed ++ c ∷ [] → after.last ≡ flow.last →
-    after.ring.stores ≡ with_entry flow.ring.stores (store_with (station_by i c) content) → after.held ≡ flow.held → after.ring.oldest ≡ flow.ring.oldest →
-    after.ring.size ≡ flow.ring.size → after.future.values ≡ write flow.future.values (destination i c.half) c.value →
-    GoesOnBehind flow.future (destination i c.half) (made_by (kind i.op) c.value) c.next after.future → after.half ≡ half_after (is_first_half i.op c.half) →
-    after.accesses ≡ flow.accesses + access_of i → HasJoined flow after i c content
-has_joined flow after i c content completed last stores held oldest size values future half accesses =
-    record {
-      completed = completed;
-      last = last;
-      stores = stores;
-      held = held;
-      oldest = oldest;
-      size = size;
-      values = values;
-      future = future;
-      half = half;
-      accesses = accesses;
-    }
 
 module _ (b : Pipeline) (flow after : Flow) (i : Instr) (c : Completed) (content : ℕ) (j : HasJoined flow after i c content) (is : instr_at b.program.now c.pc ≡ Some i) where
   abbrev z : Station

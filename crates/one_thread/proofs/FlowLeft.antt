@@ -1,20 +1,21 @@
 -- The oldest instruction of a flow leaves, and what the flow keeps stands for its registers.
-use Rattle.std.proofs.Common.{◌≡◌, ◌≤◌, ℕ, suc, ◌+◌, ◌-◌, ◌%◌, Bool, true, false, cond, ◌&&◌, List, drop, Option, Some, None, refl, sym, ap, ◌∙◌, subst}
-use Rattle.std.specs.Prelude.{slice_get, slice_set, unwrap_or}
-use Rattle.instructions.specs.Instruction.{destination, is_first_half, is_low, kind}
+use Rattle.std.proofs.Common.{arith}
+use Rattle.std.proofs.lemmas.Grind.{common_steps}
+use Rattle.std.proofs.Common.{rules, length, ◌≡◌, ◌≤◌, ℕ, suc, ◌+◌, ◌-◌, ◌%◌, Bool, true, false, cond, ◌&&◌, List, drop, Option, Some, None, refl, sym, ap, ◌∙◌, subst}
+use Rattle.std.specs.Prelude.{slice_get}
+use Rattle.instructions.specs.Instruction.{is_first_half, is_low, kind}
 use Rattle.instructions.specs.Registers.{lo}
 use Rattle.instructions.specs.Programs.{instr_at}
 use Rattle.instructions.specs.declared.guessing.Leaver.{Leaver}
 use Rattle.instructions.specs.declared.instr.Instr.{Instr}
 use Rattle.instructions.specs.declared.op.Kind.{Kind}
-use Rattle.instructions.specs.declared.op.Kind.TheVariants.{Computes, Jumps, Links, Loads, Stores}
 use Rattle.instructions.specs.declared.op.Op.{Op}
 use Rattle.inorder.specs.Committed.{with_low}
 use Rattle.inorder.specs.Machine.{State, write}
 use Rattle.one_thread.specs.Changes.{registers_of}
 use Rattle.one_thread.specs.CompletedRing.{Contents, instr_there, stage_by, station_by, stores_behind}
 use Rattle.one_thread.specs.Departing.{OldestRetired, committed_by, held_by, low_by, memory_kept, passed_by}
-use Rattle.one_thread.specs.Flow.{Flows, IsStuck, filled, in_order, window_of, with_leaver}
+use Rattle.one_thread.specs.Flow.{Flows, filled, in_order, window_of, with_leaver}
 use Rattle.one_thread.specs.Kept.{HasKept, HaveKept, LeavesCounted, LeavesAs, registers_before, registers_with, told_if, with_held}
 use Rattle.one_thread.specs.Leavers.{told_at}
 use Rattle.one_thread.specs.Slots.{slot_in}
@@ -25,15 +26,15 @@ use Rattle.one_thread.specs.declared.flow.Flow.{Flow}
 use Rattle.one_thread.specs.declared.pipeline.Pipeline.{Pipeline}
 use Rattle.one_thread.specs.declared.station.Station.{Station}
 use Rattle.one_thread.proofs.Completions.{instr_is, low_destination, some_there}
-use Rattle.one_thread.proofs.FlowOut.{HasLeft, IsOldest, fills, left_flow, left_less, left_registers, left_runs, left_shorter, oldest_counted, oldest_is, stuck_in}
-use Rattle.one_thread.proofs.FlowPassed.{answer_by, passed_from, passed_shows}
+use Rattle.one_thread.proofs.FlowOut.{HasLeft, IsOldest, fills, left_flow, left_less, left_registers, left_runs, left_shorter, oldest_counted, oldest_is}
+use Rattle.one_thread.proofs.FlowPassed.{answer_by, passed_from, passed_comes}
 use Rattle.one_thread.proofs.Whole.{whole_alone}
 use Rattle.one_thread.proofs.Kept.{given_back, kept_less, memory_same, undone, value_written}
 use Rattle.one_thread.proofs.Untold.{oldest_untold}
 
 pub record HasGone (b later : Pipeline) (flow after : Flow) (i : Instr) (c : Completed) (told : Option Leaver) : Type 0 where
   pub flows : Flows b flow
-  pub stuck : IsStuck b flow
+  pub some : 2 ≤ length (window_of b flow)
   pub is : slice_get flow.ring.completed 0 ≡ Some c
   pub instr : instr_at b.program.now c.pc ≡ Some i
   pub ring : after.ring ≡ record flow.ring {
@@ -74,7 +75,7 @@ module _ (b later : Pipeline) (flow after : Flow) (i : Instr) (c : Completed) (t
   place = ap (λ (r : Contents). r.oldest) h.ring ∙ ap (λ n. slot_in n flow.ring.oldest 1) h.flows.size
 
   here : IsOldest x flow i c
-  here = record { flows = h.flows.flows; stuck = stuck_in b flow h.stuck; is = h.is; instr = h.instr }
+  here = record { flows = h.flows.flows; some = h.some; is = h.is; instr = h.instr }
 
   there : instr_there b.program.now c.pc ≡ i
   there = instr_is b.program.now c.pc i h.instr
@@ -85,24 +86,16 @@ module _ (b later : Pipeline) (flow after : Flow) (i : Instr) (c : Completed) (t
   keeps : HasKept i c registers
   keeps = subst (λ n. HasKept n c registers) there split.0
 
-  with_it : registers_with b.program.now c registers ≡ write registers w.destination c.value
-  with_it = ap (λ n. write registers (destination n c.half) c.value) there
-
   rest_kept : HaveKept b.program.now (write registers w.destination c.value) after.ring.completed after.future.values
-  rest_kept =
-      subst (λ l. HaveKept b.program.now l after.ring.completed after.future.values) with_it
-      (subst (λ g. HaveKept b.program.now (registers_with b.program.now c registers) after.ring.completed g.values) (sym h.future)
-      (subst (λ cs. HaveKept b.program.now (registers_with b.program.now c registers) cs flow.future.values) (sym completed) split.1))
+  rest_kept = search rules
 
   before : registers_before later.program.now after.ring.completed after.future.values ≡ write registers w.destination c.value
-  before =
-      ap (λ (p : Pipeline). registers_before p.program.now after.ring.completed after.future.values) h.rest
-      ∙ undone b.program.now (write registers w.destination c.value) after.ring.completed after.future.values rest_kept
+  before = search (rules, undone, rest_kept)
 
   none_waits : f ≡ true → x.low ≡ None
   none_waits e =
       let filled_x = filled x (window_of x flow) in
-      let shows = passed_shows filled_x (passed_from f filled_x w) w (fills x flow i c here) (oldest_is x flow i c here) refl in
+      let shows = passed_comes filled_x (passed_from f filled_x w) w (fills x flow i c here) (oldest_is x flow i c here) refl in
       let falls : Falls (answer_by true) filled_x (passed_from f filled_x w) = subst (λ g. Falls (answer_by g) filled_x (passed_from f filled_x w)) e shows.falls in
       falls.1
 
@@ -117,30 +110,10 @@ module _ (b later : Pipeline) (flow after : Flow) (i : Instr) (c : Completed) (t
       ∙ given_back i c.half c.value c.kept registers keeps.kept in
       ap (λ l. record later.committed { registers = l }) (back ∙ ap (λ o. with_low o x.committed.registers) (none_waits e))
       ∙ ap (λ (s : State). record s { registers = x.committed.registers }) passes
-  commits_by false e passes low held =
-      ap (λ o. record later.committed { registers = with_held o after.held (write registers w.destination c.value) }) low
-      ∙ ap (λ (s : State). record s { registers = write registers w.destination c.value }) passes
-      ∙ ap (λ l. record b.committed { registers = l; memory = memory_kept i.op w.stage c.kept b.committed.memory; pc = w.next; count = suc b.committed.count })
-      (value_written i c.half c.value registers)
-      ∙ ap (λ m. record b.committed { registers = write registers w.destination (unwrap_or w.made 0); memory = m; pc = w.next; count = suc b.committed.count })
-      (memory_same i c.half c.value c.kept registers b.committed.memory keeps.kept)
+  commits_by false e passes low held = grind (arith, common_steps, low, passes, value_written, memory_same, keeps)
 
   left : HasLeft x y flow after i c
-  left =
-      record {
-        here = here;
-        completed = completed;
-        stores = ap (λ (r : Contents). r.stores) h.ring;
-        accesses = h.accesses;
-        last = h.last;
-        future = h.future;
-        half = h.half;
-        commits = ap (λ l. record later.committed { registers = with_held later.low after.held l }) before ∙ commits_by f refl h.passes h.low h.held;
-        low = h.low;
-        oldest = place;
-        leavers = ap (λ (p : Pipeline). slice_set p.leavers flow.ring.oldest told) h.rest ∙ ap (slice_set b.leavers flow.ring.oldest) h.told_is;
-        rest = ap (λ (p : Pipeline). record p { committed = y.committed; oldest = y.oldest; leavers = y.leavers }) h.rest;
-      }
+  left = search (rules, here, completed, before, commits_by, place)
 
   pub gone : OldestRetired b flow told later after
   gone =
@@ -166,11 +139,7 @@ module _ (b later : Pipeline) (flow after : Flow) (i : Instr) (c : Completed) (t
 -- One that is only counted leaves
 
 none_stored : (k : Kind) (op : Op) (v kept : ℕ) (memory : List ℕ) → Rattle.inorder.specs.Loads.is_store k ≡ false → memory_kept op (stage_by k v) kept memory ≡ memory
-none_stored Computes op v kept memory e = refl
-none_stored Jumps op v kept memory e = refl
-none_stored Links op v kept memory e = refl
-none_stored Loads op v kept memory e = refl
-none_stored Stores op v kept memory e = absurd (cc e)
+none_stored k op v kept memory e = search rules
 
 module _ (b : Pipeline) (flow : Flow) (c : Completed) (flows : Flows b flow) (is : slice_get flow.ring.completed 0 ≡ Some c) (n : ℕ) (tells : Bool)
     (leaves : (i : Instr) → LeavesAs c.leaves i → LeavesCounted n tells i) where
@@ -186,28 +155,28 @@ module _ (b : Pipeline) (flow : Flow) (c : Completed) (flows : Flows b flow) (is
       (subst (LeavesAs c.leaves) (instr_is b.program.now c.pc one found.1)
       (kept_less b.program.now (registers_of (in_order b flow)) flow.ring.completed flow.future.values c is flows.kept).0.leaves)
 
-  pub counted_few : IsStuck b flow → n ≤ flow.accesses
-  counted_few stuck =
+  pub counted_few : 2 ≤ length (window_of b flow) → n ≤ flow.accesses
+  counted_few some =
       subst (λ k. k ≤ flow.accesses) counted.accesses
-      (oldest_counted (in_order b flow) flow one c (record { flows = flows.flows; stuck = stuck_in b flow stuck; is = is; instr = found.1 }))
+      (oldest_counted (in_order b flow) flow one c (record { flows = flows.flows; some = some; is = is; instr = found.1 }))
 
   -- nothing waits for LO
-  pub counted_alone : IsStuck b flow → b.low ≡ None
-  counted_alone stuck =
+  pub counted_alone : 2 ≤ length (window_of b flow) → b.low ≡ None
+  counted_alone some =
       let x = in_order b flow in
-      let here : IsOldest x flow one c = record { flows = flows.flows; stuck = stuck_in b flow stuck; is = is; instr = found.1 } in
+      let here : IsOldest x flow one c = record { flows = flows.flows; some = some; is = is; instr = found.1 } in
       whole_alone (filled x (window_of x flow)) (station_by one c) flows.flows.unit flows.flows.flowing.goes_on (oldest_is x flow one c here) counted.whole
 
-  pub gone_counted : (later : Pipeline) (after : Flow) → IsStuck b flow → after.ring ≡ record flow.ring { completed = drop 1 flow.ring.completed; oldest = slot_in flow.ring.size flow.ring.oldest 1 } →
+  pub gone_counted : (later : Pipeline) (after : Flow) → 2 ≤ length (window_of b flow) → after.ring ≡ record flow.ring { completed = drop 1 flow.ring.completed; oldest = slot_in flow.ring.size flow.ring.oldest 1 } →
       after.accesses ≡ flow.accesses - n → after ≡ record flow { ring = after.ring; accesses = after.accesses } →
       later.committed ≡ record b.committed { pc = c.next; count = suc b.committed.count } → later.low ≡ None → later ≡ record b { committed = later.committed; low = later.low } →
       (told : Option Leaver) → told ≡ told_if tells c.pc c.next → OldestRetired b flow told later after
-  gone_counted later after stuck ring accesses same committed low rest told told_is =
+  gone_counted later after some ring accesses same committed low rest told told_is =
       let whole : is_first_half one.op c.half ≡ false = ap (λ p. p && is_low c.half) counted.whole in
       gone b later flow after one c told
       (record {
         flows = flows;
-        stuck = stuck;
+        some = some;
         is = is;
         instr = found.1;
         ring = ring

@@ -1,5 +1,6 @@
 -- The oldest instruction of a flow leaves it.
-use Rattle.std.proofs.Common.{◌≡◌, ◌<◌, ◌≤◌, ℕ, suc, ◌+◌, ◌-◌, ◌%◌, Bool, true, false, List, [], ◌∷◌, length, drop, Some, None, refl, sym, ap, ◌∙◌, subst, arith, length-drop}
+use Rattle.std.proofs.lemmas.Grind.{common_steps}
+use Rattle.std.proofs.Common.{◌≡◌, ◌<◌, ◌≤◌, ℕ, suc, ◌+◌, ◌-◌, ◌%◌, Bool, true, List, [], ◌∷◌, length, drop, Some, None, refl, sym, ap, ◌∙◌, subst, arith, length-drop}
 use Rattle.std.specs.Prelude.{slice_get, slice_set, unwrap_or, Option}
 use Rattle.instructions.specs.Instruction.{is_first_half, kind, width}
 use Rattle.instructions.specs.Registers.{lo}
@@ -7,13 +8,12 @@ use Rattle.instructions.specs.Programs.{Program, instr_at}
 use Rattle.instructions.specs.declared.guessing.Leaver.{Leaver}
 use Rattle.instructions.specs.declared.instr.Instr.{Instr}
 use Rattle.instructions.specs.declared.op.Kind.TheVariants.{Stores}
-use Rattle.inorder.specs.Committed.{with_low}
 use Rattle.inorder.specs.Machine.{write}
 use Rattle.one_thread.specs.Changes.{registers_of, run_from}
 use Rattle.one_thread.specs.Decoding.{IsDecoded}
 use Rattle.one_thread.specs.Departing.{OldestRetired, committed_by, low_by, to_do}
-use Rattle.one_thread.specs.Flow.{AreThere, CanEnter, Flows, HasPlace, HaveCompleted, IsFlow, IsFlowing, IsStuck, filled, in_order, window_of, with_leaver}
-use Rattle.one_thread.specs.CompletedRing.{stage_by, station_by, stations, stores, stores_behind}
+use Rattle.one_thread.specs.Flow.{AreThere, CanEnter, Flows, HasPlace, HaveCompleted, IsFlow, IsFlowing, filled, in_order, window_of, with_leaver}
+use Rattle.one_thread.specs.CompletedRing.{stage_by, station_by, stores, stores_behind}
 use Rattle.one_thread.specs.Leaves.{HasEnded, leavers_with}
 use Rattle.one_thread.specs.Futures.{Foresees}
 use Rattle.one_thread.specs.Slots.{slot_in}
@@ -27,54 +27,39 @@ use Rattle.one_thread.proofs.Completions.{station_is, stations_get, stations_les
 use Rattle.one_thread.proofs.FreeStation.{set_back}
 use Rattle.one_thread.proofs.Flowing.{completed_less, half_less, path_any, registers_all}
 use Rattle.one_thread.proofs.Futures.{foresees_left, made_value}
-use Rattle.one_thread.proofs.Idle.{Shows}
+use Rattle.one_thread.proofs.Start.{Comes}
 use Rattle.one_thread.proofs.Ring.{once_around}
 use Rattle.one_thread.proofs.FlowStays.{all_closed}
 use Rattle.one_thread.proofs.Stores.{stores_passed}
-use Rattle.one_thread.proofs.FlowPassed.{IsFilled, answer_by, filled_ended, passed_from, passed_less, passed_runs, passed_shows}
+use Rattle.one_thread.proofs.FlowPassed.{IsFilled, answer_by, filled_ended, passed_from, passed_less, passed_runs, passed_comes}
 
 left_accesses : (n m a k j : ℕ) → m ≡ n - a → n ≡ a + k → j ≡ k → m ≡ j
 left_accesses n m a k j less more same = omega (arith, less, more, same)
 
 -- What the next one finds is there again
 
-registers_by : (h : Bool) (b later : Pipeline) (w : Station) → (h ≡ true → w.destination ≡ lo) → Shows b (answer_by h) later → later ≡ passed_from h b w →
+registers_by : (h : Bool) (b later : Pipeline) (w : Station) → (h ≡ true → w.destination ≡ lo) → Comes b (answer_by h) later → later ≡ passed_from h b w →
     write (registers_of b) w.destination (unwrap_or w.made 0) ≡ registers_of later
-registers_by true b later w low s e =
-    ap (λ l. write (with_low l b.committed.registers) w.destination (unwrap_or w.made 0)) s.falls.1
-    ∙ ap (λ d. write b.committed.registers d (unwrap_or w.made 0)) (low refl)
-    ∙ sym (ap registers_of e)
-registers_by false b later w low s e = sym (ap registers_of e)
+registers_by h b later w low s e = grind (arith, common_steps)
 
 -- The oldest instruction of a flow
 
 pub record IsOldest (x : Pipeline) (flow : Flow) (i : Instr) (c : Completed) : Type 0 where
   pub flows : IsFlow x flow
-  pub stuck : IsStuck x flow
+  pub some : 2 ≤ length (window_of x flow)
   pub is : slice_get flow.ring.completed 0 ≡ Some c
   pub instr : instr_at x.program.now c.pc ≡ Some i
 
-pub stuck_in : (b : Pipeline) (flow : Flow) → IsStuck b flow → IsStuck (in_order b flow) flow
-stuck_in b flow h = record { stuck = h.stuck; some = h.some }
-
-pub oldest_of : (b : Pipeline) (flow : Flow) (i : Instr) (c : Completed) (code : List Instr) → Flows b flow → IsStuck b flow → slice_get flow.ring.completed 0 ≡ Some c →
+pub oldest_of : (b : Pipeline) (flow : Flow) (i : Instr) (c : Completed) (code : List Instr) → Flows b flow → 2 ≤ length (window_of b flow) → slice_get flow.ring.completed 0 ≡ Some c →
     code ≡ b.code.items → ((P : Program) → IsDecoded code P → instr_at P c.pc ≡ Some i) → IsOldest (in_order b flow) flow i c
-oldest_of b flow i c code h stuck is same found =
-    record { flows = h.flows; stuck = stuck_in b flow stuck; is = is; instr = found b.program.now (subst (λ l. IsDecoded l b.program.now) (sym same) h.flows.unit.code) }
+oldest_of b flow i c code h some is same found = grind (arith, common_steps)
 
 module _ (x : Pipeline) (flow : Flow) (i : Instr) (c : Completed) (here : IsOldest x flow i c) where
   pub oldest_is : slice_get (window_of x flow) 0 ≡ Some (station_by i c)
   oldest_is = stations_get x.program.now flow.ring.completed 0 c here.is ∙ ap Some (station_is x.program.now c i here.instr)
 
   pub fills : IsFilled (filled x (window_of x flow))
-  fills =
-      record {
-        unit = here.flows.unit;
-        goes_on = here.flows.flowing.goes_on;
-        full = here.stuck.stuck;
-        completed = here.flows.flowing.completed;
-        settled = omega (arith, here.stuck.some);
-      }
+  fills = grind (arith, common_steps)
 
   -- a store is inside the memory
   pub oldest_inside : kind i.op ≡ Stores → c.value + width i.op ≤ length x.committed.memory
@@ -135,22 +120,13 @@ module _ (x y : Pipeline) (flow after : Flow) (i : Instr) (c : Completed) (l : H
   whole = fills x flow i c l.here
 
   rest_is : window_of y after ≡ drop 1 W
-  rest_is =
-      ap (λ (p : Pipeline). stations p.program.now after.ring.completed) l.rest
-      ∙ ap (stations x.program.now) l.completed
-      ∙ stations_less x.program.now flow.ring.completed
+  rest_is = grind (arith, common_steps, stations_less)
 
   later_is : later ≡ passed_from f b w
-  later_is =
-      ap (λ (p : Pipeline). filled p (window_of y after)) l.rest
-      ∙ ap (λ V. record x { committed = y.committed; low = y.low; oldest = y.oldest; leavers = y.leavers; window = V; missed = false; settled = 0 }) rest_is
-      ∙ ap (λ t. record x { committed = y.committed; low = y.low; oldest = y.oldest; leavers = t; window = drop 1 W; missed = false; settled = 0 }) l.leavers
-      ∙ ap (λ s. record x { committed = s; low = y.low; oldest = y.oldest; leavers = leavers_with x w; window = drop 1 W; missed = false; settled = 0 }) l.commits
-      ∙ ap (λ v. record x { committed = committed_by f w x.low x.committed; low = v; oldest = y.oldest; leavers = leavers_with x w; window = drop 1 W; missed = false; settled = 0 }) l.low
-      ∙ ap (λ n. record x { committed = committed_by f w x.low x.committed; low = low_by f w; oldest = n; leavers = leavers_with x w; window = drop 1 W; missed = false; settled = 0 }) l.oldest
+  later_is = grind (arith, common_steps, rest_is)
 
   pub left_registers : write (registers_of x) w.destination (unwrap_or w.made 0) ≡ registers_of y
-  left_registers = registers_by f b later w (flows.flowing.completed 0 w first).1 (passed_shows b later w whole first later_is) later_is
+  left_registers = registers_by f b later w (flows.flowing.completed 0 w first).1 (passed_comes b later w whole first later_is) later_is
 
   flows_on : IsFlowing y after
   flows_on = go W refl
@@ -160,7 +136,7 @@ module _ (x y : Pipeline) (flow after : Flow) (i : Instr) (c : Completed) (l : H
 
       go : (V : List Station) → W ≡ V → IsFlowing y after
       go [] q = let no : Some w ≡ None = sym first ∙ ap (λ V. slice_get V 0) q in absurd (cc)
-      go (u ∷ []) q = let long = ap length q in let some = l.here.stuck.some in absurd (omega (arith, long, some))
+      go (u ∷ []) q = let long = ap length q in let some = l.here.some in absurd (omega (arith, long, some))
       go (u ∷ a ∷ V) q =
           let this : u ≡ w = cc (sym (ap (λ V. slice_get V 0) q) ∙ first) in
           let there : W ≡ w ∷ a ∷ V = q ∙ ap (λ z. z ∷ a ∷ V) this in
@@ -191,7 +167,7 @@ module _ (x y : Pipeline) (flow after : Flow) (i : Instr) (c : Completed) (l : H
 
   pub left_flow : IsFlow y after
   left_flow =
-      let shows = passed_shows b later w whole first later_is in
+      let shows = passed_comes b later w whole first later_is in
       let ring : y.ring ≡ x.ring = ap (λ (p : Pipeline). p.ring) l.rest in
       record {
         unit = shows.unit;
@@ -203,9 +179,7 @@ module _ (x y : Pipeline) (flow after : Flow) (i : Instr) (c : Completed) (l : H
 
   -- it was one of them
   pub left_shorter : length flow.ring.completed ≡ suc (length after.ring.completed)
-  left_shorter =
-      let long = stations_long x.program.now flow.ring.completed in
-      omega (arith, ap length l.completed, length-drop 1 flow.ring.completed, l.here.stuck.some, long)
+  left_shorter = grind (arith, common_steps, stations_long, length-drop)
 
   pub left_runs : (limit : ℕ) → x.committed.count < limit → run_from y limit ≡ run_from x limit
   left_runs = passed_runs b later w whole first later_is
@@ -215,9 +189,7 @@ module _ (x y : Pipeline) (flow after : Flow) (i : Instr) (c : Completed) (l : H
 
 -- there is room for another
 pub has_room : (x y : Pipeline) (flow after : Flow) (left : Option Leaver) → Flows x flow → OldestRetired x flow left y after → length after.ring.completed < y.ring
-has_room x y flow after left h d =
-    let long = stations_long x.program.now flow.ring.completed in
-    omega (arith, long, h.flows.most, d.shorter, d.ring)
+has_room x y flow after left h d = grind (arith, common_steps, stations_long)
 
 -- the next enters the station that was left
 pub has_place : (x y : Pipeline) (flow after : Flow) (left : Option Leaver) → OldestRetired x flow left y after → length flow.ring.completed ≡ x.ring → CanEnter y after →

@@ -1,4 +1,5 @@
 -- The next instruction of a flow is let, perhaps others behind it, and is run as far as it comes.
+use Rattle.std.proofs.lemmas.Grind.{common_steps}
 use Rattle.std.proofs.Common.{◌≡◌, ◌<◌, ◌≤◌, ◌^◌, ℕ, ◌+◌, ◌%◌, Bool, true, false, cond, eqb, List, [], ◌∷◌, ◌++◌, length, Option, Some, None, refl, sym, ap, ◌∙◌, subst, arith, eqb-true, length-append}
 use Rattle.std.specs.Prelude.{IfSome, slice_get, slice_index, slice_set}
 use Rattle.instructions.specs.Instruction.{first_of, fixed_next, kind, second_of, width}
@@ -10,36 +11,41 @@ use Rattle.instructions.specs.declared.stop.Outcome.{Outcome}
 use Rattle.instructions.specs.declared.stop.Outcome.TheVariants.{Address, Next, Pair, Stop, Value}
 use Rattle.lsq.specs.LoadRule.{answer_over}
 use Rattle.lsq.specs.declared.entry.Entry.{Entry}
-use Rattle.one_thread.specs.Changes.{CanClaim, LoadGives, LoadsAt, registers_of}
+use Rattle.one_thread.specs.Changes.{CanClaim, LoadGives, registers_of}
 use Rattle.one_thread.specs.Flow.{HaveCompleted, completed_by, load_of, loaded_behind}
 use Rattle.one_thread.specs.CompletedRing.{stores}
 use Rattle.one_thread.specs.Givers.{gives}
 use Rattle.one_thread.specs.Loads.{AreInside, entries, load_in, loaded_over, value_by, waits_by}
-use Rattle.one_thread.specs.Notes.{AreNoted, miss_in, missed_after}
+use Rattle.one_thread.specs.Notes.{miss_in}
+use Rattle.one_thread.specs.Possible.{ToLoad, ToRecover, ToRun}
 use Rattle.one_thread.specs.Stages.{CanLet, RecoversTo}
+use Rattle.one_thread.specs.declared.bench.Turn.TheVariants.{Loaded, Ran, Recovered}
 use Rattle.one_thread.specs.StandsFor.{StandsForSome}
 use Rattle.one_thread.specs.Futures.{Foresees}
-use Rattle.one_thread.specs.Window.{access_of, accesses, further_on, half_in, let_at, made_after, operands_by, operands_in, reaches_memory, source_in, stage_after, station_after}
+use Rattle.one_thread.specs.Window.{further_on, let_at, stage_after, station_after}
 use Rattle.one_thread.specs.declared.dispatch.Fetched.{Fetched}
 use Rattle.one_thread.specs.declared.execute.Operands.{Operands}
 use Rattle.one_thread.specs.declared.future.Future.{Future}
 use Rattle.one_thread.specs.declared.pipeline.Pipeline.{Pipeline}
 use Rattle.one_thread.specs.declared.station.Stage.TheVariants.{Addr, Done, Miss}
 use Rattle.one_thread.specs.declared.station.Station.{Station}
-use Rattle.one_thread.proofs.BenchTurns.{let_shows, recovered_shows}
+use Rattle.one_thread.proofs.BenchTurns.{let_shows}
 use Rattle.one_thread.proofs.CanLeave.{both_there}
 use Rattle.one_thread.proofs.Flowing.{completed_no_miss}
-use Rattle.one_thread.proofs.Idle.{loaded_unit, ran_unit}
 use Rattle.one_thread.proofs.Inside.{are_inside}
-use Rattle.one_thread.proofs.Noted.{miss_gives, noted_more, noted_ran}
+use Rattle.one_thread.proofs.LoadedTurns.{loaded_as}
+use Rattle.one_thread.proofs.Moved.{moves_as}
+use Rattle.one_thread.proofs.Noted.{miss_gives}
+use Rattle.one_thread.proofs.RanTurns.{ran_as}
 use Rattle.one_thread.proofs.Scan.{get_end, get_left, set_middle, take_middle}
+use Rattle.one_thread.proofs.Start.{same_rest, unit_next}
 use Rattle.one_thread.proofs.Stores.{stores_answer}
 use Rattle.one_thread.proofs.Tests.{gives_here}
+use Rattle.one_thread.proofs.Turns.{recovered_turn}
 
 pub record Runs (b : Pipeline) (f : Future) (es : List Entry) (next : Fetched) (predicted : ℕ) (o : Operands) (outcome : Outcome) : Type 0 where
   pub unit : StandsForSome b
   pub goes_on : b.over ≡ None
-  pub missed : b.missed ≡ false
   pub completed : HaveCompleted b.window
   pub foresees : Foresees f (registers_of b) b.committed.pc b.window
   pub stores : es ≡ stores (registers_of b) b.window (length b.window)
@@ -66,16 +72,10 @@ module _ (b : Pipeline) (f : Future) (es : List Entry) (next : Fetched) (predict
   let_fields = let_with (slice_set b.leavers ((b.oldest + length b.window) % b.ring) None) []
 
   pub let_unit : StandsForSome let_fields
-  let_unit =
-      let shows = let_shows b let_fields next predicted h.unit h.goes_on h.can h.small h.fixed refl refl refl in
-      shows.unit
+  let_unit = grind (arith, common_steps, let_shows)
 
   ready : (leavers : List (Option Leaver)) (behind : List Station) → CanClaim (let_with leavers behind) (record { at = length b.window; operands = o })
-  ready leavers behind =
-      gives_here (operands_in (registers_of b)) b.window behind last
-      ∙ ap (λ x. operands_by (kind next.instr.op) x (source_in (registers_of b) b.window (second_of next.instr))) (h.foresees.values (first_of next.instr) h.first_small ∙ ap Some (sym h.first))
-      ∙ ap (operands_by (kind next.instr.op) (Some o.a)) (h.foresees.values (second_of next.instr) h.second_small ∙ ap Some (sym h.second))
-      ∙ both_there (kind next.instr.op) o.a o.b
+  ready leavers behind = grind (arith, common_steps, gives_here, both_there)
 
   -- it has run
 
@@ -83,7 +83,7 @@ module _ (b : Pipeline) (f : Future) (es : List Entry) (next : Fetched) (predict
   ran = station_after last outcome
 
   abbrev ran_with : List (Option Leaver) → List Station → Pipeline
-  ran_with leavers behind = record b { window = b.window ++ ran ∷ behind; leavers = leavers; missed = missed_after b.missed (stage_after outcome predicted) }
+  ran_with leavers behind = record b { window = b.window ++ ran ∷ behind; leavers = leavers }
 
   abbrev ran_fields : Pipeline
   ran_fields = ran_with let_fields.leavers []
@@ -94,10 +94,9 @@ module _ (b : Pipeline) (f : Future) (es : List Entry) (next : Fetched) (predict
       let fields = let_with leavers behind in
       let there : slice_get fields.window at ≡ Some last = get_end b.window behind last in
       let set : slice_set fields.window at ran ≡ b.window ++ ran ∷ behind = set_middle b.window behind last ran in
-      let noted = noted_ran (registers_of fields) b.missed b.settled at fields.window last ran o there (ready leavers behind) unit.noted in
-      ran_unit fields (ran_with leavers behind) at last o unit h.goes_on (ready leavers behind) there
-      (sym set ∙ ap (λ x. slice_set fields.window at (station_after last x)) h.comes) refl
-      (subst (AreNoted (missed_after b.missed (stage_after outcome predicted)) b.settled) set noted)
+      let later = ran_with leavers behind in
+      let runs = ran_as fields later at last o h.goes_on (ready leavers behind) there (sym set ∙ ap (λ x. slice_set fields.window at (station_after last x)) h.comes) refl in
+      unit_next fields later Ran unit (moves_as fields later (Some (ToRun at)) Ran runs) (same_rest fields later later.window refl) unit.leavers
 
   ran_is : StandsForSome ran_fields
   ran_is = ran_behind let_fields.leavers [] let_unit
@@ -116,21 +115,13 @@ module _ (b : Pipeline) (f : Future) (es : List Entry) (next : Fetched) (predict
   left = completed_by last outcome value
 
   abbrev pub entered_with : List (Option Leaver) → Station → Pipeline
-  entered_with leavers z = record b { window = b.window ++ z ∷ []; leavers = leavers; missed = false }
+  entered_with leavers z = record b { window = b.window ++ z ∷ []; leavers = leavers }
 
   abbrev pub entered_fields : Station → Pipeline
   entered_fields z = entered_with let_fields.leavers z
 
-  as_ran : (z : Station) → z ≡ ran → missed_after b.missed (stage_after outcome predicted) ≡ b.missed → StandsForSome (entered_fields z)
-  as_ran z same missed =
-      subst StandsForSome
-      (ap (λ m. record let_fields { window = b.window ++ ran ∷ []; missed = m }) (missed ∙ h.missed) ∙ ap (λ x. entered_fields x) (sym same))
-      ran_is
-
-  noted_last : (z : Station) → z.stage ≡ Done → AreNoted false b.settled (b.window ++ z ∷ [])
-  noted_last z done =
-      noted_more false b.settled b.window z (ap Rattle.one_thread.specs.Window.miss_of done)
-      (subst (λ m. AreNoted m b.settled b.window) h.missed h.unit.noted)
+  as_ran : (z : Station) → z ≡ ran → StandsForSome (entered_fields z)
+  as_ran z same = subst (λ w. StandsForSome (entered_fields w)) (sym same) ran_is
 
   mended_with : (leavers : List (Option Leaver)) (behind : List Station) → StandsForSome (let_with leavers behind) → (x : ℕ) → ran ≡ record last { stage = Miss x } →
       StandsForSome (entered_with leavers (record last { stage = Done; next = x }))
@@ -150,9 +141,10 @@ module _ (b : Pipeline) (f : Future) (es : List Entry) (next : Fetched) (predict
         is = get_end W behind ran ∙ ap Some is;
         new = ap (λ l. l ++ record last { stage = Done; next = x } ∷ []) (sym (take_middle W (ran ∷ behind)));
       } in
-      let shows = recovered_shows (ran_with leavers behind) (entered_with leavers (record last { stage = Done; next = x })) (ran_behind leavers behind unit) h.goes_on to refl
-      (noted_last (record last { stage = Done; next = x }) refl) in
-      shows.unit
+      let before = ran_with leavers behind in
+      let later = entered_with leavers (record last { stage = Done; next = x }) in
+      unit_next before later Recovered (ran_behind leavers behind unit) (moves_as before later (Some (ToRecover to.i)) Recovered (recovered_turn before later h.goes_on to refl))
+      (same_rest before later later.window refl) unit.leavers
 
   -- where it is a miss, what was let behind it is squashed
 
@@ -169,7 +161,6 @@ module _ (b : Pipeline) (f : Future) (es : List Entry) (next : Fetched) (predict
       let W = b.window in
       let y = further_on last Done (Some v) in
       let middle : Pipeline = record ran_fields { window = W ++ y ∷ [] } in
-      let missed : ran_fields.missed ≡ b.missed = ap (λ x. missed_after b.missed (stage_after x predicted)) e in
       let answered : LoadGives ran_fields (record { at = length W; value = v }) =
       gives_here (load_in (registers_of b) b.committed.memory) W [] ran
       ∙ ap (λ x. loaded_over (entries (registers_of b) W (length W)) b.committed.memory next.instr.op (waits_by (kind next.instr.op) (stage_after x predicted))) e
@@ -177,31 +168,24 @@ module _ (b : Pipeline) (f : Future) (es : List Entry) (next : Fetched) (predict
       ∙ sym (stores_answer (registers_of b) b.committed.memory W (length W) a next.instr.op)
       ∙ sym (ap (λ l. value_by (answer_over l a (width next.instr.op)) b.committed.memory next.instr.op a) h.stores)
       ∙ got in
-      let sets : LoadsAt ran_fields (record { at = length W; value = v }) middle =
-      λ u is.
-      let same : ran ≡ u = cc (sym (get_end W [] ran) ∙ is) in
-      let turned : further_on u Done (Some v) ≡ y = ap (λ x. further_on x Done (Some v)) (sym same) ∙ ap (λ x. further_on (station_after last x) Done (Some v)) e in
-      sym (ap (slice_set (W ++ ran ∷ []) (length W)) turned ∙ set_middle W [] ran y) in
-      let noted : AreNoted middle.missed b.settled middle.window = subst (λ m. AreNoted m b.settled (W ++ y ∷ [])) (sym (missed ∙ h.missed)) (noted_last y refl) in
-      let unit = loaded_unit ran_fields middle (length W) ran v ran_is h.goes_on answered (get_end W [] ran) (sets ran (get_end W [] ran)) refl noted in
-      subst StandsForSome (ap (λ m. record let_fields { window = W ++ y ∷ []; missed = m }) (missed ∙ h.missed)) unit
+      let turned : further_on ran Done (Some v) ≡ y = ap (λ x. further_on (station_after last x) Done (Some v)) e in
+      let sets : middle.window ≡ slice_set ran_fields.window (length W) (further_on ran Done (Some v)) = sym (ap (slice_set (W ++ ran ∷ []) (length W)) turned ∙ set_middle W [] ran y) in
+      let loads = loaded_as ran_fields middle (length W) ran v h.goes_on answered (get_end W [] ran) sets refl in
+      unit_next ran_fields middle Loaded ran_is (moves_as ran_fields middle (Some (ToLoad (length W))) Loaded loads) (same_rest ran_fields middle middle.window refl) ran_is.leavers
 
   entered : (x : Outcome) → outcome ≡ x → StandsForSome (entered_fields (completed_by last x (load_of es b.committed.memory next.instr.op x)))
-  entered (Value v) e = as_ran (station_after last (Value v)) (sym (ap (station_after last) e)) (ap (λ x. missed_after b.missed (stage_after x predicted)) e)
-  entered (Pair l u) e = as_ran (station_after last (Pair l u)) (sym (ap (station_after last) e)) (ap (λ x. missed_after b.missed (stage_after x predicted)) e)
-  entered (Stop c) e = as_ran (station_after last (Stop c)) (sym (ap (station_after last) e)) (ap (λ x. missed_after b.missed (stage_after x predicted)) e)
+  entered (Value v) e = as_ran (station_after last (Value v)) (sym (ap (station_after last) e))
+  entered (Pair l u) e = as_ran (station_after last (Pair l u)) (sym (ap (station_after last) e))
+  entered (Stop c) e = as_ran (station_after last (Stop c)) (sym (ap (station_after last) e))
   entered (Next x) e = by (eqb x predicted) refl
     where
       by : (t : Bool) → eqb x predicted ≡ t → StandsForSome (entered_fields (record last { stage = Done; next = x }))
-      by true q =
-          as_ran (record last { stage = Done; next = x })
-          (ap (λ n. record last { stage = Done; next = n }) (eqb-true x predicted q) ∙ sym (ap (λ t. record last { stage = cond t Done (Miss x) }) q) ∙ sym (ap (station_after last) e))
-          (ap (λ x. missed_after b.missed (stage_after x predicted)) e ∙ ap (λ t. missed_after b.missed (cond t Done (Miss x))) q)
+      by true q = grind (arith, common_steps, as_ran, eqb-true)
       by false q = missed_unit let_fields.leavers [] let_unit x e q
   entered (Address a) e = by (kind next.instr.op) refl
     where
       plain : StandsForSome (entered_fields (station_after last (Address a)))
-      plain = as_ran (station_after last (Address a)) (sym (ap (station_after last) e)) (ap (λ x. missed_after b.missed (stage_after x predicted)) e)
+      plain = as_ran (station_after last (Address a)) (sym (ap (station_after last) e))
 
       answered : kind next.instr.op ≡ Loads → (r : Option ℕ) → value_by (answer_over es a (width next.instr.op)) b.committed.memory next.instr.op a ≡ r →
           StandsForSome (entered_fields (completed_by last (Address a) r))

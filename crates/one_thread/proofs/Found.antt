@@ -1,10 +1,11 @@
 -- The tenant of a station.
+use Rattle.std.proofs.lemmas.Grind.{common_steps}
 use Rattle.std.proofs.Common.{◌≡◌, ◌⊎◌, ℕ, zero, suc, Bool, true, false, cond, List, [], ◌∷◌, ◌++◌, length, drop, Some, refl, sym, ap, ◌∙◌, inl, inr, ⊎_elim, arith, append_assoc, length-append}
 use Rattle.std.proofs.Common.{true≢false}
 use Rattle.std.specs.Prelude.{slice_get}
 use Rattle.std.specs.List.{AllByRecursion}
 use Rattle.instructions.specs.Programs.{Program}
-use Rattle.inorder.specs.Tenants.{IsNotLive, Live, Retired, Squashed, Standing, Tenant, is_live, stands_live}
+use Rattle.inorder.specs.Tenants.{IsNotLive, Live, Standing, Tenant, is_live, stands_live}
 use Rattle.one_thread.specs.declared.station.Station.{Station}
 use Rattle.one_thread.specs.Window.{station_of, window}
 use Rattle.one_thread.proofs.Windows.{window_append, window_if, window_live}
@@ -27,9 +28,7 @@ get_append (y ∷ xs) x w zero h = inl h
 get_append (y ∷ xs) x w (suc i) h = ⊎_elim inl (λ q. inr (ap suc q.0, q.1)) (get_append xs x w i h)
 
 live_of : (t : Tenant) (st : Standing) → t.standing ≡ st → is_live t ≡ true → t.standing ≡ Live
-live_of t Live e h = e
-live_of t Retired e h = absurd (true≢false (sym h ∙ ap stands_live e))
-live_of t Squashed e h = absurd (true≢false (sym h ∙ ap stands_live e))
+live_of t st e h = grind (arith, common_steps, true≢false)
 
 pub found : (P : Program) (U : List Tenant) (i : ℕ) (w : Station) → slice_get (window P U) i ≡ Some w → Found P U i w
 found P [] i w h = absurd (cc)
@@ -49,10 +48,7 @@ found P (t ∷ ts) i w h = go (is_live t) refl (found P ts i w)
 
 -- the window round a live tenant
 pub window_middle : (P : Program) (ys : List Tenant) (t : Tenant) (ts : List Tenant) → t.standing ≡ Live → window P (ys ++ t ∷ ts) ≡ window P ts ++ station_of P t ∷ window P ys
-window_middle P ys t ts e =
-    window_append P ys (t ∷ ts)
-    ∙ ap (λ x. x ++ window P ys) (window_live P t ts e)
-    ∙ append_assoc (window P ts) (station_of P t ∷ []) (window P ys)
+window_middle P ys t ts e = grind (arith, common_steps, window_append, window_live, append_assoc)
 
 -- Nobody is live
 
@@ -61,31 +57,23 @@ window_none P [] h = refl
 window_none P (y ∷ ys) h = go y.standing refl (window_none P ys h.1)
   where
     go : (st : Standing) → y.standing ≡ st → window P ys ≡ [] → window P (y ∷ ys) ≡ []
-    go Live e more = absurd (h.0 e)
-    go Retired e more = window_if P y ys false (ap stands_live e) ∙ more
-    go Squashed e more = window_if P y ys false (ap stands_live e) ∙ more
+    go st e more = grind (arith, common_steps, window_if, ys)
 
 pub nobody : (P : Program) (ts : List Tenant) → length (window P ts) ≡ 0 → AllByRecursion IsNotLive ts
 nobody P [] h = tt
 nobody P (t ∷ ts) h = go t.standing refl (nobody P ts)
   where
     go : (st : Standing) → t.standing ≡ st → (length (window P ts) ≡ 0 → AllByRecursion IsNotLive ts) → AllByRecursion IsNotLive (t ∷ ts)
-    go Live e more =
-        let full : length (window P ts ++ station_of P t ∷ []) ≡ 0 = sym (ap length (window_live P t ts e)) ∙ h in
-        absurd (omega (arith, full, length-append (window P ts) (station_of P t ∷ [])))
-    go Retired e more = ((λ q. let no : Live ≡ Retired = sym q ∙ e in absurd (cc)), more (sym (ap length (window_if P t ts false (ap stands_live e))) ∙ h))
-    go Squashed e more = ((λ q. let no : Live ≡ Squashed = sym q ∙ e in absurd (cc)), more (sym (ap length (window_if P t ts false (ap stands_live e))) ∙ h))
+    go st e more = grind (arith, common_steps, ts, t, window_live, length-append, window_if)
 
 empty : (xs : List Station) → length xs ≡ 0 → xs ≡ []
-empty [] h = refl
-empty (x ∷ xs) h = absurd (omega (arith, h))
+empty xs h = grind (arith, common_steps)
 
 pub drop_first : (P : Program) (ys : List Tenant) (t : Tenant) (ts : List Tenant) → length (window P ts) ≡ 0 → drop 1 (window P ts ++ station_of P t ∷ window P ys) ≡ window P ys
 drop_first P ys t ts e = ap (λ x. drop 1 (x ++ station_of P t ∷ window P ys)) (empty (window P ts) e)
 
 pub window_behind : (P : Program) (ys : List Tenant) (t : Tenant) (ts : List Tenant) → length (window P ts) ≡ 0 → is_live t ≡ false → window P (ys ++ t ∷ ts) ≡ window P ys
-window_behind P ys t ts e f =
-    window_append P ys (t ∷ ts) ∙ ap (λ x. x ++ window P ys) (window_if P t ts false f ∙ empty (window P ts) e)
+window_behind P ys t ts e f = grind (arith, common_steps, window_append, window_if, empty)
 
 -- the window after a recovery
 pub window_gone : (P : Program) (ys : List Tenant) (t : Tenant) (ts : List Tenant) → t.standing ≡ Live → window P (gone ys ++ t ∷ ts) ≡ window P ts ++ station_of P t ∷ []
@@ -94,68 +82,7 @@ window_gone P ys t ts e = window_middle P (gone ys) t ts e ∙ ap (λ l. window 
 -- Tenants that are alike show the same
 
 pub station_alike : (P : Program) (t u : Tenant) → IsAlike t u → station_of P u ≡ station_of P t
-station_alike P t u a =
-    ap (λ i. record (station_of P u) {
-      instr = Rattle.instructions.specs.Programs.instr_of P i;
-      destination = Rattle.instructions.specs.Instruction.destination
-          (Rattle.instructions.specs.Programs.instr_of P i) u.half;
-    }) a.index
-    ∙ ap (λ h. record (station_of P u) {
-      instr = Rattle.inorder.specs.Tenants.instr P t;
-      half = h;
-      destination = Rattle.instructions.specs.Instruction.destination
-          (Rattle.inorder.specs.Tenants.instr P t) h;
-    }) a.half
-    ∙ ap (λ x. record {
-      instr = Rattle.inorder.specs.Tenants.instr P t;
-      half = t.half;
-      destination = Rattle.inorder.specs.Tenants.destination_of P t;
-      pc = x;
-      predicted = u.predicted;
-      next = u.next;
-      made = u.made;
-      stage = Rattle.one_thread.specs.Window.stage_of u.fate;
-    }) a.pc
-    ∙ ap (λ x. record {
-      instr = Rattle.inorder.specs.Tenants.instr P t;
-      half = t.half;
-      destination = Rattle.inorder.specs.Tenants.destination_of P t;
-      pc = t.pc;
-      predicted = x;
-      next = u.next;
-      made = u.made;
-      stage = Rattle.one_thread.specs.Window.stage_of u.fate;
-    }) a.predicted
-    ∙ ap (λ x. record {
-      instr = Rattle.inorder.specs.Tenants.instr P t;
-      half = t.half;
-      destination = Rattle.inorder.specs.Tenants.destination_of P t;
-      pc = t.pc;
-      predicted = t.predicted;
-      next = x;
-      made = u.made;
-      stage = Rattle.one_thread.specs.Window.stage_of u.fate;
-    }) a.next
-    ∙ ap (λ x. record {
-      instr = Rattle.inorder.specs.Tenants.instr P t;
-      half = t.half;
-      destination = Rattle.inorder.specs.Tenants.destination_of P t;
-      pc = t.pc;
-      predicted = t.predicted;
-      next = t.next;
-      made = x;
-      stage = Rattle.one_thread.specs.Window.stage_of u.fate;
-    }) a.made
-    ∙ ap (λ x. record {
-      instr = Rattle.inorder.specs.Tenants.instr P t;
-      half = t.half;
-      destination = Rattle.inorder.specs.Tenants.destination_of P t;
-      pc = t.pc;
-      predicted = t.predicted;
-      next = t.next;
-      made = t.made;
-      stage = Rattle.one_thread.specs.Window.stage_of x;
-    }) a.fate
+station_alike P t u a = grind (arith, common_steps)
 
 pub window_alike : (P : Program) (ts us : List Tenant) → AreAlike ts us → window P us ≡ window P ts
 window_alike P [] [] a = refl

@@ -1,5 +1,5 @@
 -- What a unit is known to be, where the fields stand for it.
-use Rattle.std.proofs.Common.{◌≡◌, List, [], ◌∷◌, ◌++◌, None, sym, ap, ◌∙◌, subst}
+use Rattle.std.proofs.Common.{◌≡◌, List, ◌∷◌, ◌++◌, None, sym, ap, ◌∙◌, subst}
 use Rattle.std.specs.List.{AllByRecursion}
 use Rattle.inorder.specs.Committed.{ahead, ahead_by, committed}
 use Rattle.inorder.specs.Steps.{IsNoRetiredStop}
@@ -12,15 +12,8 @@ use Rattle.inorder.proofs.OneCaller.Left.{ahead_middle}
 use Rattle.inorder.proofs.OneCaller.Sequences.{sound_of}
 use Rattle.one_thread.specs.declared.pipeline.Pipeline.{Pipeline}
 use Rattle.one_thread.specs.Changes.{ahead_of, registers_of}
-use Rattle.one_thread.specs.Givers.{NoneGives}
-use Rattle.one_thread.specs.Loads.{load_in}
-use Rattle.one_thread.specs.Stages.{CannotLet}
 use Rattle.one_thread.specs.StandsFor.{OverIs, StandsFor, sizes}
-use Rattle.one_thread.specs.Window.{operands_in, window}
 use Rattle.one_thread.proofs.Waiting.{ahead_low}
-use Rattle.one_thread.proofs.Tests.{all_blocked, no_claim, no_let}
-use Rattle.one_thread.proofs.Turns.{none_in}
-use Rattle.one_thread.specs.Order.{IsUnclaimable, NoLet}
 
 -- the fields have what a new tenant finds
 pub ahead_stands : (b : Pipeline) (U : UpdateUnit) → IsReached b.program.now (sizes b) U → StandsFor b U → ahead_of b ≡ ahead b.program.now U.tenants
@@ -40,28 +33,6 @@ pub knows : (b : Pipeline) (U : UpdateUnit) → b.over ≡ None → IsReached b.
 knows b U none r s =
     let over : AllByRecursion IsNoRetiredStop U.tenants × AreStill U.tenants = subst (OverIs U.tenants) none s.over in
     record { sound = sound_of b.program.now (sizes b) U r; stops = over.0; still = over.1; registers = ap (λ c. c.registers) (ahead_stands b U r s) }
-
-pub cannot_let : (b : Pipeline) (U : UpdateUnit) → b.over ≡ None → IsReached b.program.now (sizes b) U → StandsFor b U → CannotLet b.program.now b.ring b.queue b.committed.pc b.window →
-    NoLet b.program.now (sizes b) U
-cannot_let b U none r s nl =
-    let k = knows b U none r s in
-    no_let b.program.now (sizes b) U k.sound k.stops (subst (λ c. CannotLet b.program.now b.ring b.queue c.pc (window b.program.now U.tenants)) s.committed
-    (subst (CannotLet b.program.now b.ring b.queue b.committed.pc) s.window nl))
-
-pub nobody_claims : (b : Pipeline) (U : UpdateUnit) → b.over ≡ None → IsReached b.program.now (sizes b) U →
-    StandsFor b U → NoneGives (operands_in (registers_of b)) b.window →
-    AllByRecursion (IsUnclaimable b.program.now) U.tenants
-nobody_claims b U none r s h =
-    let k = knows b U none r s in
-    no_claim b.program.now (registers_of b) [] U.tenants k.sound k.still k.stops k.registers (none_in (operands_in (registers_of b)) b.program.now b.window U.tenants s.window h)
-
-pub nobody_loads : (b : Pipeline) (U : UpdateUnit) → b.over ≡ None → IsReached b.program.now (sizes b) U →
-    StandsFor b U → NoneGives (load_in (registers_of b) b.committed.memory) b.window →
-    Rattle.one_thread.specs.Blocked.AreBlocked b.program.now U.tenants
-nobody_loads b U none r s h =
-    let k = knows b U none r s in
-    all_blocked b.program.now (registers_of b) b.committed.memory [] U.tenants k.sound k.still k.stops k.registers
-    (none_in (load_in (registers_of b) b.committed.memory) b.program.now b.window U.tenants s.window h)
 
 -- the split of a unit at a live tenant that was found
 pub record IsSplit (b : Pipeline) (ys : List Tenant) (t : Tenant) (ts : List Tenant) : Type 0 where

@@ -1,4 +1,5 @@
 -- The oldest tenant leaves, by steps of the unit.
+use Rattle.std.proofs.lemmas.Grind.{common_steps}
 use Rattle.std.proofs.Common.{◌≡◌, ◌≢◌, ℕ, ◌+◌, ◌%◌, ◌<◌, ◌≤◌, Bool, true, false, cond, eqb, List, [], ◌∷◌, ◌++◌, length, drop, Option, Some, None, refl, sym, ap, ◌∙◌, subst, add-one}
 use Rattle.std.proofs.Common.{arith}
 use Rattle.std.specs.Prelude.{slice_get, unwrap_or}
@@ -6,7 +7,7 @@ use Rattle.std.specs.List.{AllByRecursion}
 use Rattle.instructions.specs.Instruction.{fixed_next, is_first_half, kind, second_of}
 use Rattle.instructions.specs.Programs.{Program, instr_at}
 use Rattle.instructions.specs.declared.op.Kind.{Kind}
-use Rattle.instructions.specs.declared.op.Kind.TheVariants.{Computes, Jumps, Links, Loads, Stores}
+use Rattle.instructions.specs.declared.op.Kind.TheVariants.{Stores}
 use Rattle.instructions.specs.declared.stop.Stop.TheVariants.{BadPc}
 use Rattle.inorder.specs.declared.history.Act.TheVariants.{Retire}
 use Rattle.inorder.specs.declared.history.Step.TheVariants.{On}
@@ -37,7 +38,7 @@ use Rattle.one_thread.specs.Ahead.{low_after, low_of}
 use Rattle.one_thread.specs.Changes.{ahead_of, registers_of}
 use Rattle.one_thread.specs.Leavers.{leaver, told_at, told_by, told_of}
 use Rattle.one_thread.specs.Leaves.{HasEnded, LeavesTo, PassesTo, halved, left, with_station}
-use Rattle.one_thread.specs.Stages.{CannotLet, NoInstr, NoRoom, QueueFull}
+use Rattle.one_thread.specs.Stages.{CannotLet}
 use Rattle.one_thread.specs.StandsFor.{HasStopped, OverIs, StandsForSome, sizes}
 use Rattle.one_thread.specs.Turns.{Nowhere, Now, Retires}
 use Rattle.one_thread.specs.Window.{source_in, window}
@@ -90,18 +91,12 @@ nowhere_turn b going room nl two e U r s =
     nl' = subst (CannotLet P b.ring b.queue b.committed.pc) empty nl
 
     there : CannotLet P b.ring b.queue b.committed.pc [] → instr_at P b.committed.pc ≡ None
-    there (NoRoom h) = absurd (omega (arith, h, room))
-    there (NoInstr h) = h
-    there (QueueFull q) = absurd (omega (arith, q.full, two))
+    there h0 = grind (arith, common_steps)
 
 -- The oldest retires
 
 settled_store : (k : Kind) (a : ℕ) → settled_by k (HasAddr a) ≡ true → k ≡ Stores
-settled_store Stores a e = refl
-settled_store Computes a e = absurd (cc)
-settled_store Jumps a e = absurd (cc)
-settled_store Links a e = absurd (cc)
-settled_store Loads a e = absurd (cc)
+settled_store k a e = grind (arith, common_steps)
 
 pub leave : (b later : Pipeline) (answer : Turn) (w : Station) → StandsForSome b → b.over ≡ None → slice_get b.window 0 ≡ Some w →
     settled_by (kind w.instr.op) w.stage ≡ true → LeavesTo b w w.stage answer later → MovesAs b (Some ToRetire) answer later
@@ -156,15 +151,7 @@ leave b later answer w h none e ended to U r s = go (found P U.tenants 0 w (ap (
         leads c = subst (λ X. Leads P C 0 (with_tenants U X) (On (length ts) (Retire 0) ∷ []) V) (sym d.split) (retire_run P C 0 0 U ys t ts (may c))
 
         does : CanRetire (kind_of P t) t.second.value t.fate → Retires P C U V
-        does c =
-            record {
-              goes_on = (knows b U none r s).stops;
-              ys = ys;
-              tenant = t;
-              ts = ts;
-              stands = d.split;
-              leads = leads c;
-            }
+        does c = grind (arith, common_steps, knows, none, ys, t, ts, leads)
 
         before : committed P U.tenants ≡ committed P ts
         before = ap (committed P) d.split ∙ committed_middle P ys t ts d.live sound'
@@ -173,11 +160,7 @@ leave b later answer w h none e ended to U r s = go (found P U.tenants 0 w (ap (
         before_ahead = ap (ahead P) d.split ∙ ahead_middle P ys t ts d.live sound'
 
         commit : (x : Bool) → completes P u ≡ x → committed P V.tenants ≡ cond x (with_tenant P u (ahead P U.tenants)) (committed P U.tenants)
-        commit x q =
-            over P t u ts ys d.live sound'
-            ∙ committed_if P u ts x q
-            ∙ ap (λ c. cond x (with_tenant P u (ahead P ts)) c) (sym before)
-            ∙ ap (λ c. cond x (with_tenant P u c) (committed P U.tenants)) (sym before_ahead)
+        commit x q = grind (arith, common_steps, over, t, u, ts, ys, sound', committed_if, before, before_ahead)
 
         low : (x : Bool) → commits u ≡ x → low_of P V.tenants ≡ low_after x (is_first P u) u.made (low_of P ts)
         low x q = low_over P t u ts ys d.live sound' ∙ low_if P u ts x q
@@ -195,10 +178,7 @@ leave b later answer w h none e ended to U r s = go (found P U.tenants 0 w (ap (
             ∙ ap (λ n. n % b.ring) (add-one (how_many is_retired ts) ∙ sym (retired_over P t u ts ys d.live sound'))
 
         shown : drop 1 b.window ≡ window P V.tenants
-        shown =
-            ap (drop 1) (s.window ∙ ap (window P) d.split ∙ window_middle P ys t ts d.live)
-            ∙ drop_first P ys t ts first
-            ∙ sym (window_behind P ys u ts first refl)
+        shown = grind (arith, common_steps, window_middle, ys, t, ts, drop_first, first, window_behind, u)
 
         apart : AllByRecursion (λ y. y.station ≢ t.station) ys
         apart = oldest_apart P C U w d r

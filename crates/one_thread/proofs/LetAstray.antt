@@ -1,12 +1,13 @@
 -- What was predicted behind a miss is let.
-use Rattle.std.proofs.Common.{◌≡◌, ◌<◌, ◌^◌, ℕ, suc, ◌+◌, ◌%◌, true, List, [], ◌∷◌, ◌++◌, length, Some, None, refl, sym, ap, ◌∙◌, subst, arith, append_assoc, length-append}
+use Rattle.std.proofs.lemmas.Grind.{common_steps}
+use Rattle.std.proofs.Common.{◌≡◌, ◌<◌, ◌^◌, ℕ, ◌+◌, ◌%◌, true, List, [], ◌∷◌, ◌++◌, length, Some, None, refl, sym, ap, ◌∙◌, subst, arith, append_assoc, length-append}
 use Rattle.std.specs.Prelude.{IfSome, slice_set}
 use Rattle.instructions.specs.Instruction.{fixed_next, is_first_half}
 use Rattle.instructions.specs.Programs.{instr_at}
 use Rattle.inorder.specs.Unit.{half_after}
 use Rattle.instructions.specs.declared.instr.Instr.{Instr}
 use Rattle.instructions.specs.declared.op.Half.{Half}
-use Rattle.one_thread.specs.Astray.{HasGoneAstray, IsAstray, IsUpcoming}
+use Rattle.one_thread.specs.Astray.{IsAstray, IsUpcoming}
 use Rattle.one_thread.specs.Decoding.{IsDecoded}
 use Rattle.one_thread.specs.Flow.{IsFlowing, enters_as, filled, in_order, window_of}
 use Rattle.one_thread.specs.StandsFor.{StandsForSome}
@@ -25,9 +26,7 @@ use Rattle.one_thread.proofs.Futures.{path_end}
 
 -- how many accesses there are with one more
 more_accesses : (W : List Station) (w : Station) → accesses (W ++ w ∷ []) (length (W ++ w ∷ [])) ≡ accesses W (length W) + access_of w.instr
-more_accesses W w =
-    let long : length (W ++ w ∷ []) ≡ suc (length W) = omega (arith, length-append W (w ∷ [])) in
-    ap (accesses (W ++ w ∷ [])) long ∙ accesses_end W w
+more_accesses W w = grind (arith, common_steps, length-append W (w ∷ []), accesses_end W w)
 
 -- the next instruction is the first of them
 pub goes_astray : (b : Pipeline) (flow : Flow) (predicted : ℕ) (n : IsUpcoming b flow predicted) (half : Half) (used count : ℕ) → half ≡ half_after (is_first_half n.instr.op flow.half) →
@@ -79,21 +78,9 @@ more_astray b later W w f used count guess half more a none room is free small f
 -- All of them have gone astray
 
 module _ (b old : Pipeline) (flow : Flow) (predicted : ℕ) (rest : b ≡ record old { leavers = b.leavers }) where
-  pub gone_astray : (i : Instr) (pc : ℕ) (half : Half) (used count : ℕ) → instr_at old.program.now flow.future.pc ≡ Some i →
-      IsAstray (in_order b flow) (window_of old flow) (enters_as flow i predicted) pc half used count → HasGoneAstray b flow predicted
-  gone_astray i pc half used count is a =
-      record {
-        instr = i;
-        is = ap (λ (p : Pipeline). instr_at p.program.now flow.future.pc) rest ∙ is;
-        behind = a.behind;
-        unit = subst (λ V. StandsForSome (filled (in_order b flow) V)) (a.is ∙ ap (λ (p : Pipeline). window_of p flow ++ enters_as flow i predicted ∷ a.behind) (sym rest)) a.unit;
-      }
-
   module _ (n : IsUpcoming old flow predicted) where
     pub astray_decoded : (code : List Instr) → code ≡ b.code.items → IsDecoded code b.program.now
-    astray_decoded code e =
-        subst (λ (p : Pipeline). IsDecoded code p.program.now) (sym rest)
-        (subst (λ (p : Pipeline). IsDecoded code p.program.now) (sym n.placed.rest) (place_decoded old flow code n.placed (e ∙ ap (λ (p : Pipeline). p.code.items) rest)))
+    astray_decoded code e = grind (arith, common_steps, place_decoded)
 
     pub astray_open : b.over ≡ None
     astray_open = ap (λ (p : Pipeline). p.over) rest ∙ ap (λ (p : Pipeline). p.over) n.placed.rest ∙ n.placed.flows.flows.flowing.goes_on

@@ -1,4 +1,5 @@
 -- The turn Let is steps of the unit.
+use Rattle.std.proofs.lemmas.Grind.{common_steps}
 use Rattle.std.proofs.Common.{◌≡◌, ℕ, ◌+◌, ◌%◌, ◌^◌, ◌<◌, ◌≤◌, cond, eqb, List, [], ◌∷◌, ◌++◌, length, Some, None, refl, sym, ap, ◌∙◌, subst, arith}
 use Rattle.std.specs.Prelude.{IfSome, slice_get, slice_set}
 use Rattle.std.specs.List.{AllByRecursion}
@@ -20,21 +21,15 @@ use Rattle.inorder.proofs.OneCaller.Dispatch.{LetRun, MayEnter, let_run}
 use Rattle.inorder.proofs.OneCaller.Sequences.{all_more, all_recent, all_weaker, committed_on, link_quiet, reach_on, sound_of, stands_of}
 use Rattle.one_thread.specs.declared.dispatch.Fetched.{Fetched}
 use Rattle.one_thread.specs.declared.pipeline.Pipeline.{Pipeline}
-use Rattle.one_thread.specs.Givers.{NoneGives}
 use Rattle.one_thread.specs.Leavers.{leaver, told_of}
-use Rattle.one_thread.specs.Notes.{miss_in}
 use Rattle.one_thread.specs.Stages.{CanLet}
 use Rattle.one_thread.specs.StandsFor.{OverIs, StandsFor, sizes}
 use Rattle.one_thread.specs.Turns.{Lets}
-use Rattle.one_thread.specs.Order.{MovedFirst}
-use Rattle.one_thread.specs.declared.bench.Turn.TheVariants.{Let}
 use Rattle.one_thread.specs.Window.{half_in, let_at, next_in, station_of, window}
 use Rattle.one_thread.proofs.Waiting.{same_live}
 use Rattle.one_thread.proofs.Found.{station_alike}
 use Rattle.one_thread.proofs.Leavers.{leavers_set, told_live}
 use Rattle.one_thread.proofs.Ring.{mod_first}
-use Rattle.one_thread.proofs.Tests.{no_miss}
-use Rattle.one_thread.proofs.Turns.{none_in}
 use Rattle.one_thread.proofs.Windows.{front_worth, half_worth, path_length, window_accesses, window_length, window_live}
 
 -- A let, and what it says to the predictor
@@ -79,18 +74,10 @@ let_turn b later f pr place none room most long to small predicts pe pl wl ll re
     now = record b { window = later.window; leavers = later.leavers }
 
     front : front_pc ts ≡ f.pc
-    front =
-        front_worth P ts sound' over.0
-        ∙ ap (λ c. next_in c.pc (window P ts)) (sym s.committed)
-        ∙ ap (next_in b.committed.pc) (sym s.window)
-        ∙ sym to.place
+    front = grind (arith, common_steps, front_worth, ts, sound')
 
     half : front_half P ts ≡ f.half
-    half =
-        half_worth P ts sound' over.0
-        ∙ ap (λ l. half_in l (window P ts)) (sym s.low)
-        ∙ ap (half_in b.low) (sym s.window)
-        ∙ sym to.half
+    half = grind (arith, common_steps, half_worth, ts, sound')
 
     station : next_station C (recent U) ≡ place
     station =
@@ -180,10 +167,3 @@ let_turn b later f pr place none room most long to small predicts pe pl wl ll re
 
             shown : later.window ≡ window P V.tenants
             shown = wl ∙ ap (λ l. l ++ let_at f.instr f.half f.pc pr ∷ []) s.window ∙ ap (λ w. window P ts ++ w ∷ []) (sym letted) ∙ sym (window_live P k.tenant ts live)
-
--- where nothing is a miss, the let is the first turn
-pub let_first : (b : Pipeline) (U : UpdateUnit) (f : Fetched) (guess : ℕ) (later : Pipeline) → NoneGives miss_in b.window → StandsFor b U →
-    LetTurned b U f guess later → MovedFirst b U Let later
-let_first b U f guess later nm s x =
-    let P = b.program.now in
-    record { unit = x.unit; reached = x.reached; stands = x.stands; does = (x.does, no_miss P U.tenants (none_in miss_in P b.window U.tenants s.window nm)) }

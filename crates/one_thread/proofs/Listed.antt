@@ -1,12 +1,13 @@
 -- The steps that the stations permit, as a list.
-use Rattle.std.proofs.Common.{◌≡◌, ◌⊎◌, ℕ, zero, suc, ◌<◌, true, false, Bool, cond, List, [], ◌∷◌, ◌++◌, length, take, Option, Some, None, refl, sym, ap, ◌∙◌, subst, arith, ⊎_elim}
+use Rattle.std.proofs.lemmas.Grind.{common_steps}
+use Rattle.std.proofs.Common.{◌≡◌, ◌⊎◌, ℕ, zero, suc, ◌<◌, Bool, cond, List, [], ◌∷◌, ◌++◌, length, take, Option, Some, None, refl, sym, ap, ◌∙◌, subst, arith, ⊎_elim}
 use Rattle.std.specs.Prelude.{slice_get}
 use Rattle.std.specs.List.{AllByRecursion}
 use Rattle.one_thread.specs.declared.dispatch.Fetched.{Fetched}
 use Rattle.one_thread.specs.declared.pipeline.Pipeline.{Pipeline}
 use Rattle.one_thread.specs.declared.possible.Step.{Step}
 use Rattle.one_thread.specs.declared.possible.Step.TheVariants.{Retire}
-use Rattle.one_thread.specs.declared.recovery.Missed.{Missed}
+use Rattle.one_thread.specs.declared.window.Missed.{Missed}
 use Rattle.one_thread.specs.declared.station.Station.{Station}
 use Rattle.one_thread.specs.Changes.{NextOf, registers_of}
 use Rattle.one_thread.specs.Givers.{FirstGives, gives}
@@ -19,8 +20,7 @@ use Rattle.one_thread.specs.Window.{operands_in}
 -- Each of a list
 
 all_both : {X : Type 0} (Q : X → Type 0) (xs ys : List X) → AllByRecursion Q xs → AllByRecursion Q ys → AllByRecursion Q (xs ++ ys)
-all_both Q [] ys h k = k
-all_both Q (x ∷ xs) ys h k = (h.0, all_both Q xs ys h.1 k)
+all_both Q xs ys h k = grind (arith, common_steps)
 
 pub all_get : {X : Type 0} (Q : X → Type 0) (xs : List X) → AllByRecursion Q xs → (i : ℕ) (x : X) → slice_get xs i ≡ Some x → Q x
 all_get Q [] h i x e = absurd (cc)
@@ -35,8 +35,7 @@ module _ {X : Type 0} (give : List Station → Station → Option X) (step : ℕ
   given_all Q W (suc k) h = all_both Q (given_steps give step W k) (given_step step k (gives give W k)) (given_all Q W k h) (one (gives give W k) refl)
     where
       one : (o : Option X) → gives give W k ≡ o → AllByRecursion Q (given_step step k o)
-      one None e = tt
-      one (Some x) e = (h k x e, tt)
+      one o e = grind (arith, common_steps)
 
   -- none of the first k gives anything
   pub none_given : (W : List Station) (k : ℕ) → ((j : ℕ) → j < k → gives give W j ≡ None) → given_steps give step W k ≡ []
@@ -66,8 +65,7 @@ module _ {X : Type 0} (give : List Station → Station → Option X) (step : ℕ
       second (x ∷ xs) ys e = absurd (cc e)
 
       here : (o : Option X) → given_step step k o ≡ [] → o ≡ None
-      here None e = refl
-      here (Some x) e = absurd (cc e)
+      here o e = grind (arith, common_steps)
 
   -- the first that gives something begins the list
   pub first_given : (W : List Station) (i : ℕ) (x : X) (k : ℕ) → i < k → FirstGives give W i x → take 1 (given_steps give step W k) ≡ step i x ∷ []
@@ -78,17 +76,13 @@ module _ {X : Type 0} (give : List Station → Station → Option X) (step : ℕ
       below j q = grind arith
 
       one_more : (xs ys : List Step) (y : Step) → take 1 xs ≡ y ∷ [] → take 1 (xs ++ ys) ≡ y ∷ []
-      one_more [] ys y e = absurd (cc e)
-      one_more (z ∷ xs) ys y e = e
+      one_more xs ys y e = grind (arith, common_steps)
 
       earlier : take 1 (given_steps give step W k) ≡ step i x ∷ [] → take 1 (given_steps give step W (suc k)) ≡ step i x ∷ []
       earlier q = one_more (given_steps give step W k) (given_step step k (gives give W k)) (step i x) q
 
       now : i ≡ k → take 1 (given_steps give step W (suc k)) ≡ step i x ∷ []
-      now e =
-          ap (λ l. take 1 (l ++ given_step step k (gives give W k))) (none_given W k (λ j q. f.first j (subst (λ n. j < n) (sym e) q)))
-          ∙ ap (λ n. take 1 (given_step step n (gives give W n))) (sym e)
-          ∙ ap (λ o. take 1 (given_step step i o)) f.here
+      now e = grind (arith, common_steps, none_given)
 
 -- All that are listed are permitted
 
@@ -112,12 +106,10 @@ all_permitted b steps h = subst (AllByRecursion Q) (sym h.list) (four (recovery 
     retires = retirement_of (slice_get b.window 0)
 
     misses : (m : Option Missed) → FirstMiss b.window m → AllByRecursion Q (recovery m)
-    misses None f = tt
-    misses (Some m) f = (f, tt)
+    misses m f = grind (arith, common_steps)
 
     lets : (n : Option Fetched) → NextOf b n → AllByRecursion Q (next_let n)
-    lets None f = tt
-    lets (Some n) f = (f, tt)
+    lets n f = grind (arith, common_steps)
 
     run : AllByRecursion Q runs
     run = given_all (operands_in regs) run_at Q b.window (length b.window) (λ j o e. e)
@@ -126,10 +118,8 @@ all_permitted b steps h = subst (AllByRecursion Q) (sym h.list) (four (recovery 
     load = given_all (load_in regs b.committed.memory) load_at Q b.window (length b.window) (λ j v e. e)
 
     retire : (s : Bool) → settled_at (slice_get b.window 0) ≡ s → AllByRecursion Q (cond s (Retire ∷ []) [])
-    retire true e = (e, tt)
-    retire false e = tt
+    retire s e = grind (arith, common_steps)
 
     four : (fs bs cs ds es : List Step) → AllByRecursion Q fs → AllByRecursion Q bs → AllByRecursion Q cs → AllByRecursion Q ds → AllByRecursion Q es →
         AllByRecursion Q (fs ++ bs ++ cs ++ ds ++ es)
-    four fs bs cs ds es a b c d e =
-        all_both Q (fs ++ bs ++ cs ++ ds) es (all_both Q (fs ++ bs ++ cs) ds (all_both Q (fs ++ bs) cs (all_both Q fs bs a b) c) d) e
+    four fs bs cs ds es a b c d e = grind (arith, common_steps, all_both)

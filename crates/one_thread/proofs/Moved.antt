@@ -1,11 +1,10 @@
--- A turn that makes a step of the unit, and what follows for turns in order and for any.
+-- A turn that makes a step of the unit.
 use Rattle.std.proofs.Common.{◌≡◌, Option}
 use Rattle.inorder.specs.Moves.{IsReached}
 use Rattle.inorder.specs.Unit.{UpdateUnit}
 use Rattle.one_thread.specs.declared.bench.Turn.{Turn}
 use Rattle.one_thread.specs.declared.pipeline.Pipeline.{Pipeline}
 use Rattle.one_thread.specs.Choices.{step_made}
-use Rattle.one_thread.specs.Order.{MovesFirst}
 use Rattle.one_thread.specs.Possible.{Possible}
 use Rattle.one_thread.specs.StandsFor.{StandsFor, sizes}
 use Rattle.one_thread.specs.Turns.{Does, Moves}
@@ -23,6 +22,3 @@ MovesAs b step answer later = (U : UpdateUnit) → IsReached b.program.now (size
 
 pub moves_as : (b later : Pipeline) (step : Option Possible) (answer : Turn) → MovesAs b step answer later → Moves b answer later
 moves_as b later step answer m U r s = let x = m U r s in record { unit = x.unit; reached = x.reached; stands = x.stands; does = x.does }
-
-pub moves_first : (b later : Pipeline) (answer : Turn) → MovesFirst b answer later → Moves b answer later
-moves_first b later answer m U r s = let x = m U r s in record { unit = x.unit; reached = x.reached; stands = x.stands; does = x.does.0 }

@@ -1,4 +1,6 @@
 -- Turns in an order.
+use Rattle.std.proofs.Common.{arith}
+use Rattle.std.proofs.lemmas.Grind.{common_steps}
 use Rattle.std.proofs.Common.{ℕ}
 use Rattle.instructions.specs.declared.instr.Instr.{Instr}
 use Rattle.one_thread.specs.declared.bench.Turn.{Turn}
@@ -28,6 +30,4 @@ module _ {S Q : Type 0} (Predicts : S → ℕ → Instr → ℕ → S → Type 0
   -- Legal steps, in any order
   pub moves_in : (b later : BenchFields S) (old new : Order Q) (answer : Turn) → IsTurnIn Predicts Learns Chooses b old answer later new →
       Moves b.pipeline answer later.pipeline
-  moves_in b later old new answer turned U r s =
-      let m = (turned U r s).made in
-      record { unit = m.unit; reached = m.reached; stands = m.stands; does = m.does }
+  moves_in b later old new answer turned U r s = grind (arith, common_steps)

@@ -1,24 +1,22 @@
 -- The steps that the fields permit are those that are possible in the unit.
-use Rattle.std.proofs.Common.{◌≡◌, ℕ, zero, suc, ◌<◌, ◌≤◌, Bool, true, false, cond, List, [], ◌∷◌, ◌++◌, length, map, Option, Some, None, refl, sym, ap, ◌∙◌, subst, arith, append_assoc, length-append}
+use Rattle.std.proofs.lemmas.Grind.{common_steps}
+use Rattle.std.proofs.Common.{◌≡◌, ℕ, zero, suc, ◌<◌, ◌≤◌, Bool, true, false, cond, List, [], ◌∷◌, ◌++◌, length, map, Option, refl, sym, ap, ◌∙◌, subst, arith, append_assoc, length-append}
 use Rattle.std.specs.Prelude.{◌&&◌, is_none, is_some}
 use Rattle.std.specs.List.{AllByRecursion}
 use Rattle.std.proofs.lemmas.List.{append-nil, map-append}
-use Rattle.instructions.specs.Instruction.{first_of, second_of, width}
+use Rattle.instructions.specs.Instruction.{width}
 use Rattle.instructions.specs.Programs.{Program}
 use Rattle.instructions.specs.declared.instr.Instr.{Instr}
 use Rattle.instructions.specs.declared.op.Kind.{Kind}
-use Rattle.instructions.specs.declared.op.Kind.TheVariants.{Computes, Jumps, Links, Loads, Stores}
 use Rattle.inorder.specs.Committed.{ahead}
 use Rattle.inorder.specs.Loads.{queue_of}
 use Rattle.inorder.specs.Steps.{IsNoRetiredStop}
-use Rattle.inorder.specs.Tenants.{Addr, Busy, Done, Fate, Live, Miss, Open, Retired, Squashed, Standing, Stopped, Tenant, instr, is_live, kind_of, missing_of, stands_live}
-use Rattle.inorder.specs.Unit.{how_many}
+use Rattle.inorder.specs.Tenants.{Fate, Live, Standing, Tenant, instr, is_live, kind_of, missing_of, stands_live}
 use Rattle.inorder.specs.Still.{AreStill, IsNotBusy}
 use Rattle.inorder.proofs.OneCaller.Left.{ahead_middle}
 use Rattle.inorder.proofs.OneCaller.Middle.{sound_from}
 use Rattle.inorder.proofs.Sound.{IsSound}
 use Rattle.lsq.specs.declared.answer.Answer.{Answer}
-use Rattle.lsq.specs.declared.answer.Answer.TheVariants.{Blocked, Forward, Memory}
 use Rattle.lsq.specs.LoadRule.{answer_over}
 use Rattle.one_thread.specs.declared.execute.Operands.{Operands}
 use Rattle.one_thread.specs.declared.possible.Step.{Step}
@@ -28,7 +26,7 @@ use Rattle.one_thread.specs.Loads.{entries, load_in, loaded_over, value_by, wait
 use Rattle.one_thread.specs.Notes.{miss_in}
 use Rattle.one_thread.specs.Possible.{Possible, answered_by, can_be_claimed, can_be_loaded, can_recover, each_that, is_answered, is_miss, is_open}
 use Rattle.one_thread.specs.Steps.{given_step, given_steps, named}
-use Rattle.one_thread.specs.Window.{miss_of, operands_by, operands_in, source_in, stage_of, station_of, where_open, window}
+use Rattle.one_thread.specs.Window.{miss_of, operands_by, operands_in, stage_of, station_of, where_open, window}
 use Rattle.one_thread.proofs.Queues.{answer_like, queue_like}
 use Rattle.one_thread.proofs.Tests.{HasSources, gives_here, gives_left, has_sources}
 use Rattle.one_thread.proofs.Windows.{window_if, window_length}
@@ -56,8 +54,7 @@ module _ {X : Type 0} (give : List Station → Station → Option X) (step : ℕ
       ∙ ap (λ o. given_steps give step xs k ++ given_step step k o) (gives_left give xs zs k less)
 
   given_name : (k : ℕ) (o : Option X) → map named (given_step step k o) ≡ cond (is_some o) (name k ∷ []) []
-  given_name k None = refl
-  given_name k (Some x) = ap (λ p. p ∷ []) (is k x)
+  given_name k o = grind (arith, common_steps)
 
   pub same_steps : (ts : List Tenant) → AreAlike give test P ts → map named (given_steps give step (window P ts) (length (window P ts))) ≡ each_that test name ts
   same_steps [] h = refl
@@ -86,12 +83,7 @@ module _ {X : Type 0} (give : List Station → Station → Option X) (step : ℕ
           ∙ ap (λ l. each_that test name ts ++ l) (given_name k (give W s))
           ∙ ap (λ b. each_that test name ts ++ cond b (name k ∷ []) []) (h.0.live e)
           ∙ ap (λ n. each_that test name ts ++ cond (test ts t) (name n ∷ []) []) (window_length P ts)
-      go false e more =
-          let shown = window_if P t ts false e in
-          ap (λ l. map named (given_steps give step l (length l))) shown
-          ∙ more
-          ∙ sym (append-nil (each_that test name ts))
-          ∙ ap (λ b. each_that test name ts ++ cond b (name (how_many is_live ts) ∷ []) []) (sym (h.0.left e))
+      go false e more = grind (arith, common_steps, window_if, append-nil)
 
 -- A test that asks for life first
 
@@ -104,12 +96,7 @@ live_passes t b e = sym (ap (λ x. x && b) e)
 -- Misses
 
 miss_alike : (f : Fate) → is_some (miss_of (stage_of f)) ≡ is_miss f
-miss_alike Open = refl
-miss_alike (Busy x) = refl
-miss_alike (Addr x) = refl
-miss_alike (Done x) = refl
-miss_alike (Miss x) = refl
-miss_alike (Stopped x) = refl
+miss_alike f = grind (arith, common_steps)
 
 pub misses_alike : (P : Program) (ts : List Tenant) → AreAlike miss_in can_recover P ts
 misses_alike P [] = tt
@@ -124,45 +111,17 @@ misses_alike P (t ∷ ts) = (
 -- Claims
 
 needs_alike : (k : Kind) (a b : Option ℕ) → is_some (operands_by k a b) ≡ is_none (missing_of k a b)
-needs_alike Computes None b = refl
-needs_alike Jumps None b = refl
-needs_alike Links None b = refl
-needs_alike Loads None b = refl
-needs_alike Stores None b = refl
-needs_alike Computes (Some a) None = refl
-needs_alike Jumps (Some a) None = refl
-needs_alike Links (Some a) None = refl
-needs_alike Loads (Some a) None = refl
-needs_alike Stores (Some a) None = refl
-needs_alike Computes (Some a) (Some b) = refl
-needs_alike Jumps (Some a) (Some b) = refl
-needs_alike Links (Some a) (Some b) = refl
-needs_alike Loads (Some a) (Some b) = refl
-needs_alike Stores (Some a) (Some b) = refl
+needs_alike k a b = grind (arith, common_steps)
 
 open_alike : (f : Fate) (o : Option Operands) → IsNotBusy f → is_some (where_open (stage_of f) o) ≡ is_open f && is_some o
-open_alike Open o h = refl
-open_alike (Busy x) o h = absurd h
-open_alike (Addr x) o h = refl
-open_alike (Done x) o h = refl
-open_alike (Miss x) o h = refl
-open_alike (Stopped x) o h = refl
+open_alike f o h = grind (arith, common_steps)
 
 claim_alike : (P : Program) (regs : List ℕ) (t : Tenant) (ts : List Tenant) → HasSources P regs t ts → IsNotBusy t.fate →
     is_some (operands_in regs (window P ts) (station_of P t)) ≡ is_open t.fate && is_none (missing_of (kind_of P t) t.first.value t.second.value)
-claim_alike P regs t ts src busy =
-    open_alike t.fate (operands_by (kind_of P t) (source_in regs W (first_of (instr P t))) (source_in regs W (second_of (instr P t)))) busy
-    ∙ ap (λ o. is_open t.fate && is_some o)
-    (sym (ap (λ x. operands_by (kind_of P t) x t.second.value) src.first ∙ ap (operands_by (kind_of P t) (source_in regs W (first_of (instr P t)))) src.second))
-    ∙ ap (λ x. is_open t.fate && x) (needs_alike (kind_of P t) t.first.value t.second.value)
-  where
-    W : List Station
-    W = window P ts
+claim_alike P regs t ts src busy = grind (arith, common_steps, open_alike, needs_alike)
 
 pub live_is : (st : Standing) → stands_live st ≡ true → st ≡ Live
-live_is Live e = refl
-live_is Retired e = absurd (cc)
-live_is Squashed e = absurd (cc)
+live_is st e = grind (arith, common_steps)
 
 -- ys are the tenants after those that are gone over
 pub claims_alike : (P : Program) (regs : List ℕ) (ys U : List Tenant) → IsSound P (ys ++ U) → AreStill U → AllByRecursion IsNoRetiredStop U →
@@ -183,24 +142,12 @@ claims_alike P regs ys (t ∷ ts) s h ns e =
 -- Loads
 
 answer_alike : (x : Answer) (mem : List ℕ) (i : Instr) (a : ℕ) → is_some (value_by x mem i.op a) ≡ is_answered x
-answer_alike (Forward r) mem i a = refl
-answer_alike Memory mem i a = refl
-answer_alike (Blocked p) mem i a = refl
+answer_alike x mem i a = grind (arith, common_steps)
 
 load_by : (P : Program) (regs mem : List ℕ) (ts : List Tenant) (i : Instr) (k : Kind) (f : Fate) →
     ((a : ℕ) → answer_over (entries regs (window P ts) (length (window P ts))) a (width i.op) ≡ answer_over (queue_of P ts) a (width i.op)) →
     is_some (loaded_over (entries regs (window P ts) (length (window P ts))) mem i.op (waits_by k (stage_of f))) ≡ answered_by P ts i k f
-load_by P regs mem ts i Loads (Addr a) same =
-    ap (λ x. is_some (value_by x mem i.op a)) (same a) ∙ answer_alike (answer_over (queue_of P ts) a (width i.op)) mem i a
-load_by P regs mem ts i Loads Open same = refl
-load_by P regs mem ts i Loads (Busy x) same = refl
-load_by P regs mem ts i Loads (Done x) same = refl
-load_by P regs mem ts i Loads (Miss x) same = refl
-load_by P regs mem ts i Loads (Stopped x) same = refl
-load_by P regs mem ts i Computes f same = refl
-load_by P regs mem ts i Jumps f same = refl
-load_by P regs mem ts i Links f same = refl
-load_by P regs mem ts i Stores f same = refl
+load_by P regs mem ts i k f same = grind (arith, common_steps, answer_alike)
 
 pub loads_alike : (P : Program) (regs mem : List ℕ) (ys U : List Tenant) → IsSound P (ys ++ U) → AreStill U → AllByRecursion IsNoRetiredStop U →
     regs ≡ (ahead P (ys ++ U)).registers → AreAlike (load_in regs mem) (can_be_loaded P) P U

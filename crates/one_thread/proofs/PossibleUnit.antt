@@ -1,4 +1,5 @@
 -- All steps that the fields permit, in a unit that they stand for.
+use Rattle.std.proofs.lemmas.Grind.{common_steps}
 use Rattle.std.proofs.Common.{◌≡◌, ℕ, ◌<◌, ◌≤◌, Bool, true, false, cond, ◌&&◌, List, [], ◌∷◌, ◌++◌, length, take, map, Option, Some, None, refl, sym, ap, ◌∙◌, arith, eqb}
 use Rattle.std.specs.Prelude.{nat_lt, option_map, slice_get}
 use Rattle.std.specs.List.{AllByRecursion}
@@ -8,23 +9,23 @@ use Rattle.instructions.specs.Instruction.{is_access, kind, second_of}
 use Rattle.instructions.specs.Programs.{Program, instr_at}
 use Rattle.instructions.specs.declared.instr.Instr.{Instr}
 use Rattle.instructions.specs.declared.op.Kind.{Kind}
-use Rattle.instructions.specs.declared.op.Kind.TheVariants.{Computes, Jumps, Links, Loads, Stores}
+use Rattle.instructions.specs.declared.op.Kind.TheVariants.{Stores}
 use Rattle.instructions.specs.declared.stop.Stop.{Stop}
 use Rattle.inorder.specs.Steps.{IsNoRetiredStop}
-use Rattle.inorder.specs.Tenants.{Addr, Busy, Done, Fate, Live, Miss, Open, Retired, Squashed, Standing, Stopped, Tenant, instr, is_live, is_live_access, kind_of, stands_live}
-use Rattle.inorder.specs.Unit.{UpdateUnit, at, front_pc, how_many}
+use Rattle.inorder.specs.Tenants.{Fate, Live, Retired, Standing, Stopped, Tenant, instr, is_live, is_live_access, kind_of, stands_live}
+use Rattle.inorder.specs.Unit.{Sizes, UpdateUnit, at, front_pc, how_many}
 use Rattle.inorder.specs.Moves.{IsReached}
 use Rattle.one_thread.specs.declared.dispatch.Fetched.{Fetched}
 use Rattle.one_thread.specs.declared.pipeline.Pipeline.{Pipeline}
 use Rattle.one_thread.specs.declared.possible.Step.{Step}
 use Rattle.one_thread.specs.declared.possible.Step.TheVariants.{Recover, Retire}
-use Rattle.one_thread.specs.declared.recovery.Missed.{Missed}
+use Rattle.one_thread.specs.declared.window.Missed.{Missed}
 use Rattle.one_thread.specs.declared.station.Station.{Station}
 use Rattle.one_thread.specs.Changes.{NextOf, registers_of}
 use Rattle.one_thread.specs.Loads.{load_in}
 use Rattle.one_thread.specs.Notes.{miss_in, settled_by}
 use Rattle.one_thread.specs.Possible.{Possible, ToLet, ToLoad, ToRecover, ToRetire, ToRun, can_be_claimed, can_be_let, can_be_loaded, can_recover, each_that}
-use Rattle.one_thread.specs.Possible.{first_some, fits_in, has_ended, has_stopped, oldest_live, possible, retirement, steps_of, stopped_by}
+use Rattle.one_thread.specs.Possible.{first_some, fits_in, has_ended, has_stopped, oldest_live, possible, retirement, stopped_by}
 use Rattle.one_thread.specs.Stages.{CannotLet, FirstMiss, NoInstr, NoRoom, QueueFull}
 use Rattle.one_thread.specs.StandsFor.{HasStopped, StandsFor, sizes}
 use Rattle.one_thread.specs.Steps.{ArePossible, given_steps, load_at, loads_of, named, next_let, recovery, retirement_of, run_at, runs_of}
@@ -41,14 +42,7 @@ use Rattle.one_thread.proofs.Windows.{front_worth, window_accesses, window_if, w
 -- The end of a unit
 
 goes_on : (st : Standing) (f : Fate) → (st ≡ Retired → (c : Stop) → f ≡ Stopped c → ⊥) → stopped_by st f ≡ false
-goes_on Retired (Stopped c) h = absurd (h refl c refl)
-goes_on Retired Open h = refl
-goes_on Retired (Busy x) h = refl
-goes_on Retired (Addr x) h = refl
-goes_on Retired (Done x) h = refl
-goes_on Retired (Miss x) h = refl
-goes_on Live f h = refl
-goes_on Squashed f h = refl
+goes_on st f h = grind (arith, common_steps)
 
 pub none_stopped : (ts : List Tenant) → AllByRecursion IsNoRetiredStop ts → has_stopped ts ≡ false
 none_stopped [] h = refl
@@ -75,22 +69,20 @@ one_stopped (t ∷ ts) c h = go (eqb h.p (length ts)) refl (one_stopped ts c)
 
 -- The let
 
-fits : (P : Program) (queue : ℕ) (ts : List Tenant) (i : Instr) (b : Bool) → is_access (kind i.op) ≡ b → (b ≡ true → how_many (is_live_access P) ts < queue) →
+pub fits : (P : Program) (queue : ℕ) (ts : List Tenant) (i : Instr) (b : Bool) → is_access (kind i.op) ≡ b → (b ≡ true → how_many (is_live_access P) ts < queue) →
     fits_in P queue ts (Some i) ≡ true
-fits P queue ts i true e h = ap (λ b. cond b (nat_lt (how_many (is_live_access P) ts) queue) true) e ∙ grind (arith, h refl)
-fits P queue ts i false e h = ap (λ b. cond b (nat_lt (how_many (is_live_access P) ts) queue) true) e
+fits P queue ts i b e h = grind (arith, common_steps)
 
-lt_true : (a b : ℕ) → a < b → nat_lt a b ≡ true
+pub lt_true : (a b : ℕ) → a < b → nat_lt a b ≡ true
 lt_true a b h = grind arith
 
 le_false : (a b : ℕ) → b ≤ a → nat_lt a b ≡ false
 le_false a b h = le-ltb a b h
 
 and_false : (a : Bool) → a && false ≡ false
-and_false true = refl
-and_false false = refl
+and_false a = grind (arith, common_steps)
 
-let_alike : (b : Pipeline) (U : UpdateUnit) (next : Option Fetched) → b.over ≡ None → IsReached b.program.now (sizes b) U → StandsFor b U → NextOf b next →
+pub let_alike : (b : Pipeline) (U : UpdateUnit) (next : Option Fetched) → b.over ≡ None → IsReached b.program.now (sizes b) U → StandsFor b U → NextOf b next →
     map named (next_let next) ≡ cond (can_be_let b.program.now (sizes b) U.tenants) (ToLet ∷ []) []
 let_alike b U next none r s h = go next h
   where
@@ -137,7 +129,7 @@ let_alike b U next none r s h = go next h
 
 -- The recovery
 
-recovery_alike : (b : Pipeline) (U : UpdateUnit) (miss : Option Missed) → StandsFor b U → FirstMiss b.window miss →
+pub recovery_alike : (b : Pipeline) (U : UpdateUnit) (miss : Option Missed) → StandsFor b U → FirstMiss b.window miss →
     map named (recovery miss) ≡ take 1 (each_that can_recover ToRecover U.tenants)
 recovery_alike b U miss s h = go miss h
   where
@@ -153,8 +145,7 @@ recovery_alike b U miss s h = go miss h
         ∙ same_steps miss_in (λ k x. Recover (record { at = k; next = x })) ToRecover (λ k x. refl) can_recover P U.tenants (misses_alike P U.tenants)
 
     first : (xs : List Step) → map named (take 1 xs) ≡ take 1 (map named xs)
-    first [] = refl
-    first (x ∷ xs) = refl
+    first xs = grind (arith, common_steps)
 
     go : (miss : Option Missed) → FirstMiss b.window miss → map named (recovery miss) ≡ take 1 (each_that can_recover ToRecover U.tenants)
     go None h =
@@ -176,67 +167,29 @@ oldest_alike P (t ∷ ts) = go (is_live t) refl (oldest_alike P ts)
     end (x ∷ xs) (Some u) e = e
 
     same : (o : Option Tenant) → first_some o None ≡ o
-    same None = refl
-    same (Some u) = refl
+    same o = grind (arith, common_steps)
 
     go : (b : Bool) → is_live t ≡ b → slice_get (window P ts) 0 ≡ option_map (station_of P) (oldest_live ts) →
         slice_get (window P (t ∷ ts)) 0 ≡ option_map (station_of P) (first_some (oldest_live ts) (cond (is_live t) (Some t) None))
-    go true e more =
-        ap (λ l. slice_get l 0) (window_if P t ts true e) ∙ end (window P ts) (oldest_live ts) more
-        ∙ ap (λ x. option_map (station_of P) (first_some (oldest_live ts) (cond x (Some t) None))) (sym e)
-    go false e more =
-        ap (λ l. slice_get l 0) (window_if P t ts false e) ∙ more ∙ ap (option_map (station_of P)) (sym (same (oldest_live ts)))
-        ∙ ap (λ x. option_map (station_of P) (first_some (oldest_live ts) (cond x (Some t) None))) (sym e)
+    go b e more = grind (arith, common_steps, window_if, ts, end, same)
 
 ended_alike : (k : Kind) (second : Option ℕ) (f : Fate) → (k ≡ Stores → (v : ℕ) × (second ≡ Some v)) → settled_by k (stage_of f) ≡ has_ended k second f
-ended_alike k second (Done v) h = refl
-ended_alike k second (Stopped c) h = refl
-ended_alike k second Open h = other k
-  where
-    other : (k : Kind) → settled_by k Rattle.one_thread.specs.declared.station.Stage.TheVariants.Open ≡ has_ended k second Open
-    other Stores = refl
-    other Computes = refl
-    other Jumps = refl
-    other Links = refl
-    other Loads = refl
-ended_alike k second (Busy x) h = other k
-  where
-    other : (k : Kind) → settled_by k Rattle.one_thread.specs.declared.station.Stage.TheVariants.Open ≡ has_ended k second (Busy x)
-    other Stores = refl
-    other Computes = refl
-    other Jumps = refl
-    other Links = refl
-    other Loads = refl
-ended_alike k second (Miss x) h = other k
-  where
-    other : (k : Kind) → settled_by k (Rattle.one_thread.specs.declared.station.Stage.TheVariants.Miss x) ≡ has_ended k second (Miss x)
-    other Stores = refl
-    other Computes = refl
-    other Jumps = refl
-    other Links = refl
-    other Loads = refl
-ended_alike Stores second (Addr a) h = let v = h refl in ap (λ o. has_ended Stores o (Addr a)) (sym v.1)
-ended_alike Computes second (Addr a) h = refl
-ended_alike Jumps second (Addr a) h = refl
-ended_alike Links second (Addr a) h = refl
-ended_alike Loads second (Addr a) h = refl
+ended_alike k second f h = grind (arith, common_steps)
 
 none_oldest : (P : Program) (ts : List Tenant) → window P ts ≡ [] → oldest_live ts ≡ None
 none_oldest P ts e = go (oldest_live ts) (sym (oldest_alike P ts) ∙ ap (λ l. slice_get l 0) e)
   where
     go : (o : Option Tenant) → option_map (station_of P) o ≡ None → o ≡ None
-    go None h = refl
-    go (Some t) h = absurd (cc)
+    go o h = grind (arith, common_steps)
 
 oldest_is : (P : Program) (ys : List Tenant) (t : Tenant) (ts : List Tenant) → t.standing ≡ Live → window P ts ≡ [] → oldest_live (ys ++ t ∷ ts) ≡ Some t
 oldest_is P [] t ts l e = ap (λ o. first_some o (cond (is_live t) (Some t) None)) (none_oldest P ts e) ∙ ap (λ st. cond (stands_live st) (Some t) None) l
 oldest_is P (y ∷ ys) t ts l e = ap (λ o. first_some o (cond (is_live y) (Some y) None)) (oldest_is P ys t ts l e)
 
 no_station : (xs : List Station) → length xs ≡ 0 → xs ≡ []
-no_station [] e = refl
-no_station (x ∷ xs) e = absurd (omega (arith, e))
+no_station xs e = grind (arith, common_steps)
 
-retire_alike : (b : Pipeline) (U : UpdateUnit) → b.over ≡ None → IsReached b.program.now (sizes b) U → StandsFor b U →
+pub retire_alike : (b : Pipeline) (U : UpdateUnit) → b.over ≡ None → IsReached b.program.now (sizes b) U → StandsFor b U →
     map named (retirement_of (slice_get b.window 0)) ≡ retirement b.program.now (oldest_live U.tenants)
 retire_alike b U none r s = go (slice_get b.window 0) refl
   where
@@ -247,12 +200,10 @@ retire_alike b U none r s = go (slice_get b.window 0) refl
     k = knows b U none r s
 
     nobody : (o : Option Tenant) → option_map (station_of P) o ≡ None → [] ≡ retirement P o
-    nobody None e = refl
-    nobody (Some t) e = absurd (cc)
+    nobody o e = grind (arith, common_steps)
 
     one : (x : Bool) → map named (cond x (Retire ∷ []) []) ≡ cond x (ToRetire ∷ []) []
-    one true = refl
-    one false = refl
+    one x = grind (arith, common_steps)
 
     some : (w : Station) → Found P U.tenants 0 w → map named (cond (settled_by (kind w.instr.op) w.stage) (Retire ∷ []) []) ≡ retirement P (oldest_live U.tenants)
     some w f =
@@ -269,10 +220,34 @@ retire_alike b U none r s = go (slice_get b.window 0) refl
         ∙ ap (retirement P) (sym (ap oldest_live f.split ∙ oldest_is P f.ys f.t f.ts f.live empty))
 
     go : (o : Option Station) → slice_get b.window 0 ≡ o → map named (retirement_of o) ≡ retirement P (oldest_live U.tenants)
-    go None e = nobody (oldest_live U.tenants) (sym (oldest_alike P U.tenants) ∙ ap (λ l. slice_get l 0) (sym s.window) ∙ e)
-    go (Some w) e = some w (found P U.tenants 0 w (ap (λ l. slice_get l 0) (sym s.window) ∙ e))
+    go o e = grind (arith, common_steps, nobody, oldest_alike, some, found)
+
+-- The executions and the loads
+
+pub runs_alike : (b : Pipeline) (U : UpdateUnit) → Knows b U → StandsFor b U →
+    map named (runs_of (registers_of b) b.window (length b.window)) ≡ each_that (can_be_claimed b.program.now) ToRun U.tenants
+runs_alike b U k s =
+    let P = b.program.now in
+    let regs = registers_of b in
+    ap (λ W. map named (given_steps (operands_in regs) run_at W (length W))) s.window
+    ∙ same_steps (operands_in regs) run_at ToRun (λ n x. refl) (can_be_claimed P) P U.tenants (claims_alike P regs [] U.tenants k.sound k.still k.stops k.registers)
+
+pub loads_alike_in : (b : Pipeline) (U : UpdateUnit) → Knows b U → StandsFor b U →
+    map named (loads_of (registers_of b) b.committed.memory b.window (length b.window)) ≡ each_that (can_be_loaded b.program.now) ToLoad U.tenants
+loads_alike_in b U k s =
+    let P = b.program.now in
+    let regs = registers_of b in
+    let mem = b.committed.memory in
+    ap (λ W. map named (given_steps (load_in regs mem) load_at W (length W))) s.window
+    ∙ same_steps (load_in regs mem) load_at ToLoad (λ n x. refl) (can_be_loaded P) P U.tenants (loads_alike P regs mem [] U.tenants k.sound k.still k.stops k.registers)
 
 -- All of them
+
+pub listed_is : (P : Program) (C : Sizes) (U : UpdateUnit) (recovers lets runs loads retires : List Possible) → AllByRecursion IsNoRetiredStop U.tenants →
+    recovers ≡ take 1 (each_that can_recover ToRecover U.tenants) → lets ≡ cond (can_be_let P C U.tenants) (ToLet ∷ []) [] →
+    runs ≡ each_that (can_be_claimed P) ToRun U.tenants → loads ≡ each_that (can_be_loaded P) ToLoad U.tenants → retires ≡ retirement P (oldest_live U.tenants) →
+    recovers ++ lets ++ runs ++ loads ++ retires ≡ possible P C U
+listed_is P C U recovers lets runs loads retires stops a l r m z = grind (arith, common_steps, none_stopped)
 
 pub possible_is : (b : Pipeline) (U : UpdateUnit) (steps : List Step) → b.over ≡ None → IsReached b.program.now (sizes b) U → StandsFor b U → ArePossible b steps →
     map named steps ≡ possible b.program.now (sizes b) U
@@ -282,46 +257,17 @@ possible_is b U steps none r s h =
     ∙ ap (λ l. l ++ map named retires) (map-append named (recovery h.miss ++ next_let h.next ++ runs) loads)
     ∙ ap (λ l. l ++ map named loads ++ map named retires) (map-append named (recovery h.miss ++ next_let h.next) runs)
     ∙ ap (λ l. l ++ map named runs ++ map named loads ++ map named retires) (map-append named (recovery h.miss) (next_let h.next))
-    ∙ ap (λ l. l ++ map named (next_let h.next) ++ map named runs ++ map named loads ++ map named retires) (recovery_alike b U h.miss s h.is_miss)
-    ∙ ap (λ l. take 1 (each_that can_recover ToRecover ts) ++ l ++ map named runs ++ map named loads ++ map named retires) (let_alike b U h.next none r s h.is_next)
-    ∙ ap (λ l. take 1 (each_that can_recover ToRecover ts) ++ lets ++ l ++ map named loads ++ map named retires) run_alike
-    ∙ ap (λ l. take 1 (each_that can_recover ToRecover ts) ++ lets ++ each_that (can_be_claimed P) ToRun ts ++ l ++ map named retires) load_alike
-    ∙ ap (λ l. take 1 (each_that can_recover ToRecover ts) ++ lets ++ each_that (can_be_claimed P) ToRun ts ++ each_that (can_be_loaded P) ToLoad ts ++ l) (retire_alike b U none r s)
-    ∙ sym (ap (λ x. cond x [] (steps_of P (sizes b) ts)) (none_stopped ts k.stops))
+    ∙ listed_is b.program.now (sizes b) U (map named (recovery h.miss)) (map named (next_let h.next)) (map named runs) (map named loads) (map named retires) k.stops
+    (recovery_alike b U h.miss s h.is_miss) (let_alike b U h.next none r s h.is_next) (runs_alike b U k s) (loads_alike_in b U k s) (retire_alike b U none r s)
   where
-    P : Program
-    P = b.program.now
-
-    ts : List Tenant
-    ts = U.tenants
-
     k : Knows b U
     k = knows b U none r s
 
-    regs : List ℕ
-    regs = registers_of b
-
-    mem : List ℕ
-    mem = b.committed.memory
-
-    lets : List Possible
-    lets = cond (can_be_let P (sizes b) ts) (ToLet ∷ []) []
-
     runs : List Step
-    runs = runs_of regs b.window (length b.window)
+    runs = runs_of (registers_of b) b.window (length b.window)
 
     loads : List Step
-    loads = loads_of regs mem b.window (length b.window)
+    loads = loads_of (registers_of b) b.committed.memory b.window (length b.window)
 
     retires : List Step
     retires = retirement_of (slice_get b.window 0)
-
-    run_alike : map named runs ≡ each_that (can_be_claimed P) ToRun ts
-    run_alike =
-        ap (λ W. map named (given_steps (operands_in regs) run_at W (length W))) s.window
-        ∙ same_steps (operands_in regs) run_at ToRun (λ n x. refl) (can_be_claimed P) P ts (claims_alike P regs [] ts k.sound k.still k.stops k.registers)
-
-    load_alike : map named loads ≡ each_that (can_be_loaded P) ToLoad ts
-    load_alike =
-        ap (λ W. map named (given_steps (load_in regs mem) load_at W (length W))) s.window
-        ∙ same_steps (load_in regs mem) load_at ToLoad (λ n x. refl) (can_be_loaded P) P ts (loads_alike P regs mem [] ts k.sound k.still k.stops k.registers)

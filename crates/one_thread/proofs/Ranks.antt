@@ -1,18 +1,17 @@
 -- The measure falls.
-use Rattle.std.proofs.Common.{◌≡◌, ℕ, zero, suc, ◌*◌, ◌^◌, ◌<◌, ◌≤◌, Bool, true, false, cond, eqb, List, [], ◌∷◌, ◌++◌, length, take, Option, Some, refl, sym, ap, ◌∙◌, subst, arith, append-nil}
+use Rattle.std.proofs.lemmas.Grind.{common_steps}
+use Rattle.std.proofs.Common.{◌≡◌, ℕ, zero, suc, ◌*◌, ◌^◌, ◌<◌, ◌≤◌, List, [], ◌∷◌, ◌++◌, length, take, Option, Some, sym, ap, ◌∙◌, subst, arith, append-nil}
 use Rattle.std.proofs.Common.{mul-le-mul_right, suc-mul, length-append}
 use Rattle.std.specs.Prelude.{slice_get, slice_set}
 use Rattle.std.proofs.Math.Nat.{pow-succ'}
 use Rattle.instructions.specs.Instruction.{kind}
 use Rattle.instructions.specs.Operations.{outcome_of}
 use Rattle.instructions.specs.declared.op.Kind.{Kind}
-use Rattle.instructions.specs.declared.op.Kind.TheVariants.{Computes, Jumps, Links, Loads, Stores}
 use Rattle.instructions.specs.declared.stop.Outcome.{Outcome}
-use Rattle.instructions.specs.declared.stop.Outcome.TheVariants.{Address, Next, Pair, Stop, Value}
 use Rattle.one_thread.specs.declared.execute.Operands.{Operands}
 use Rattle.one_thread.specs.declared.station.Station.{Station}
 use Rattle.one_thread.specs.declared.station.Stage.{Stage}
-use Rattle.one_thread.specs.declared.station.Stage.TheVariants.{Open, Addr, Done, Miss, Stops}
+use Rattle.one_thread.specs.declared.station.Stage.TheVariants.{Done}
 use Rattle.one_thread.specs.Loads.{load_in, waits_by}
 use Rattle.one_thread.specs.Notes.{miss_in}
 use Rattle.one_thread.specs.Givers.{gives}
@@ -24,11 +23,7 @@ use Rattle.one_thread.proofs.Noted.{given_station}
 use Rattle.one_thread.proofs.Scan.{Place, place_at, set_middle, take_middle}
 
 digit_most : (s : Stage) → digit s ≤ 5
-digit_most Open = omega arith
-digit_most (Addr a) = omega arith
-digit_most Done = omega arith
-digit_most (Miss x) = omega arith
-digit_most (Stops c) = omega arith
+digit_most s = grind (arith, common_steps)
 
 pow_next : (k : ℕ) → 7 ^ suc k ≡ 7 * 7 ^ k
 pow_next k = pow-succ' 7 k
@@ -59,11 +54,7 @@ set_place : (W : List Station) (i : ℕ) (w v : Station) (p : Place W i w) → s
 set_place W i w v p = ap (λ l. slice_set l i v) p.is ∙ ap (λ k. slice_set (p.xs ++ w ∷ p.zs) k v) p.place ∙ set_middle p.xs p.zs w v
 
 miss_digit : (s : Stage) (x : ℕ) → miss_of s ≡ Some x → digit s ≡ 2
-miss_digit Open x e = absurd (cc)
-miss_digit (Addr a) x e = absurd (cc)
-miss_digit Done x e = absurd (cc)
-miss_digit (Miss y) x e = refl
-miss_digit (Stops c) x e = absurd (cc)
+miss_digit s x e = grind (arith, common_steps)
 
 pub recover_falls : (W W' : List Station) → length W ≤ 32 → RecoversTo W W' → rank 32 W' < rank 32 W
 recover_falls W W' room r =
@@ -76,22 +67,10 @@ pub let_falls : (W : List Station) (w : Station) → length W < 32 → digit w.s
 let_falls W w room most = subst (λ l. rank 32 (W ++ w ∷ []) < rank 32 l) (append-nil W) (rank_less 32 W w [] [] room (omega (arith, most)))
 
 after_digit : (w : Station) (o : Outcome) → digit (station_after w o).stage ≤ 3
-after_digit w (Value v) = omega arith
-after_digit w (Address v) = omega arith
-after_digit w (Stop v) = omega arith
-after_digit w (Pair l h) = omega arith
-after_digit w (Next x) = go (eqb x w.predicted)
-  where
-    go : (t : Bool) → digit (cond t Done (Miss x)) ≤ 3
-    go true = omega arith
-    go false = omega arith
+after_digit w o = grind (arith, common_steps)
 
 open_digit : (s : Stage) (o : Option Operands) (x : Operands) → where_open s o ≡ Some x → digit s ≡ 5
-open_digit Open o x e = refl
-open_digit (Addr a) o x e = absurd (cc)
-open_digit Done o x e = absurd (cc)
-open_digit (Miss y) o x e = absurd (cc)
-open_digit (Stops c) o x e = absurd (cc)
+open_digit s o x e = grind (arith, common_steps)
 
 pub run_falls : (g : List ℕ) (size : ℕ) (W W' : List Station) (i : ℕ) (w : Station) (o : Operands) → length W ≤ 32 → gives (operands_in g) W i ≡ Some o →
     slice_get W i ≡ Some w → W' ≡ slice_set W i (station_after w (outcome_of w.instr w.half w.pc o.a o.b size)) → rank 32 W' < rank 32 W
@@ -103,15 +82,7 @@ run_falls g size W W' i w o room here is new =
     lower W W' p.zs i w v room p (new ∙ set_place W i w v p) (omega (arith, five, low))
 
 waits_digit : (k : Kind) (s : Stage) (a : ℕ) → waits_by k s ≡ Some a → digit s ≡ 3
-waits_digit Loads (Addr b) a e = refl
-waits_digit Loads Open a e = absurd (cc)
-waits_digit Loads Done a e = absurd (cc)
-waits_digit Loads (Miss x) a e = absurd (cc)
-waits_digit Loads (Stops c) a e = absurd (cc)
-waits_digit Computes s a e = absurd (cc)
-waits_digit Jumps s a e = absurd (cc)
-waits_digit Links s a e = absurd (cc)
-waits_digit Stores s a e = absurd (cc)
+waits_digit k s a e = grind (arith, common_steps)
 
 pub load_falls : (g m : List ℕ) (W W' : List Station) (i : ℕ) (w : Station) (value : ℕ) → length W ≤ 32 → gives (load_in g m) W i ≡ Some value →
     slice_get W i ≡ Some w → W' ≡ slice_set W i (record w { stage = Done; made = Some value }) → rank 32 W' < rank 32 W

@@ -1,20 +1,16 @@
 -- Tenants that were let in a row are again as they were let.
-use Rattle.std.proofs.Common.{◌≡◌, ◌<◌, ◌≤◌, ℕ, zero, suc, ◌+◌, ◌-◌, ◌%◌, ◌^◌, List, [], ◌∷◌, ◌++◌, length, Option, Some, None, refl, sym, ap, ◌∙◌, subst, arith, length-append}
+use Rattle.std.proofs.lemmas.Grind.{common_steps}
+use Rattle.std.proofs.Common.{◌≡◌, ◌<◌, ◌≤◌, ℕ, zero, suc, ◌+◌, ◌-◌, ◌%◌, ◌^◌, List, [], ◌∷◌, ◌++◌, length, Option, Some, None, refl, sym, ap, ◌∙◌, arith}
 use Rattle.std.specs.Prelude.{IfSome, slice_get, slice_set, unwrap_or}
 use Rattle.instructions.specs.Instruction.{fixed_next}
 use Rattle.one_thread.specs.declared.dispatch.Fetched.{Fetched}
 use Rattle.one_thread.specs.declared.pipeline.Pipeline.{Pipeline}
 use Rattle.one_thread.specs.declared.station.Station.{Station}
 use Rattle.one_thread.specs.Changes.{NextOf}
-use Rattle.one_thread.specs.Givers.{NoneGives, given_at}
-use Rattle.one_thread.specs.Flow.{HaveCompleted}
-use Rattle.one_thread.specs.Notes.{AreSettled, miss_in, settled_at}
 use Rattle.one_thread.specs.StandsFor.{StandsForSome}
 use Rattle.one_thread.specs.Reopened.{as_let, reopened, with_reopened}
 use Rattle.one_thread.specs.Window.{access_at, accesses, half_behind, let_at, next_after}
 use Rattle.one_thread.proofs.BenchTurns.{let_shows}
-use Rattle.one_thread.proofs.Flowing.{completed_settled}
-use Rattle.one_thread.proofs.Scan.{get_left}
 
 -- The list
 
@@ -75,37 +71,13 @@ reopened_lets b n f h =
       free = λ e. let before = h.free e in omega (arith, before, long, ap (accesses (reopened n b.window)) long, reopened_accesses n b.window (length b.window));
     }
 
-pub reopened_let : (b later : Pipeline) (f : Fetched) (guess n : ℕ) (y : Station) → n ≤ length b.window → StandsForSome (with_reopened n b) → b.over ≡ None → NoneGives miss_in b.window →
+pub reopened_let : (b later : Pipeline) (f : Fetched) (guess n : ℕ) (y : Station) → n ≤ length b.window → StandsForSome (with_reopened n b) → b.over ≡ None →
     NextOf b (Some f) → guess < 2 ^ 32 → IfSome (fixed_next f.instr f.half f.pc) (λ x. guess ≡ x) → later.window ≡ b.window ++ y ∷ [] → as_let y ≡ let_at f.instr f.half f.pc guess →
     later.leavers ≡ slice_set b.leavers ((b.oldest + length b.window) % b.ring) None → later ≡ record b { window = later.window; leavers = later.leavers } →
     StandsForSome (with_reopened n later)
-reopened_let b later f guess n y l h none miss can small fixed wl is ll rest =
-    let on : with_reopened n later ≡ record (with_reopened n b) { window = reopened n later.window; leavers = later.leavers } =
-    ap (λ (p : Pipeline). record p { window = reopened n later.window }) rest in
-    let shows = let_shows (with_reopened n b) (with_reopened n later) f guess h none (reopened_lets b n f can) small fixed
-    (ap (reopened n) wl ∙ reopened_end n b.window y l ∙ ap (λ x. reopened n b.window ++ x ∷ []) is)
-    (ll ∙ ap (λ m. slice_set b.leavers ((b.oldest + m) % b.ring) None) (sym (reopened_long n b.window))) on in
-    shows.unit
+reopened_let b later f guess n y l h none can small fixed wl is ll rest = grind (arith, common_steps, let_shows, reopened_lets, reopened_end, reopened_long)
 
 -- None of them
 
 pub none_reopened : (b : Pipeline) (n : ℕ) → n ≡ length b.window → StandsForSome b → StandsForSome (with_reopened n b)
-none_reopened b n e h =
-    let all : with_reopened n b ≡ b = ap (λ W. record b { window = W }) (ap (λ m. reopened m b.window) e ∙ reopened_all b.window) in
-    subst StandsForSome (sym all) h
-
--- The older ones are settled as before
-
-pub open_settled : (n : ℕ) (W : List Station) (y : Station) → n ≤ length W → HaveCompleted W → AreSettled n (reopened n (W ++ y ∷ []))
-open_settled n W y l h =
-    record {
-      inside = omega (arith, reopened_long n (W ++ y ∷ []), length-append W (y ∷ []), l);
-      each = λ k less. ap settled_at (reopened_older n k (W ++ y ∷ []) less ∙ get_left W (y ∷ []) k (omega (arith, less, l))) ∙ completed_settled W h k (omega (arith, less, l));
-    }
-
-pub older_settled : (n : ℕ) (W : List Station) → n ≤ length W → HaveCompleted W → AreSettled n (reopened n W)
-older_settled n W l h =
-    record {
-      inside = omega (arith, reopened_long n W, l);
-      each = λ k less. ap settled_at (reopened_older n k W less) ∙ completed_settled W h k (omega (arith, less, l));
-    }
+none_reopened b n e h = grind (arith, common_steps, reopened_all)

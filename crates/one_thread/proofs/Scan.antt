@@ -1,4 +1,5 @@
 -- Going over the stations.
+use Rattle.std.proofs.lemmas.Grind.{common_steps}
 use Rattle.std.proofs.Common.{◌≡◌, ◌<◌, ◌≤◌, ℕ, zero, suc, ◌+◌, List, [], ◌∷◌, ◌++◌, length, take, Option, Some, refl, ap, arith}
 use Rattle.std.specs.Prelude.{slice_get, slice_set}
 use Rattle.one_thread.specs.declared.station.Station.{Station}
@@ -26,8 +27,7 @@ set_middle [] zs x y = refl
 set_middle (a ∷ xs) zs x y = ap (λ l. a ∷ l) (set_middle xs zs x y)
 
 pub take_middle : (xs zs : List Station) → take (length xs) (xs ++ zs) ≡ xs
-take_middle [] zs = refl
-take_middle (a ∷ xs) zs = ap (λ l. a ∷ l) (take_middle xs zs)
+take_middle xs zs = grind (arith, common_steps)
 
 pub get_left : (xs zs : List Station) (k : ℕ) → k < length xs → slice_get (xs ++ zs) k ≡ slice_get xs k
 get_left [] zs k h = absurd (omega (arith, h))
@@ -35,11 +35,7 @@ get_left (x ∷ xs) zs zero h = refl
 get_left (x ∷ xs) zs (suc k) h = let less : k < length xs = omega arith in get_left xs zs k less
 
 pub take_left : (xs zs : List Station) (k : ℕ) → k ≤ length xs → take k (xs ++ zs) ≡ take k xs
-take_left [] [] zero h = refl
-take_left [] (z ∷ zs) zero h = refl
-take_left [] zs (suc k) h = absurd (omega (arith, h))
-take_left (x ∷ xs) zs zero h = refl
-take_left (x ∷ xs) zs (suc k) h = let less : k ≤ length xs = omega arith in ap (λ l. x ∷ l) (take_left xs zs k less)
+take_left xs zs k h = grind (arith, common_steps)
 
 -- a place in a list
 pub record Place (W : List Station) (i : ℕ) (w : Station) : Type 0 where

@@ -1,13 +1,13 @@
 -- A ring of slots as a list.
-use Rattle.std.proofs.Common.{◌≡◌, ◌≢◌, ◌<◌, ◌≤◌, ◌⊎◌, ◌-◌, ◌%◌, ℕ, zero, suc, ◌+◌, inl, inr, List, [], ◌∷◌, ◌++◌, length, take, drop, set, refl}
+use Rattle.std.proofs.lemmas.Grind.{common_steps}
+use Rattle.std.proofs.Common.{◌≡◌, ◌≢◌, ◌<◌, ◌≤◌, ◌⊎◌, ◌-◌, ◌%◌, ℕ, zero, suc, ◌+◌, List, [], ◌∷◌, ◌++◌, length, take, drop, set, refl}
 use Rattle.std.proofs.Common.{sym, ap, ◌∙◌, ⊎_elim, arith, length-append, length-drop, length-set}
 use Rattle.std.proofs.Common.{length-take-le}
 use Rattle.std.specs.Prelude.{slice_get}
 use Rattle.std.proofs.lemmas.Bool.{cases_eq, cases_lt}
-use Rattle.std.proofs.lemmas.List.{take-take}
 use Rattle.circular_buffer.proofs.Places.{slice_get-append_left, slice_get-append_right, slice_get-drop, slice_get-last, slice_get-push, slice_get-set_other, slice_get-set_same, slice_get-take}
 use Rattle.std.proofs.Math.Nat.{add-mod_left, mod-eq_of_lt, mod-lt}
-use Rattle.one_thread.specs.Slots.{place_from, ring_of, slot_in, slot_of}
+use Rattle.one_thread.specs.Slots.{ring_of, slot_in}
 use Rattle.one_thread.proofs.Ring.{mod_first}
 
 -- Numbers
@@ -17,32 +17,13 @@ slot_small n s i h = mod-lt (s + i) h
 
 -- around the end once at the most
 near : (n s i : ℕ) → s < n → i ≤ n → (slot_in n s i ≡ s + i) ⊎ (slot_in n s i + n ≡ s + i)
-near n s i ls li =
-    ⊎_elim (λ (low : s + i < n). inl (mod-eq_of_lt low))
-    (λ high.
-    let more : s + i - n < n = omega (arith, ls, li, high) in
-    let whole : n + (s + i - n) ≡ s + i = omega (arith, high) in
-    let same : slot_in n s i ≡ s + i - n = ap (λ k. k % n) (sym whole) ∙ add-mod_left n (s + i - n) ∙ mod-eq_of_lt more in
-    inr (omega (arith, same, high)))
-    (cases_lt (s + i) n)
+near n s i ls li = grind (arith, common_steps, add-mod_left n (s + i - n), cases_lt (s + i) n, mod-eq_of_lt)
 
 pub slots_apart : (n s i j : ℕ) → s < n → i < n → j < n → i ≢ j → slot_in n s i ≢ slot_in n s j
-slots_apart n s i j ls li lj ne e =
-    let one = near n s i ls (omega (arith, li)) in
-    let other = near n s j ls (omega (arith, lj)) in
-    ⊎_elim (λ p. ⊎_elim (λ q. ne (omega (arith, p, q, e))) (λ q. absurd (omega (arith, p, q, e, lj, li))) other)
-    (λ p. ⊎_elim (λ q. absurd (omega (arith, p, q, e, lj, li))) (λ q. ne (omega (arith, p, q, e))) other) one
+slots_apart n s i j ls li lj ne e = grind (arith, common_steps, near)
 
 next_slot : (n s i : ℕ) → slot_in n (slot_in n s 1) i ≡ slot_in n s (1 + i)
 next_slot n s i = mod_first (s + 1) i n ∙ ap (λ k. k % n) (omega arith)
-
--- the place of the slot of a place
-pub place_slot : (s i : ℕ) → s < 32 → i < 32 → place_from (slot_of s i) s ≡ i
-place_slot s i ls li = omega (arith, ls, li)
-
--- a place that is not the oldest comes one nearer
-pub place_next : (n s : ℕ) → s < 32 → 0 < place_from n s → place_from n s ≡ suc (place_from n (slot_of s 1))
-place_next n s l h = ⊎_elim (λ less. omega (arith, less, h)) (λ last. omega (arith, last, l, h)) (cases_lt s 31)
 
 module _ {X : Type 0} where
   -- lists that give the same
@@ -66,39 +47,13 @@ module _ {X : Type 0} where
 module _ {X : Type 0} (z : ℕ) where
   -- the slots, twice
   twice : (xs : List X) (s i : ℕ) → length xs ≡ z → s < z → i < z → slice_get (xs ++ xs) (s + i) ≡ slice_get xs (slot_in z s i)
-  twice xs s i n ls li =
-      ⊎_elim
-      (λ (low : slot_in z s i ≡ s + i).
-      let small = slot_small z s i (omega (arith, ls)) in
-      slice_get-append_left xs xs (s + i) (omega (arith, low, small, n)) ∙ ap (slice_get xs) (sym low))
-      (λ high. slice_get-append_right xs xs (s + i) (slot_in z s i) (omega (arith, high, n)))
-      (near z s i ls (omega (arith, li)))
+  twice xs s i n ls li = grind (arith, common_steps, slot_small, slice_get-append_left, slice_get-append_right, near)
 
   pub ring_length : (xs : List X) (s n : ℕ) → length xs ≡ z → s < z → n ≤ z → length (ring_of xs s n) ≡ n
   ring_length xs s n e ls ln = length-take-le n (drop s (xs ++ xs)) (omega (arith, length-drop s (xs ++ xs), length-append xs xs, e, ls, ln))
 
   pub ring_get : (xs : List X) (s n i : ℕ) → length xs ≡ z → s < z → n ≤ z → i < n → slice_get (ring_of xs s n) i ≡ slice_get xs (slot_in z s i)
-  ring_get xs s n i e ls ln li =
-      slice_get-take n (drop s (xs ++ xs)) i li ∙ slice_get-drop s (xs ++ xs) i (s + i) refl ∙ twice xs s i e ls (omega (arith, li, ln))
-
-  -- an item changes
-  pub ring_set : (xs : List X) (s n i : ℕ) (x : X) → length xs ≡ z → s < z → n ≤ z → i < n → ring_of (set xs (slot_in z s i) x) s n ≡ set (ring_of xs s n) i x
-  ring_set xs s n i x e ls ln li =
-      let ys = set xs (slot_in z s i) x in
-      let long : length ys ≡ z = length-set xs (slot_in z s i) x ∙ e in
-      let inside : slot_in z s i < length xs = omega (arith, slot_small z s i (omega (arith, ls)), e) in
-      let here : i < length (ring_of xs s n) = omega (arith, ring_length xs s n e ls ln, li) in
-      same_gets (ring_of ys s n) (set (ring_of xs s n) i x)
-      (ring_length ys s n long ls ln ∙ sym (length-set (ring_of xs s n) i x ∙ ring_length xs s n e ls ln))
-      (λ j l.
-      let lj : j < n = omega (arith, l, ring_length ys s n long ls ln) in
-      ring_get ys s n j long ls ln lj
-      ∙ ⊎_elim
-      (λ (same : j ≡ i). ap (λ k. slice_get ys (slot_in z s k)) same ∙ slice_get-set_same xs (slot_in z s i) x inside ∙
-      sym (ap (slice_get (set (ring_of xs s n) i x)) same ∙ slice_get-set_same (ring_of xs s n) i x here))
-      (λ other. slice_get-set_other xs (slot_in z s i) (slot_in z s j) x (slots_apart z s j i ls (omega (arith, lj, ln)) (omega (arith, li, ln)) other) ∙
-      sym (slice_get-set_other (ring_of xs s n) i j x other ∙ ring_get xs s n j e ls ln lj))
-      (cases_eq j i))
+  ring_get xs s n i e ls ln li = grind (arith, common_steps, slice_get-take, slice_get-drop, twice)
 
   -- an item joins
   pub ring_push : (xs : List X) (s n : ℕ) (x : X) → length xs ≡ z → s < z → n < z → ring_of (set xs (slot_in z s n) x) s (n + 1) ≡ ring_of xs s n ++ x ∷ []
@@ -121,10 +76,6 @@ module _ {X : Type 0} (z : ℕ) where
       slice_get-set_other xs (slot_in z s n) (slot_in z s j) x (slots_apart z s j n ls (omega (arith, lj, ln)) (omega (arith, ln)) other)
       ∙ sym (slice_get-push (ring_of xs s n) x j (λ q. other (q ∙ size)) ∙ ring_get xs s n j e ls le less))
       (cases_eq j n))
-
-  -- the youngest leave
-  pub ring_cut : (xs : List X) (s m n : ℕ) → m ≤ n → ring_of xs s m ≡ take m (ring_of xs s n)
-  ring_cut xs s m n le = sym (take-take m n (drop s (xs ++ xs)) le)
 
   -- the oldest leaves
   pub ring_shift : (xs : List X) (s n : ℕ) → length xs ≡ z → s < z → n ≤ z → 0 < n → ring_of xs (slot_in z s 1) (n - 1) ≡ drop 1 (ring_of xs s n)

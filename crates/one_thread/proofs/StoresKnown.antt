@@ -1,30 +1,24 @@
 -- The stores of a flow have their addresses.
-use Rattle.std.proofs.Common.{◌≡◌, ℕ, zero, suc, Bool, true, false, cond, ◌&&◌, List, [], ◌∷◌, ◌++◌, length, take, Option, Some, None, refl, sym, ap, ◌∙◌, arith}
+use Rattle.std.proofs.lemmas.Grind.{common_steps}
+use Rattle.std.proofs.Common.{◌≡◌, ℕ, zero, suc, Bool, true, false, cond, ◌&&◌, List, [], ◌∷◌, ◌++◌, length, take, Option, Some, None, refl, ap, ◌∙◌, arith}
 use Rattle.std.specs.Prelude.{is_none, slice_get}
 use Rattle.instructions.specs.Instruction.{kind}
 use Rattle.instructions.specs.Programs.{Program}
 use Rattle.instructions.specs.declared.op.Kind.{Kind}
-use Rattle.instructions.specs.declared.op.Kind.TheVariants.{Computes, Jumps, Links, Loads, Stores}
 use Rattle.inorder.specs.Loads.{is_store}
 use Rattle.lsq.specs.LoadRule.{lacks_address, or_older, youngest}
 use Rattle.lsq.specs.declared.entry.Entry.{Entry}
 use Rattle.lsq.proofs.Youngest.{youngest_from-snoc}
-use Rattle.one_thread.specs.CompletedRing.{instr_there, stage_by, station_in, stations, stores}
-use Rattle.one_thread.specs.Forwarding.{store_at}
+use Rattle.one_thread.specs.CompletedRing.{stage_by, station_in, stations, store_at, stores}
 use Rattle.one_thread.specs.Loads.{address_of, entry_behind, with_entry}
 use Rattle.one_thread.specs.declared.completed_ring.Completed.{Completed}
 use Rattle.one_thread.specs.declared.station.Station.{Station}
 
 and_no : (b : Bool) → (b && false) ≡ false
-and_no true = refl
-and_no false = refl
+and_no b = grind (arith, common_steps)
 
 has_address : (k : Kind) (v : ℕ) → is_store k ≡ true → is_none (address_of (stage_by k v)) ≡ false
-has_address Computes v e = absurd (cc e)
-has_address Jumps v e = absurd (cc e)
-has_address Links v e = absurd (cc e)
-has_address Loads v e = absurd (cc e)
-has_address Stores v e = refl
+has_address k v e = grind (arith, common_steps)
 
 pub record IsStationOf (P : Program) (w : Station) : Type 0 where
   pub completed : Completed
@@ -44,17 +38,10 @@ known_more es e l h =
 module _ (P : Program) (registers : List ℕ) (cs : List Completed) (n : ℕ) (before : youngest lacks_address (stores registers (stations P cs) n) ≡ None) where
   known_by : (w : Station) → IsStationOf P w → (b : Bool) → is_store (kind w.instr.op) ≡ b →
       youngest lacks_address (with_entry (stores registers (stations P cs) n) (cond b (Some (entry_behind registers (take n (stations P cs)) w)) None)) ≡ None
-  known_by w d false q = before
-  known_by w d true q =
-      let c = d.completed in
-      let there = ap (λ (u : Station). is_store (kind u.instr.op)) d.is ∙ q in
-      let none = ap (λ (u : Station). is_none (address_of u.stage)) (sym d.is) ∙ has_address (kind (instr_there P c.pc).op) c.value there in
-      known_more (stores registers (stations P cs) n) (entry_behind registers (take n (stations P cs)) w)
-      (ap (λ x. is_store (kind w.instr.op) && x) none ∙ and_no (is_store (kind w.instr.op))) before
+  known_by w d h2 q = grind (arith, common_steps, has_address, known_more, and_no)
 
   known_at : (o : Option Station) → slice_get (stations P cs) n ≡ o → youngest lacks_address (with_entry (stores registers (stations P cs) n) (store_at registers (stations P cs) o n)) ≡ None
-  known_at None e = before
-  known_at (Some w) e = known_by w (station_made P cs n w e) (is_store (kind w.instr.op)) refl
+  known_at o e = grind (arith, common_steps, known_by, station_made)
 
 pub stores_known : (P : Program) (registers : List ℕ) (cs : List Completed) (n : ℕ) → youngest lacks_address (stores registers (stations P cs) n) ≡ None
 stores_known P registers cs zero = refl

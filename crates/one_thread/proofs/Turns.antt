@@ -1,5 +1,7 @@
 -- The turn Recovered is steps of the unit.
-use Rattle.std.proofs.Common.{◌≡◌, ℕ, ◌%◌, ◌<◌, Bool, List, [], ◌∷◌, ◌++◌, length, take, Option, Some, None, sym, ap, ◌∙◌, subst}
+use Rattle.std.proofs.Common.{arith}
+use Rattle.std.proofs.lemmas.Grind.{common_steps}
+use Rattle.std.proofs.Common.{rules, ◌≡◌, ℕ, ◌<◌, List, ◌∷◌, ◌++◌, length, take, Option, Some, None, sym, ap, ◌∙◌, subst}
 use Rattle.std.specs.Prelude.{slice_get}
 use Rattle.std.specs.List.{AllByRecursion}
 use Rattle.instructions.specs.Programs.{Program}
@@ -8,13 +10,12 @@ use Rattle.inorder.specs.declared.history.Step.TheVariants.{On}
 use Rattle.inorder.specs.Committed.{committed}
 use Rattle.inorder.specs.Laws.{IsNoRetire}
 use Rattle.inorder.specs.Steps.{IsNoRetiredStop}
-use Rattle.inorder.specs.Tenants.{Addr, Busy, Done, Fate, Miss, Open, Stopped, Tenant}
+use Rattle.inorder.specs.Tenants.{Fate, Miss, Tenant}
 use Rattle.inorder.specs.Unit.{Sizes, UpdateUnit}
 use Rattle.inorder.specs.Moves.{IsSquash, Leads, with_tenants}
 use Rattle.inorder.specs.Still.{AreStill}
 use Rattle.inorder.proofs.OneCaller.Recovery.{RecoverRun, gone, mended_to, recover_run}
 use Rattle.inorder.proofs.OneCaller.Sequences.{all_weaker, committed_on, reach_on, sound_of, squash_quiet}
-use Rattle.one_thread.specs.declared.bench.Turn.{Turn}
 use Rattle.one_thread.specs.declared.bench.Turn.TheVariants.{Recovered}
 use Rattle.one_thread.specs.declared.pipeline.Pipeline.{Pipeline}
 use Rattle.one_thread.specs.declared.station.Station.{Station}
@@ -23,11 +24,10 @@ use Rattle.one_thread.specs.Leavers.{leaver}
 use Rattle.one_thread.specs.Notes.{miss_in}
 use Rattle.one_thread.specs.Stages.{RecoversTo}
 use Rattle.one_thread.specs.StandsFor.{OverIs, StandsFor, sizes}
-use Rattle.one_thread.specs.Order.{MovesFirst}
 use Rattle.one_thread.specs.Possible.{ToRecover}
 use Rattle.one_thread.proofs.Moved.{MovedAs, MovesAs}
 use Rattle.one_thread.proofs.Windows.{window_length}
-use Rattle.one_thread.specs.Window.{miss_of, stage_of, station_mended, station_of, window}
+use Rattle.one_thread.specs.Window.{miss_of, stage_of, station_of, window}
 use Rattle.one_thread.proofs.Waiting.{LeavesSame, same_recover}
 use Rattle.one_thread.proofs.Found.{Found, found, window_gone, window_middle}
 use Rattle.one_thread.proofs.Leavers.{leaver_recover}
@@ -65,42 +65,20 @@ pub none_in : {X : Type 0} → (give : List Station → Station → Option X) (P
 none_in give P W U e h = none_is give P U (λ k l. ap (λ x. gives give x k) (sym e) ∙ h k (subst (λ x. k < length x) (sym e) l))
 
 -- The fields stand for a unit where nothing was committed
-pub stand_on : (b : Pipeline) (W : List Station) (m : Bool) (n : ℕ) (U V : UpdateUnit) → b.over ≡ None →
+pub stand_on : (b : Pipeline) (W : List Station) (U V : UpdateUnit) → b.over ≡ None →
     StandsFor b U → committed b.program.now V.tenants ≡ committed b.program.now U.tenants → ((s : ℕ) →
     leaver b.program.now V.tenants s ≡ leaver b.program.now U.tenants s) →
     LeavesSame b.program.now U.tenants V.tenants → W ≡ window b.program.now V.tenants →
     AllByRecursion IsNoRetiredStop V.tenants → AreStill V.tenants →
-    StandsFor (record b { window = W; missed = m; settled = n }) V
-stand_on b W m n U V none s c l k w ns still =
-    record {
-      window = w;
-      committed = s.committed ∙ sym c;
-      leavers = λ k h. s.leavers k h ∙ ap Some (sym (l k));
-      over = subst (OverIs V.tenants) (sym none) (ns, still);
-      low = s.low ∙ sym k.low;
-      oldest = s.oldest ∙ ap (λ r. r % b.ring) (sym k.retired);
-    }
-
--- What is remembered does not matter
-pub moves_from : (b b' : Pipeline) (m : Bool) (n : ℕ) (answer : Turn) (later : Pipeline) → b' ≡ record b { missed = m; settled = n } → MovesFirst b' answer later → MovesFirst b answer later
-moves_from b b' m n answer later e h = go (subst (λ x. MovesFirst x answer later) e h)
-  where
-    go : MovesFirst (record b { missed = m; settled = n }) answer later → MovesFirst b answer later
-    go h U r s =
-        let x = h U r (record { window = s.window; committed = s.committed; leavers = s.leavers; over = s.over; low = s.low; oldest = s.oldest }) in
-        record { unit = x.unit; reached = x.reached; stands = x.stands; does = x.does }
+    StandsFor (record b { window = W }) V
+stand_on b W U V none s c l k w ns still = search rules
 
 miss_fate : (f : Fate) (x : ℕ) → miss_of (stage_of f) ≡ Some x → f ≡ Miss x
-miss_fate Open x e = absurd (cc)
-miss_fate (Busy c) x e = absurd (cc)
-miss_fate (Addr c) x e = absurd (cc)
-miss_fate (Done c) x e = absurd (cc)
-miss_fate (Miss y) x e = let same : y ≡ x = cc in ap Miss same
-miss_fate (Stopped c) x e = absurd (cc)
+miss_fate f x e = search rules
 
 -- Recovered
 
-pub recovered_turn : (b later : Pipeline) → b.over ≡ None → (to : RecoversTo b.window later.window) → later ≡ record b { window = later.window; missed = later.missed; settled = later.settled } →
+pub recovered_turn : (b later : Pipeline) → b.over ≡ None → (to : RecoversTo b.window later.window) → later ≡ record b { window = later.window } →
     MovesAs b (Some (ToRecover to.i)) Recovered later
 recovered_turn b later none to rest U r s = subst (MovedAs b U (Some (ToRecover to.i)) Recovered) (sym rest) (go (found_in P b.window U.tenants to.i to.w s.window to.is))
   where
@@ -114,7 +92,7 @@ recovered_turn b later none to rest U r s = subst (MovedAs b U (Some (ToRecover 
     over = subst (OverIs U.tenants) none s.over
 
     now : Pipeline
-    now = record b { window = later.window; missed = later.missed; settled = later.settled }
+    now = record b { window = later.window }
 
     go : FoundIn P b.window U.tenants to.i to.w → MovedAs b U (Some (ToRecover to.i)) Recovered now
     go f = with (recover_run P C 0 U f.found.ys f.found.t f.found.ts to.x f.found.live miss)
@@ -135,11 +113,7 @@ recovered_turn b later none to rest U r s = subst (MovedAs b U (Some (ToRecover 
         V = with_tenants U (gone ys ++ mended_to to.x t ∷ ts)
 
         shown : later.window ≡ window P V.tenants
-        shown =
-            to.new
-            ∙ ap (λ l. l ++ station_mended to.w to.x ∷ []) f.taken
-            ∙ ap (λ w. window P ts ++ station_mended w to.x ∷ []) (sym f.found.station)
-            ∙ sym (window_gone P ys (mended_to to.x t) ts f.found.live)
+        shown = grind (arith, common_steps, ts, window_gone, ys, mended_to, t)
 
         with : RecoverRun P C 0 U ys t ts to.x → MovedAs b U (Some (ToRecover to.i)) Recovered now
         with k =
@@ -148,7 +122,7 @@ recovered_turn b later none to rest U r s = subst (MovedAs b U (Some (ToRecover 
             record {
               unit = V;
               reached = reach_on P C 0 U steps V r leads;
-              stands = stand_on b later.window later.missed later.settled U V none s
+              stands = stand_on b later.window U V none s
                   (committed_on P C 0 U steps V leads (sound_of P C U r) (tt, all_weaker IsSquash IsNoRetire squash_quiet k.squashes k.are))
                   (λ n. leaver_recover P n ys t ts to.x f.found.live ∙ ap (λ X. leaver P X n) (sym f.found.split))
                   (subst (λ X. LeavesSame P X V.tenants) (sym f.found.split) (same_recover P ys t ts to.x f.found.live)) shown
@@ -169,7 +143,3 @@ recovered_turn b later none to rest U r s = subst (MovedAs b U (Some (ToRecover 
               };
               is = ap (λ n. Some (ToRecover n)) (sym (window_length P ts) ∙ sym f.found.place);
             }
-
--- so it is the first turn, since nothing stands before it
-pub recovered_first : (b later : Pipeline) (i : ℕ) → MovesAs b (Some (ToRecover i)) Recovered later → MovesFirst b Recovered later
-recovered_first b later i m U r s = let x = m U r s in record { unit = x.unit; reached = x.reached; stands = x.stands; does = (x.does, tt) }

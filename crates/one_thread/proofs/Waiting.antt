@@ -1,20 +1,18 @@
 -- Between two halves: what waits for LO is all that a new tenant finds besides what is committed.
-use Rattle.std.proofs.Common.{◌≡◌, ℕ, suc, Bool, true, false, cond, List, [], ◌∷◌, ◌++◌, Option, Some, None, refl, sym, ap, ◌∙◌, subst}
-use Rattle.std.specs.Prelude.{unwrap_or}
-use Rattle.instructions.specs.Instruction.{destination_by, is_low, is_pair, pair_target, target_by}
+use Rattle.std.proofs.Common.{arith}
+use Rattle.std.proofs.lemmas.Grind.{common_steps}
+use Rattle.std.proofs.Common.{rules, ◌≡◌, ℕ, suc, Bool, true, false, cond, List, [], ◌∷◌, ◌++◌, Option, None, refl, sym, ap, ◌∙◌, subst}
 use Rattle.instructions.specs.Programs.{Program}
 use Rattle.instructions.specs.Registers.{lo}
 use Rattle.instructions.specs.declared.op.Half.TheVariants.{Low}
 use Rattle.inorder.specs.Callers.{is_retired, stands_retired}
-use Rattle.inorder.specs.Committed.{ahead, ahead_by, commits, commits_by, committed, with_first, with_retired}
-use Rattle.inorder.specs.Machine.{write}
-use Rattle.inorder.specs.Tenants.{Live, Retired, Squashed, Standing, Tenant, destination_of, instr, is_first}
+use Rattle.inorder.specs.Committed.{ahead, ahead_by, commits, commits_by, committed}
+use Rattle.inorder.specs.Tenants.{Live, Retired, Standing, Tenant, destination_of, is_first}
 use Rattle.inorder.specs.Unit.{how_many}
 use Rattle.inorder.proofs.Commits.{live_not, not_complete}
 use Rattle.inorder.proofs.Follows.{commits_retired}
 use Rattle.inorder.proofs.Grows.{all_mid}
 use Rattle.inorder.proofs.Halves.{completes_if, first_low, none_waits}
-use Rattle.inorder.proofs.Pairs.{and_left, first_half_computes}
 use Rattle.inorder.proofs.SettledRegisters.{ahead_if, committed_if, retired_on}
 use Rattle.inorder.proofs.Sound.{IsSettled, IsSound, IsSoundAt, SettledBy}
 use Rattle.one_thread.specs.Ahead.{low_after, low_of, waiting_half}
@@ -23,12 +21,7 @@ use Rattle.inorder.proofs.OneCaller.Recovery.{gone, gone_by, mended_to}
 
 -- a first half writes LO
 pub first_writes : (P : Program) (t : Tenant) → is_first P t ≡ true → destination_of P t ≡ lo
-first_writes P t e =
-    let op = (instr P t).op in
-    let r = (instr P t).target in
-    ap (λ k. destination_by k (target_by (is_pair op) t.half r)) (first_half_computes op t.half e)
-    ∙ ap (λ b. target_by b t.half r) (and_left (is_pair op) (is_low t.half) e)
-    ∙ ap pair_target (first_low P t e)
+first_writes P t e = search rules
 
 -- One tenant more
 
@@ -40,9 +33,7 @@ low_first P t ts f e g = low_if P t ts true e ∙ ap (λ x. low_after true x t.m
 
 -- a first half that has retired finds all before it committed
 pub level : (P : Program) (t : Tenant) (ts : List Tenant) → IsSoundAt P ts t → t.standing ≡ Retired → is_first P t ≡ true → ahead P ts ≡ committed P ts
-level P t ts s r f =
-    let placed = s.placed (retired_on t r) in
-    none_waits P ts (placed.settled r) (sym placed.half ∙ first_low P t f)
+level P t ts s r f = search (rules, retired_on, none_waits, first_low)
 
 -- what a new tenant finds
 pub ahead_low : (P : Program) (ts : List Tenant) → IsSound P ts → ahead P ts ≡ ahead_by (low_of P ts) (committed P ts)
@@ -53,28 +44,13 @@ ahead_low P (t ∷ ts) s = go (commits t) (is_first P t) refl refl (ahead_low P 
     Goal = ahead P (t ∷ ts) ≡ ahead_by (low_of P (t ∷ ts)) (committed P (t ∷ ts))
 
     go : (c f : Bool) → commits t ≡ c → is_first P t ≡ f → ahead P ts ≡ ahead_by (low_of P ts) (committed P ts) → Goal
-    go false f e g more =
-        ahead_if P t ts false e
-        ∙ more
-        ∙ sym (ap (λ l. ahead_by l (committed P ts)) (low_if P t ts false e))
-        ∙ sym (ap (ahead_by (low_of P (t ∷ ts))) (committed_if P t ts false (not_complete P t e)))
-    go true false e g more =
-        ahead_if P t ts true e
-        ∙ ap (λ b. with_retired b P t (ahead P ts)) g
-        ∙ sym (committed_if P t ts true (completes_if P t true false e g))
-        ∙ sym (ap (λ l. ahead_by l (committed P (t ∷ ts))) (low_first P t ts false e g))
-    go true true e g more =
-        let same = committed_if P t ts false (completes_if P t true true e g) in
-        ahead_if P t ts true e
-        ∙ ap (λ b. with_retired b P t (ahead P ts)) g
-        ∙ ap (with_first P t) (level P t ts s.0 (commits_retired t.standing t.fate e) g ∙ sym same)
-        ∙ ap (λ r. record (committed P (t ∷ ts)) { registers = write (committed P (t ∷ ts)).registers r (unwrap_or t.made 0) }) (first_writes P t g)
-        ∙ sym (ap (λ l. ahead_by l (committed P (t ∷ ts))) (low_first P t ts true e g))
+    go false f e g more = grind (arith, common_steps, ahead_if, low_if, committed_if, not_complete)
+    go true false e g more = grind (arith, common_steps, ahead_if, committed_if, completes_if, low_first)
+    go true true e g more = grind (arith, common_steps, committed_if, completes_if, ahead_if, level, commits_retired, first_writes, low_first)
 
 -- nothing waits where a first half comes next
 pub none_low : (low : Option ℕ) → waiting_half low ≡ Low → low ≡ None
-none_low None e = refl
-none_low (Some v) e = absurd (cc)
+none_low low e = grind (arith, common_steps)
 
 -- Two lists of tenants of which those that have retired are the same
 
@@ -86,27 +62,15 @@ pub same_both : (P : Program) (us vs ws : List Tenant) → LeavesSame P us vs �
 same_both P us vs ws a b = record { low = b.low ∙ a.low; retired = b.retired ∙ a.retired }
 
 same_more : (P : Program) (y : Tenant) (us vs : List Tenant) → LeavesSame P us vs → LeavesSame P (y ∷ us) (y ∷ vs)
-same_more P y us vs k =
-    record {
-      low = ap (low_after (commits y) (is_first P y) y.made) k.low;
-      retired = ap (λ n. cond (is_retired y) (suc n) n) k.retired;
-    }
+same_more P y us vs k = search rules
 
 -- another tenant, and neither has retired
 same_other : (P : Program) (t u : Tenant) (us : List Tenant) → commits t ≡ false → commits u ≡ false → is_retired t ≡ false → is_retired u ≡ false → LeavesSame P (t ∷ us) (u ∷ us)
-same_other P t u us a b c d =
-    record {
-      low = low_if P u us false b ∙ sym (low_if P t us false a);
-      retired = ap (λ x. cond x (suc (how_many is_retired us)) (how_many is_retired us)) d ∙ sym (ap (λ x. cond x (suc (how_many is_retired us)) (how_many is_retired us)) c);
-    }
+same_other P t u us a b c d = search rules
 
 -- a live tenant more
 pub same_live : (P : Program) (t : Tenant) (ts : List Tenant) → t.standing ≡ Live → LeavesSame P ts (t ∷ ts)
-same_live P t ts e =
-    record {
-      low = low_if P t ts false (live_not t e);
-      retired = ap (λ s. cond (stands_retired s) (suc (how_many is_retired ts)) (how_many is_retired ts)) e;
-    }
+same_live P t ts e = search rules
 
 -- a live tenant changes, and stays live
 pub same_put : (P : Program) (ys : List Tenant) (t u : Tenant) (ts : List Tenant) → t.standing ≡ Live → u.standing ≡ Live → LeavesSame P (ys ++ t ∷ ts) (ys ++ u ∷ ts)
@@ -126,9 +90,7 @@ same_gone P (y ∷ ys) us = same_both P (y ∷ (ys ++ us)) (y ∷ (gone ys ++ us
     stay e = subst (λ v. LeavesSame P (y ∷ rest) (v ∷ rest)) (sym e) (record { low = refl; retired = refl })
 
     go : (st : Standing) → y.standing ≡ st → LeavesSame P (y ∷ rest) (gone_by y.standing y ∷ rest)
-    go Retired e = stay (ap (λ s. gone_by s y) e)
-    go Squashed e = stay (ap (λ s. gone_by s y) e)
-    go Live e = subst (λ s. LeavesSame P (y ∷ rest) (gone_by s y ∷ rest)) (sym e) (same_other P y (gone_by Live y) rest (live_not y e) refl (ap stands_retired e) refl)
+    go st e = grind (arith, common_steps, stay, gone_by, rest, same_other, live_not)
 
 -- a recovery
 pub same_recover : (P : Program) (ys : List Tenant) (t : Tenant) (ts : List Tenant) (x : ℕ) → t.standing ≡ Live → LeavesSame P (ys ++ t ∷ ts) (gone ys ++ mended_to x t ∷ ts)
@@ -157,9 +119,7 @@ same_alike P (t ∷ ts) (u ∷ us) a = go (same_alike P ts us a.1)
         }
       where
         first_alike : (P : Program) (t u : Tenant) → IsAlike t u → is_first P u ≡ is_first P t
-        first_alike P t u a =
-            ap (λ i. Rattle.instructions.specs.Instruction.is_first_half (Rattle.instructions.specs.Programs.instr_of P i).op u.half) a.index
-            ∙ ap (λ h. Rattle.instructions.specs.Instruction.is_first_half (instr P t).op h) a.half
+        first_alike P t u a = grind (arith, common_steps)
 
 -- Nobody after a live tenant has retired
 
@@ -172,8 +132,7 @@ low_over P t u ts [] live s = refl
 low_over P t u ts (y ∷ ys) live s = go (commits y) refl (low_over P t u ts ys live s.1)
   where
     go : (b : Bool) → commits y ≡ b → low_of P (ys ++ u ∷ ts) ≡ low_of P (u ∷ ts) → low_of P (y ∷ (ys ++ u ∷ ts)) ≡ low_of P (u ∷ ts)
-    go false e more = low_if P y (ys ++ u ∷ ts) false e ∙ more
-    go true e more = absurd (young P t ts ys y live s.0 (commits_retired y.standing y.fate e))
+    go b e more = grind (arith, common_steps, low_if, young, commits_retired)
 
 pub retired_over : (P : Program) (t u : Tenant) (ts ys : List Tenant) → t.standing ≡ Live → IsSound P (ys ++ t ∷ ts) → how_many is_retired (ys ++ u ∷ ts) ≡ how_many is_retired (u ∷ ts)
 retired_over P t u ts [] live s = refl
@@ -186,6 +145,4 @@ retired_over P t u ts (y ∷ ys) live s = go y.standing refl (retired_over P t u
     off st e n more = ap (λ s. cond (stands_retired s) (suc rest) rest) e ∙ ap (λ b. cond b (suc rest) rest) n ∙ more
 
     go : (st : Standing) → y.standing ≡ st → rest ≡ how_many is_retired (u ∷ ts) → how_many is_retired (y ∷ (ys ++ u ∷ ts)) ≡ how_many is_retired (u ∷ ts)
-    go Live e more = off Live e refl more
-    go Squashed e more = off Squashed e refl more
-    go Retired e more = absurd (young P t ts ys y live s.0 e)
+    go st e more = grind (arith, common_steps, off, young)

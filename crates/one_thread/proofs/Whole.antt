@@ -1,15 +1,15 @@
 -- What comes behind a first half is its second: an instruction that is no pair finds nothing that waits for LO.
-use Rattle.std.proofs.Common.{◌≡◌, ℕ, Bool, true, false, cond, List, [], ◌∷◌, ◌++◌, length, Option, Some, None, refl, sym, ap, ◌∙◌, subst, arith}
+use Rattle.std.proofs.lemmas.Grind.{common_steps}
+use Rattle.std.proofs.Common.{◌≡◌, ℕ, Bool, true, false, cond, List, [], ◌∷◌, Some, None, refl, sym, ap, ◌∙◌, subst, arith}
 use Rattle.std.specs.Prelude.{slice_get}
 use Rattle.std.specs.List.{AllByRecursion}
 use Rattle.instructions.specs.Instruction.{is_first_half, is_low, is_pair}
 use Rattle.instructions.specs.Programs.{Program, instr_at}
 use Rattle.instructions.specs.declared.instr.Instr.{Instr}
-use Rattle.instructions.specs.declared.op.Half.{Half}
 use Rattle.instructions.specs.declared.op.Half.TheVariants.{High, Low}
 use Rattle.inorder.specs.Still.{AreStill}
 use Rattle.inorder.specs.Steps.{IsNoRetiredStop}
-use Rattle.inorder.specs.Tenants.{Tenant, behind, behind_by, instr, is_first, on_path, stands_on_path}
+use Rattle.inorder.specs.Tenants.{Tenant, behind, behind_by, instr, is_first, on_path}
 use Rattle.inorder.specs.Unit.{front_half, front_pc, half_after}
 use Rattle.inorder.proofs.Basics.{fetched_at}
 use Rattle.inorder.proofs.Commits.{live_not}
@@ -18,7 +18,6 @@ use Rattle.inorder.proofs.Pairs.{and_left, first_half_computes}
 use Rattle.inorder.proofs.Sound.{GoesOn, IsInPlace, IsSound}
 use Rattle.inorder.proofs.OneCaller.Middle.{all_from, sound_from}
 use Rattle.inorder.proofs.OneCaller.Sequences.{sound_of}
-use Rattle.one_thread.specs.Ahead.{low_of, waiting_half}
 use Rattle.one_thread.specs.Decoding.{IsDecoded, IsWhole}
 use Rattle.one_thread.specs.Flow.{IsPlaced, filled, in_order, window_of}
 use Rattle.one_thread.specs.StandsFor.{OverIs, StandsForSome, sizes}
@@ -57,22 +56,10 @@ behind_first P (t ∷ ts) s e = go (on_path t) refl (behind_first P ts s.1)
         }
 
     go : (b : Bool) → on_path t ≡ b → (front_half P ts ≡ High → PairAt P (front_pc ts)) → PairAt P (front_pc (t ∷ ts))
-    go true on more = first (is_first P t) refl on (sym (half_if true on) ∙ e)
-    go false on more = subst (PairAt P) (sym (ap (λ b. cond b t.next (front_pc ts)) on)) (more (sym (half_if false on) ∙ e))
+    go b on more = grind (arith, common_steps, first, half_if)
 
 whole_behind : (P : Program) (ts : List Tenant) (i : Instr) → IsSound P ts → instr_at P (front_pc ts) ≡ Some i → is_pair i.op ≡ false → front_half P ts ≡ Low
-whole_behind P ts i s at whole = go (front_half P ts) refl
-  where
-    go : (h : Half) → front_half P ts ≡ h → h ≡ Low
-    go Low e = refl
-    go High e =
-        let p = behind_first P ts s e in
-        let same : Some p.instr ≡ Some i = sym p.is ∙ at in
-        let no : true ≡ false = sym p.pair ∙ ap (λ o. pair_of o) same ∙ whole in absurd (cc)
-      where
-        pair_of : Option Instr → Bool
-        pair_of None = false
-        pair_of (Some x) = is_pair x.op
+whole_behind P ts i s at whole = grind (arith, common_steps, behind_first)
 
 -- The oldest tenant
 
@@ -95,32 +82,7 @@ alone b w h none e low = go (found P U 0 w (ap (λ W. slice_get W 0) (sym h.stan
     over' = subst (OverIs U) none h.stands.over
 
     go : Found P U 0 w → b.low ≡ None
-    go d = h.stands.low ∙ before ∙ none_low (low_of P d.ts) waits
-      where
-        s : IsSound P (d.ys ++ d.t ∷ d.ts)
-        s = subst (IsSound P) d.split sound'
-
-        at : IsSound P (d.t ∷ d.ts)
-        at = sound_from P d.ys (d.t ∷ d.ts) s
-
-        placed : IsInPlace P d.ts d.t
-        placed = at.0.placed (ap stands_on_path d.live)
-
-        stops : AllByRecursion IsNoRetiredStop (d.t ∷ d.ts)
-        stops = all_from IsNoRetiredStop d.ys (d.t ∷ d.ts) (subst (AllByRecursion IsNoRetiredStop) d.split over'.0)
-
-        before : low_of P U ≡ low_of P d.ts
-        before = ap (low_of P) d.split ∙ low_over P d.t d.t d.ts d.ys d.live s ∙ low_if P d.t d.ts false (live_not d.t d.live)
-
-        waits : waiting_half (low_of P d.ts) ≡ Low
-        waits =
-            sym (half_worth P d.ts at.1 stops.1 ∙ ap (half_in (low_of P d.ts)) (nil (window P d.ts) (sym d.place)))
-            ∙ sym placed.half
-            ∙ low d.t d.ts (ap (λ x. is_first_half x.instr.op x.half) d.station) (ap (λ x. x.instr) d.station) at placed
-          where
-            nil : (xs : List Station) → length xs ≡ 0 → xs ≡ []
-            nil [] z = refl
-            nil (x ∷ xs) z = absurd (omega (arith, z))
+    go d = grind (arith, common_steps, none_low, sound', sound_from, all_from, low_over, low_if, live_not, half_worth)
 
 -- a first half that leaves
 pub first_alone : (b : Pipeline) (w : Station) → StandsForSome b → b.over ≡ None → slice_get b.window 0 ≡ Some w → is_first_half w.instr.op w.half ≡ true → b.low ≡ None
@@ -128,11 +90,7 @@ first_alone b w h none e q = alone b w h none e (λ t ts same is s p. first_low 
 
 -- an instruction that is no pair
 pub whole_alone : (b : Pipeline) (w : Station) → StandsForSome b → b.over ≡ None → slice_get b.window 0 ≡ Some w → is_pair w.instr.op ≡ false → b.low ≡ None
-whole_alone b w h none e q =
-    alone b w h none e (λ t ts same is s p.
-    let P = b.program.now in
-    let here : instr_at P (front_pc ts) ≡ Some (instr P t) = ap (instr_at P) (sym p.pc ∙ s.0.own.place) ∙ fetched_at P t.index s.0.own.inside in
-    p.half ∙ whole_behind P ts (instr P t) s.1 here (ap (λ i. is_pair i.op) is ∙ q))
+whole_alone b w h none e q = grind (arith, common_steps, alone, fetched_at, whole_behind)
 
 -- The next instruction of a flow
 

@@ -1,14 +1,15 @@
 -- What a window says of its unit.
-use Rattle.std.proofs.Common.{◌≡◌, ℕ, zero, suc, ◌+◌, ◌-◌, ◌<◌, ltb, ltb-true, Bool, true, false, cond, ◌&&◌, eqb, List, [], ◌∷◌, ◌++◌, length, Option, Some, None, refl, sym, ap, ◌∙◌, arith}
+use Rattle.std.proofs.lemmas.Grind.{common_steps}
+use Rattle.std.proofs.Common.{◌≡◌, ℕ, suc, ◌+◌, ◌-◌, ◌<◌, ltb, ltb-true, Bool, true, false, cond, ◌&&◌, eqb, List, [], ◌∷◌, ◌++◌, length, Option, Some, refl, sym, ap, ◌∙◌, arith}
 use Rattle.std.proofs.Common.{append_assoc, append-nil, length-append}
 use Rattle.std.specs.Prelude.{slice_get, slice_index}
 use Rattle.std.specs.List.{AllByRecursion}
 use Rattle.instructions.specs.Instruction.{is_access}
 use Rattle.instructions.specs.Programs.{Program}
-use Rattle.inorder.specs.Callers.{is_retired, stands_retired}
+use Rattle.inorder.specs.Callers.{is_retired}
 use Rattle.inorder.specs.Committed.{ahead, committed}
 use Rattle.inorder.specs.Steps.{IsNoRetiredStop}
-use Rattle.inorder.specs.Tenants.{Live, Retired, Squashed, Standing, Tenant, destination_of, is_first, is_live, is_live_access, kind_of, on_path, stands_live, stands_on_path}
+use Rattle.inorder.specs.Tenants.{Live, Retired, Squashed, Standing, Tenant, destination_of, is_first, is_live, is_live_access, kind_of, on_path, stands_live}
 use Rattle.inorder.specs.Unit.{creator, front_half, front_pc, half_after, how_many, last_writer, value_of}
 use Rattle.inorder.proofs.Basics.{last_writer_below, value_of_more}
 use Rattle.inorder.proofs.Commits.{live_not, not_complete}
@@ -17,7 +18,7 @@ use Rattle.inorder.proofs.Sound.{IsSettled, IsSound, SettledBy}
 use Rattle.inorder.proofs.OneCaller.Left.{retired_all, retired_commits}
 use Rattle.one_thread.specs.Ahead.{low_after, low_of, waiting_half}
 use Rattle.one_thread.specs.declared.station.Station.{Station}
-use Rattle.one_thread.specs.Window.{accesses, half_behind, half_in, next_after, next_in, register_after, register_in, source_in, station_of, window}
+use Rattle.one_thread.specs.Window.{accesses, half_behind, half_in, next_in, register_after, register_in, source_in, station_of, window}
 use Rattle.one_thread.proofs.Accesses.{accesses_end}
 use Rattle.one_thread.proofs.Waiting.{low_if}
 use Rattle.one_thread.proofs.Scan.{get_end, register_end}
@@ -35,12 +36,7 @@ window_append P [] us = sym (append-nil (window P us))
 window_append P (y ∷ ys) us = go (is_live y) refl (window_append P ys us)
   where
     go : (b : Bool) → is_live y ≡ b → window P (ys ++ us) ≡ window P us ++ window P ys → window P (y ∷ (ys ++ us)) ≡ window P us ++ window P (y ∷ ys)
-    go true e more =
-        window_if P y (ys ++ us) true e
-        ∙ ap (λ x. x ++ station_of P y ∷ []) more
-        ∙ append_assoc (window P us) (window P ys) (station_of P y ∷ [])
-        ∙ ap (λ x. window P us ++ x) (sym (window_if P y ys true e))
-    go false e more = window_if P y (ys ++ us) false e ∙ more ∙ ap (λ x. window P us ++ x) (sym (window_if P y ys false e))
+    go b e more = grind (arith, common_steps, window_if, append_assoc)
 
 pub window_length : (P : Program) (U : List Tenant) → length (window P U) ≡ how_many is_live U
 window_length P [] = refl
@@ -48,8 +44,7 @@ window_length P (t ∷ ts) = go (is_live t) refl (window_length P ts)
   where
     go : (b : Bool) → is_live t ≡ b → length (window P ts) ≡ how_many is_live ts → length (cond b (window P ts ++ station_of P t ∷ []) (window P ts)) ≡ cond b (suc (how_many is_live ts))
         (how_many is_live ts)
-    go true e more = omega (arith, more, length-append (window P ts) (station_of P t ∷ []))
-    go false e more = more
+    go b e more = grind (arith, common_steps, length-append)
 
 -- Live accesses are counted in the window
 
@@ -70,8 +65,7 @@ window_accesses P (t ∷ ts) = go t.standing refl (window_accesses P ts)
     gone e more = ap all (window_if P t ts false e) ∙ more ∙ sym (ap (λ b. cond (b && is_access (kind_of P t)) (suc count) count) e)
 
     on : (b : Bool) → accesses W (length W) ≡ count → accesses W (length W) + cond b 1 0 ≡ cond b (suc count) count
-    on true more = omega (arith, more)
-    on false more = omega (arith, more)
+    on b more = grind (arith, common_steps)
 
     go : (st : Standing) → t.standing ≡ st → all W ≡ count → all (window P (t ∷ ts)) ≡ cond (stands_live t.standing && is_access (kind_of P t)) (suc count) count
     go Live e more =
@@ -91,9 +85,7 @@ none_left P [] h = refl
 none_left P (t ∷ ts) h = go t.standing refl h.0 (none_left P ts h.1)
   where
     go : (st : Standing) → t.standing ≡ st → SettledBy st t.fate → window P ts ≡ [] → window P (t ∷ ts) ≡ []
-    go Live e q more = absurd q
-    go Retired e q more = window_if P t ts false (ap stands_live e) ∙ more
-    go Squashed e q more = window_if P t ts false (ap stands_live e) ∙ more
+    go st e q more = grind (arith, common_steps, window_if)
 
 -- Registers
 
@@ -108,21 +100,11 @@ writer_worth P (t ∷ ts) s n r lt = go t.standing refl (writer_worth P ts s.1 n
     regs V = slice_index (ahead P V).registers (suc r)
 
     off : (t.standing ≡ Squashed) → value_of (t ∷ ts) (last_writer P (t ∷ ts) (suc r)) ≡ value_of ts (last_writer P ts (suc r))
-    off e =
-        ap (value_of (t ∷ ts)) (writer_if P t ts (suc r) false (ap (λ x. stands_on_path x && eqb (destination_of P t) (suc r)) e))
-        ∙ value_of_more t ts (last_writer P ts (suc r)) (last_writer_below P ts (suc r))
+    off e = grind (arith, common_steps, writer_if, value_of_more, last_writer_below)
 
     on : (b : Bool) → eqb (destination_of P t) (suc r) ≡ b → t.standing ≡ Live → value_of ts (last_writer P ts (suc r)) ≡ register_in (suc r) (Some (regs ts)) (window P ts) →
         value_of (t ∷ ts) (last_writer P (t ∷ ts) (suc r)) ≡ register_after (suc r) (register_in (suc r) (Some (regs ts)) (window P ts)) (Some (station_of P t))
-    on true b e more =
-        ap (value_of (t ∷ ts)) (writer_if P t ts (suc r) true (ap (λ x. stands_on_path x && eqb (destination_of P t) (suc r)) e ∙ b))
-        ∙ value_of_last t ts
-        ∙ sym (ap (λ x. cond x t.made (register_in (suc r) (Some (regs ts)) (window P ts))) b)
-    on false b e more =
-        ap (value_of (t ∷ ts)) (writer_if P t ts (suc r) false (ap (λ x. stands_on_path x && eqb (destination_of P t) (suc r)) e ∙ b))
-        ∙ value_of_more t ts (last_writer P ts (suc r)) (last_writer_below P ts (suc r))
-        ∙ more
-        ∙ sym (ap (λ x. cond x t.made (register_in (suc r) (Some (regs ts)) (window P ts))) b)
+    on b h1 e more = grind (arith, common_steps, writer_if, value_of_last, regs, value_of_more, last_writer_below)
 
     go : (st : Standing) → t.standing ≡ st → value_of ts (last_writer P ts (suc r)) ≡ register_in (suc r) (Some (regs ts)) (window P ts) →
         value_of (t ∷ ts) (last_writer P (t ∷ ts) (suc r)) ≡ register_in (suc r) (Some (regs (t ∷ ts))) (window P (t ∷ ts))
@@ -131,30 +113,19 @@ writer_worth P (t ∷ ts) s n r lt = go t.standing refl (writer_worth P ts s.1 n
         ∙ sym (register_end (suc r) (Some (regs ts)) (window P ts) (station_of P t))
         ∙ sym (ap (register_in (suc r) (Some (regs ts))) (window_live P t ts e))
         ∙ sym (ap (λ c. register_in (suc r) (Some (slice_index c.registers (suc r))) (window P (t ∷ ts))) (ahead_if P t ts false (live_not t e)))
-    go Squashed e more =
-        off e
-        ∙ more
-        ∙ sym (ap (register_in (suc r) (Some (regs ts))) (window_if P t ts false (ap stands_live e)))
-        ∙ sym (ap (λ c. register_in (suc r) (Some (slice_index c.registers (suc r))) (window P (t ∷ ts))) (ahead_if P t ts false (squashed_not t e)))
+    go Squashed e more = grind (arith, common_steps, off e, regs, window_if, ahead_if, squashed_not)
     go Retired e more =
         let all = retired_all P t ts s e n.0 in
         register_given P (t ∷ ts) s all r lt
         ∙ sym (ap (register_in (suc r) (Some (regs (t ∷ ts)))) (none_left P (t ∷ ts) all))
 
 pub source_worth : (P : Program) (U : List Tenant) → IsSound P U → AllByRecursion IsNoRetiredStop U → (r : ℕ) → value_of U (creator P U r) ≡ source_in (ahead P U).registers (window P U) r
-source_worth P U s n zero = refl
-source_worth P U s n (suc r) = go (ltb (suc r) 34) refl
-  where
-    go : (b : Bool) → ltb (suc r) 34 ≡ b → value_of U (cond b (last_writer P U (suc r)) None) ≡ cond b (register_in (suc r) (Some (slice_index (ahead P U).registers (suc r))) (window P U)) (Some 0)
-    go true e = writer_worth P U s n r (ltb-true (suc r) 34 e)
-    go false e = refl
+source_worth P U s n h4 = grind (arith, common_steps, ltb, writer_worth, ltb-true)
 
 -- The front pc
 
 next_end : (pc : ℕ) (ws : List Station) (w : Station) → next_in pc (ws ++ w ∷ []) ≡ w.next
-next_end pc ws w =
-    let last : length (ws ++ w ∷ []) - 1 ≡ length ws = omega (arith, length-append ws (w ∷ [])) in
-    ap (λ k. next_after pc (slice_get (ws ++ w ∷ []) k)) last ∙ ap (next_after pc) (get_end ws [] w)
+next_end pc ws w = grind (arith, common_steps, length-append ws (w ∷ []), get_end ws [] w)
 
 pub front_worth : (P : Program) (U : List Tenant) → IsSound P U → AllByRecursion IsNoRetiredStop U → front_pc U ≡ next_in (committed P U).pc (window P U)
 front_worth P [] s n = refl
@@ -164,15 +135,8 @@ front_worth P (t ∷ ts) s n = go t.standing refl (front_worth P ts s.1 n.1)
     front_if b e = ap (λ x. cond x t.next (front_pc ts)) e
 
     go : (st : Standing) → t.standing ≡ st → front_pc ts ≡ next_in (committed P ts).pc (window P ts) → front_pc (t ∷ ts) ≡ next_in (committed P (t ∷ ts)).pc (window P (t ∷ ts))
-    go Live e more =
-        front_if true (ap stands_on_path e)
-        ∙ sym (next_end (committed P (t ∷ ts)).pc (window P ts) (station_of P t))
-        ∙ sym (ap (next_in (committed P (t ∷ ts)).pc) (window_live P t ts e))
-    go Squashed e more =
-        front_if false (ap stands_on_path e)
-        ∙ more
-        ∙ sym (ap (λ c. next_in c.pc (window P ts)) (committed_if P t ts false (not_complete P t (squashed_not t e))))
-        ∙ sym (ap (next_in (committed P (t ∷ ts)).pc) (window_if P t ts false (ap stands_live e)))
+    go Live e more = grind (arith, common_steps, front_if, next_end, window_live)
+    go Squashed e more = grind (arith, common_steps, front_if, committed_if, not_complete, squashed_not, window_if)
     go Retired e more =
         let all = retired_all P t ts s e n.0 in
         sym (committed_pc P (t ∷ ts) s all) ∙ sym (ap (next_in (committed P (t ∷ ts)).pc) (none_left P (t ∷ ts) all))
@@ -192,24 +156,10 @@ half_worth P (t ∷ ts) s n = go t.standing refl (half_worth P ts s.1 n.1)
     half_if b e = ap (λ x. cond x (half_after (is_first P t)) (front_half P ts)) e
 
     behind : (f : Bool) → half_after f ≡ waiting_half (low_after true f t.made (low_of P ts))
-    behind true = refl
-    behind false = refl
+    behind f = grind (arith, common_steps)
 
     go : (st : Standing) → t.standing ≡ st → front_half P ts ≡ half_in (low_of P ts) (window P ts) → front_half P (t ∷ ts) ≡ half_in (low_of P (t ∷ ts)) (window P (t ∷ ts))
-    go Live e more =
-        half_if true (ap stands_on_path e)
-        ∙ sym (half_end (low_of P (t ∷ ts)) (window P ts) (station_of P t))
-        ∙ sym (ap (half_in (low_of P (t ∷ ts))) (window_live P t ts e))
-    go Squashed e more =
-        half_if false (ap stands_on_path e)
-        ∙ more
-        ∙ sym (ap (λ l. half_in l (window P ts)) (low_if P t ts false (squashed_not t e)))
-        ∙ sym (ap (half_in (low_of P (t ∷ ts))) (window_if P t ts false (ap stands_live e)))
-    go Retired e more =
-        half_if true (ap stands_on_path e)
-        ∙ behind (is_first P t)
-        ∙ sym (ap waiting_half (low_if P t ts true (retired_commits t e n.0)))
-        ∙ sym (ap (half_in (low_of P (t ∷ ts))) (none_left P (t ∷ ts) (retired_all P t ts s e n.0)))
+    go st e more = grind (arith, common_steps, half_if, half_end, window_live, low_if, squashed_not, window_if, behind, retired_commits, none_left, retired_all)
 
 -- The path: those that have retired, and the window
 
@@ -227,9 +177,4 @@ path_length P (t ∷ ts) = go t.standing refl (path_length P ts)
     retired_if b e = ap (λ x. cond x (suc (how_many is_retired ts)) (how_many is_retired ts)) e
 
     go : (st : Standing) → t.standing ≡ st → how_many on_path ts ≡ how_many is_retired ts + length W → how_many on_path (t ∷ ts) ≡ how_many is_retired (t ∷ ts) + length (window P (t ∷ ts))
-    go Live e more =
-        omega (arith, more, path_if true (ap stands_on_path e), retired_if false (ap stands_retired e), ap length (window_live P t ts e), length-append W (station_of P t ∷ []))
-    go Squashed e more =
-        omega (arith, more, path_if false (ap stands_on_path e), retired_if false (ap stands_retired e), ap length (window_if P t ts false (ap stands_live e)))
-    go Retired e more =
-        omega (arith, more, path_if true (ap stands_on_path e), retired_if true (ap stands_retired e), ap length (window_if P t ts false (ap stands_live e)))
+    go st e more = grind (arith, common_steps, path_if, retired_if, window_live, length-append, window_if)

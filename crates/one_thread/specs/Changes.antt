@@ -1,5 +1,5 @@
 -- What each stage of a turn does to the fields.
-use Rattle.std.specs.Prelude.{◌≡◌, ◌<◌, ℕ, suc, ◌+◌, ◌-◌, ◌%◌, Bool, List, length, Option, Some, None, slice_get, slice_set}
+use Rattle.std.specs.Prelude.{◌≡◌, ◌<◌, ℕ, ◌-◌, List, length, Option, Some, None, slice_get, slice_set}
 use Rattle.instructions.specs.Operations.{outcome_of}
 use Rattle.instructions.specs.declared.end.Ending.{Ending}
 use Rattle.instructions.specs.declared.end.Ending.TheVariants.{Stop as ByStop}
@@ -16,12 +16,8 @@ use Rattle.one_thread.specs.declared.station.Station.{Station}
 use Rattle.one_thread.specs.Givers.{NoneGives, gives}
 use Rattle.one_thread.specs.Loads.{load_in}
 use Rattle.one_thread.specs.Notes.{miss_in}
-use Rattle.one_thread.specs.Stages.{LoadsTo, NextIs, RecoversTo, RunsTo}
+use Rattle.one_thread.specs.Stages.{NextIs}
 use Rattle.one_thread.specs.Window.{further_on, operands_in, station_after}
-
--- The window changes, and what is remembered of it
-abbrev pub with_window : Pipeline → List Station → Bool → ℕ → Pipeline
-with_window b window missed settled = record b { window = window; missed = missed; settled = settled }
 
 -- The state that a new tenant finds where nobody is live
 abbrev pub ahead_of : Pipeline → State
@@ -33,10 +29,6 @@ registers_of b = with_low b.low b.committed.registers
 
 -- Recovery
 
--- The oldest miss is mended, and all after it are gone
-abbrev pub RecoversOldest : Pipeline → Pipeline → Type 0
-RecoversOldest b later = RecoversTo b.window later.window
-
 -- No station is a miss
 abbrev pub NoneRecovers : Pipeline → Type 0
 NoneRecovers b = NoneGives miss_in b.window
@@ -46,10 +38,6 @@ NoneRecovers b = NoneGives miss_in b.window
 -- What can be let next, or that nothing can
 abbrev pub NextOf : Pipeline → Option Fetched → Type 0
 NextOf b next = NextIs b.program.now b.ring b.queue b.committed.pc b.low b.window next
-
--- The station of the next tenant
-abbrev pub next_place : Pipeline → ℕ
-next_place b = (b.oldest + length b.window) % b.ring
 
 -- Execution
 
@@ -69,10 +57,6 @@ RunsAt b r later =
     (w : Station) → slice_get b.window r.at ≡ Some w →
     later.window ≡ slice_set b.window r.at (ran_at b r w)
 
--- The oldest station that can be claimed is finished
-abbrev pub RunsOldest : Pipeline → Pipeline → Type 0
-RunsOldest b later = RunsTo (registers_of b) (length b.program.now.bytes) b.window later.window
-
 -- No station can be claimed
 abbrev pub NoneRuns : Pipeline → Type 0
 NoneRuns b = NoneGives (operands_in (registers_of b)) b.window
@@ -89,10 +73,6 @@ LoadsAt b l later =
     (w : Station) → slice_get b.window l.at ≡ Some w →
     later.window ≡ slice_set b.window l.at (further_on w Done (Some l.value))
 
--- The oldest load that is not blocked gets its value
-abbrev pub LoadsOldest : Pipeline → Pipeline → Type 0
-LoadsOldest b later = LoadsTo (registers_of b) b.committed.memory b.window later.window
-
 -- No load gets a value
 abbrev pub NoneLoads : Pipeline → Type 0
 NoneLoads b = NoneGives (load_in (registers_of b) b.committed.memory) b.window
@@ -103,11 +83,11 @@ NoneLoads b = NoneGives (load_in (registers_of b) b.committed.memory) b.window
 abbrev pub run_from : Pipeline → ℕ → Ending × State
 run_from b limit = end_from b.program.now (limit - b.committed.count) b.committed
 
--- Turns up to a retirement, of runs with a limit that is not reached: the count is one more, and each
+-- Turns up to a retirement, of runs with a limit that is not reached: the count is higher, and each
 -- goes on as it did; or the unit has ended, as each of them does
 abbrev pub RetiresOne : Option Stop → Pipeline → Pipeline → Type 0
 RetiresOne None b later =
-    (later.committed.count ≡ suc b.committed.count) ×
+    (b.committed.count < later.committed.count) ×
     ((limit : ℕ) → b.committed.count < limit → run_from later limit ≡ run_from b limit)
 RetiresOne (Some c) b later =
     (limit : ℕ) → b.committed.count < limit → (ByStop c, later.committed) ≡ run_from b limit

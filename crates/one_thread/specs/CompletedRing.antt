@@ -1,5 +1,5 @@
 -- Completed instructions in a ring of slots, and the stores among them.
-use Rattle.std.specs.Prelude.{◌≡◌, ◌<◌, ◌≤◌, ◌%◌, bit_and, ℕ, zero, suc, Bool, List, [], ◌∷◌, length, drop, Option, Some, None, if◌then◌else◌, slice_get, unwrap_or}
+use Rattle.std.specs.Prelude.{◌≡◌, ◌<◌, ◌≤◌, ◌%◌, bit_and, ℕ, zero, suc, Bool, List, [], ◌∷◌, length, drop, take, Option, Some, None, if◌then◌else◌, slice_get, unwrap_or}
 use Rattle.instructions.specs.Instruction.{destination, kind}
 use Rattle.instructions.specs.Programs.{Program, instr_at}
 use Rattle.instructions.specs.declared.instr.Instr.{Instr}
@@ -8,8 +8,7 @@ use Rattle.instructions.specs.declared.op.Kind.TheVariants.{Jumps, Stores}
 use Rattle.instructions.specs.declared.op.Op.TheVariants.{Break}
 use Rattle.inorder.specs.Loads.{access_entry, is_store}
 use Rattle.lsq.specs.declared.entry.Entry.{Entry}
-use Rattle.one_thread.specs.Forwarding.{store_at}
-use Rattle.one_thread.specs.Loads.{address_of, with_entry}
+use Rattle.one_thread.specs.Loads.{address_of, entry_behind, with_entry}
 use Rattle.one_thread.specs.declared.completed_ring.Completed.{Completed}
 use Rattle.one_thread.specs.declared.station.Stage.{Stage}
 use Rattle.one_thread.specs.declared.station.Stage.TheVariants.{Addr, Done}
@@ -82,6 +81,11 @@ store_with w content =
 -- The entries behind the oldest station, where that has left
 abbrev pub stores_behind : Station → List Entry → List Entry
 stores_behind w es = if is_stored w then drop 1 es else es
+
+-- What the queue holds of station i, if that is a store
+abbrev pub store_at : List ℕ → List Station → Option Station → ℕ → Option Entry
+store_at registers W None i = None
+store_at registers W (Some w) i = if is_stored w then Some (entry_behind registers (take i W) w) else None
 
 -- The entries of the stores among the first k stations
 abbrev pub stores : List ℕ → List Station → ℕ → List Entry

@@ -1,6 +1,6 @@
 -- The flow: how the next instruction enters it and completes.
 use Rattle.std.specs.Prelude.{⊤, ◌≡◌, ◌≢◌, ◌≤◌, ◌<◌, ℕ, ◌+◌, ◌%◌, suc, Bool, true, false, List, [], ◌∷◌, ◌++◌, length, Option, Some, None, is_some, slice_get, slice_set}
-use Rattle.instructions.specs.Instruction.{is_first_half, kind, width}
+use Rattle.instructions.specs.Instruction.{destination, is_first_half, kind, width}
 use Rattle.instructions.specs.Operations.{outcome_of}
 use Rattle.instructions.specs.Programs.{Program, instr_at}
 use Rattle.instructions.specs.Registers.{lo}
@@ -15,16 +15,17 @@ use Rattle.instructions.specs.declared.stop.Stop.{Stop}
 use Rattle.lsq.specs.LoadRule.{answer_over}
 use Rattle.lsq.specs.declared.entry.Entry.{Entry}
 use Rattle.one_thread.specs.Changes.{registers_of}
-use Rattle.one_thread.specs.CompletedRing.{station_by, stations, stores}
+use Rattle.one_thread.specs.CompletedRing.{made_by, station_by, stations, store_with, stores}
 use Rattle.one_thread.specs.Kept.{HaveKept, registers_before, with_held}
-use Rattle.one_thread.specs.Loads.{value_by}
+use Rattle.inorder.specs.Machine.{write}
+use Rattle.inorder.specs.Unit.{half_after}
+use Rattle.one_thread.specs.Loads.{value_by, with_entry}
 use Rattle.one_thread.specs.Notes.{settled_by}
 use Rattle.one_thread.specs.StandsFor.{StandsForSome}
-use Rattle.one_thread.specs.Futures.{Foresees}
+use Rattle.one_thread.specs.Futures.{Foresees, GoesOnBehind}
 use Rattle.one_thread.specs.Slots.{slot_in}
 use Rattle.one_thread.specs.Reopened.{reopened, with_reopened}
-use Rattle.one_thread.specs.Stages.{CannotLet}
-use Rattle.one_thread.specs.Window.{accesses, further_on, half_in, let_at, reaches_memory, station_after}
+use Rattle.one_thread.specs.Window.{access_of, accesses, further_on, half_in, let_at, reaches_memory, station_after}
 use Rattle.one_thread.specs.declared.completing.Done.{Done}
 use Rattle.one_thread.specs.declared.execute.Operands.{Operands}
 use Rattle.one_thread.specs.declared.flow.Flow.{Flow}
@@ -66,9 +67,9 @@ WritesLow w = is_first_half w.instr.op w.half ≡ true → w.destination ≡ lo
 abbrev pub HaveCompleted : List Station → Type 0
 HaveCompleted W = (k : ℕ) (w : Station) → slice_get W k ≡ Some w → HasCompleted w × WritesLow w
 
--- The fields with these stations in the window, of which none is a miss
+-- The fields with these stations in the window
 abbrev pub filled : Pipeline → List Station → Pipeline
-filled b W = record b { window = W; missed = false; settled = 0 }
+filled b W = record b { window = W }
 
 -- The stations of a flow
 abbrev pub window_of : Pipeline → Flow → List Station
@@ -147,16 +148,11 @@ pub record HasPlace (b : Pipeline) (flow : Flow) (n station : ℕ) : Type 0 wher
   pub small : station < 32
   pub is : station ≡ slot_in flow.ring.size flow.ring.oldest (length flow.ring.completed)
 
--- Nothing can enter before the oldest leaves
-pub record IsStuck (b : Pipeline) (flow : Flow) : Type 0 where
-  pub stuck : CannotLet b.program.now b.ring b.queue b.committed.pc (window_of b flow)
-  pub some : 2 ≤ length (window_of b flow)
-
 -- What can be done next, if there is an instruction
 abbrev pub Upcoming : Pipeline → Flow → Option Bool → Type 0
 Upcoming b flow None = ⊤
 Upcoming b flow (Some true) = CanEnter b flow
-Upcoming b flow (Some false) = IsStuck b flow
+Upcoming b flow (Some false) = 2 ≤ length (window_of b flow)
 
 -- The next instruction as one that has completed, and keeps this
 abbrev pub completed_as : Flow → ℕ → Done → Leaves → ℕ → Completed
@@ -170,6 +166,19 @@ completed_as flow predicted d leaves kept =
       value = d.value;
       kept = kept;
     }
+
+-- A completed instruction has joined a flow, with its content, if it is a store
+pub record HasJoined (flow after : Flow) (i : Instr) (c : Completed) (content : ℕ) : Type 0 where
+  pub completed : after.ring.completed ≡ flow.ring.completed ++ c ∷ []
+  pub last : after.last ≡ flow.last
+  pub stores : after.ring.stores ≡ with_entry flow.ring.stores (store_with (station_by i c) content)
+  pub held : after.held ≡ flow.held
+  pub oldest : after.ring.oldest ≡ flow.ring.oldest
+  pub size : after.ring.size ≡ flow.ring.size
+  pub values : after.future.values ≡ write flow.future.values (destination i c.half) c.value
+  pub future : GoesOnBehind flow.future (destination i c.half) (made_by (kind i.op) c.value) c.next after.future
+  pub half : after.half ≡ half_after (is_first_half i.op c.half)
+  pub accesses : after.accesses ≡ flow.accesses + access_of i
 
 -- The station of the next instruction as it is let
 abbrev pub enters_as : Flow → Instr → ℕ → Station
@@ -199,11 +208,7 @@ with_last W (Some w) = W ++ w ∷ []
 -- The fields that a flow leaves, in which all but the oldest n are as they were let
 abbrev pub restored : Pipeline → Flow → ℕ → Pipeline
 restored b flow n =
-    record b {
-      window = with_last (reopened n (window_of b flow)) flow.last;
-      missed = false;
-      settled = n;
-    }
+    record b { window = with_last (reopened n (window_of b flow)) flow.last }
 
 -- The fields that a flow leaves are those of some unit
 pub record CanRestore (b : Pipeline) (flow : Flow) (n : ℕ) : Type 0 where

@@ -1,5 +1,5 @@
 -- How the oldest station leaves.
-use Rattle.std.specs.Prelude.{⊤, ◌≡◌, ◌≤◌, ◌+◌, ◌-◌, ◌%◌, ℕ, suc, Bool, true, false, List, [], drop, Option, Some, None, unwrap_or, slice_set}
+use Rattle.std.specs.Prelude.{⊤, ◌≡◌, ◌≤◌, ◌+◌, ◌%◌, ℕ, suc, Bool, true, false, List, [], drop, Option, Some, None, unwrap_or, slice_set}
 use Rattle.instructions.specs.Instruction.{is_first_half, second_of, width}
 use Rattle.instructions.specs.declared.instr.Instr.{Instr}
 use Rattle.instructions.specs.declared.stop.Stop.{Stop}
@@ -50,7 +50,6 @@ shifted b =
     record b {
       window = drop 1 b.window;
       oldest = (b.oldest + 1) % b.ring;
-      settled = b.settled - 1;
     }
 
 -- The fields behind a stop that retires

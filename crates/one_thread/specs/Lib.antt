@@ -1,10 +1,8 @@
 pub mod Decoding
 pub mod Window
 pub mod Slots
-pub mod Creators
 pub mod Givers
 pub mod Loads
-pub mod Forwarding
 pub mod Notes
 pub mod Stages
 pub mod Ahead

@@ -3,7 +3,7 @@ use Rattle.std.specs.Prelude.{◌≡◌, ◌≤◌, is_some, ℕ, zero, suc, ◌
 use Rattle.instructions.specs.Instruction.{kind, second_of, width}
 use Rattle.instructions.specs.Operations.{loaded}
 use Rattle.instructions.specs.declared.op.Kind.{Kind}
-use Rattle.instructions.specs.declared.op.Kind.TheVariants.{Loads as LoadKind, Stores as StoreKind}
+use Rattle.instructions.specs.declared.op.Kind.TheVariants.{Loads as LoadKind}
 use Rattle.instructions.specs.declared.op.Op.{Op}
 use Rattle.inorder.specs.Loads.{access_entry, content_by}
 use Rattle.lsq.specs.Bytes.{little_endian}
@@ -73,11 +73,6 @@ IsInside size w = (a : ℕ) → w.stage ≡ Addr a → a + width w.instr.op ≤ 
 -- Each access of a list that has its address is inside the memory
 abbrev pub AreInside : ℕ → List Station → Type 0
 AreInside size W = (k : ℕ) (w : Station) → slice_get W k ≡ Some w → IsInside size w
-
--- Each store of a list writes no register
-abbrev pub StoresWriteNone : List Station → Type 0
-StoresWriteNone W =
-    (k : ℕ) (w : Station) → slice_get W k ≡ Some w → kind w.instr.op ≡ StoreKind → w.destination ≡ 0
 
 -- A load that waits for its value
 abbrev pub waits_at : Option Station → Bool

@@ -1,10 +1,10 @@
--- What the unit remembers of its window, so as not to search all of it.
+-- What a window knows of its stations, so that nobody searches all of it.
 use Rattle.std.specs.Prelude.{◌≡◌, ◌<◌, ◌≤◌, ℕ, Bool, true, false, List, length, Option, Some, None, slice_get}
 use Rattle.instructions.specs.Instruction.{kind}
 use Rattle.instructions.specs.declared.op.Kind.{Kind}
 use Rattle.instructions.specs.declared.op.Kind.TheVariants.{Stores as StoreKind}
 use Rattle.one_thread.specs.declared.station.Stage.{Stage}
-use Rattle.one_thread.specs.declared.station.Stage.TheVariants.{Addr, Done, Miss, Stops}
+use Rattle.one_thread.specs.declared.station.Stage.TheVariants.{Addr, Done, Stops}
 use Rattle.one_thread.specs.declared.station.Station.{Station}
 use Rattle.one_thread.specs.Givers.{NoneGives}
 use Rattle.one_thread.specs.Window.{miss_of}
@@ -34,8 +34,3 @@ miss_in ws w = miss_of w.stage
 pub record AreNoted (missed : Bool) (settled : ℕ) (W : List Station) : Type 0 where
   pub no_miss : missed ≡ false → NoneGives miss_in W
   pub are_settled : AreSettled settled W
-
--- Whether some station is a miss, where one gets this stage
-abbrev pub missed_after : Bool → Stage → Bool
-missed_after missed (Miss x) = true
-missed_after missed _ = missed

@@ -11,7 +11,6 @@ use Rattle.inorder.specs.Tenants.{Tenant}
 use Rattle.inorder.specs.Unit.{Sizes, UpdateUnit}
 use Rattle.one_thread.specs.declared.bench.Turn.{Turn}
 use Rattle.one_thread.specs.declared.bench.Turn.TheVariants.{Halved, Let, Loaded, Over, Ran, Recovered, Retired}
-use Rattle.one_thread.specs.declared.pipeline.Pipeline.{Pipeline}
 use Rattle.one_thread.specs.Blocked.{AreBlocked}
 use Rattle.one_thread.specs.StandsFor.{StandsFor, sizes}
 use Rattle.one_thread.specs.Turns.{Before, BenchFields, Does, EndsHere, IsNoMiss, Now, Nowhere, Trains}
@@ -64,18 +63,6 @@ IsFirst P C U V (Over c) does = EndIsFirst P C U V c does
 -- A turn from the unit U to the unit V is made of legal steps, and is the first that is possible
 abbrev pub DoesFirst : Program → Sizes → UpdateUnit → UpdateUnit → Turn → Type 0
 DoesFirst P C U V answer = (does : Does P C U V answer) × IsFirst P C U V answer does
-
--- From the unit U the first possible turn leads to one that the later fields stand for
-pub record MovedFirst (b : Pipeline) (U : UpdateUnit) (answer : Turn) (later : Pipeline) : Type 0 where
-  pub unit : UpdateUnit
-  pub reached : IsReached b.program.now (sizes b) unit
-  pub stands : StandsFor later unit
-  pub does : DoesFirst b.program.now (sizes b) U unit answer
-
--- A turn moves so from each unit that b stands for
-abbrev pub MovesFirst : Pipeline → Turn → Pipeline → Type 0
-MovesFirst b answer later =
-    (U : UpdateUnit) → IsReached b.program.now (sizes b) U → StandsFor b U → MovedFirst b U answer later
 
 -- Turns with what they do to a predictor, by what it says of being asked and told
 module _ {S : Type 0} (Predicts : S → ℕ → Instr → ℕ → S → Type 0) (Learns : S → ℕ → ℕ → S → Type 0) where

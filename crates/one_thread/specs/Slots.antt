@@ -1,5 +1,5 @@
 -- Items in a ring of slots, the oldest first.
-use Rattle.std.specs.Prelude.{ℕ, ◌+◌, ◌-◌, ◌%◌, List, ◌++◌, take, drop}
+use Rattle.std.specs.Prelude.{ℕ, ◌+◌, ◌%◌, List, ◌++◌, take, drop}
 
 -- So many items from a slot on, around the end
 abbrev pub ring_of : {X : Type 0} → List X → ℕ → ℕ → List X
@@ -8,11 +8,3 @@ ring_of slots start len = take len (drop start (slots ++ slots))
 -- The slot of the item at i of so many slots, from that of the oldest on
 abbrev pub slot_in : ℕ → ℕ → ℕ → ℕ
 slot_in n start i = (start + i) % n
-
--- the slot of the item at i of 32 slots
-abbrev pub slot_of : ℕ → ℕ → ℕ
-slot_of start i = slot_in 32 start i
-
--- The place of the item of a slot
-abbrev pub place_from : ℕ → ℕ → ℕ
-place_from slot start = (slot + (32 - start)) % 32

@@ -1,19 +1,16 @@
 -- What each stage of a turn does to the window.
-use Rattle.std.specs.Prelude.{◌≡◌, ◌<◌, ◌≤◌, ℕ, true, List, [], ◌∷◌, ◌++◌, length, take, Option, Some, None, slice_get, slice_set}
-use Rattle.instructions.specs.Operations.{outcome_of}
+use Rattle.std.specs.Prelude.{◌≡◌, ◌<◌, ◌≤◌, ℕ, true, List, [], ◌∷◌, ◌++◌, length, take, Option, Some, None, slice_get}
 use Rattle.instructions.specs.Programs.{Program, instr_at}
 use Rattle.instructions.specs.declared.instr.Instr.{Instr}
 use Rattle.one_thread.specs.declared.dispatch.Fetched.{Fetched}
-use Rattle.one_thread.specs.declared.execute.Operands.{Operands}
 use Rattle.one_thread.specs.declared.execute.Ready.{Ready}
 use Rattle.one_thread.specs.declared.memory_port.Answered.{Answered}
-use Rattle.one_thread.specs.declared.recovery.Missed.{Missed}
+use Rattle.one_thread.specs.declared.window.Missed.{Missed}
 use Rattle.one_thread.specs.declared.station.Station.{Station}
-use Rattle.one_thread.specs.declared.station.Stage.TheVariants.{Done}
 use Rattle.one_thread.specs.Givers.{FirstGives, NoneGives}
 use Rattle.one_thread.specs.Loads.{load_in}
 use Rattle.one_thread.specs.Notes.{miss_in}
-use Rattle.one_thread.specs.Window.{accesses, half_in, next_in, operands_in, reaches_memory, station_after, station_mended}
+use Rattle.one_thread.specs.Window.{accesses, half_in, next_in, operands_in, reaches_memory, station_mended}
 
 -- The oldest miss is mended, and all after it are gone
 pub record RecoversTo (W W' : List Station) : Type 0 where
@@ -56,28 +53,10 @@ abbrev pub FirstReady : List ℕ → List Station → Option Ready → Type 0
 FirstReady registers W None = NoneGives (operands_in registers) W
 FirstReady registers W (Some r) = FirstGives (operands_in registers) W r.at r.operands
 
--- The oldest station that can be claimed is finished
-pub record RunsTo (registers : List ℕ) (size : ℕ) (W W' : List Station) : Type 0 where
-  pub i : ℕ
-  pub w : Station
-  pub o : Operands
-  pub first : FirstGives (operands_in registers) W i o
-  pub is : slice_get W i ≡ Some w
-  pub new : W' ≡ slice_set W i (station_after w (outcome_of w.instr w.half w.pc o.a o.b size))
-
 -- The oldest load that is not blocked, or that there is none
 abbrev pub FirstAnswered : List ℕ → List ℕ → List Station → Option Answered → Type 0
 FirstAnswered registers memory W None = NoneGives (load_in registers memory) W
 FirstAnswered registers memory W (Some l) = FirstGives (load_in registers memory) W l.at l.value
-
--- The oldest load that is not blocked gets its value
-pub record LoadsTo (registers memory : List ℕ) (W W' : List Station) : Type 0 where
-  pub i : ℕ
-  pub w : Station
-  pub value : ℕ
-  pub first : FirstGives (load_in registers memory) W i value
-  pub is : slice_get W i ≡ Some w
-  pub new : W' ≡ slice_set W i (record w { stage = Done; made = Some value })
 
 -- The oldest miss, or that there is none
 abbrev pub FirstMiss : List Station → Option Missed → Type 0

@@ -11,7 +11,6 @@ use Rattle.one_thread.specs.declared.pipeline.Pipeline.{Pipeline}
 use Rattle.one_thread.specs.Ahead.{low_of}
 use Rattle.one_thread.specs.Decoding.{IsDecoded}
 use Rattle.one_thread.specs.Leavers.{leaver}
-use Rattle.one_thread.specs.Notes.{AreNoted}
 use Rattle.one_thread.specs.Window.{window}
 use Rattle.inorder.specs.Moves.{IsReached}
 use Rattle.inorder.specs.Still.{AreStill}
@@ -56,5 +55,4 @@ pub record StandsForSome (b : Pipeline) : Type 0 where
   pub least : 2 ≤ b.queue
   pub leavers : length b.leavers ≡ 32
   pub oldest : b.oldest < b.ring
-  pub noted : AreNoted b.missed b.settled b.window
   pub code : IsDecoded b.code.items b.program.now

@@ -1,5 +1,5 @@
 -- The steps that are possible, by the stations of the live tenants.
-use Rattle.std.specs.Prelude.{◌≡◌, ℕ, zero, suc, true, List, [], ◌∷◌, ◌++◌, length, Option, Some, None, slice_get, if◌then◌else◌}
+use Rattle.std.specs.Prelude.{◌≡◌, ℕ, zero, suc, true, false, List, [], ◌∷◌, ◌++◌, length, Option, Some, None, slice_get, if◌then◌else◌}
 use Rattle.instructions.specs.declared.instr.Instr.{Instr}
 use Rattle.inorder.specs.Moves.{IsReached}
 use Rattle.inorder.specs.Unit.{UpdateUnit}
@@ -9,15 +9,15 @@ use Rattle.one_thread.specs.declared.execute.Operands.{Operands}
 use Rattle.one_thread.specs.declared.pipeline.Pipeline.{Pipeline}
 use Rattle.one_thread.specs.declared.possible.Step.{Step}
 use Rattle.one_thread.specs.declared.possible.Step.TheVariants.{Let, Load, Recover, Retire, Run}
-use Rattle.one_thread.specs.declared.recovery.Missed.{Missed}
+use Rattle.one_thread.specs.declared.window.Missed.{Missed}
 use Rattle.one_thread.specs.declared.station.Station.{Station}
-use Rattle.one_thread.specs.Changes.{CanClaim, LoadGives, NextOf, registers_of}
+use Rattle.one_thread.specs.Changes.{CanClaim, LoadGives, NextOf, NoneLoads, NoneRecovers, NoneRuns, registers_of}
 use Rattle.one_thread.specs.Choices.{step_made}
 use Rattle.one_thread.specs.Givers.{gives}
 use Rattle.one_thread.specs.Loads.{load_in}
 use Rattle.one_thread.specs.Notes.{settled_at}
 use Rattle.one_thread.specs.Possible.{Possible, ToLet, ToLoad, ToRecover, ToRetire, ToRun}
-use Rattle.one_thread.specs.Stages.{FirstMiss}
+use Rattle.one_thread.specs.Stages.{FirstAnswered, FirstMiss, FirstReady}
 use Rattle.one_thread.specs.StandsFor.{StandsFor, sizes}
 use Rattle.one_thread.specs.Turns.{BenchFields, Made}
 use Rattle.one_thread.specs.Window.{operands_in}
@@ -93,6 +93,19 @@ pub record ArePossible (b : Pipeline) (steps : List Step) : Type 0 where
   pub next : Option Fetched
   pub is_next : NextOf b next
   pub list : steps ≡ all_steps b miss next
+
+-- The first step that the fields permit, or that there is none
+abbrev pub IsFirstStep : Pipeline → Option Step → Type 0
+IsFirstStep b (Some (Recover m)) = FirstMiss b.window (Some m)
+IsFirstStep b (Some (Let f)) = NoneRecovers b × NextOf b (Some f)
+IsFirstStep b (Some (Run r)) = NoneRecovers b × NextOf b None × FirstReady (registers_of b) b.window (Some r)
+IsFirstStep b (Some (Load l)) =
+    NoneRecovers b × NextOf b None × NoneRuns b ×
+    FirstAnswered (registers_of b) b.committed.memory b.window (Some l)
+IsFirstStep b (Some Retire) =
+    NoneRecovers b × NextOf b None × NoneRuns b × NoneLoads b × (settled_at (slice_get b.window 0) ≡ true)
+IsFirstStep b None =
+    NoneRecovers b × NextOf b None × NoneRuns b × NoneLoads b × (settled_at (slice_get b.window 0) ≡ false)
 
 -- Turns that make a step, with what they do to a predictor
 module _ {S : Type 0} (Predicts : S → ℕ → Instr → ℕ → S → Type 0) (Learns : S → ℕ → ℕ → S → Type 0) where

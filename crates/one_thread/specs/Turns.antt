@@ -1,6 +1,6 @@
 -- What a turn does, as steps of the unit, and what it does to the measure and to the predictor. Which of the possible
 -- turns is taken stands in `Order` and in `Choices`.
-use Rattle.std.specs.Prelude.{⊤, ◌≡◌, ◌≢◌, ℕ, zero, suc, ◌+◌, ◌*◌, ◌^◌, ◌<◌, Bool, true, false, List, [], ◌∷◌, ◌++◌, length, Some, None, is_some}
+use Rattle.std.specs.Prelude.{◌≡◌, ◌≢◌, ℕ, zero, suc, ◌+◌, ◌*◌, ◌^◌, ◌<◌, true, List, [], ◌∷◌, ◌++◌, length, Some, None, is_some}
 use Rattle.std.specs.List.{AllByRecursion}
 use Rattle.instructions.specs.Guesses.{Guesses}
 use Rattle.instructions.specs.Programs.{Program, instr_at}
@@ -20,7 +20,6 @@ use Rattle.one_thread.specs.declared.pipeline.Pipeline.{Pipeline}
 use Rattle.one_thread.specs.declared.station.Stage.{Stage}
 use Rattle.one_thread.specs.declared.station.Stage.TheVariants.{Open, Addr, Miss as Misses}
 use Rattle.one_thread.specs.declared.station.Station.{Station}
-use Rattle.one_thread.specs.Changes.{NextOf}
 use Rattle.one_thread.specs.Leavers.{leaver}
 use Rattle.one_thread.specs.Blocked.{IsUnblocked}
 use Rattle.one_thread.specs.StandsFor.{HasStopped, NoStopRetired, StandsFor, sizes}
@@ -171,26 +170,6 @@ pub record SizesStay (b later : Pipeline) : Type 0 where
   pub ring : later.ring ≡ b.ring
   pub queue : later.queue ≡ b.queue
   pub first_tag : later.first_tag ≡ b.first_tag
-
--- Any turn but a let
-abbrev pub IsPlain : Turn → Type 0
-IsPlain Let = ⊥
-IsPlain _ = ⊤
-
--- The unit goes on behind any turn that does not end it
-abbrev pub StaysOpen : Turn → Pipeline → Type 0
-StaysOpen (Over c) later = ⊤
-StaysOpen _ later = later.over ≡ None
-
--- Dispatch may be known to be stalled: then nothing can be let
-abbrev pub IsStalled : Bool → Pipeline → Type 0
-IsStalled stalled b = stalled ≡ true → NextOf b None
-
--- What could not be let before such a turn cannot be let behind it, since no tenant has left
-abbrev pub stalled_after : Turn → Bool
-stalled_after Ran = true
-stalled_after Loaded = true
-stalled_after _ = false
 
 -- The fields of a bench
 pub record BenchFields (S : Type 0) : Type 0 where

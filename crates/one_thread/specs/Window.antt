@@ -1,5 +1,5 @@
 -- The live tenants as a list of stations, the oldest first, and what one of them reads.
-use Rattle.std.specs.Prelude.{◌≡◌, ℕ, zero, suc, ◌+◌, ◌-◌, Bool, List, [], ◌∷◌, ◌++◌, length, Option, Some, None, ◌==◌, if◌then◌else◌, slice_index, slice_get, slice_set, unwrap_or}
+use Rattle.std.specs.Prelude.{ℕ, zero, suc, ◌+◌, ◌-◌, Bool, List, [], ◌∷◌, ◌++◌, length, Option, Some, None, ◌==◌, if◌then◌else◌, slice_index, slice_get, unwrap_or}
 use Rattle.instructions.specs.Instruction.{destination, first_of, is_access, is_first_half, kind, second_of}
 use Rattle.instructions.specs.Programs.{Program}
 use Rattle.instructions.specs.declared.instr.Instr.{Instr}
@@ -100,22 +100,6 @@ further_on w stage made = record w { stage = stage; made = made }
 -- What a station becomes by its outcome
 abbrev pub station_after : Station → Outcome → Station
 station_after w o = further_on w (stage_after o w.predicted) (made_after o w.made)
-
--- The station at i has come further
-abbrev pub IsAdvanced : List Station → ℕ → Stage → Option ℕ → List Station → Type 0
-IsAdvanced ws i stage made later =
-    (w : Station) → slice_get ws i ≡ Some w → later ≡ slice_set ws i (further_on w stage made)
-
--- The station at i has reached a stage
-abbrev pub HasReached : List Station → ℕ → Stage → List Station → Type 0
-HasReached ws i stage later =
-    (w : Station) → slice_get ws i ≡ Some w → later ≡ slice_set ws i (record w { stage = stage })
-
--- The station at i, of which this next pc was predicted, has come further by an outcome
-abbrev pub IsFinished : List Station → ℕ → Outcome → ℕ → List Station → Type 0
-IsFinished ws i o predicted later =
-    (w : Station) → slice_get ws i ≡ Some w → w.predicted ≡ predicted →
-    later ≡ slice_set ws i (station_after w o)
 
 -- The computed next pc of a miss
 abbrev pub miss_of : Stage → Option ℕ

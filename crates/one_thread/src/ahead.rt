@@ -1,6 +1,5 @@
 //! The state that a new tenant finds where nobody is live.
-ghost use Rattle.std.specs.Prelude.{◌≡◌, ◌≤◌, ◌+◌, length, slice_index};
-ghost use Rattle.lsq.specs.Bytes.{little_endian};
+ghost use Rattle.std.specs.Prelude.{◌≡◌, slice_index};
 
 use inorder::Committed;
 use instructions::Reg;
@@ -29,14 +28,5 @@ impl<'c> Ahead<'c> {
         ensures { result ≡ slice_index self.now.registers r }
     {
         self.committed.register_ahead(*self.low, r)
-    }
-
-    /// The number in `width` bytes from an address on.
-    pub fn number_at(&self, at: usize, width: usize) -> u32
-        requires inside { at + width ≤ length self.now.memory }
-        requires width { width ≤ 4 }
-        ensures { result ≡ little_endian (slice_index self.now.memory) at width }
-    {
-        self.committed.number_at(at, width)
     }
 }

@@ -6,7 +6,7 @@ ghost use Rattle.one_thread.specs.Changes.{RetiresOne, run_from};
 ghost use Rattle.one_thread.specs.StandsFor.{StandsFor, StandsForSome};
 ghost use Rattle.inorder.specs.Unit.{empty_unit};
 ghost use Rattle.one_thread.specs.Order.{IsTurn};
-ghost use Rattle.one_thread.specs.Turns.{Falls, SizesStay, stalled_after};
+ghost use Rattle.one_thread.specs.Turns.{Falls, SizesStay};
 
 use crate::pipeline::Pipeline;
 use crate::station::Station;
@@ -33,14 +33,6 @@ pub enum Turn {
     Over(Stop),
 }
 
-// What could not be let before a turn cannot be let behind it, since no tenant has left.
-#[inline(always)]
-fn stalls(turn: Turn) -> bool
-    ensures { result ≡ stalled_after turn }
-{
-    matches!(turn, Turn::Ran | Turn::Loaded)
-}
-
 /// An out-of-order unit that one caller turns. Its predictor is asked for the next pc of a conditional branch,
 /// `jr` or `jalr` when that is let, and told how such an instruction went on when its station is let again, if
 /// it has retired.
@@ -48,20 +40,17 @@ fn stalls(turn: Turn) -> bool
 pub struct Bench<'a, P: Predictor + Drop> {
     pub(crate) pipeline: Pipeline<'a>,
     pub(crate) predictor: P,
-    // nothing can be let before a tenant leaves
-    pub(crate) stalled: bool,
 }
 
 impl<'a, P: Predictor + Drop> Model for Bench<'a, P> {
-    ghost use Rattle.std.specs.Prelude.{◌≡◌, true};
     ghost use Rattle.one_thread.specs.StandsFor.{StandsForSome};
-    ghost use Rattle.one_thread.specs.Turns.{BenchFields, IsStalled};
+    ghost use Rattle.one_thread.specs.Turns.{BenchFields};
 
     ghost Value = { BenchFields P };
 
     ghost view = { λ b. record { pipeline = b.pipeline; predictor = b.predictor } };
 
-    ghost invariant = { λ b. StandsForSome b.pipeline × IsStalled b.stalled b.pipeline };
+    ghost invariant = { λ b. StandsForSome b.pipeline };
 }
 
 impl<'a, P: Predictor + Drop> Bench<'a, P> {
@@ -84,7 +73,6 @@ impl<'a, P: Predictor + Drop> Bench<'a, P> {
         Ok(Bench {
             pipeline,
             predictor,
-            stalled: false,
         })
     }
 
@@ -130,44 +118,26 @@ impl<'a, P: Predictor + Drop> Bench<'a, P> {
         if let Some(code) = self.pipeline.over {
             return Turn::Over(code);
         }
-        if self.pipeline.recovers() {
-            self.stalled = false;
-            return Turn::Recovered;
-        }
-        if self.pipeline.lets(&mut self.predictor, self.stalled) {
-            self.stalled = false;
-            return Turn::Let;
-        }
-        let turn = self.pipeline.moves();
-        self.stalled = stalls(turn);
-        turn
+        let Some(step) = self.pipeline.first_step() else {
+            return Turn::Over(Stop::BadPc);
+        };
+        self.pipeline.make(step, &mut self.predictor)
     }
 
-    // Turns until an instruction retires, and else tells why the unit ended. No other turn counts,
-    // so none of them is followed by a look at the count.
+    // Turns until an instruction retires, and else tells why the unit ended.
     #[inline(always)]
     fn retires_one(&mut self) -> Option<Stop>
         requires { self.old.pipeline.committed.count < 2 ^ 64 - 1 }
         ensures program { self.new.pipeline.program ≡ self.old.pipeline.program }
         ensures ends { RetiresOne result self.old.pipeline self.new.pipeline }
     {
-        self.stalled = false;
-        if let Some(code) = self.pipeline.over {
-            return Some(code);
-        }
-        loop {
-            if self.pipeline.recovers() {
-                continue;
-            }
-            if self.pipeline.lets(&mut self.predictor, false) {
-                continue;
-            }
-            match self.pipeline.moves() {
-                Turn::Over(code) => return Some(code),
-                Turn::Retired => return None,
-                _ => {}
+        let before = self.pipeline.committed.count();
+        while self.pipeline.committed.count() == before {
+            if let Turn::Over(code) = self.turn() {
+                return Some(code);
             }
         }
+        None
     }
 
     // Turns as long as all live tenants have completed. Answers the count at which to look for that again.
@@ -177,7 +147,6 @@ impl<'a, P: Predictor + Drop> Bench<'a, P> {
         ensures more { self.old.pipeline.committed.count ≤ self.new.pipeline.committed.count }
         ensures ends { run_from self.new.pipeline limit ≡ run_from self.old.pipeline limit }
     {
-        self.stalled = false;
         self.pipeline.streams(&mut self.predictor, limit)
     }
 

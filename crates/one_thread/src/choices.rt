@@ -32,7 +32,6 @@ impl<'a, P: Predictor + Drop> Bench<'a, P> {
         ensures falls { Falls result self.old.pipeline self.new.pipeline }
         ensures same { SizesStay self.old.pipeline self.new.pipeline }
     {
-        self.stalled = false;
         if let Some(code) = self.pipeline.over {
             return Turn::Over(code);
         }

@@ -25,8 +25,7 @@ pub struct Completed {
     pub kept: u32,
 }
 
-/// Completed instructions by their stations, the oldest first, and the entries of the stores among them. Unlike a window
-/// it does not keep who makes what a tenant reads.
+/// Completed instructions by their stations, the oldest first, and the entries of the stores among them.
 #[derive(Drop)]
 pub struct CompletedRing {
     slots: [Completed; 32],

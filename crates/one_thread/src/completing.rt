@@ -6,15 +6,16 @@ ghost use Rattle.instructions.specs.declared.stop.Outcome.TheVariants.{Address};
 ghost use Rattle.lsq.specs.LoadRule.{answer_over as answer_of, lacks_address, youngest};
 ghost use Rattle.one_thread.specs.Decoding.{KnownAs};
 ghost use Rattle.one_thread.specs.Flow.{Completes, outcome_in};
-ghost use Rattle.one_thread.specs.Loads.{value_by};
+ghost use Rattle.one_thread.specs.Loads.{value_by as value_of};
 
 use crate::decoded::Decoded;
 use crate::execute::Operands;
 use crate::flow::Flow;
+use crate::memory_port::value_by;
 use crate::pipeline::Pipeline;
 use inorder::access_width;
-use instructions::{Half, Kind, Op, Outcome, loaded, outcome_by_kind, pc_plus_4};
-use lsq::{Answer, Entry, answer_over_known};
+use instructions::{Half, Kind, Op, Outcome, outcome_by_kind, pc_plus_4};
+use lsq::{Entry, answer_over_known};
 
 /// What an instruction completes with: what it has made, or where it stores, and where it goes on.
 #[derive(Clone, Copy)]
@@ -30,18 +31,10 @@ impl<'a> Pipeline<'a> {
         requires inside { address + width_in op ≤ length self.now.committed.memory }
         requires known { youngest lacks_address stores.now ≡ None }
         ensures { let older = answer_of stores.now address (width_in op) in
-            result ≡ value_by older self.now.committed.memory op address }
+            result ≡ value_of older self.now.committed.memory op address }
     {
-        match answer_over_known(stores, address, access_width(op)) {
-            Answer::Forward(raw) => Some(loaded(op, raw)),
-            Answer::Memory => {
-                let raw = self
-                    .committed
-                    .number_at(address as usize, op.width() as usize);
-                Some(loaded(op, raw))
-            }
-            Answer::Blocked(_) => None,
-        }
+        let answer = answer_over_known(stores, address, access_width(op));
+        value_by(answer, &self.committed, op, address)
     }
 
     // The outcome of the next instruction, which is of this kind.

@@ -1,7 +1,7 @@
 //! The oldest instruction of a flow retires.
 ghost use Rattle.std.specs.Prelude.{◌≡◌, ◌<◌, ◌≤◌, ◌-◌, ◌^◌, ℕ, length};
 ghost use Rattle.one_thread.specs.Departing.{OldestRetired, run_in, to_do};
-ghost use Rattle.one_thread.specs.Flow.{Flows, IsStuck};
+ghost use Rattle.one_thread.specs.Flow.{Flows, window_of};
 ghost use Rattle.one_thread.specs.Kept.{OldestIsCounted};
 
 use crate::fetch::fetch_known;
@@ -17,7 +17,7 @@ impl<'a> Pipeline<'a> {
     #[inline(always)]
     fn departs_any(&mut self, flow: &mut Flow) -> Option<Leaver>
         requires flow { Flows self.old flow.old }
-        requires stuck { IsStuck self.old flow.old }
+        requires some { 2 ≤ length (window_of self.old flow.old) }
         requires count { self.old.committed.count < 2 ^ 64 - 1 }
         ensures departed { OldestRetired self.old flow.old result self.new flow.new }
         ensures more { self.old.committed.count ≤ self.new.committed.count }
@@ -38,7 +38,7 @@ impl<'a> Pipeline<'a> {
         told: Option<Leaver>,
     ) -> Option<Leaver>
         requires flow { Flows self.old flow.old }
-        requires stuck { IsStuck self.old flow.old }
+        requires some { 2 ≤ length (window_of self.old flow.old) }
         requires count { self.old.committed.count < 2 ^ 64 - 1 }
         requires oldest { OldestIsCounted flow.old.ring.completed accesses next told }
         ensures departed { OldestRetired self.old flow.old result self.new flow.new }
@@ -53,7 +53,7 @@ impl<'a> Pipeline<'a> {
     #[inline(always)]
     pub fn departs(&mut self, flow: &mut Flow) -> Option<Leaver>
         requires flow { Flows self.old flow.old }
-        requires stuck { IsStuck self.old flow.old }
+        requires some { 2 ≤ length (window_of self.old flow.old) }
         requires count { self.old.committed.count < 2 ^ 64 - 1 }
         ensures departed { OldestRetired self.old flow.old result self.new flow.new }
         ensures more { self.old.committed.count ≤ self.new.committed.count }
@@ -71,7 +71,7 @@ impl<'a> Pipeline<'a> {
     #[inline(always)]
     pub fn leaves_flow(&mut self, flow: &mut Flow)
         requires flow { Flows self.old flow.old }
-        requires stuck { IsStuck self.old flow.old }
+        requires some { 2 ≤ length (window_of self.old flow.old) }
         requires count { self.old.committed.count < 2 ^ 64 - 1 }
         ensures flow { Flows self.new flow.new }
         ensures room { length flow.new.ring.completed < self.new.ring }

@@ -10,7 +10,7 @@ use crate::fetch::{fetch, fetch_known};
 use crate::flow::Flow;
 use crate::leaver::{guess_behind, take_leaver};
 use crate::pipeline::Pipeline;
-use crate::station::{Stage, Station, made_at_let};
+use crate::station::Station;
 use instructions::{Half, Kind, Leaver, Predictor};
 
 // How many have completed for good once one more has: all behind a miss, else those that had before.
@@ -34,17 +34,8 @@ impl<'a> Pipeline<'a> {
           last = Some (enters_as flow.old instr.now predicted);
         } }
     {
-        let pc = flow.future.pc;
-        flow.last = Some(Station {
-            instr: *instr,
-            half: flow.half,
-            destination: instr.destination(flow.half),
-            pc,
-            predicted,
-            next: predicted,
-            made: made_at_let(instr.kind(), pc),
-            stage: Stage::Open,
-        });
+        let station = Station::let_at(instr, flow.half, flow.future.pc, predicted);
+        flow.last = Some(station);
     }
 
     // The next instruction is let alone, and fills the ring: nothing is let behind it.

@@ -4,7 +4,7 @@ ghost use Rattle.instructions.specs.declared.op.Half.TheVariants.{Low};
 ghost use Rattle.inorder.specs.Machine.{write};
 ghost use Rattle.inorder.specs.Unit.{half_after};
 ghost use Rattle.instructions.specs.Instruction.{is_first_half};
-ghost use Rattle.one_thread.specs.Flow.{completed_as};
+ghost use Rattle.one_thread.specs.Flow.{HasJoined, completed_as};
 ghost use Rattle.one_thread.specs.CompletedRing.{station_by, store_with};
 ghost use Rattle.one_thread.specs.Futures.{GoesOnBehind};
 ghost use Rattle.one_thread.specs.Decoding.{KnownAs};
@@ -118,19 +118,7 @@ impl Flow {
         requires few { length self.old.ring.stores < 32 }
         requires all { length self.old.future.values ≡ 34 }
         requires accesses { self.old.accesses ≤ 32 }
-        ensures completed { self.new.ring.completed ≡ self.old.ring.completed ++ completed ∷ [] }
-        ensures oldest { self.new.ring.oldest ≡ self.old.ring.oldest }
-        ensures size { self.new.ring.size ≡ self.old.ring.size }
-        ensures stores { self.new.ring.stores ≡
-            with_entry self.old.ring.stores (store_with (station_by instr.now completed) content) }
-        ensures values { self.new.future.values ≡ write self.old.future.values
-            (station_by instr.now completed).destination completed.value }
-        ensures future { GoesOnBehind self.old.future (station_by instr.now completed).destination
-            (station_by instr.now completed).made completed.next self.new.future }
-        ensures half { self.new.half ≡ half_after (is_first_half instr.now.op completed.half) }
-        ensures accesses { self.new.accesses ≡ self.old.accesses + access_of instr.now }
-        ensures last { self.new.last ≡ self.old.last }
-        ensures held { self.new.held ≡ self.old.held }
+        ensures { HasJoined self.old self.new instr.now completed content }
     {
         let destination = instr.destination_by(known, completed.half);
         self.ring.push(station, completed);

@@ -1,33 +1,18 @@
-//! Store-to-load forwarding: what the older stores are to a load.
-ghost use Rattle.std.specs.Prelude.{◌≡◌, ◌<◌, ◌≤◌, length, take, slice_get, Some};
-ghost use Rattle.instructions.specs.Instruction.{second_of};
-ghost use Rattle.lsq.specs.Entries.{bytes};
-ghost use Rattle.one_thread.specs.Forwarding.{is_some_store, older_of, preceded as preceded_of, store_at as store_in};
-ghost use Rattle.one_thread.specs.Loads.{StoresWriteNone, address_of as address_by, entries, entry_behind};
-ghost use Rattle.one_thread.specs.Window.{source_in};
+//! Store-to-load forwarding: what the queue holds before a load.
+ghost use Rattle.std.specs.Prelude.{◌≡◌, ◌≤◌, length, slice_get};
+ghost use Rattle.one_thread.specs.Loads.{address_of as address_by, entries, entry_at as entry_in};
 
 use crate::ahead::Ahead;
 use crate::source::source;
-use crate::station::{Stage, Station};
+use crate::station::Stage;
 use crate::window::Window;
-use crate::writers::{last_writer, writer_before};
-use inorder::{access_entry, is_store};
-use instructions::{Kind, Reg};
-use lsq::{Entry, Width, lacks_address, overlaps};
+use arrayvec::ArrayVec;
+use inorder::access_entry;
+use instructions::Kind;
+use lsq::Entry;
 
-/// What the older stores are to a load.
-#[derive(Clone, Copy)]
-pub enum Older {
-    /// One of them has no address.
-    Unknown,
-    /// None of them has a byte of it.
-    Elsewhere,
-    /// This is the youngest of them that has.
-    Nearest(Entry),
-}
-
-/// The address of a load or store, if it was computed.
-pub fn address_of(stage: Stage) -> Option<u32>
+// The address of a load or store, if it was computed.
+fn address_of(stage: Stage) -> Option<u32>
     ensures { result ≡ address_by stage }
 {
     match stage {
@@ -36,92 +21,32 @@ pub fn address_of(stage: Stage) -> Option<u32>
     }
 }
 
-// What a store at `i` stores, if that was made.
-fn content(window: &Window, ahead: &Ahead, i: usize, station: &Station) -> Option<u32>
-    requires there { i < length window.now }
-    requires is { slice_get window.now i ≡ Some station.now }
-    ensures { result ≡
-        source_in ahead.now.registers (take i window.now) (second_of station.now.instr) }
-{
-    let creators = window.creators(i);
-    source(window, ahead, i, station.instr.second(), creators.second)
-}
-
-// What the queue holds of the memory instruction at `i`.
-fn entry(window: &Window, ahead: &Ahead, i: usize, station: &Station) -> Entry
-    requires there { i < length window.now }
-    requires is { slice_get window.now i ≡ Some station.now }
-    ensures { result ≡ entry_behind ahead.now.registers (take i window.now) station.now }
-{
-    let op = station.instr.op();
-    let data = match op.kind() {
-        Kind::Stores => content(window, ahead, i, station),
-        _ => None,
-    };
-    access_entry(op, address_of(station.stage), data)
-}
-
-/// What the queue holds of the station at `i`, if that is a store.
-pub fn store_at(window: &Window, ahead: &Ahead, i: usize) -> Option<Entry>
+// What the queue holds of the tenant at `i`, if that reaches memory.
+fn entry_at(window: &Window, ahead: &Ahead, i: usize) -> Option<Entry>
     requires { i ≤ length window.now }
-    ensures { result ≡ store_in ahead.now.registers window.now (slice_get window.now i) i }
+    ensures { result ≡ entry_in ahead.now.registers window.now (slice_get window.now i) i }
 {
-    match window.peek(i) {
-        Some(station) if is_store(station.instr.op()) => { Some(entry(window, ahead, i, station)) }
-        _ => None,
-    }
-}
-
-// Whether the station at `i` is a store.
-#[inline(always)]
-fn is_store_at(window: &Window, i: usize) -> bool
-    ensures { result ≡ is_some_store (slice_get window.now i) }
-{
-    match window.peek(i) {
-        Some(station) => matches!(station.instr.kind(), Kind::Stores),
-        None => false,
-    }
-}
-
-// What stores are to a load with what is an older one at most.
-#[inline(always)]
-fn preceded(older: Older, store: Option<Entry>, address: u32, width: Width) -> Older
-    ensures { result ≡ preceded_of older store address (bytes width) }
-{
-    let Some(store) = store else {
-        return older;
+    let station = window.peek(i)?;
+    let instr = &station.instr;
+    let content = match instr.kind() {
+        Kind::Stores => source(window, ahead, i, instr.second()),
+        Kind::Loads => None,
+        _ => return None,
     };
-    if lacks_address(&store) {
-        return Older::Unknown;
-    }
-    match older {
-        Older::Elsewhere if overlaps(&store, address, width) => Older::Nearest(store),
-        _ => older,
-    }
+    Some(access_entry(instr.op(), address_of(station.stage), content))
 }
 
-/// What the stores among the first `i` are to a load. Stores write no register, so they stand among
-/// those that write register 0.
-#[inline(always)]
-pub fn look_back(window: &Window, ahead: &Ahead, i: usize, address: u32, width: Width) -> Older
-    requires there { i ≤ length window.now }
-    requires stores { StoresWriteNone window.now }
-    ensures { result ≡ older_of (entries ahead.now.registers window.now i) address (bytes width) }
+/// What the queue holds of the first `i` tenants.
+pub fn entries_before(window: &Window, ahead: &Ahead, i: usize) -> ArrayVec<Entry, 32>
+    requires { i ≤ length window.now }
+    ensures { result.items ≡ entries ahead.now.registers window.now i }
 {
-    let mut older = Older::Elsewhere;
-    let mut writer = last_writer(window, Reg::ZERO);
-    // most often there is none
-    while let Some(at) = writer {
-        if at < i && is_store_at(window, at) {
-            break;
+    prove!(i <= window.len());
+    let mut queue = ArrayVec::new();
+    for at in 0..i {
+        if let Some(entry) = entry_at(window, ahead, at) {
+            queue.push(entry);
         }
-        writer = writer_before(window, at, Reg::ZERO);
     }
-    while let Some(at) = writer {
-        if at < i {
-            older = preceded(older, store_at(window, ahead, at), address, width);
-        }
-        writer = writer_before(window, at, Reg::ZERO);
-    }
-    older
+    queue
 }

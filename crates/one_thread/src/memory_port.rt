@@ -1,23 +1,19 @@
 //! The memory port: loads are answered over the live memory instructions before them.
 ghost use Rattle.std.specs.Prelude.{⊤, ◌≡◌, ◌<◌, ◌≤◌, ◌+◌, length};
 ghost use Rattle.instructions.specs.Instruction.{width as width_in};
-ghost use Rattle.lsq.specs.Entries.{bytes};
-ghost use Rattle.one_thread.specs.Changes.{LoadGives, LoadsAt, LoadsOldest, NoneLoads};
-ghost use Rattle.one_thread.specs.Forwarding.{value_over};
-ghost use Rattle.one_thread.specs.Givers.{Chosen, gives};
-ghost use Rattle.inorder.specs.Loads.{access_width as width_of};
-ghost use Rattle.one_thread.specs.Loads.{AreInside, StoresWriteNone, load_in, waits as waits_of};
-ghost use Rattle.one_thread.specs.Notes.{AreNoted, AreSettled};
+ghost use Rattle.one_thread.specs.Changes.{LoadGives, LoadsAt};
+ghost use Rattle.one_thread.specs.Givers.{gives};
+ghost use Rattle.one_thread.specs.Loads.{AreInside, load_in, value_by as value_of, waits as waits_of};
 ghost use Rattle.one_thread.specs.Stages.{FirstAnswered};
 
 use crate::ahead::Ahead;
-use crate::forwarding::{Older, look_back};
+use crate::forwarding::entries_before;
 use crate::pipeline::Pipeline;
 use crate::station::{Stage, Station};
 use crate::window::Window;
-use inorder::access_width;
+use inorder::{Committed, access_width};
 use instructions::{Kind, Op, loaded};
-use lsq::taken_from;
+use lsq::{Answer, answer_over};
 
 /// The place of a load that is not blocked, and its value.
 #[derive(Clone, Copy)]
@@ -36,21 +32,19 @@ fn waits(station: &Station) -> Option<u32>
     }
 }
 
-// The value of a load of an address, by what the older stores are to it.
-fn value_of(older: Older, ahead: &Ahead, op: Op, address: u32) -> Option<u32>
-    requires { address + width_in op ≤ length ahead.now.memory }
-    ensures { result ≡ value_over older ahead.now.memory op address (bytes (width_of op)) }
+/// The value of a load of an address, by the rule's answer, if that does not block it.
+#[inline(always)]
+pub fn value_by(answer: Answer, committed: &Committed, op: Op, address: u32) -> Option<u32>
+    requires { address + width_in op ≤ length committed.now.memory }
+    ensures { result ≡ value_of answer committed.now.memory op address }
 {
-    match older {
-        Older::Unknown => None,
-        Older::Elsewhere => {
-            let raw = ahead.number_at(address as usize, op.width() as usize);
+    match answer {
+        Answer::Forward(raw) => Some(loaded(op, raw)),
+        Answer::Memory => {
+            let raw = committed.number_at(address as usize, op.width() as usize);
             Some(loaded(op, raw))
         }
-        Older::Nearest(store) => {
-            let raw = taken_from(&store, address, access_width(op))?;
-            Some(loaded(op, raw))
-        }
+        Answer::Blocked(_) => None,
     }
 }
 
@@ -59,25 +53,23 @@ fn value_of(older: Older, ahead: &Ahead, op: Op, address: u32) -> Option<u32>
 pub fn value_at(window: &Window, ahead: &Ahead, i: usize) -> Option<u32>
     requires there { i < length window.now }
     requires inside { AreInside (length ahead.now.memory) window.now }
-    requires stores { StoresWriteNone window.now }
     ensures { result ≡ gives (load_in ahead.now.registers ahead.now.memory) window.now i }
 {
     let station = window.peek(i)?;
     let address = waits(station)?;
     let op = station.instr.op();
-    let older = look_back(window, ahead, i, address, access_width(op));
-    value_of(older, ahead, op, address)
+    let older = entries_before(window, ahead, i);
+    let answer = answer_over(older.as_slice(), address, access_width(op));
+    value_by(answer, ahead.committed, op, address)
 }
 
-// The oldest load with its address that is not blocked; none of those before `from` is one.
+/// The oldest load with its address that is not blocked.
 #[inline(always)]
-fn oldest_answered(window: &Window, ahead: &Ahead, from: usize) -> Option<Answered>
-    requires inside { AreInside (length ahead.now.memory) window.now }
-    requires stores { StoresWriteNone window.now }
-    requires settled { AreSettled from window.now }
+pub fn oldest_answered(window: &Window, ahead: &Ahead) -> Option<Answered>
+    requires { AreInside (length ahead.now.memory) window.now }
     ensures { FirstAnswered ahead.now.registers ahead.now.memory window.now result }
 {
-    for at in from..window.len() {
+    for at in window.settled()..window.len() {
         if let Some(value) = value_at(window, ahead, at) {
             return Some(Answered { at, value });
         }
@@ -89,32 +81,18 @@ impl<'a> Pipeline<'a> {
     /// A load that is not blocked gets its value.
     #[inline(always)]
     pub fn answers(&mut self, answered: Answered)
-        requires there { answered.at < length self.old.window }
-        requires answered { LoadGives self.old answered }
-        requires noted { AreNoted self.old.missed self.old.settled self.old.window }
+        requires { LoadGives self.old answered }
         ensures window { LoadsAt self.old answered self.new }
         ensures rest { self.new ≡ record self.old { window = self.new.window } }
-        ensures noted { AreNoted self.new.missed self.new.settled self.new.window }
     {
-        self.window
-            .advance(answered.at, Stage::Done, Some(answered.value));
-    }
-
-    /// Answers the oldest load with its address that is not blocked.
-    #[inline(always)]
-    pub fn loads(&mut self) -> bool
-        requires inside { AreInside (length self.old.committed.memory) self.old.window }
-        requires stores { StoresWriteNone self.old.window }
-        requires noted { AreNoted self.old.missed self.old.settled self.old.window }
-        ensures window { Chosen result (LoadsOldest self.old self.new) (NoneLoads self.old) }
-        ensures same { Chosen result ⊤ (self.new ≡ self.old) }
-        ensures rest { self.new ≡ record self.old { window = self.new.window } }
-        ensures noted { AreNoted self.new.missed self.new.settled self.new.window }
-    {
-        let Some(answered) = oldest_answered(&self.window, &self.ahead(), self.settled) else {
-            return false;
+        let Some(station) = self.window.at(answered.at) else {
+            return;
         };
-        self.answers(answered);
-        true
+        let loaded = Station {
+            stage: Stage::Done,
+            made: Some(answered.value),
+            ..station
+        };
+        self.window.put(answered.at, loaded);
     }
 }

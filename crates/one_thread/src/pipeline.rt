@@ -1,14 +1,11 @@
-//! The stations, the committed state, and the turns that ask no predictor.
+//! The stations and the committed state.
 ghost use Rattle.std.specs.Prelude.{◌≡◌, ◌<◌, ◌≤◌, ◌-◌, ◌^◌, None, IfOk};
 ghost use Rattle.inorder.specs.Machine.{start};
-ghost use Rattle.one_thread.specs.Changes.{NextOf, NoneRecovers, ahead_of};
+ghost use Rattle.one_thread.specs.Changes.{ahead_of};
 ghost use Rattle.one_thread.specs.StandsFor.{StandsFor, StandsForSome};
 ghost use Rattle.inorder.specs.Unit.{empty_unit};
-ghost use Rattle.one_thread.specs.Order.{MovesFirst};
-ghost use Rattle.one_thread.specs.Turns.{Falls, StaysOpen, IsPlain, IsStalled, SizesStay, stalled_after};
 
 use crate::ahead::Ahead;
-use crate::bench::Turn;
 use crate::decoded::Decoded;
 use crate::fetch::decode_all;
 use crate::window::Window;
@@ -33,10 +30,6 @@ pub struct Pipeline<'a> {
     // by station, who has left it
     pub leavers: [Option<Leaver>; 32],
     pub over: Option<Stop>,
-    // no station is a miss unless this is set
-    pub missed: bool,
-    // as many of the oldest are done, stops, or stores with their address
-    pub settled: usize,
 }
 
 impl<'a> Pipeline<'a> {
@@ -49,7 +42,7 @@ impl<'a> Pipeline<'a> {
         ensures tag { IfOk result (λ b. b.first_tag ≡ config.now.first_tag) }
         ensures fresh { IfOk result (λ b. StandsFor b empty_unit) }
     {
-        let window = Window::new();
+        let window = Window::new(alloc)?;
         let code = decode_all(alloc, program)?;
         let committed = Committed::new(alloc, program)?;
         Ok(Pipeline {
@@ -64,8 +57,6 @@ impl<'a> Pipeline<'a> {
             oldest: 0,
             leavers: [None; 32],
             over: None,
-            missed: false,
-            settled: 0,
         })
     }
 
@@ -78,30 +69,5 @@ impl<'a> Pipeline<'a> {
             committed: &self.committed,
             low: &self.low,
         }
-    }
-
-    /// A turn where nothing recovers and nothing can be let.
-    #[inline(always)]
-    pub fn moves(&mut self) -> Turn
-        requires unit { StandsForSome self.old }
-        requires count { self.old.committed.count < 2 ^ 64 - 1 }
-        requires open { self.old.over ≡ None }
-        requires miss { NoneRecovers self.old }
-        requires lets { NextOf self.old None }
-        ensures turn { MovesFirst self.old result self.new }
-        ensures falls { Falls result self.old self.new }
-        ensures unit { StandsForSome self.new }
-        ensures same { SizesStay self.old self.new }
-        ensures plain { IsPlain result }
-        ensures open { StaysOpen result self.new }
-        ensures stalled { IsStalled (stalled_after result) self.new }
-    {
-        if self.runs() {
-            return Turn::Ran;
-        }
-        if self.loads() {
-            return Turn::Loaded;
-        }
-        self.retires()
     }
 }

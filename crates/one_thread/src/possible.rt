@@ -2,18 +2,18 @@
 ghost use Rattle.std.specs.Prelude.{◌≡◌, ◌<◌, ◌≤◌, ◌+◌, ◌-◌, ◌^◌, ◌++◌, length, None, slice_get};
 ghost use Rattle.arrayvec.specs.ArrayVec.{array_vec_len};
 ghost use Rattle.one_thread.specs.Changes.{NextOf, registers_of};
-ghost use Rattle.one_thread.specs.Loads.{AreInside, StoresWriteNone};
+ghost use Rattle.one_thread.specs.Loads.{AreInside};
 ghost use Rattle.one_thread.specs.Stages.{FirstMiss};
 ghost use Rattle.one_thread.specs.StandsFor.{StandsForSome};
-ghost use Rattle.one_thread.specs.Steps.{ArePossible, Makes, Permits, loads_of, next_let as let_steps, recovery as recoveries, retirement_of, runs_of};
+ghost use Rattle.one_thread.specs.Steps.{ArePossible, IsFirstStep, Makes, Permits, loads_of, next_let as let_steps, recovery as recoveries, retirement_of, runs_of};
 ghost use Rattle.one_thread.specs.Turns.{Falls, SizesStay, fields};
 
 use crate::bench::Turn;
 use crate::dispatch::Fetched;
-use crate::execute::{Ready, is_settled_at, sources_at};
-use crate::memory_port::{Answered, value_at};
+use crate::execute::{Ready, oldest_ready, sources_at};
+use crate::memory_port::{Answered, oldest_answered, value_at};
 use crate::pipeline::Pipeline;
-use crate::recovery::{Missed, oldest_miss};
+use crate::window::Missed;
 use arrayvec::ArrayVec;
 use instructions::Predictor;
 
@@ -83,7 +83,6 @@ impl<'a> Pipeline<'a> {
     // The load of each tenant that is not blocked.
     fn push_loads(&self, steps: &mut Steps)
         requires inside { AreInside (length self.now.committed.memory) self.now.window }
-        requires stores { StoresWriteNone self.now.window }
         requires room { array_vec_len steps.old + length self.now.window ≤ 67 }
         ensures items { steps.new.items ≡ steps.old.items ++ loads_of (registers_of self.now)
             self.now.committed.memory self.now.window (length self.now.window) }
@@ -104,7 +103,7 @@ impl<'a> Pipeline<'a> {
         ensures { steps.new.items ≡ steps.old.items ++
             retirement_of (slice_get self.now.window 0) }
     {
-        if is_settled_at(&self.window, 0) {
+        if self.window.is_settled(0) {
             steps.push(Step::Retire);
         }
     }
@@ -115,12 +114,37 @@ impl<'a> Pipeline<'a> {
         ensures { ArePossible self.now result.items }
     {
         let mut steps = Steps::new();
-        push_recovery(&mut steps, oldest_miss(&self.window, self.settled));
+        push_recovery(&mut steps, self.window.oldest_miss());
         push_let(&mut steps, self.next());
         self.push_runs(&mut steps);
         self.push_loads(&mut steps);
         self.push_retirement(&mut steps);
         steps
+    }
+
+    /// The first of the steps that are possible.
+    #[inline(always)]
+    pub fn first_step(&self) -> Option<Step>
+        requires { StandsForSome self.now }
+        ensures { IsFirstStep self.now result }
+    {
+        if let Some(miss) = self.window.oldest_miss() {
+            return Some(Step::Recover(miss));
+        }
+        if let Some(next) = self.next() {
+            return Some(Step::Let(next));
+        }
+        let ahead = self.ahead();
+        if let Some(ready) = oldest_ready(&self.window, &ahead) {
+            return Some(Step::Run(ready));
+        }
+        if let Some(answered) = oldest_answered(&self.window, &ahead) {
+            return Some(Step::Load(answered));
+        }
+        if self.window.is_settled(0) {
+            return Some(Step::Retire);
+        }
+        None
     }
 
     /// Makes a step that is possible.
@@ -137,12 +161,11 @@ impl<'a> Pipeline<'a> {
     {
         match step {
             Step::Recover(miss) => {
-                self.recovers_from(miss);
+                self.window.recover(miss);
                 Turn::Recovered
             }
             Step::Let(next) => {
-                let station = self.station_at(self.window.len());
-                self.enters(predictor, next, station);
+                self.enters(predictor, next);
                 Turn::Let
             }
             Step::Run(ready) => {

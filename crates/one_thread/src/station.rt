@@ -1,9 +1,10 @@
 //! A live tenant, and how far it has come.
 ghost use Rattle.std.specs.Prelude.{◌≡◌};
 ghost use Rattle.inorder.specs.Tenants.{made_at_let as made_at_let_of};
+ghost use Rattle.one_thread.specs.Window.{let_at as let_at_of};
 
 use crate::decoded::Decoded;
-use instructions::{Half, Instr, Kind, Op, Reg, Stop, pc_plus_4};
+use instructions::{Half, Kind, Reg, Stop, pc_plus_4};
 
 /// How far a tenant has come.
 #[derive(Clone, Copy)]
@@ -38,20 +39,6 @@ pub struct Station {
     pub stage: Stage,
 }
 
-/// The station of a slot that nobody has used.
-pub(crate) fn unused() -> Station {
-    Station {
-        instr: Decoded::new(Instr::new(Op::Break, Reg::ZERO, Reg::ZERO, Reg::ZERO, 0)),
-        half: Half::Low,
-        destination: Reg::ZERO,
-        pc: 0,
-        predicted: 0,
-        next: 0,
-        made: None,
-        stage: Stage::Open,
-    }
-}
-
 /// What an instruction at `pc` has made from the start.
 #[inline(always)]
 pub fn made_at_let(kind: Kind, pc: u32) -> Option<u32>
@@ -60,5 +47,24 @@ pub fn made_at_let(kind: Kind, pc: u32) -> Option<u32>
     match kind {
         Kind::Links => Some(pc_plus_4(pc)),
         _ => None,
+    }
+}
+
+impl Station {
+    /// A half of an instruction that is let at a pc.
+    #[inline(always)]
+    pub(crate) fn let_at(instr: &Decoded, half: Half, pc: u32, predicted: u32) -> Station
+        ensures { result ≡ let_at_of instr.now half pc predicted }
+    {
+        Station {
+            instr: *instr,
+            half,
+            destination: instr.destination(half),
+            pc,
+            predicted,
+            next: predicted,
+            made: made_at_let(instr.kind(), pc),
+            stage: Stage::Open,
+        }
     }
 }

@@ -96,7 +96,7 @@ impl<'a> Pipeline<'a> {
             held: self.committed.register(Reg::LO),
         };
         for i in 0..self.window.len() {
-            let station = self.window.get(i);
+            let station = self.window.at(i)?;
             let completed = self.completed(&station)?;
             let content = flow.future.operands(&station.instr).b;
             let kept = flow.kept(&station.instr, None, station.half, content);
@@ -197,13 +197,11 @@ impl<'a> Pipeline<'a> {
         self.window.clear();
         for i in 0..flow.ring.len() {
             let station = self.station_at_exit(flow, from, i);
-            self.window.join(&station);
+            self.window.join(station);
         }
         if let Some(station) = flow.last {
-            self.window.join(&station);
+            self.window.join(station);
         }
-        self.missed = false;
-        self.settled = from;
     }
 
     /// Turns as long as all live tenants have completed and the count has not reached a limit. Answers the count at
@@ -216,7 +214,7 @@ impl<'a> Pipeline<'a> {
         ensures more { self.old.committed.count ≤ self.new.committed.count }
         ensures ends { run_from self.new limit ≡ run_from self.old limit }
     {
-        if self.over.is_some() || self.ring < 2 || self.settled < self.window.len() {
+        if self.over.is_some() || self.ring < 2 || self.window.settled() < self.window.len() {
             return 0;
         }
         self.streams_on(predictor, limit)

@@ -1,27 +1,33 @@
-//! The stations of the live tenants, the oldest first, and who makes what they read.
-ghost use Rattle.std.specs.Prelude.{◌≡◌, ◌<◌, ◌≤◌, ◌-◌, [], ◌∷◌, ◌++◌, length, take, drop, slice_get, slice_set, option_copied, Some};
-ghost use Rattle.one_thread.specs.Creators.{CreatorsAt, IsCreator, IsOfSame};
-ghost use Rattle.one_thread.specs.Window.{HasReached, IsAdvanced, accesses as accesses_of, let_at};
+//! The stations of the live tenants, the oldest first.
+ghost use Rattle.std.specs.Prelude.{◌≡◌, ◌<◌, ◌≤◌, ◌-◌, [], ◌∷◌, ◌++◌, length, take, drop, slice_get, slice_set, option_copied, false, IfOk, None, Some};
+ghost use Rattle.circular_buffer.specs.Buffer.{buffer};
+ghost use Rattle.one_thread.specs.Givers.{gives};
+ghost use Rattle.one_thread.specs.Notes.{AreSettled, miss_in, settled_at, settled_by};
+ghost use Rattle.one_thread.specs.Stages.{FirstMiss, RecoversTo};
+ghost use Rattle.one_thread.specs.Window.{accesses as accesses_of, miss_of};
 
-use crate::creators::Creators;
-use crate::decoded::{Decoded, access};
-use crate::places::{place_of, slot_of};
-use crate::station::{Stage, Station, made_at_let, unused};
-use instructions::{Half, Reg};
+use crate::decoded::access;
+use crate::station::{Stage, Station};
+use circular_buffer::HeapCircularBuffer;
+use instructions::Kind;
+use std::alloc::{AllocError, Global};
 use std::marker::Model;
 
-/// At most 32 stations, in a ring of slots.
+/// The place of a miss, and its computed next pc.
+#[derive(Clone, Copy)]
+pub struct Missed {
+    pub at: usize,
+    pub next: u32,
+}
+
+/// At most 32 stations. It knows of its oldest how many are settled, so that nobody looks at these again.
 #[derive(Drop)]
 pub struct Window {
-    stations: [Station; 32],
-    creators: [Creators; 32],
-    // by register, the slot of its newest writer
-    newest: [u8; 34],
-    // how many tenants reach memory
-    accesses: usize,
-    // the slot of the oldest tenant
-    start: usize,
-    len: usize,
+    stations: HeapCircularBuffer<Station>,
+    // as many of the oldest are done, stops, or stores with their address
+    settled: usize,
+    // no station is a miss unless this is set
+    missed: bool,
 }
 
 impl Model for Window {
@@ -31,46 +37,90 @@ impl Model for Window {
     ghost Value = { List Station };
 
     ghost use Rattle.std.specs.Prelude.{◌≡◌};
-    ghost use Rattle.one_thread.specs.Creators.{IsWindow};
-    ghost use Rattle.one_thread.specs.Slots.{ring_of};
-    ghost use Rattle.one_thread.specs.Window.{accesses as accesses_of};
+    ghost use Rattle.one_thread.specs.Notes.{AreNoted};
 
-    ghost view = { λ w. ring_of w.stations w.start w.len };
+    ghost view = { λ w. w.stations.items };
 
-    ghost invariant = { λ w. IsWindow w.stations w.creators w.newest w.start w.len
-        × (w.accesses ≡ accesses_of (ring_of w.stations w.start w.len) w.len) };
+    ghost invariant = { λ w. (w.stations.capacity ≡ 32) × AreNoted w.missed w.settled w.stations.items };
+}
+
+// A tenant at this stage is done, stops, or is a store with its address.
+fn settles(kind: Kind, stage: Stage) -> bool
+    ensures { result ≡ settled_by kind stage }
+{
+    match stage {
+        Stage::Done | Stage::Stops(_) => true,
+        Stage::Addr(_) => matches!(kind, Kind::Stores),
+        _ => false,
+    }
+}
+
+// There may be a miss, where a tenant has come to this stage.
+fn misses(missed: bool, stage: Stage) -> bool
+    ensures { result ≡ false → (missed ≡ false) × (miss_of stage ≡ None) }
+{
+    match stage {
+        Stage::Miss(_) => true,
+        _ => missed,
+    }
+}
+
+// Another station stands at `i`, where one stood.
+fn replace(stations: &mut HeapCircularBuffer<Station>, i: usize, station: Station)
+    ensures { stations.new ≡ buffer (slice_set stations.old.items i station) stations.old.capacity }
+{
+    if let Some(tenant) = stations.get_mut(i) {
+        *tenant = station;
+    }
 }
 
 impl Window {
-    pub fn new() -> Window
-        ensures { result ≡ [] }
+    pub fn new(alloc: Global) -> Result<Window, AllocError>
+        ensures { IfOk result (λ w. w ≡ []) }
     {
-        Window {
-            stations: [unused(); 32],
-            creators: [Creators {
-                first: 0,
-                second: 0,
-                replaced: 0,
-            }; 32],
-            newest: [0; 34],
-            start: 0,
-            len: 0,
-            accesses: 0,
-        }
+        let stations = HeapCircularBuffer::with_capacity(alloc, 32)?;
+        Ok(Window {
+            stations,
+            settled: 0,
+            missed: false,
+        })
     }
 
     pub fn len(&self) -> usize
         ensures value { result ≡ length self.now }
         ensures most { result ≤ 32 }
     {
-        self.len
+        self.stations.len()
+    }
+
+    /// As many of the oldest are settled; more may be.
+    pub fn settled(&self) -> usize
+        ensures { AreSettled result self.now }
+    {
+        self.settled
+    }
+
+    /// The tenant at `i` is settled.
+    pub fn is_settled(&self, i: usize) -> bool
+        ensures { result ≡ settled_at (slice_get self.now i) }
+    {
+        match self.peek(i) {
+            None => false,
+            Some(station) => settles(station.instr.kind(), station.stage),
+        }
     }
 
     /// How many live tenants reach memory.
     pub fn accesses(&self) -> usize
         ensures { result ≡ accesses_of self.now (length self.now) }
     {
-        self.accesses
+        let mut accesses = 0;
+        for i in 0..self.len() {
+            if let Some(station) = self.peek(i) {
+                accesses += access(&station.instr);
+            }
+        }
+        accesses
     }
 
     pub fn at(&self, i: usize) -> Option<Station>
@@ -80,23 +130,11 @@ impl Window {
     }
 
     /// The tenant at `i`, where there is one.
-    pub fn get(&self, i: usize) -> Station
-        requires { i < length self.now }
-        ensures { slice_get self.now i ≡ Some result }
-    {
-        let slot = slot_of(self.start, i);
-        self.stations[slot]
-    }
-
     #[inline(always)]
     pub fn peek(&self, i: usize) -> Option<&Station>
         ensures { option_copied result ≡ slice_get self.now i }
     {
-        if self.len <= i {
-            return None;
-        }
-        let slot = slot_of(self.start, i);
-        Some(&self.stations[slot])
+        self.stations.get(i)
     }
 
     /// The youngest tenant.
@@ -104,143 +142,103 @@ impl Window {
     pub fn last(&self) -> Option<&Station>
         ensures { option_copied result ≡ slice_get self.now (length self.now - 1) }
     {
-        if self.len == 0 {
+        self.stations.back()
+    }
+
+    // Where the tenant at `i` has to go on, if it is a miss.
+    fn next_at(&self, i: usize) -> Option<u32>
+        ensures { result ≡ gives miss_in self.now i }
+    {
+        match self.peek(i)?.stage {
+            Stage::Miss(next) => Some(next),
+            _ => None,
+        }
+    }
+
+    /// The oldest miss.
+    #[inline(always)]
+    pub fn oldest_miss(&self) -> Option<Missed>
+        ensures { FirstMiss self.now result }
+    {
+        if !self.missed {
             return None;
         }
-        let slot = slot_of(self.start, self.len - 1);
-        Some(&self.stations[slot])
-    }
-
-    /// The place of the youngest tenant that writes a register, if one does.
-    pub fn newest_writer(&self, r: Reg) -> u8
-        ensures { IsCreator self.now (length self.now) r result }
-    {
-        place_of(self.newest[r.number() as usize], self.start)
-    }
-
-    /// The creators of the tenant at `i`, by their places.
-    pub fn creators(&self, i: usize) -> Creators
-        requires { i < length self.now }
-        ensures { CreatorsAt self.now i result }
-    {
-        let slot = slot_of(self.start, i);
-        let creators = self.creators[slot];
-        Creators {
-            first: place_of(creators.first, self.start),
-            second: place_of(creators.second, self.start),
-            replaced: place_of(creators.replaced, self.start),
+        for at in self.settled..self.len() {
+            if let Some(next) = self.next_at(at) {
+                return Some(Missed { at, next });
+            }
         }
+        None
     }
 
-    /// Another stage of the tenant at `i`.
-    pub fn put(&mut self, i: usize, station: Station)
-        requires there { i < length self.old }
-        requires same { IsOfSame station (slice_get self.old i) }
-        ensures { self.new ≡ slice_set self.old i station }
+    // More of the oldest may be settled.
+    fn settle(&mut self)
+        ensures { self.new ≡ self.old }
     {
-        let slot = slot_of(self.start, i);
-        self.stations[slot] = station;
+        let len = self.len();
+        let mut settled = self.settled;
+        while settled < len && self.is_settled(settled) {
+            settled += 1;
+        }
+        self.settled = settled;
     }
 
     /// The tenant at `i` has come further.
-    #[inline(always)]
-    pub fn advance(&mut self, i: usize, stage: Stage, made: Option<u32>)
-        requires { i < length self.old }
-        ensures { IsAdvanced self.old i stage made self.new }
+    pub fn put(&mut self, i: usize, station: Station)
+        ensures { self.new ≡ slice_set self.old i station }
     {
-        let slot = slot_of(self.start, i);
-        self.stations[slot].stage = stage;
-        self.stations[slot].made = made;
+        self.missed = misses(self.missed, station.stage);
+        self.settled = self.settled.min(i);
+        replace(&mut self.stations, i, station);
+        self.settle();
     }
 
-    /// The tenant at `i` has reached a stage.
-    #[inline(always)]
-    pub fn reach(&mut self, i: usize, stage: Stage)
-        requires { i < length self.old }
-        ensures { HasReached self.old i stage self.new }
+    /// All tenants behind the oldest miss leave, and it goes on where it has to.
+    pub fn recover(&mut self, miss: Missed)
+        requires { FirstMiss self.old (Some miss) }
+        ensures { RecoversTo self.old self.new }
     {
-        let made = self.get(i).made;
-        self.advance(i, stage, made);
-    }
-
-    /// A tenant joins behind the youngest as it stands.
-    pub fn join(&mut self, station: &Station)
-        requires { length self.old < 32 }
-        ensures { self.new ≡ self.old ++ station.now ∷ [] }
-    {
-        let instr = &station.instr;
-        self.accesses += access(instr);
-        let slot = slot_of(self.start, self.len);
-        let r = station.destination.number() as usize;
-        self.creators[slot] = Creators {
-            first: self.newest[instr.first().number() as usize],
-            second: self.newest[instr.second().number() as usize],
-            replaced: self.newest[r],
+        prove!(miss.at < self.len());
+        let Some(station) = self.at(miss.at) else {
+            return;
         };
-        self.newest[r] = slot as u8;
-        self.stations[slot] = *station;
-        self.len += 1;
-    }
-
-    /// Lets a half of an instruction at a pc.
-    #[inline(always)]
-    pub fn push(&mut self, instr: &Decoded, half: Half, pc: u32, predicted: u32)
-        requires { length self.old < 32 }
-        ensures { self.new ≡ self.old ++ let_at instr.now half pc predicted ∷ [] }
-    {
-        self.join(&Station {
-            instr: *instr,
-            half,
-            destination: instr.destination(half),
-            pc,
-            predicted,
-            next: predicted,
-            made: made_at_let(instr.kind(), pc),
-            stage: Stage::Open,
+        self.stations.truncate_back(miss.at);
+        self.missed = false;
+        self.join(Station {
+            stage: Stage::Done,
+            next: miss.next,
+            ..station
         });
     }
 
-    // Takes the youngest out: the one that it replaced is the newest writer again.
-    fn pop(&mut self)
-        requires { 0 < length self.old }
-        ensures { self.new ≡ take (length self.old - 1) self.old }
+    /// A tenant joins behind the youngest.
+    pub fn join(&mut self, station: Station)
+        requires { length self.old < 32 }
+        ensures { self.new ≡ self.old ++ station ∷ [] }
     {
-        let last = self.len - 1;
-        let Some(station) = self.peek(last) else {
-            return;
-        };
-        let r = station.destination.number() as usize;
-        self.accesses -= access(&station.instr);
-        let slot = slot_of(self.start, last);
-        self.newest[r] = self.creators[slot].replaced;
-        self.len = last;
+        self.missed = misses(self.missed, station.stage);
+        match self.stations.try_push_back(station) {
+            Ok(()) => {}
+            Err(_) => {}
+        }
+        self.settle();
     }
 
     /// Takes all out.
     pub fn clear(&mut self)
         ensures { self.new ≡ [] }
     {
-        self.len = 0;
-        self.accesses = 0;
-    }
-
-    /// Keeps the oldest `len`.
-    pub fn cut(&mut self, len: usize)
-        ensures { self.new ≡ take len self.old }
-    {
-        while len < self.len {
-            self.pop();
-        }
+        self.stations.clear();
+        self.settled = 0;
+        self.missed = false;
     }
 
     /// Takes the oldest out.
     #[inline(always)]
-    pub fn shift(&mut self, oldest: &Station)
-        requires { slice_get self.old 0 ≡ Some oldest.now }
+    pub fn shift(&mut self)
         ensures { self.new ≡ drop 1 self.old }
     {
-        self.accesses -= access(&oldest.instr);
-        self.start = slot_of(self.start, 1);
-        self.len -= 1;
+        let _ = self.stations.pop_front();
+        self.settled = self.settled.saturating_sub(1);
     }
 }

@@ -13,7 +13,7 @@ commits-preserved g c =
     record {
       quiet = c.in_ok-log_commit.ensures.quiet ∙ kept.quiet;
       registers = next.registers;
-      ends = next.some.one.1 c.args.limit next.below ∙ kept.ends;
+      ends = next.some.ends c.args.limit next.below ∙ kept.ends;
       logged = logged_more (log_ahead c.args.bench.now.pipeline c.args.limit) (log_ahead b c.args.limit) _ (log_ahead later c.args.limit) _ _ _
           kept.logged line c.in_ok-log_commit.ensures.says;
     }

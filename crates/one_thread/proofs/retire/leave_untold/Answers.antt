@@ -1,9 +1,7 @@
-use Rattle.std.proofs.Common.{None, sym, ap, ◌∙◌}
-use Rattle.std.specs.Prelude.{slice_set}
+use Rattle.std.proofs.Common.{arith}
+use Rattle.std.proofs.lemmas.Grind.{common_steps}
 use Rattle.one_thread.proofs.Leavers.{set_same}
 use Rattle.one_thread.proofs.retire.leave_untold.Goals as goal
 
 pub returns-in-None : goal.returns-in-None
-returns-in-None c =
-    sym (set_same c.args.leavers.now c.args.station None c.requires.untold)
-    ∙ ap (slice_set c.args.leavers.now c.args.station) (sym c.in-None.is)
+returns-in-None c = grind (arith, common_steps, set_same)

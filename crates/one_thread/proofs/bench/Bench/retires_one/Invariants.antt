@@ -1,17 +1,15 @@
-use Rattle.std.proofs.Common.{◌≡◌, suc, false, None}
-use Rattle.one_thread.specs.StandsFor.{StandsForSome}
+use Rattle.std.proofs.Common.{◌≡◌, ◌<◌, ◌≤◌, ℕ, suc}
+use Rattle.one_thread.specs.Changes.{run_from}
 use Rattle.one_thread.proofs.Ends.{left}
 use Rattle.one_thread.proofs.bench.Bench.retires_one.Given as goal
 
 abbrev pub invariant-loop-self : goal.invariant-loop-self
 invariant-loop-self g l =
     record {
-      unit : StandsForSome l.self-inside.pipeline;
-      goes_on : l.self-inside.pipeline.over ≡ None;
-      unstalled : l.self-inside.stalled ≡ false;
-      program : l.self-inside.pipeline.program ≡ l.fn.self.pipeline.program;
-      committed : l.self-inside.pipeline.committed ≡ l.fn.self.pipeline.committed;
+      program : l.self.pipeline.program ≡ l.fn.self.pipeline.program;
+      more : l.fn.self.pipeline.committed.count ≤ l.self.pipeline.committed.count;
+      ends : (limit : ℕ) → l.fn.self.pipeline.committed.count < limit → run_from l.self.pipeline limit ≡ run_from l.fn.self.pipeline limit;
     }
 
 abbrev pub decreases-loop-self : goal.decreases-loop-self
-decreases-loop-self g l = left (suc l.fn.self.pipeline.committed.count) l.self-inside.pipeline
+decreases-loop-self g l = left (suc l.fn.self.pipeline.committed.count) l.self.pipeline

@@ -1,4 +1,5 @@
 -- A run by choice goes on as the in-order machine does, by the turns that its chooser names.
+use Rattle.std.proofs.lemmas.Grind.{common_steps}
 use Rattle.std.proofs.Common.{◌≤◌, ◌<◌, ◌-◌, suc, refl, ap, ◌∙◌, subst, arith}
 use Rattle.inorder.specs.Runs.{end_from}
 use Rattle.one_thread.specs.StandsFor.{StandsForSome}
@@ -19,7 +20,7 @@ pub returns-in-Over-clause-end : goal.returns-in-Over-clause-end
 returns-in-Over-clause-end g c =
     let b = c.loop-self.self in
     let later = c.turn_by.new.self in
-    let unit : StandsForSome b.pipeline = subst (λ x. StandsForSome x.pipeline) c.self.view_is c.self.invariant.0 in
+    let unit : StandsForSome b.pipeline = subst (λ x. StandsForSome x.pipeline) c.self.view_is c.self.invariant in
     let count = ap (λ x. x.pipeline.committed.count) c.self.view_is in
     let below : b.pipeline.committed.count < c.args.limit = omega (arith, count, c.count.ensures, c.if-limit-count.false) in
     let moves = moves_by g.P.Predictor.Predicts g.P.Predictor.Learns g.C.Chooser.Chooses b later c.loop-self.chooser c.turn_by.new.chooser (Over c.in-Over.code) c.in-Over.ensures.turn in
@@ -42,17 +43,13 @@ returns-in-Over-clause-chooser g c =
     }
 
 pub loop-self-smaller : goal.loop-self-smaller
-loop-self-smaller g c =
-    let b = c.loop-self.self in
-    let count = ap (λ x. x.pipeline.committed.count) c.self.view_is in
-    let below : b.pipeline.committed.count < c.args.limit = omega (arith, count, c.count.ensures, c.if-limit-count.false) in
-    left_falls c.args.limit b.pipeline c.turn_by.new.self.pipeline c.turn_by.result below c.in_default.not-Over c.turn_by.ensures.falls
+loop-self-smaller g c = grind (arith, common_steps, left_falls)
 
 pub loop-self-preserved : goal.loop-self-preserved
 loop-self-preserved g c =
     let b = c.loop-self.self in
     let later = c.turn_by.new.self in
-    let unit : StandsForSome b.pipeline = subst (λ x. StandsForSome x.pipeline) c.self.view_is c.self.invariant.0 in
+    let unit : StandsForSome b.pipeline = subst (λ x. StandsForSome x.pipeline) c.self.view_is c.self.invariant in
     let count = ap (λ x. x.pipeline.committed.count) c.self.view_is in
     let below : b.pipeline.committed.count < c.args.limit = omega (arith, count, c.count.ensures, c.if-limit-count.false) in
     let moves = moves_by g.P.Predictor.Predicts g.P.Predictor.Learns g.C.Chooser.Chooses b later c.loop-self.chooser c.turn_by.new.chooser c.turn_by.result c.turn_by.ensures.turn in

@@ -1,10 +1,13 @@
 -- A turn by choice.
-use Rattle.std.proofs.Common.{◌≡◌, ◌<◌, ◌%◌, [], length, Some, sym, subst}
+use Rattle.std.proofs.Common.{arith}
+use Rattle.std.proofs.lemmas.Grind.{common_steps}
+use Rattle.std.proofs.Common.{◌≡◌, ◌<◌, ◌%◌, length, Some, subst}
 use Rattle.std.specs.Prelude.{slice_get}
-use Rattle.one_thread.specs.Steps.{ArePossible, Permits}
+use Rattle.one_thread.specs.Choices.{IsTurnBy}
+use Rattle.one_thread.specs.Steps.{Permits}
 use Rattle.one_thread.specs.Turns.{fields}
 use Rattle.one_thread.specs.declared.bench.Turn.TheVariants.{Over}
-use Rattle.one_thread.proofs.ChosenTurns.{before_by, chosen_by, none_listed, nothing_by, seen_by, some_listed}
+use Rattle.one_thread.proofs.ChosenTurns.{before_by, chosen_by, none_listed, nothing_by, some_listed}
 use Rattle.one_thread.proofs.Listed.{all_get, all_permitted}
 use Rattle.one_thread.proofs.bench.Bench.turn_by.Goals as goal
 
@@ -12,22 +15,11 @@ pub returns-in-Some-clause-turn : goal.returns-in-Some-clause-turn
 returns-in-Some-clause-turn g c =
     let b = fields c.self.inside.pipeline c.self.inside.predictor in
     let q = c.args.chooser.now in
-    seen_by g.P.Predictor.Predicts g.P.Predictor.Learns g.C.Chooser.Chooses b c.args.self.now b q q (Over c.in-Some.code) c.self.view_is
+    subst (λ x. IsTurnBy g.P.Predictor.Predicts g.P.Predictor.Learns g.C.Chooser.Chooses x q (Over c.in-Some.code) x q) c.self.view_is
     (before_by g.P.Predictor.Predicts g.P.Predictor.Learns g.C.Chooser.Chooses b q c.in-Some.code c.in-Some.is)
 
 pub returns-then-is_empty-clause-turn : goal.returns-then-is_empty-clause-turn
-returns-then-is_empty-clause-turn g c =
-    let b = fields c.self.inside.pipeline c.self.inside.predictor in
-    let q = c.args.chooser.now in
-    let none : ArePossible b.pipeline [] = subst (ArePossible b.pipeline)
-    (none_listed c.possible_steps-steps.result.items c.is_empty.result c.is_empty.ensures c.if-is_empty.true) c.possible_steps-steps.ensures in
-    seen_by g.P.Predictor.Predicts g.P.Predictor.Learns g.C.Chooser.Chooses b c.args.self.now b q q _ c.self.view_is
-    (nothing_by g.P.Predictor.Predicts g.P.Predictor.Learns g.C.Chooser.Chooses b q c.self.invariant.0 c.in_default.is none)
-
-pub pick-step-requires : goal.pick-step-requires
-pick-step-requires g c =
-    let steps = c.possible_steps-steps.result.items in
-    subst (λ xs. 0 < length xs) (sym c.as_slice.ensures.value) (some_listed steps c.is_empty.result c.is_empty.ensures c.if-is_empty.false)
+returns-then-is_empty-clause-turn g c = grind (arith, common_steps, none_listed, nothing_by)
 
 pub make-requires-clause-can : goal.make-requires-clause-can
 make-requires-clause-can g c =
@@ -47,6 +39,6 @@ returns-clause-turn g c =
     let at : slice_get steps (c.choose-choice.result % length steps) ≡ Some c.pick-step.result =
     subst (λ xs. slice_get xs (c.choose-choice.result % length xs) ≡ Some c.pick-step.result) c.as_slice.ensures.value c.pick-step.ensures in
     let chosen = subst (λ n. g.C.Chooser.Chooses q n c.choose-choice.result c.choose-choice.new.self) c.len.ensures.value c.choose-choice.ensures in
-    seen_by g.P.Predictor.Predicts g.P.Predictor.Learns g.C.Chooser.Chooses b c.args.self.now later q c.choose-choice.new.self c.make.result c.self.view_is
+    subst (λ x. IsTurnBy g.P.Predictor.Predicts g.P.Predictor.Learns g.C.Chooser.Chooses x q c.make.result later c.choose-choice.new.self) c.self.view_is
     (chosen_by g.P.Predictor.Predicts g.P.Predictor.Learns g.C.Chooser.Chooses b later q c.choose-choice.new.self steps c.pick-step.result c.choose-choice.result c.make.result c.in_default.is
     c.possible_steps-steps.ensures chosen some at c.make.ensures.turn)

@@ -20,7 +20,7 @@ retire-requires-clause-counted c =
     let i = c.fetch_known-instr.result.now in
     let oldest = c.oldest.result.now in
     oldest_counted x c.args.flow.now i oldest
-    (oldest_of c.args.self.now c.args.flow.now i oldest c.as_slice.result.now c.requires.flow c.requires.stuck c.oldest.ensures c.as_slice.ensures.value c.fetch_known-instr.ensures)
+    (oldest_of c.args.self.now c.args.flow.now i oldest c.as_slice.result.now c.requires.flow c.requires.some c.oldest.ensures c.as_slice.ensures.value c.fetch_known-instr.ensures)
 
 pub retire-requires-clause-inside : goal.retire-requires-clause-inside
 retire-requires-clause-inside c =
@@ -28,7 +28,7 @@ retire-requires-clause-inside c =
     let i = c.fetch_known-instr.result.now in
     let oldest = c.oldest.result.now in
     oldest_inside x c.args.flow.now i oldest
-    (oldest_of c.args.self.now c.args.flow.now i oldest c.as_slice.result.now c.requires.flow c.requires.stuck c.oldest.ensures c.as_slice.ensures.value c.fetch_known-instr.ensures)
+    (oldest_of c.args.self.now c.args.flow.now i oldest c.as_slice.result.now c.requires.flow c.requires.some c.oldest.ensures c.as_slice.ensures.value c.fetch_known-instr.ensures)
 
 pub returns-clause-departed : goal.returns-clause-departed
 returns-clause-departed c =
@@ -39,11 +39,11 @@ returns-clause-departed c =
     let r = c.retire.ensures in
     let later : Pipeline = record b { committed = c.retire.new.committed; low = c.retire.new.low } in
     let after : Flow = c.retire.new.flow in
-    let here = oldest_of b flow i oldest c.as_slice.result.now c.requires.flow c.requires.stuck c.oldest.ensures c.as_slice.ensures.value c.fetch_known-instr.ensures in
+    let here = oldest_of b flow i oldest c.as_slice.result.now c.requires.flow c.requires.some c.oldest.ensures c.as_slice.ensures.value c.fetch_known-instr.ensures in
     let left : HasGone b later flow after i oldest c.retire.result =
     record {
       flows = c.requires.flow;
-      stuck = c.requires.stuck;
+      some = c.requires.some;
       is = c.oldest.ensures;
       instr = here.instr;
       ring = r.ring;

@@ -17,11 +17,6 @@ NextIs b flow known = IsKnownThere b.code.items flow.future.pc known
 first : (b : Pipeline) (flow : Flow) (kind : Kind) → IsPlaced b flow → NextIs b flow (Some kind) → Low ≡ flow.half
 first b flow kind placed known = sym (whole_next b flow placed (λ P i decoded is. (known P i decoded is).whole))
 
-pub runs_next-requires-clause-kind : goal.runs_next-requires-clause-kind
-runs_next-requires-clause-kind g c =
-    let is : c.known.result ≡ Some Computes = cc c.in-Some-Computes.is in
-    subst (NextIs c.args.self.now c.args.flow.now) is c.known.ensures
-
 pub runs_next-requires-clause-half : goal.runs_next-requires-clause-half
 runs_next-requires-clause-half g c =
     let is : c.known.result ≡ Some Computes = cc c.in-Some-Computes.is in

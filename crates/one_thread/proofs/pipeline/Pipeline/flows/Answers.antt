@@ -1,12 +1,9 @@
+use Rattle.std.proofs.lemmas.Grind.{common_steps}
 use Rattle.std.proofs.Common.{◌≡◌, ◌<◌, refl, ap, ◌∙◌, arith}
-use Rattle.instructions.specs.declared.end.Ending.{Ending}
-use Rattle.inorder.specs.Machine.{State}
-use Rattle.one_thread.specs.Changes.{run_from}
 use Rattle.one_thread.specs.Departing.{run_in}
 use Rattle.one_thread.specs.Flow.{in_order}
 use Rattle.one_thread.specs.declared.pipeline.Pipeline.{Pipeline}
-use Rattle.one_thread.proofs.Completions.{stations_long}
-use Rattle.one_thread.proofs.FlowStays.{all_closed, can_restore}
+use Rattle.one_thread.proofs.FlowStays.{all_closed}
 use Rattle.one_thread.proofs.pipeline.Pipeline.flows.Given.{Over}
 use Rattle.one_thread.proofs.pipeline.Pipeline.flows.Goals.{After-enters_flow}
 use Rattle.one_thread.proofs.pipeline.Pipeline.flows.Goals as goal
@@ -22,15 +19,6 @@ loop-self-init g c =
       more = omega arith;
       ends = refl;
     }
-
-pub enters_flow-requires-clause-reopens : goal.enters_flow-requires-clause-reopens
-enters_flow-requires-clause-reopens g c = c.loop-self.invariant.reopens
-
-pub returns-in_default-clause-flow : goal.returns-in_default-clause-flow
-returns-in_default-clause-flow g c = can_restore (in_order c.loop-self.self c.loop-self.flow) c.loop-self.flow c.loop-self.from c.loop-self.invariant.flow.flows c.loop-self.invariant.reopens
-
-pub returns-clause-flow : goal.returns-clause-flow
-returns-clause-flow g c = can_restore (in_order c.loop-self.self c.loop-self.flow) c.loop-self.flow c.loop-self.from c.loop-self.invariant.flow.flows c.loop-self.invariant.reopens
 
 pub loop-self-preserved-then-not-fits : goal.loop-self-preserved-then-not-fits
 loop-self-preserved-then-not-fits g c =
@@ -49,34 +37,7 @@ loop-self-preserved-then-not-fits g c =
 
 -- what enters changes no run
 entered : (g : Over) (c : After-enters_flow g) → run_in c.enters_flow.new.self c.enters_flow.new.flow c.args.limit ≡ run_in c.args.self.now c.args.flow.now c.args.limit
-entered g c =
-    let flow = c.loop-self.flow in
-    let run : Pipeline → Ending × State = λ p. run_in p flow c.args.limit in
-    ap (λ p. run_from p c.args.limit) c.enters_flow.ensures.order ∙ ap run c.enters_flow.ensures.rest ∙ c.loop-self.invariant.ends
-
-pub returns-in_default-enters_flow-clause-ends : goal.returns-in_default-enters_flow-clause-ends
-returns-in_default-enters_flow-clause-ends g c = entered g (goal.at.returns-in_default-enters_flow-clause-ends g c).After-enters_flow
-
-pub returns-then-not-rounds-clause-ends : goal.returns-then-not-rounds-clause-ends
-returns-then-not-rounds-clause-ends g c = c.rounds.ensures.ends ∙ entered g (goal.at.returns-then-not-rounds-clause-ends g c).After-enters_flow
-
-pub loop-self-preserved : goal.loop-self-preserved
-loop-self-preserved g c =
-    let b = c.enters_flow.new.self in
-    let flow = c.enters_flow.new.flow in
-    let on = c.in-Some-enters_flow.ensures.entered in
-    let rest = c.enters_flow.ensures.rest in
-    let before = c.loop-self.invariant in
-    let long = stations_long b.program.now flow.ring.completed in
-    record {
-      flow = on.flows;
-      reopens = on.reopens;
-      room = omega (arith, long, on.flows.flows.most, c.if-len-self.false, c.len.ensures.value);
-      code = ap (λ (p : Pipeline). p.code) rest ∙ before.code;
-      program = ap (λ (p : Pipeline). p.program) rest ∙ before.program;
-      more = omega (arith, ap (λ (p : Pipeline). p.committed.count) rest, before.more);
-      ends = entered g (goal.at.loop-self-preserved g c).After-enters_flow;
-    }
+entered g c = grind (arith, common_steps)
 
 pub loop-self-preserved-then-len-self : goal.loop-self-preserved-then-len-self
 loop-self-preserved-then-len-self g c =

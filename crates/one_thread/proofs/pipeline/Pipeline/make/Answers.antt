@@ -1,41 +1,37 @@
 -- Each step that can be made.
 use Rattle.std.proofs.Common.{◌≡◌, true, Some, refl, subst}
 use Rattle.std.specs.Prelude.{slice_get}
-use Rattle.one_thread.specs.Changes.{CanClaim, LoadGives, registers_of}
-use Rattle.one_thread.specs.Loads.{load_in}
+use Rattle.one_thread.specs.Changes.{CanClaim, LoadGives}
 use Rattle.one_thread.specs.Notes.{settled_at}
 use Rattle.one_thread.specs.Stages.{FirstMiss}
 use Rattle.one_thread.specs.Steps.{Permits}
 use Rattle.one_thread.specs.Turns.{fields}
 use Rattle.one_thread.specs.declared.bench.Turn.TheVariants.{Loaded, Ran, Recovered}
+use Rattle.one_thread.specs.declared.pipeline.Pipeline.{Pipeline}
 use Rattle.one_thread.specs.declared.possible.Step.TheVariants.{Load, Recover, Retire, Run}
-use Rattle.one_thread.proofs.BenchTurns.{plain_makes, recovered_shows}
+use Rattle.one_thread.proofs.BenchTurns.{plain_makes}
 use Rattle.one_thread.proofs.CanLeave.{some_leaves}
 use Rattle.one_thread.proofs.EndTurns.{retires_as}
-use Rattle.one_thread.proofs.Idle.{Comes, Shows, retired_plain}
-use Rattle.one_thread.proofs.Inside.{window_room}
-use Rattle.one_thread.proofs.MadeSteps.{giver, load_as, load_comes, recover_as, retire_comes, run_as, run_comes}
+use Rattle.one_thread.proofs.Start.{Comes}
+use Rattle.one_thread.proofs.MadeSteps.{load_as, load_comes, recover_as, recover_comes, retire_comes, run_as, run_comes}
 use Rattle.one_thread.proofs.pipeline.Pipeline.make.Given.{Over}
 use Rattle.one_thread.proofs.pipeline.Pipeline.make.Goals as goal
 
 -- A miss is mended
 
-pub recovers_from-requires-clause-room : goal.recovers_from-requires-clause-room
-recovers_from-requires-clause-room g c = window_room c.args.self.now c.requires.unit
-
-recovered : (g : Over) (c : goal.After-recovers_from g) → Shows c.args.self.now Recovered c.recovers_from.new.self
+recovered : (g : Over) (c : goal.After-recover g) → Comes c.args.self.now Recovered (record c.args.self.now { window = c.recover.new.self })
 recovered g c =
-    let made = c.recovers_from.ensures in
-    recovered_shows c.args.self.now c.recovers_from.new.self c.requires.unit c.requires.open made.window made.rest made.noted
+    let first : FirstMiss c.args.self.now.window (Some c.in-Recover.miss) = subst (Permits c.args.self.now) c.in-Recover.is c.requires.can in
+    recover_comes c.args.self.now (record c.args.self.now { window = c.recover.new.self }) c.in-Recover.miss c.requires.unit c.requires.open first c.recover.ensures refl
 
 pub returns-in-Recover-clause-turn : goal.returns-in-Recover-clause-turn
 returns-in-Recover-clause-turn g c =
     let b = c.args.self.now in
     let p = c.args.predictor.now in
-    let later = c.recovers_from.new.self in
+    let later : Pipeline = record b { window = c.recover.new.self } in
     let first : FirstMiss b.window (Some c.in-Recover.miss) = subst (Permits b) c.in-Recover.is c.requires.can in
-    plain_makes g.P.Predictor.Predicts g.P.Predictor.Learns (fields b p) (fields later p) c.args.step (Recover c.in-Recover.miss) Recovered c.in-Recover.is tt
-    (recover_as b later c.in-Recover.miss c.requires.open first c.recovers_from.ensures.window c.recovers_from.ensures.rest) refl
+    plain_makes g.P.Predictor.Predicts g.P.Predictor.Learns (fields b p) (fields later p) c.args.step (Recover c.in-Recover.miss) Recovered c.in-Recover.is (λ e. cc e)
+    (recover_as b later c.in-Recover.miss c.requires.open first c.recover.ensures refl) refl
 
 pub returns-in-Recover-clause-falls : goal.returns-in-Recover-clause-falls
 returns-in-Recover-clause-falls g c = (recovered g c).falls
@@ -51,14 +47,14 @@ can_run g c = subst (Permits c.args.self.now) c.in-Run.is c.requires.can
 ran : (g : Over) (c : goal.After-claims g) → Comes c.args.self.now Ran c.claims.new.self
 ran g c =
     let made = c.claims.ensures in
-    run_comes c.args.self.now c.claims.new.self c.in-Run.ready c.requires.unit c.requires.open (can_run g c) made.window made.rest made.noted
+    run_comes c.args.self.now c.claims.new.self c.in-Run.ready c.requires.unit c.requires.open (can_run g c) made.window made.rest
 
 pub returns-in-Run-clause-turn : goal.returns-in-Run-clause-turn
 returns-in-Run-clause-turn g c =
     let b = c.args.self.now in
     let p = c.args.predictor.now in
     let later = c.claims.new.self in
-    plain_makes g.P.Predictor.Predicts g.P.Predictor.Learns (fields b p) (fields later p) c.args.step (Run c.in-Run.ready) Ran c.in-Run.is tt
+    plain_makes g.P.Predictor.Predicts g.P.Predictor.Learns (fields b p) (fields later p) c.args.step (Run c.in-Run.ready) Ran c.in-Run.is (λ e. cc e)
     (run_as b later c.in-Run.ready c.requires.open (can_run g c) c.claims.ensures.window c.claims.ensures.rest) refl
 
 pub returns-in-Run-clause-falls : goal.returns-in-Run-clause-falls
@@ -69,27 +65,20 @@ returns-in-Run-clause-unit g c = (ran g c).unit
 
 -- A load has its value
 
-pub answers-requires-clause-there : goal.answers-requires-clause-there
-answers-requires-clause-there g c =
-    let b = c.args.self.now in
-    let can : LoadGives b c.in-Load.answered = subst (Permits b) c.in-Load.is c.requires.can in
-    let x = giver (load_in (registers_of b) b.committed.memory) b.window c.in-Load.answered.at c.in-Load.answered.value can in
-    x.inside
-
 can_load : (g : Over) (c : goal.After-answers g) → LoadGives c.args.self.now c.in-Load.answered
 can_load g c = subst (Permits c.args.self.now) c.in-Load.is c.requires.can
 
 loaded : (g : Over) (c : goal.After-answers g) → Comes c.args.self.now Loaded c.answers.new.self
 loaded g c =
     let made = c.answers.ensures in
-    load_comes c.args.self.now c.answers.new.self c.in-Load.answered c.requires.unit c.requires.open (can_load g c) made.window made.rest made.noted
+    load_comes c.args.self.now c.answers.new.self c.in-Load.answered c.requires.unit c.requires.open (can_load g c) made.window made.rest
 
 pub returns-in-Load-clause-turn : goal.returns-in-Load-clause-turn
 returns-in-Load-clause-turn g c =
     let b = c.args.self.now in
     let p = c.args.predictor.now in
     let later = c.answers.new.self in
-    plain_makes g.P.Predictor.Predicts g.P.Predictor.Learns (fields b p) (fields later p) c.args.step (Load c.in-Load.answered) Loaded c.in-Load.is tt
+    plain_makes g.P.Predictor.Predicts g.P.Predictor.Learns (fields b p) (fields later p) c.args.step (Load c.in-Load.answered) Loaded c.in-Load.is (λ e. cc e)
     (load_as b later c.in-Load.answered c.requires.open (can_load g c) c.answers.ensures.window c.answers.ensures.rest) refl
 
 pub returns-in-Load-clause-falls : goal.returns-in-Load-clause-falls
@@ -115,8 +104,7 @@ returns-in-Retire-clause-turn g c =
     let b = c.args.self.now in
     let p = c.args.predictor.now in
     let later = c.retires.new.self in
-    plain_makes g.P.Predictor.Predicts g.P.Predictor.Learns (fields b p) (fields later p) c.args.step Retire c.retires.result c.in-Retire.is
-    (retired_plain b later c.retires.result (some_leaves b c.requires.unit (can_retire g c)) c.retires.ensures)
+    plain_makes g.P.Predictor.Predicts g.P.Predictor.Learns (fields b p) (fields later p) c.args.step Retire c.retires.result c.in-Retire.is (λ e. cc e)
     (retires_as b later c.retires.result c.requires.unit c.requires.open (can_retire g c) c.retires.ensures) refl
 
 pub returns-in-Retire-clause-falls : goal.returns-in-Retire-clause-falls

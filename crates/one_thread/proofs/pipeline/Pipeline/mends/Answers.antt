@@ -1,16 +1,14 @@
-use Rattle.std.proofs.Common.{◌≡◌, ◌<◌, ◌≤◌, ◌∷◌, [], length, length-append, Some, sym, ap, ◌∙◌, subst, arith}
+use Rattle.std.proofs.Common.{◌≡◌, ◌<◌, ◌≤◌, length, Some, sym, ap, ◌∙◌, subst, arith}
 use Rattle.instructions.specs.Instruction.{fixed_next}
 use Rattle.std.specs.Prelude.{IfSome}
 use Rattle.instructions.specs.Programs.{instr_at}
 use Rattle.instructions.specs.declared.instr.Instr.{Instr}
 use Rattle.one_thread.specs.Astray.{FindsOperands}
-use Rattle.one_thread.specs.Flow.{Completes, completed_as, in_order}
+use Rattle.one_thread.specs.Flow.{HasJoined, Completes, completed_as, in_order}
 use Rattle.one_thread.specs.Kept.{kept_with}
-use Rattle.one_thread.specs.Slots.{slot_in}
 use Rattle.one_thread.specs.declared.pipeline.Pipeline.{Pipeline}
 use Rattle.one_thread.proofs.FlowEnters.{Joins, joins_mended, joins_order}
 use Rattle.one_thread.proofs.FlowIn.{entered_room, enters}
-use Rattle.one_thread.proofs.FlowJoins.{HasJoined, has_joined}
 use Rattle.one_thread.proofs.LetAstray.{astray_decoded, astray_instr}
 use Rattle.one_thread.proofs.pipeline.Pipeline.mends.Given.{Over}
 use Rattle.one_thread.proofs.pipeline.Pipeline.mends.Goals.{After-joins, After-lets_astray}
@@ -33,11 +31,6 @@ joins-requires-clause-few g c = (room g (goal.at.joins-requires-clause-few g c).
 
 pub joins-requires-clause-accesses : goal.joins-requires-clause-accesses
 joins-requires-clause-accesses g c = (room g (goal.at.joins-requires-clause-accesses g c).After-lets_astray).2
-
-pub joins-requires-clause-station : goal.joins-requires-clause-station
-joins-requires-clause-station g c =
-    let ring = c.args.flow.now.ring in
-    c.station_at-station.ensures.value ∙ ap (slot_in ring.size ring.oldest) c.len.ensures.value
 
 -- It has joined
 
@@ -71,7 +64,7 @@ joins g c =
       leaves_as = completed.ensures.leaves;
       joined = subst (λ k. HasJoined flow c.joins.new.self i (completed_as flow p c.args.done completed.result.leaves (kept_with i flow.half k flow.future.values)) k) (sym r.reads)
           (subst (λ y. HasJoined flow c.joins.new.self i y c.args.content) completed.ensures.is
-          (has_joined flow c.joins.new.self i _ c.args.content on.completed on.last on.stores on.held on.oldest on.size on.values on.future on.half on.accesses));
+          c.joins.ensures);
     }
 
 pub returns-clause-flows : goal.returns-clause-flows
@@ -79,9 +72,6 @@ returns-clause-flows g c =
     let a = c.lets_astray in
     joins_mended c.args.self.now c.args.flow.now c.joins.new.self c.args.predicted c.args.done (joins g (goal.at.returns-clause-flows g c).After-joins)
     a.new.self a.ensures.rest a.ensures.astray c.requires.misses
-
-pub returns-clause-longer : goal.returns-clause-longer
-returns-clause-longer g c = omega (arith, ap length c.joins.ensures.completed, length-append c.args.flow.now.ring.completed (c.completed-completed.result ∷ []))
 
 pub returns-clause-order : goal.returns-clause-order
 returns-clause-order g c =

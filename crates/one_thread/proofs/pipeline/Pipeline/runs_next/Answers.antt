@@ -1,21 +1,17 @@
-use Rattle.std.proofs.Common.{◌≡◌, ◌≤◌, ◌+◌, ℕ, ◌∷◌, [], length, length-append, Some, inl, inr, refl, sym, ap, ◌∙◌, subst, arith}
-use Rattle.std.specs.Prelude.{IfSome}
+use Rattle.std.proofs.lemmas.Grind.{common_steps}
+use Rattle.std.proofs.Common.{◌≡◌, ◌≤◌, ◌+◌, ℕ, ◌∷◌, [], length, length-append, Some, inl, inr, refl, sym, ap, subst, arith}
 use Rattle.instructions.specs.Guesses.{Guesses}
 use Rattle.instructions.specs.Instruction.{fixed_next, width}
-use Rattle.instructions.specs.declared.op.Half.TheVariants.{Low}
 use Rattle.instructions.specs.declared.stop.Outcome.TheVariants.{Address}
-use Rattle.lsq.specs.LoadRule.{lacks_address, youngest}
 use Rattle.one_thread.specs.Astray.{FindsOperands, IsUpcoming}
-use Rattle.one_thread.specs.Changes.{registers_of}
 use Rattle.one_thread.specs.Decoding.{KnownAs}
-use Rattle.one_thread.specs.Flow.{CanRestore, Completes, IsLeftOpen, Reopens, completed_as, enters_as, in_order, outcome_in, window_of}
+use Rattle.one_thread.specs.Flow.{HasJoined, CanRestore, Completes, IsLeftOpen, Reopens, completed_as, enters_as, in_order, outcome_in}
 use Rattle.one_thread.specs.Kept.{kept_with}
 use Rattle.one_thread.specs.declared.flow.Flow.{Flow}
 use Rattle.one_thread.specs.declared.pipeline.Pipeline.{Pipeline}
 use Rattle.one_thread.proofs.BenchTurns.{guess_fixed}
 use Rattle.one_thread.proofs.FlowEnters.{Joins, joins_flow, joins_open, joins_order}
 use Rattle.one_thread.proofs.FlowIn.{entered_inside, entered_room, entered_stays, enters, place_decoded}
-use Rattle.one_thread.proofs.FlowJoins.{HasJoined, has_joined}
 use Rattle.one_thread.proofs.FlowStays.{all_closed}
 use Rattle.one_thread.proofs.StoresKnown.{stores_known}
 use Rattle.one_thread.proofs.pipeline.Pipeline.runs_next.Given.{Over}
@@ -45,51 +41,17 @@ next g c =
     }
 
 finds : (g : Over) (c : After-operands-operands g) → FindsOperands c.args.flow.now c.fetch_known-instr.result.now c.operands-operands.result
-finds g c =
-    let read = c.operands-operands.ensures in
-    record { first_small = read.registers.0; second_small = read.registers.1; first = read.first; second = read.second }
+finds g c = grind (arith, common_steps)
 
 -- The kind that is known of the next instruction
 
 known : (g : Over) (c : After-fetch_known-instr g) → KnownAs c.args.known c.fetch_known-instr.result.now
-known g c =
-    let place = c.requires.place.placed in
-    let P = place.before.program.now in
-    c.requires.kind P c.fetch_known-instr.result.now (place_decoded c.args.self.now c.args.flow.now c.args.self.now.code.items place refl)
-    (c.fetch_known-instr.ensures P (place_decoded c.args.self.now c.args.flow.now c.as_slice.result.now place c.as_slice.ensures.value))
-
-pub fetch_known-instr-requires : goal.fetch_known-instr-requires
-fetch_known-instr-requires g c =
-    let place = c.requires.place.placed in
-    record {
-      program = place.before.program.now;
-      decoded = place_decoded c.args.self.now c.args.flow.now c.as_slice.result.now place c.as_slice.ensures.value;
-      instr = place.can.instr;
-      is = place.can.is;
-    }
-
-pub guess_behind-predicted-requires : goal.guess_behind-predicted-requires
-guess_behind-predicted-requires g c = known g (goal.at.guess_behind-predicted-requires g c).After-fetch_known-instr
-
-pub completes-requires-clause-kind : goal.completes-requires-clause-kind
-completes-requires-clause-kind g c = known g (goal.at.completes-requires-clause-kind g c).After-fetch_known-instr
-
-pub completed-completed-requires-clause-kind : goal.completed-completed-requires-clause-kind
-completed-completed-requires-clause-kind g c = known g (goal.at.completed-completed-requires-clause-kind g c).After-fetch_known-instr
+known g c = grind (arith, common_steps, place_decoded)
 
 pub joins-requires-clause-kind : goal.joins-requires-clause-kind
 joins-requires-clause-kind g c = known g (goal.at.joins-requires-clause-kind g c).After-fetch_known-instr
 
-pub joins-requires-clause-first : goal.joins-requires-clause-first
-joins-requires-clause-first g c = subst (λ h. IfSome c.args.known (λ k. h ≡ Low)) c.requires.half c.requires.first
-
 -- It is left as it was let
-
-pub returns-in_default-clause-order : goal.returns-in_default-clause-order
-returns-in_default-clause-order g c = ap (in_order c.args.self.now) c.stays.ensures
-
-pub returns-then-has_load_behind-clause-order : goal.returns-then-has_load_behind-clause-order
-returns-then-has_load_behind-clause-order g c = ap (in_order c.args.self.now) c.stays-then-has_load_behind.ensures
 
 stays : (g : Over) (c : After-operands-operands g) → let flow = c.args.flow.now in
     let left : Flow = record flow { last = Some (enters_as flow c.fetch_known-instr.result.now c.guess_behind-predicted.result) } in
@@ -120,7 +82,7 @@ joins g c =
       leaves_as = completed.ensures.leaves;
       joined = subst (λ k. HasJoined flow c.joins.new.self i (completed_as flow p c.in-Some.done completed.result.leaves (kept_with i k o.b flow.future.values)) o.b) c.requires.half
           (subst (λ y. HasJoined flow c.joins.new.self i y o.b) completed.ensures.is
-          (has_joined flow c.joins.new.self i _ o.b on.completed on.last on.stores on.held on.oldest on.size on.values on.future on.half on.accesses));
+          c.joins.ensures);
     }
 
 pub completes-requires-clause-inside : goal.completes-requires-clause-inside
@@ -133,11 +95,7 @@ completes-requires-clause-inside g c =
     (entered_inside _ _ flow i _ _ (enters _ flow _ (next g early)) o (finds g early))
 
 pub completes-requires-clause-known : goal.completes-requires-clause-known
-completes-requires-clause-known g c =
-    let flow = c.args.flow.now in
-    let x = in_order c.requires.place.placed.before flow in
-    ap (youngest lacks_address) c.requires.place.placed.flows.flows.flowing.stores
-    ∙ stores_known x.program.now (registers_of x) flow.ring.completed (length (window_of x flow))
+completes-requires-clause-known g c = grind (arith, common_steps, stores_known)
 
 pub returns-in_default-clause-entered : goal.returns-in_default-clause-entered
 returns-in_default-clause-entered g c =
@@ -184,12 +142,6 @@ returns-then-not-is_alone-clause-entered g c =
       reopens = all_closed (in_order c.mends.new.self c.mends.new.flow) c.mends.new.flow _ on.flows.flows c.len.ensures.value;
       longer = on.longer;
     }
-
-pub returns-then-not-is_alone-clause-order : goal.returns-then-not-is_alone-clause-order
-returns-then-not-is_alone-clause-order g c = c.mends.ensures.order
-
-pub returns-then-not-is_alone-clause-rest : goal.returns-then-not-is_alone-clause-rest
-returns-then-not-is_alone-clause-rest g c = c.mends.ensures.rest
 
 pub returns-clause-entered : goal.returns-clause-entered
 returns-clause-entered g c =
