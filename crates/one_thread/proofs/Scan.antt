@@ -1,6 +1,7 @@
 -- Going over the stations.
 use Rattle.std.proofs.lemmas.Grind.{common_steps}
-use Rattle.std.proofs.Common.{◌≡◌, ◌<◌, ◌≤◌, ℕ, zero, suc, ◌+◌, List, [], ◌∷◌, ◌++◌, length, take, Option, Some, refl, ap, arith}
+use Rattle.std.proofs.Common.{◌≡◌, ◌<◌, ◌≤◌, ℕ, zero, suc, ◌+◌, ◌-◌, min, List, [], ◌∷◌, ◌++◌, length, take, Option, Some, refl, sym, ap, ◌∙◌, arith}
+use Rattle.std.proofs.Math.Seq.{take-append-add}
 use Rattle.std.specs.Prelude.{slice_get, slice_set}
 use Rattle.one_thread.specs.declared.station.Station.{Station}
 use Rattle.one_thread.specs.Window.{register_in, register_after}
@@ -50,3 +51,10 @@ place_at (x ∷ W) zero w e = let same : x ≡ w = cc in record { xs = []; zs = 
 place_at (x ∷ W) (suc i) w e =
     let p = place_at W i w e in
     record { xs = x ∷ p.xs; zs = p.zs; is = ap (λ l. x ∷ l) p.is; place = ap suc p.place }
+
+-- the first places of two lists
+take_past : (xs ys : List Station) (i : ℕ) → length xs ≤ i → take i (xs ++ ys) ≡ xs ++ take (i - length xs) ys
+take_past xs ys i h = let same : length xs + (i - length xs) ≡ i = omega (arith, h) in sym (ap (λ k. take k (xs ++ ys)) same) ∙ take-append-add xs ys (i - length xs)
+
+pub take_parts : (xs ys : List Station) (i m : ℕ) → m ≡ min i (length xs) → take m xs ++ take (i - m) ys ≡ take i (xs ++ ys)
+take_parts xs ys i m e = grind (arith, common_steps, take_past)

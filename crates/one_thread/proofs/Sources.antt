@@ -1,6 +1,6 @@
 -- What a register is worth, by its youngest writer.
 use Rattle.std.proofs.lemmas.Grind.{common_steps}
-use Rattle.std.proofs.Common.{◌≡◌, ◌≢◌, ◌<◌, ◌-◌, ℕ, ◌+◌, true, cond, List, take, Option, Some, sym, ap, ◌∙◌, arith, eq-eqb, ne_eqb}
+use Rattle.std.proofs.Common.{◌≡◌, ◌≢◌, ◌<◌, ◌-◌, ℕ, ◌+◌, true, cond, List, [], ◌∷◌, ◌++◌, take, Option, Some, refl, sym, ap, ◌∙◌, arith, eq-eqb, ne_eqb}
 use Rattle.std.specs.Prelude.{slice_get, slice_index}
 use Rattle.std.proofs.lemmas.Bool.{le-leb}
 use Rattle.inorder.specs.Unit.{can_be_written}
@@ -17,13 +17,25 @@ source_by registers W r n l = ap (λ b. cond b (register_in r (Some (slice_index
 one_back : (r : ℕ) (v : Option ℕ) (W : List Station) (j : ℕ) → 0 < j → register_in r v (take j W) ≡ register_after r (register_in r v (take (j - 1) W)) (slice_get W (j - 1))
 one_back r v W j h = let same : j - 1 + 1 ≡ j = omega arith in sym (ap (λ k. register_in r v (take k W)) same) ∙ register_step r v W (j - 1)
 
--- the last writer is found
-pub source_found : (registers : List ℕ) (W : List Station) (i j r : ℕ) (w : Station) → r ≢ 0 → r < 34 → 0 < j →
-    register_in r (Some (slice_index registers r)) (take i W) ≡ register_in r (Some (slice_index registers r)) (take j W) → slice_get W (j - 1) ≡ Some w → w.destination ≡ r →
-    w.made ≡ source_in registers (take i W) r
-source_found registers W i j r w n l h same e d = grind (arith, common_steps, source_by, one_back, eq-eqb)
+-- the youngest writer is found
+pub source_found : (r : ℕ) (v : Option ℕ) (W : List Station) (j : ℕ) (w : Station) → 0 < j → slice_get W (j - 1) ≡ Some w → w.destination ≡ r →
+    register_in r v (take j W) ≡ register_after r v (Some w)
+source_found r v W j w h e same = grind (arith, common_steps, one_back, eq-eqb)
 
 -- another tenant is passed over
 pub source_passed : (r : ℕ) (v : Option ℕ) (W : List Station) (j : ℕ) (w : Station) → 0 < j → slice_get W (j - 1) ≡ Some w → w.destination ≢ r →
     register_in r v (take j W) ≡ register_in r v (take (j - 1) W)
 source_passed r v W j w h e apart = grind (arith, common_steps, one_back, ne_eqb)
+
+-- what a tenant with this register as its destination has made is read behind it
+pub source_made : (r : ℕ) (v : Option ℕ) (w : Station) → w.destination ≡ r → register_after r v (Some w) ≡ w.made
+source_made r v w same = grind (arith, common_steps, eq-eqb)
+
+behind : (r : ℕ) (v : Option ℕ) (older younger : List Station) → register_in r v (older ++ younger) ≡ register_in r (register_in r v older) younger
+behind r v [] younger = refl
+behind r v (w ∷ ws) younger = behind r (register_after r v (Some w)) ws younger
+
+-- older tenants, and those behind them
+pub source_behind : (registers : List ℕ) (W older younger : List Station) (r : ℕ) → r ≢ 0 → r < 34 → older ++ younger ≡ W →
+    source_in registers W r ≡ register_in r (register_in r (Some (slice_index registers r)) older) younger
+source_behind registers W older younger r n l whole = source_by registers W r n l ∙ sym (ap (register_in r (Some (slice_index registers r))) whole) ∙ behind r (Some (slice_index registers r)) older younger

@@ -3,7 +3,7 @@ ghost use Rattle.std.specs.Prelude.{⊤, ◌≡◌, ◌<◌, ◌≤◌, [], ◌�
 ghost use Rattle.one_thread.specs.Changes.{CanClaim, RunsAt};
 ghost use Rattle.one_thread.specs.Givers.{gives};
 ghost use Rattle.one_thread.specs.Stages.{FirstReady};
-ghost use Rattle.one_thread.specs.Window.{operands_by, operands_in, station_after};
+ghost use Rattle.one_thread.specs.Window.{operands_in, station_after};
 
 use crate::ahead::Ahead;
 use crate::pipeline::Pipeline;
@@ -26,20 +26,6 @@ pub struct Ready {
     pub operands: Operands,
 }
 
-// What is needed, if it is there.
-fn needed(kind: Kind, a: Option<u32>, b: Option<u32>) -> Option<Operands>
-    ensures { result ≡ operands_by kind a b }
-{
-    match (kind, a, b) {
-        (Kind::Stores, Some(a), b) => Some(Operands {
-            a,
-            b: b.unwrap_or(0),
-        }),
-        (_, Some(a), Some(b)) => Some(Operands { a, b }),
-        _ => None,
-    }
-}
-
 // What a station needs, if it can be claimed behind the first `i`.
 #[inline(always)]
 fn sources(window: &Window, ahead: &Ahead, i: usize, station: &Station) -> Option<Operands>
@@ -50,9 +36,13 @@ fn sources(window: &Window, ahead: &Ahead, i: usize, station: &Station) -> Optio
     let Stage::Open = station.stage else {
         return None;
     };
-    let a = source(window, ahead, i, station.instr.first());
     let b = source(window, ahead, i, station.instr.second());
-    needed(station.instr.kind(), a, b)
+    let b = match station.instr.kind() {
+        Kind::Stores => b.unwrap_or(0),
+        _ => b?,
+    };
+    let a = source(window, ahead, i, station.instr.first())?;
+    Some(Operands { a, b })
 }
 
 /// What the station at `i` needs, if it can be claimed.

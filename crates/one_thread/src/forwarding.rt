@@ -1,5 +1,7 @@
 //! Store-to-load forwarding: what the queue holds before a load.
 ghost use Rattle.std.specs.Prelude.{◌≡◌, ◌≤◌, length, slice_get};
+ghost use Rattle.instructions.specs.Instruction.{width};
+ghost use Rattle.lsq.specs.LoadRule.{answer_over as answer_by};
 ghost use Rattle.one_thread.specs.Loads.{address_of as address_by, entries, entry_at as entry_in};
 
 use crate::ahead::Ahead;
@@ -7,9 +9,9 @@ use crate::source::source;
 use crate::station::Stage;
 use crate::window::Window;
 use arrayvec::ArrayVec;
-use inorder::access_entry;
-use instructions::Kind;
-use lsq::Entry;
+use inorder::{access_entry, access_width};
+use instructions::{Kind, Op};
+use lsq::{Answer, Entry, answer_over};
 
 // The address of a load or store, if it was computed.
 fn address_of(stage: Stage) -> Option<u32>
@@ -36,8 +38,9 @@ fn entry_at(window: &Window, ahead: &Ahead, i: usize) -> Option<Entry>
     Some(access_entry(instr.op(), address_of(station.stage), content))
 }
 
-/// What the queue holds of the first `i` tenants.
-pub fn entries_before(window: &Window, ahead: &Ahead, i: usize) -> ArrayVec<Entry, 32>
+// What the queue holds of the first `i` tenants.
+#[inline(always)]
+fn entries_before(window: &Window, ahead: &Ahead, i: usize) -> ArrayVec<Entry, 32>
     requires { i ≤ length window.now }
     ensures { result.items ≡ entries ahead.now.registers window.now i }
 {
@@ -49,4 +52,14 @@ pub fn entries_before(window: &Window, ahead: &Ahead, i: usize) -> ArrayVec<Entr
         }
     }
     queue
+}
+
+/// The rule's answer to the tenant at `i`, a load of this address.
+#[inline(never)]
+pub fn answer_at(window: &Window, ahead: &Ahead, i: usize, op: Op, address: u32) -> Answer
+    requires { i ≤ length window.now }
+    ensures { result ≡ answer_by (entries ahead.now.registers window.now i) address (width op) }
+{
+    let older = entries_before(window, ahead, i);
+    answer_over(older.as_slice(), address, access_width(op))
 }

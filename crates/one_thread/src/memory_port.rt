@@ -7,13 +7,13 @@ ghost use Rattle.one_thread.specs.Loads.{AreInside, load_in, value_by as value_o
 ghost use Rattle.one_thread.specs.Stages.{FirstAnswered};
 
 use crate::ahead::Ahead;
-use crate::forwarding::entries_before;
+use crate::forwarding::answer_at;
 use crate::pipeline::Pipeline;
 use crate::station::{Stage, Station};
 use crate::window::Window;
-use inorder::{Committed, access_width};
+use inorder::Committed;
 use instructions::{Kind, Op, loaded};
-use lsq::{Answer, answer_over};
+use lsq::Answer;
 
 /// The place of a load that is not blocked, and its value.
 #[derive(Clone, Copy)]
@@ -58,8 +58,7 @@ pub fn value_at(window: &Window, ahead: &Ahead, i: usize) -> Option<u32>
     let station = window.peek(i)?;
     let address = waits(station)?;
     let op = station.instr.op();
-    let older = entries_before(window, ahead, i);
-    let answer = answer_over(older.as_slice(), address, access_width(op));
+    let answer = answer_at(window, ahead, i, op, address);
     value_by(answer, ahead.committed, op, address)
 }
 

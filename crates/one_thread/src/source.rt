@@ -1,10 +1,29 @@
 //! What an instruction reads.
-ghost use Rattle.std.specs.Prelude.{◌≡◌, ◌<◌, ◌≤◌, length, take};
-ghost use Rattle.one_thread.specs.Window.{source_in};
+ghost use Rattle.std.specs.Prelude.{◌≡◌, ◌≤◌, ℕ, IfSome, Option, length, option_copied, take};
+ghost use Rattle.one_thread.specs.Window.{register_after, register_in, source_in};
 
 use crate::ahead::Ahead;
+use crate::station::Station;
 use crate::window::Window;
 use instructions::Reg;
+
+// The youngest of these tenants that writes register `r`.
+#[inline(always)]
+fn youngest_writer(tenants: &[Station], r: Reg) -> Option<&Station>
+    ensures behind { (v : Option ℕ) →
+        register_in r v tenants.now ≡ register_after r v (option_copied result) }
+    ensures writes { IfSome result (λ w. w.now.destination ≡ r) }
+{
+    let mut at = tenants.len();
+    while 0 < at {
+        at -= 1;
+        let writer = &tenants[at];
+        if writer.destination.number() == r.number() {
+            return Some(writer);
+        }
+    }
+    None
+}
 
 /// What register `r` is worth to the tenant at `i`, if that was made: the youngest older tenant that writes it has it, or else
 /// the committed registers.
@@ -16,13 +35,12 @@ pub fn source(window: &Window, ahead: &Ahead, i: usize, r: Reg) -> Option<u32>
     if r.number() == 0 {
         return Some(0);
     }
-    let mut at = i;
-    while 0 < at {
-        at -= 1;
-        let writer = window.peek(at)?;
-        if writer.destination.number() == r.number() {
-            return writer.made;
-        }
+    let (older, younger) = window.before(i);
+    if let Some(writer) = youngest_writer(younger, r) {
+        return writer.made;
     }
-    Some(ahead.register(r))
+    match youngest_writer(older, r) {
+        Some(writer) => writer.made,
+        None => Some(ahead.register(r)),
+    }
 }

@@ -137,6 +137,18 @@ impl Window {
         self.stations.get(i)
     }
 
+    /// The first `i` tenants: those that came first, and those behind them.
+    #[inline(always)]
+    pub fn before(&self, i: usize) -> (&[Station], &[Station])
+        requires { i ≤ length self.now }
+        ensures { result.0.now ++ result.1.now ≡ take i self.now }
+    {
+        prove!(i <= self.len());
+        let (older, younger) = self.stations.as_slices();
+        let cut = i.min(older.len());
+        (&older[..cut], &younger[..i - cut])
+    }
+
     /// The youngest tenant.
     #[inline(always)]
     pub fn last(&self) -> Option<&Station>
