@@ -38,28 +38,18 @@ fn entry_at(window: &Window, ahead: &Ahead, i: usize) -> Option<Entry>
     Some(access_entry(instr.op(), address_of(station.stage), content))
 }
 
-// What the queue holds of the first `i` tenants.
-#[inline(always)]
-fn entries_before(window: &Window, ahead: &Ahead, i: usize) -> ArrayVec<Entry, 32>
-    requires { i ≤ length window.now }
-    ensures { result.items ≡ entries ahead.now.registers window.now i }
-{
-    prove!(i <= window.len());
-    let mut queue = ArrayVec::new();
-    for at in 0..i {
-        if let Some(entry) = entry_at(window, ahead, at) {
-            queue.push(entry);
-        }
-    }
-    queue
-}
-
-/// The rule's answer to the tenant at `i`, a load of this address.
+/// The rule's answer to the tenant at `i`, a load of this address, by what the queue holds of the first `i` tenants.
 #[inline(never)]
 pub fn answer_at(window: &Window, ahead: &Ahead, i: usize, op: Op, address: u32) -> Answer
     requires { i ≤ length window.now }
     ensures { result ≡ answer_by (entries ahead.now.registers window.now i) address (width op) }
 {
-    let older = entries_before(window, ahead, i);
+    prove!(i <= window.len());
+    let mut older = ArrayVec::<Entry, 32>::new();
+    for at in 0..i {
+        if let Some(entry) = entry_at(window, ahead, at) {
+            older.push(entry);
+        }
+    }
     answer_over(older.as_slice(), address, access_width(op))
 }
