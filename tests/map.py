@@ -12,35 +12,37 @@ ROOT = os.path.dirname(os.path.dirname(os.path.realpath(__file__)))
 
 LAYERS = [
     ("The language, and bytes in and out", "lexical instructions isa encoding elf disassembly counted_io"),
-    ("The machine, and the unit as definitions", "lsq inorder lockstep ruu_step elf_runs"),
+    ("The machine, and the unit as definitions", "lsq inorder answers lockstep ruu_step elf_runs"),
     ("The unit by one thread", "one_thread in_order_issue bench"),
     ("The unit that threads share", "ruu_words station snapshots front back client session"),
-    ("Threads", "hints counts workers pool"),
-    ("What a command line asks for", "command_line command"),
-    ("Programs", "alone ruu checker chart commits drive listing"),
+    ("Threads", "hints counts workers committing pool"),
+    ("What a command line asks for", "command_line on_threads command"),
+    ("Programs", "alone run ruu checker chart commits drive listing"),
     ("Tests and measurements", "examples proved_tests"),
 ]
 
 PICTURE = """\
- alone    chart    commits          ruu      drive              listing
-   |        |         |              |          |                  |
-   +--------+---------+           command       |             disassembly
-            |                        |          |                  |
-          bench                    pool      session              elf
-            |                        |          |
-       one_thread                    +----+-----+
-            |                             |
-            |                       front   back -- snapshots
-            |                           \\   /
-            |                          station        seats and their calls
-            |                             |
-            |                         ruu_words       the shared words and their rule
-            |                             |
-            +--------------+--------------+
-                           |
-                        inorder -- lsq                the in-order machine, the unit as
-                           |                          definitions, and the theorem
-                     instructions -- isa -- lexical   operations; listings"""
+ alone    chart    commits    ruu      run    drive            listing
+   |        |         |        |        |       |                 |
+   +--------+---------+---- command     |       |            disassembly
+            |                  |        |       |                 |
+          bench                +--- on_threads  |                elf
+            |                           |       |
+       one_thread                     pool   session
+            |                           |       |
+            |                           +---+---+
+            |                               |
+            |                         front   back -- snapshots
+            |                             \\   /
+            |                            station      seats and their calls
+            |                               |
+            |                           ruu_words     the shared words and their rule
+            |                               |
+            +---------------+---------------+
+                            |
+                         inorder -- lsq               the in-order machine, the unit as
+                            |                         definitions, and the theorem
+                      instructions -- isa -- lexical  operations; listings"""
 
 HEAD = """# Map of the code
 

@@ -52,7 +52,7 @@ def place(room):
         if it != "ruu":
             os.symlink(f"{ROOT}/{it}", f"{room}/{it}")
     with open("ruu", encoding="utf-8") as it:
-        chooses, _, proves = it.read().partition("\nis_built() {\n")
+        chooses, _, proves = it.read().partition("\nis_built() {")
     here = re.sub(r"^here=.*$", f"here='{ROOT}'", chooses, flags=re.M)
     with open(f"{room}/ruu", "w", encoding="utf-8") as script:
         script.write(f"{here}\n{proves.splitlines()[-1]}\n")

@@ -3,27 +3,27 @@
 # of the programs; and how the work is told and foreseen, with a kit that proves nothing. With the word `renew` those texts are
 # written anew from the programs.
 . "$(dirname "$0")/common.bash"
-programs=(ruu checker chart commits drive listing)
+programs=(run ruu checker chart commits drive listing)
 words=(run check chart commits drive listing)
 for program in "${programs[@]}"; do
   build run "$program"
 done
 
-# Sets `program` to the one that a word starts.
+# Sets `started` to the programs that a word starts: two for `run`, with `--alone` and without.
 start_by() { # word
   case $1 in
-    run) program=$PWD/crates/ruu/out/ruu ;;
-    check) program=$PWD/crates/checker/out/checker ;;
-    *) program=$PWD/crates/$1/out/$1 ;;
+    run) started=("$PWD/crates/run/out/run" "$PWD/crates/ruu/out/ruu") ;;
+    check) started=("$PWD/crates/checker/out/checker") ;;
+    *) started=("$PWD/crates/$1/out/$1") ;;
   esac
 }
 
 told() { # text
-  local program
+  local started
   case $1 in
     version) (exec -a ruu crates/ruu/out/ruu --version) ;;
     listing) (exec -a ruu crates/listing/out/listing --help) ;;
-    *) start_by "$1" && (exec -a ruu "$program" "$1" --help) ;;
+    *) start_by "$1" && (exec -a ruu "${started[0]}" "$1" --help) ;;
   esac
 }
 
@@ -32,20 +32,26 @@ for text in "${words[@]}" version; do
   [ "${1:-}" != renew ] || cp "$work/text" docs/help/$text.txt
   cmp -s "$work/text" docs/help/$text.txt || { diff docs/help/$text.txt "$work/text"; fail "docs/help/$text.txt is not what the program prints: tests/script.sh renew"; }
 done
-# the program of a word is asked in other ways too
+# the programs of a word are asked in other ways too
 for word in run check chart commits drive; do
   start_by $word
-  asks() { # text, words
-    (exec -a ruu "$program" "${@:2}") < /dev/null 2> "$work/err" | cmp -s - "docs/help/$1" || fail "the program of $word, ${*:2}: not the text $1"
-  }
-  asks $word.txt help $word
-  asks version.txt $word -V
-  asks version.txt --version
-  for other in run check chart commits drive; do
-    [ $other = $word ] || { (exec -a ruu "$program" $other examples/sum.s) < /dev/null > "$work/out" 2> "$work/err"; [ $? -eq 3 ]; } || fail "the program of $word takes the word $other"
+  for program in "${started[@]}"; do
+    asks() { # text, words
+      (exec -a ruu "$program" "${@:2}") < /dev/null 2> "$work/err" | cmp -s - "docs/help/$1" || fail "the program ${program##*/}, ${*:2}: not the text $1"
+    }
+    asks $word.txt $word --help
+    asks $word.txt help $word
+    asks version.txt $word -V
+    asks version.txt --version
+    for other in run check chart commits drive; do
+      [ $other = $word ] || { (exec -a ruu "$program" $other examples/sum.s) < /dev/null > "$work/out" 2> "$work/err"; [ $? -eq 3 ]; } || fail "the program ${program##*/} takes the word $other"
+    done
+    (exec -a ruu "$program" help) | grep -q "^  $word " || fail "the help of the program ${program##*/} does not name $word"
   done
-  (exec -a ruu "$program" help) | grep -q "^  $word " || fail "the help of the program of $word does not name it"
 done
+# `--alone` is for the other program
+(exec -a ruu crates/run/out/run run examples/sum.s --alone) < /dev/null > "$work/out" 2> "$work/err"
+[ $? -eq 3 ] && [ ! -s "$work/out" ] && [ "$(cat "$work/err")" = 'error: this program has no --alone: the program ruu has it' ] || fail 'the program run takes --alone'
 echo 'the texts of docs/help are those of the programs'
 
 # the help of all names each word as its own help begins
@@ -147,18 +153,20 @@ answer ''
 [ $status -eq 3 ] && [ "$(head -n 1 "$work/err")" = "error: there is no command ''" ] || fail "an empty word: status $status"
 echo "$count times the words are named where none of them begins"
 
-# a mistake: by the script where nothing is built, and by the program
+# a mistake: by the script where nothing is built, and by the programs
 mistake() { # words
-  local program
+  local started program
   start_by "$1"
   answer "$@"
   [ $status -eq 3 ] && [ ! -s "$work/out" ] || fail "ruu $*: status $status"
   cp "$work/err" "$work/script"
   [ "$1" != listing ] || shift
-  (exec -a ruu "$program" "$@") < /dev/null > "$work/out" 2> "$work/err"
-  status=$?
-  [ $status -eq 3 ] && [ ! -s "$work/out" ] || fail "the program, $*: status $status"
-  cmp -s "$work/err" "$work/script" || { diff "$work/err" "$work/script"; fail "ruu $*: the script says it otherwise than the program"; }
+  for program in "${started[@]}"; do
+    (exec -a ruu "$program" "$@") < /dev/null > "$work/out" 2> "$work/err"
+    status=$?
+    [ $status -eq 3 ] && [ ! -s "$work/out" ] || fail "the program ${program##*/}, $*: status $status"
+    cmp -s "$work/err" "$work/script" || { diff "$work/err" "$work/script"; fail "ruu $*: the script says it otherwise than the program"; }
+  done
 }
 
 count=0
@@ -392,8 +400,9 @@ unproved() { # what the kit is asked for, words
   [ "$(cat "$ASKED")" = "$asked" ] || { cat "$ASKED"; fail "ruu --unproved $*: the kit is asked for something else"; }
 }
 touch "$work/a.s" "$work/3"
-unproved "ruu try -- run $work/a.s --units 3" run a.s --units 3
-unproved "ruu try -- run $work/nowhere.s" run nowhere.s
+unproved "run try -- run $work/a.s --units 3" run a.s --units 3
+unproved "ruu try -- run $work/a.s --alone --limit 3" run a.s --alone --limit 3
+unproved "run try -- run $work/nowhere.s" run nowhere.s
 unproved "chart try -- chart $work/a.s --seed 3 --trace=$work/b.log" chart a.s --seed 3 --trace=b.log
 unproved "chart try -- chart --trace $work/b.log $work/a.s" chart --trace b.log a.s
 unproved "drive try -- drive $work/a.s" drive a.s
@@ -410,34 +419,45 @@ print(len({it for name in sys.argv[1:] for it in [*prove.below(uses, name), name
 END
 }
 
-# a log has a line for each crate, and a program is compiled by Rattle's own compiler, with one job
+# a log has a line for each crate, and a program is compiled by Rattle's own compiler
 find "$fresh/crates" -name out -prune -exec rm -r {} +
 : > "$ASKED"
-with_kit "$fresh/ruu" run a.s --alone
-[ $status -eq 0 ] && [ "$(cat "$work/out")" = 'ran run a.s --alone' ] || fail "a first run: status $status"
-number=$(count_of ruu)
+with_kit "$fresh/ruu" run a.s
+[ $status -eq 0 ] && [ "$(cat "$work/out")" = 'ran run a.s' ] || fail "a first run: status $status"
+number=$(count_of run)
 seq -f "proving %g of $number" "$number" > "$work/wanted"
 sed -n 's/^\(proving [0-9]* of [0-9]*\), [0-9]*:[0-9][0-9], \(about [0-9]* minutes\?\|less than a minute\) left: [a-z_]*$/\1/p' "$work/err" \
   | cmp -s - "$work/wanted" || fail 'a first run: the log is not a line for each crate'
 [ "$(wc -l < "$work/err")" -eq $((number + 2)) ] || fail 'a first run: other lines in the log'
 grep -qx "prove: $number crates in 0:[0-9][0-9]" "$work/err" || fail 'a first run: no line at its end'
-grep -qx 'ruu run --jobs 1 --backend rattle -- --help' "$ASKED" || fail 'the program ruu is built otherwise'
+grep -qxE 'run run --jobs [1-4] --backend rattle -- --help' "$ASKED" || fail 'the program run is built otherwise'
 [ "$(grep -cE '^[a-z_]+ lib --jobs [1-4] --statements$' "$ASKED")" -eq $((number - 1)) ] || fail 'the libraries are built otherwise'
 with_kit "$fresh/ruu" run b.s
 [ $status -eq 0 ] && [ "$(cat "$work/out")" = 'ran run b.s' ] && [ ! -s "$work/err" ] || fail "a second run: status $status"
 
+# the one-thread unit is proved once it is asked for, and that program then runs threads too
+with_kit "$fresh/ruu" run a.s --alone
+[ $status -eq 0 ] && [ "$(cat "$work/out")" = 'ran run a.s --alone' ] || fail "a first run alone: status $status"
+more=$(($(count_of run ruu) - number))
+[ "$(grep -c "^proving [0-9]* of $more," "$work/err")" -eq $more ] || fail 'a first run alone: another number of crates'
+rm "$fresh/crates/run/out/run"
+with_kit "$fresh/ruu" run b.s
+[ $status -eq 0 ] && [ "$(cat "$work/out")" = 'ran run b.s' ] && [ ! -s "$work/err" ] || fail "a run on threads by ruu: status $status"
+
 # where a program is no longer proved, the older one is not taken for it
 touch "$fresh/crates/ruu/src/main.rt"
-with_kit env UNPROVED=ruu "$fresh/ruu" run b.s
+with_kit env UNPROVED=ruu "$fresh/ruu" run b.s --alone
 [ $status -eq 70 ] && [ ! -e "$fresh/crates/ruu/out/ruu" ] || fail "a program that is not proved: status $status"
 with_kit "$fresh/ruu" run b.s
+with_kit "$fresh/ruu" run b.s --alone
 
 # all programs at once, and then each starts
 with_kit "$fresh/ruu" prove
+number=$(count_of run ruu)
 more=$(($(count_of "${programs[@]}") - number))
 [ $status -eq 0 ] && [ "$(grep -c "^proving [0-9]* of $more," "$work/err")" -eq $more ] || fail "ruu prove: status $status"
 [ "$(tail -n 1 "$work/err")" = "ruu: proved and built: ${programs[*]}" ] || fail 'ruu prove: no line at its end'
-for of in 'run a.s' 'check a.s' 'drive a.s' 'listing a.elf' 'commits a.s' 'chart a.s --trace b.log'; do
+for of in 'run a.s' 'run a.s --alone' 'check a.s' 'drive a.s' 'listing a.elf' 'commits a.s' 'chart a.s --trace b.log'; do
   # shellcheck disable=SC2086
   with_kit "$fresh/ruu" $of
   [ $status -eq 0 ] && [ "$(cat "$work/out")" = "ran ${of#listing }" ] && [ ! -s "$work/err" ] || fail "ruu $of after all were built"

@@ -1,4 +1,2 @@
-pub mod Answer
-pub mod Enough
-pub mod Parsed
+pub use Rattle.answers.specs.Answer
 pub mod Runs

@@ -3,12 +3,11 @@ ghost use Rattle.std.specs.Prelude.{◌≡◌, ◌-◌, ◌^◌, ◌<◌, ℕ, L
 ghost use Rattle.isa.specs.Listing.{listing};
 ghost use Rattle.counted_io.specs.Counted.{failures_of};
 ghost use Rattle.counted_io.specs.Replies.{HasReplied, IsUnanswered};
-ghost use Rattle.bench.specs.Answer.{HasAnAnswer, IsAnswerAlone, most_taken};
-ghost use Rattle.bench.specs.Parsed.{IsParsed};
+ghost use Rattle.answers.specs.Answer.{HasAnAnswer, IsAnswerAlone, most_taken};
+ghost use Rattle.answers.specs.Parsed.{IsParsed};
 
-use crate::listing::read_listing;
-use crate::outcome::Status;
 use crate::running::run;
+use answers::{Status, read_listing};
 use counted_io::{Counted, Fault, write_whole};
 use instructions::{Config, Memory, Predictor, Program};
 use isa::report_text;
@@ -42,7 +41,7 @@ pub fn alone<R: Read, W: Write, P: Predictor + Drop>(
 }
 
 // What a listing comes to, and the text for it: the report of its run, or the line of its fault.
-#[tactic(auto, unfolding(crate::specs::Answer::text_of, crate::specs::Answer::status_of))]
+#[tactic(auto, unfolding(answers::specs::Answer::text_of, answers::specs::Answer::status_of))]
 fn answer<P: Predictor + Drop>(
     alloc: Global,
     found: Result<Program, String>,

@@ -2,13 +2,10 @@
 #![tactic(auto)]
 
 mod bytes;
-mod listing;
-mod outcome;
 mod running;
 
+pub use answers::Status;
 pub use bytes::alone;
 pub use counted_io::{Counted, Fault};
-pub use listing::{MOST_TAKEN, read_listing};
 pub use one_thread::{Bench, Turn};
-pub use outcome::Status;
 pub use running::run;

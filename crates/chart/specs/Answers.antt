@@ -4,7 +4,7 @@ use Rattle.std.specs.Io.KnownBytes.{Appends}
 use Rattle.isa.specs.declared.listing.fault.FaultKind.{FaultKind}
 use Rattle.instructions.specs.Programs.{Program}
 use Rattle.inorder.specs.Runs.{end_of}
-use Rattle.bench.specs.Answer.{status_for, text_for}
+use Rattle.answers.specs.Answer.{status_for, text_for}
 use Rattle.chart.specs.declared.telling.Format.{Format}
 use Rattle.chart.specs.declared.telling.Format.TheVariants.{Chart, Kanata}
 use Rattle.counted_io.specs.declared.fault.Fault.{Fault}
@@ -17,7 +17,7 @@ use Rattle.one_thread.specs.Seeds.{ChoosesNext, order_by}
 use Rattle.command_line.specs.Exits.{IsOfWriting, fault_refusal}
 use Rattle.command_line.specs.declared.exit.Refusal.{Refusal}
 use Rattle.command_line.specs.declared.exit.Refusal.TheVariants.{Memory, Trace, Write}
-use Rattle.bench.specs.Answer.{status_number}
+use Rattle.answers.specs.Answer.{status_number}
 
 -- What is known of the bytes of the writer and of the log
 pub record Outputs : Type 0 where

@@ -4,12 +4,13 @@ ghost use Rattle.isa.specs.Listing.{listing};
 ghost use Rattle.counted_io.specs.Counted.{failures_of, known_by};
 ghost use Rattle.inorder.specs.Runs.{end_of, end_state};
 ghost use Rattle.chart.specs.Answers.{IsBegun, IsWatched, log_failures, outputs};
-ghost use Rattle.bench.specs.Answer.{status_number};
+ghost use Rattle.answers.specs.Answer.{status_number};
 ghost use Rattle.command_line.specs.Exits.{HoldsOfInput, IsOfOneThread, failed_writes, refused};
 ghost use Rattle.command_line.specs.declared.exit.Line.TheVariants.{Nothing, Refused};
 
 use crate::pictures::{draw, trace};
-use bench::{Status, read_listing, run};
+use answers::{Status, read_listing};
+use bench::run;
 use command_line::{Charted, Exit, Line, Refusal, choose, refused};
 use counted_io::{Counted, write_whole};
 use instructions::{End, Memory, Program};

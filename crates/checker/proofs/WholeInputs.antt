@@ -8,7 +8,7 @@ use Rattle.isa.specs.declared.listing.fault.TextFault.{TextFault}
 use Rattle.isa.specs.Listing.{listing}
 use Rattle.isa.specs.Report.{fault_line}
 use Rattle.instructions.specs.Programs.{Program}
-use Rattle.bench.specs.Answer.{most_taken}
+use Rattle.answers.specs.Answer.{most_taken}
 use Rattle.checker.specs.Checked.{IsCheck}
 use Rattle.checker.specs.Diagnostics.{IsCheckOf, IsExplained, AreExplained}
 use Rattle.checker.specs.Names.{name_text}

@@ -7,7 +7,7 @@ ghost use Rattle.command_line.specs.Exits.{IsOfOneThread, refused};
 ghost use Rattle.command_line.specs.declared.exit.Line.TheVariants.{Nothing, Refused};
 
 use crate::diagnostics::diagnostics;
-use bench::MOST_TAKEN;
+use answers::MOST_TAKEN;
 use command_line::{Checked, Exit, Line, Refusal, refused};
 use counted_io::{Counted, read_up_to, write_whole};
 use std::alloc::Global;

@@ -1,4 +1,1 @@
-mod Answering
-mod AsAlone
-mod ThreadAnswers
-mod WholeRuns
+mod AloneReports

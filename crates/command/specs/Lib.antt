@@ -1,5 +1,4 @@
 pub use Rattle.command_line.specs.Exits
-pub mod Answers
-pub mod Runs
-pub mod Threads
-pub mod Unanswered
+pub use Rattle.on_threads.specs.Answers
+pub use Rattle.on_threads.specs.Runs
+pub use Rattle.on_threads.specs.Unanswered

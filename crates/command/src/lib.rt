@@ -3,11 +3,9 @@
 
 mod running;
 mod single_thread;
-mod threads;
-mod went;
 
 pub use command_line::{
     Asked, BranchPredictor, Line, NoRun, Progress, Refusal, asked, is_standard_input, status,
 };
+pub use on_threads::{Went, end};
 pub use running::go;
-pub use went::{Went, end};

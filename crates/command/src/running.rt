@@ -1,20 +1,14 @@
 //! The run that a command line asks for.
-ghost use Rattle.std.specs.Prelude.{◌≡◌, ◌-◌, ◌^◌, ◌<◌, IfSome, IfOk, IfErr, None, true};
+ghost use Rattle.std.specs.Prelude.{◌≡◌, ◌-◌, ◌^◌, ◌<◌, IfSome, None, true};
 ghost use Rattle.counted_io.specs.Counted.{failures_of, Gives};
-ghost use Rattle.counted_io.specs.Replies.{HasReplied};
-ghost use Rattle.bench.specs.Answer.{most_taken};
-ghost use Rattle.command.specs.Answers.{IsAnswerTo, IsAsAlone, IsSomeAnswerTo};
-ghost use Rattle.command.specs.Runs.{CameToItsEnd, IsRunWith, WasWritten, refused_run, went_of};
-ghost use Rattle.command.specs.Unanswered.{IsUnansweredBy};
 ghost use Rattle.command_line.specs.Replies.{HasWritten, IfRefused, IsLeftBy};
 ghost use Rattle.command_line.specs.Exits.{HoldsOfInput, IsOfOneThread};
+ghost use Rattle.on_threads.specs.Answers.{IsAnswerTo, IsAsAlone, IsSomeAnswerTo};
+ghost use Rattle.on_threads.specs.Runs.{CameToItsEnd, IsRunWith, WasWritten, refused_run};
 
-use crate::went::{refused, written};
-use crate::{Asked, Line, Refusal, Went, single_thread, threads};
-use bench::{Status, read_listing};
-use command_line::choose;
-use counted_io::{Counted, write_whole};
-use one_thread::Order;
+use crate::{Asked, Refusal, Went, single_thread};
+use counted_io::Counted;
+use on_threads::refused;
 use pool::Gate;
 use std::alloc::Global;
 use std::io::{Read, Write};
@@ -52,43 +46,14 @@ pub fn go<T: Threads + Wait + Sync, R: Read + Drop, W: Write, G: Gate + Sync>(
     ensures left { IfRefused result.line (IsLeftBy R.remaining W.contents reader
         writer.old writer.new (IsSomeAnswerTo asked.now)) }
 {
+    if !asked.alone {
+        return on_threads::go(wait, alloc, asked, reader, writer, gate);
+    }
     let Some(mut reader) = reader else {
         return refused(Refusal::Open);
     };
-    match answered(wait, alloc, asked, &mut reader, writer, gate) {
+    match single_thread::answered(alloc, asked, &mut reader, writer) {
         Ok(went) => went,
         Err(refusal) => refused(refusal),
     }
-}
-
-// Reads a listing, runs it as is asked for, and writes the report of its run, or the line of its fault.
-fn answered<T: Threads + Wait + Sync, R: Read, W: Write, G: Gate + Sync>(
-    wait: &T,
-    alloc: Global,
-    asked: &Asked<'_>,
-    reader: &mut Counted<R>,
-    writer: &mut Counted<W>,
-    gate: &G,
-) -> Result<Went, Refusal>
-    requires reader_room { failures_of reader.old < 2 ^ 64 - 1 }
-    requires writer_room { failures_of writer.old < 2 ^ 64 - 1 }
-    ensures ok { IfOk result (λ went. HasReplied R.remaining W.contents most_taken
-        reader.old reader.new writer.old writer.new (IsAnswerTo asked.now went)) }
-    ensures line { IfOk result (λ went. WasWritten went.line) }
-    ensures alone { asked.now.alone ≡ true → IsOfOneThread (went_of result).line }
-    ensures ran { IfOk result (λ went. IsRunWith asked.now.config went.status went.line went.ran) }
-    ensures err { IfErr result (IsUnansweredBy R.remaining W.contents
-        reader.old reader.new writer.old writer.new (IsSomeAnswerTo asked.now)) }
-{
-    let predictor = choose(asked.predictor);
-    let (went, text) = match read_listing(alloc, reader)? {
-        Ok(program) if asked.alone => {
-            let order = Order::by_seed(asked.seed);
-            single_thread::report(alloc, asked, &program, predictor, order)?
-        },
-        Ok(program) => threads::report(wait, alloc, asked, &program, predictor, gate)?,
-        Err(line) => (written(Status::TextFault, Line::Nothing, None), line),
-    };
-    write_whole(writer, text.as_str().as_bytes())?;
-    Ok(went)
 }

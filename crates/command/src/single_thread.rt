@@ -1,22 +1,60 @@
 //! A run of the one-thread unit.
-ghost use Rattle.std.specs.Prelude.{◌≡◌, IfOk, None, true, string_bytes};
+ghost use Rattle.std.specs.Prelude.{◌≡◌, ◌-◌, ◌^◌, ◌<◌, IfOk, IfErr, None, true, string_bytes};
+ghost use Rattle.answers.specs.Answer.{most_taken};
+ghost use Rattle.counted_io.specs.Counted.{failures_of};
+ghost use Rattle.counted_io.specs.Replies.{HasReplied};
 ghost use Rattle.one_thread.specs.Seeds.{order_by};
+ghost use Rattle.command_line.specs.Exits.{IsOfOneThread};
 ghost use Rattle.command_line.specs.Predictors.{IsChosen};
 ghost use Rattle.command_line.specs.declared.exit.Line.TheVariants.{Nothing};
-ghost use Rattle.command.specs.Answers.{IsReport};
+ghost use Rattle.on_threads.specs.Answers.{IsAnswerTo, IsReport, IsSomeAnswerTo};
+ghost use Rattle.on_threads.specs.Runs.{went_of};
+ghost use Rattle.on_threads.specs.Unanswered.{IsUnansweredBy};
 
-use crate::went::written;
-use crate::{Asked, Line, Went};
-use bench::{Status, run};
-use command_line::Chosen;
+use crate::{Asked, Line, Refusal, Went};
+use answers::{Status, read_listing};
+use bench::run;
+use command_line::{Chosen, choose};
+use counted_io::{Counted, write_whole};
 use instructions::{Memory, Program};
 use isa::report_text;
+use on_threads::written;
 use one_thread::{Order, Seeded};
 use std::alloc::Global;
+use std::io::{Read, Write};
 
-/// Runs a program on the one-thread unit with the predictor and in the order that are asked for: what is told of the run,
-/// and its report.
-pub(crate) fn report(
+/// Reads a listing, runs it on the one-thread unit in the order that is asked for, and writes the report of its run, or the
+/// line of its fault.
+pub(crate) fn answered<R: Read, W: Write>(
+    alloc: Global,
+    asked: &Asked<'_>,
+    reader: &mut Counted<R>,
+    writer: &mut Counted<W>,
+) -> Result<Went, Refusal>
+    requires alone { asked.now.alone ≡ true }
+    requires reader_room { failures_of reader.old < 2 ^ 64 - 1 }
+    requires writer_room { failures_of writer.old < 2 ^ 64 - 1 }
+    ensures ok { IfOk result (λ went. HasReplied R.remaining W.contents most_taken
+        reader.old reader.new writer.old writer.new (IsAnswerTo asked.now went)) }
+    ensures line { IfOk result (λ went. went.line ≡ Nothing) }
+    ensures alone { IsOfOneThread (went_of result).line }
+    ensures ran { IfOk result (λ went. went.ran ≡ None) }
+    ensures err { IfErr result (IsUnansweredBy R.remaining W.contents
+        reader.old reader.new writer.old writer.new (IsSomeAnswerTo asked.now)) }
+{
+    let predictor = choose(asked.predictor);
+    let order = Order::by_seed(asked.seed);
+    let (went, text) = match read_listing(alloc, reader)? {
+        Ok(program) => report(alloc, asked, &program, predictor, order)?,
+        Err(line) => (written(Status::TextFault, Line::Nothing, None), line),
+    };
+    write_whole(writer, text.as_str().as_bytes())?;
+    Ok(went)
+}
+
+// Runs a program on the one-thread unit with the predictor and in the order that are asked for: what is told of the run,
+// and its report.
+fn report(
     alloc: Global,
     asked: &Asked<'_>,
     program: &Program,

@@ -3,8 +3,8 @@ use Rattle.std.specs.Prelude.{◌≡◌, ℕ, List, Option, Result}
 use Rattle.std.specs.Io.KnownBytes.{Appends}
 use Rattle.instructions.specs.Programs.{Program}
 use Rattle.isa.specs.declared.listing.fault.FaultKind.{FaultKind}
-use Rattle.bench.specs.Answer.{status_for}
-use Rattle.bench.specs.Answer.{status_number}
+use Rattle.answers.specs.Answer.{status_for}
+use Rattle.answers.specs.Answer.{status_number}
 use Rattle.command_line.specs.declared.exit.Refusal.{Refusal}
 use Rattle.command_line.specs.declared.exit.Refusal.TheVariants.{Read}
 use Rattle.commits.specs.Logs.{log_for}

@@ -2,7 +2,7 @@
 ghost use Rattle.std.specs.Prelude.{◌≡◌, ◌≢◌, ◌+◌, ◌-◌, ◌^◌, ◌<◌, IfErr, IfOk, IfSome, None, Ok, OnErr, OnOk};
 ghost use Rattle.isa.specs.Listing.{listing};
 ghost use Rattle.counted_io.specs.Counted.{failures_of, known_by};
-ghost use Rattle.bench.specs.Answer.{status_number};
+ghost use Rattle.answers.specs.Answer.{status_number};
 ghost use Rattle.command_line.specs.Exits.{HoldsOfInput, IsOfOneThread, IsOfWriting, failed_writes, refused};
 ghost use Rattle.command_line.specs.declared.exit.Line.TheVariants.{Nothing, Refused};
 ghost use Rattle.commits.specs.Answers.{IsLogOf, failed_reads};
@@ -10,7 +10,7 @@ ghost use Rattle.commits.specs.Logs.{log_for};
 ghost use Rattle.commits.specs.Retirements.{IsBeginning};
 
 use crate::logging::log_run;
-use bench::{Status, read_listing};
+use answers::{Status, read_listing};
 use command_line::{Exit, Line, Refusal, Watched, choose, refused};
 use counted_io::{Counted, write_whole};
 use instructions::Program;

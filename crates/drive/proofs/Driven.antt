@@ -6,8 +6,8 @@ use Rattle.isa.specs.Listing.{listing}
 use Rattle.instructions.specs.Programs.{Program}
 use Rattle.isa.specs.Report.{fault_line}
 use Rattle.counted_io.specs.declared.counted.Counted.{Counted}
-use Rattle.bench.specs.Answer.{most_taken}
-use Rattle.bench.specs.Enough.{listing_taken}
+use Rattle.answers.specs.Answer.{most_taken}
+use Rattle.answers.specs.Enough.{listing_taken}
 use Rattle.command_line.specs.declared.request.ByHand.{ByHand}
 use Rattle.command_line.specs.declared.exit.Refusal.{Refusal}
 use Rattle.command_line.specs.declared.exit.Refusal.TheVariants.{Open, Read, Memory, Thread, Write, Trace}

@@ -10,7 +10,7 @@ ghost use Rattle.command_line.specs.Replies.{IfRefused};
 ghost use Rattle.command_line.specs.Exits.{IsOfOneThread, refused};
 ghost use Rattle.command_line.specs.declared.exit.Line.TheVariants.{Nothing};
 
-use bench::MOST_TAKEN;
+use answers::MOST_TAKEN;
 use command_line::{ByHand, Chosen, Exit, Line, Refusal, choose, refused};
 use counted_io::{Counted, Fault, read_up_to, write_whole};
 use instructions::Program;

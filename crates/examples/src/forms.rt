@@ -1,6 +1,7 @@
 //! The forms in which a listing is run: under a command line, from bytes to bytes on one thread, and in order.
 use crate::example::Example;
-use bench::{alone, read_listing};
+use answers::read_listing;
+use bench::alone;
 use command::{asked, go};
 use counted_io::Counted;
 use inorder::{Ended, Machine};

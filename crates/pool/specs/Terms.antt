@@ -7,7 +7,7 @@ use Rattle.front.specs.Stills.{FrontMayEnter, TheStillFront}
 use Rattle.inorder.specs.declared.history.Entry.{Entry}
 use Rattle.inorder.specs.History.{unit_of}
 use Rattle.instructions.specs.Settings.{Settings}
-use Rattle.pool.specs.declared.ends.Refusal.TheVariants.{Thread}
+use Rattle.committing.specs.declared.ends.Refusal.TheVariants.{Thread}
 use Rattle.station.specs.Renewals.{HasNobody}
 use Rattle.station.specs.Seats.{Caller, TheCore}
 use Rattle.workers.specs.Configured.{configured_sizes}
@@ -15,7 +15,7 @@ use Rattle.pool.specs.declared.dispatch.Begin.{Begin}
 use Rattle.pool.specs.declared.dispatch.Begin.TheVariants.{Again, Fresh}
 use Rattle.pool.specs.declared.dispatch.Dispatcher.{Dispatcher}
 use Rattle.pool.specs.declared.terms.Term.{Term}
-use Rattle.pool.specs.Committing.{MayRenewCore, TheCommitter}
+use Rattle.committing.specs.Committing.{MayRenewCore, TheCommitter}
 
 -- The seat is of this core, and a front that has departed from another enters with it
 pub record Enters (core : TheCore) (departed : TheCore) (seen : List Entry) (seat : Caller) : Type 0 where

@@ -7,6 +7,7 @@ ghost use Rattle.pool.specs.declared.dispatch.Stepped.TheVariants.{Ended};
 ghost use Rattle.workers.specs.Deeds.{CountsFrontDeeds};
 ghost use Rattle.workers.specs.Turns.{TurnsAreTaken, IsTakenFrom};
 
+use committing::PATIENCE;
 use counts::{Total, WorkerSeat};
 use front::{Front, FrontStill, Recovery, Rest, Turn};
 use hints::{Hinter, Ring};
@@ -14,9 +15,6 @@ use instructions::Predictor;
 use station::{Core, FrontSeat};
 use std::sync::Wait;
 use workers::{Backoff, Bounds, Gathered, TermShared, Turns};
-
-// After so many fruitless turns a thread lets another one run.
-pub(crate) const PATIENCE: u32 = 4;
 
 // How a turn has ended.
 #[derive(Clone, Copy)]

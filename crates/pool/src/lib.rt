@@ -2,22 +2,14 @@
 //! joined before the answer.
 #![tactic(auto)]
 
-mod answer;
-mod commit;
 mod dispatch;
-mod ends;
 mod making;
-mod places;
-mod ran;
+mod renewal;
 mod running;
-mod snappers;
 mod starting;
 mod terms;
-mod watch;
 
-pub use answer::RunInTurns;
+pub use committing::{Ran, Refusal, Run, RunInTurns, TermRecord};
 pub use counts::Tally;
-pub use ends::{Refusal, Run};
-pub use ran::{Ran, TermRecord};
 pub use running::{run, run_in_turns};
 pub use workers::{Bounds, Gate, Open};

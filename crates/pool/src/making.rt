@@ -4,10 +4,10 @@ ghost use Rattle.counts.specs.Shares.{all_parts};
 ghost use Rattle.pool.specs.Terms.{MayBegin};
 ghost use Rattle.workers.specs.Turns.{untaken};
 
-use crate::commit::Committer;
 use crate::dispatch::{Begin, Dispatcher};
 use crate::terms::{Owned, Term};
 use back::{Back, Naming, Snapper};
+use committing::Committer;
 use counts::{CountSeat, Counts};
 use hints::{Hints, Ring};
 use instructions::{Config, Memory, Predictor, Program};

@@ -1,19 +1,16 @@
 //! Runs a program in threads, and joins them.
 ghost use Rattle.std.specs.Prelude.{◌≡◌, [], IfOk};
+ghost use Rattle.committing.specs.Ended.{HasRun};
+ghost use Rattle.committing.specs.RunEnds.{RunIsRight, IsWithinLimit};
+ghost use Rattle.committing.specs.Runs.{HasTurnsLeft, IsCarriedOut, IsLimit};
 ghost use Rattle.counts.specs.Shares.{all_parts};
-ghost use Rattle.pool.specs.Ended.{HasRun};
-ghost use Rattle.pool.specs.Runs.{HasTurnsLeft, IsCarriedOut, IsLimit};
+ghost use Rattle.pool.specs.RunTurns.{TakesTurns};
 ghost use Rattle.pool.specs.Terms.{MayBegin};
-ghost use Rattle.pool.specs.RunEnds.{RunIsRight, IsWithinLimit, TakesTurns};
 
-use crate::answer::RunInTurns;
-use crate::commit::Committer;
-use crate::ends::{Refusal, Run};
 use crate::making::{RunShared, make, make_state};
-use crate::ran::Ran;
-use crate::snappers::start_snappers;
 use crate::terms::{Term, run_terms};
-use back::{Naming, Snapper};
+use back::Naming;
+use committing::{Committer, Run, RunInTurns, start_snappers, wants_memory};
 use counts::{CountSeat, Counts};
 use hints::Ring;
 use instructions::{Config, Memory, Predictor, Program};
@@ -22,7 +19,7 @@ use std::marker::Brand;
 use std::sync::Wait;
 use std::thread;
 use std::thread::Threads;
-use workers::{Bounds, Gate, RunState, Turns};
+use workers::{Bounds, Gate, RunState};
 
 // Makes the sides of a run, runs its terms in threads, and answers how it ended when each thread has.
 fn run_in_threads<
@@ -86,15 +83,6 @@ fn run_named<
     let ran = run_in_threads::<K, P, G, R>(&*run, &state, count, predictor);
     drop(state);
     ran
-}
-
-// The answer of a run for which memory is wanting before a thread has begun.
-fn wants_memory(config: &Config) -> RunInTurns
-    ensures run { result.run ≡ Run.Refused Refusal.Memory }
-    ensures turns { ((result.ran).turns).all ≡ config.now.turns }
-{
-    let ran = Ran::of(Turns::new(config.turns()), None);
-    RunInTurns::of(Run::Refused(Refusal::Memory), ran)
 }
 
 /// Runs a program on as many unit threads as the configuration says, beside one that dispatches, one

@@ -4,12 +4,12 @@ ghost use Rattle.std.specs.Prelude.{◌≡◌, IfSome};
 ghost use Rattle.pool.specs.Terms.{AreAt, IsReturned, MayBegin, MayCommit};
 ghost use Rattle.workers.specs.Turns.{IsTakenFrom};
 
-use crate::commit::Committer;
 use crate::dispatch::Dispatcher;
 use crate::making::RunShared;
-use crate::places::Places;
+use crate::renewal::renew;
 use crate::starting::start_dispatch;
 use back::Naming;
+use committing::{Committer, Places};
 use counts::WorkerSeat;
 use hints::Ring;
 use instructions::Predictor;
@@ -131,7 +131,7 @@ pub(crate) fn run_terms<
             return;
         };
         let ended = Term { core, owned, count };
-        match committer.renew(run.alloc, state, ended) {
+        match renew(committer, run.alloc, state, ended) {
             Some(next) => term = next,
             None => return,
         }

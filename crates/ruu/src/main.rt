@@ -1,16 +1,15 @@
-//! The program `ruu`, which is `./ruu run`: its words, its file and its standard streams.
+//! The program `ruu`, which is `./ruu run` with `--alone` too: its words, its file and its standard streams.
 #![tactic(auto)]
 
-mod shaker;
-mod teller;
-mod watcher;
-
-use command::{NoRun, asked, end, go, is_standard_input};
-use command_line::{REFUSED, refuse, words};
+use command::go;
+use command_line::{Asked, NoRun, REFUSED, asked, is_standard_input, refuse, words};
 use counted_io::{ClosedStreams, Counted};
+use on_threads::{Watcher, end, watch};
 use std::fs::File;
+use std::io::Read;
 use std::process::ExitCode;
-use watcher::watch;
+use std::sync::Wait;
+use std::thread::Threads;
 
 fn main(rt: HostRuntime) -> ExitCode {
     let Ok(_closed) = ClosedStreams::taken(&rt) else {
@@ -20,24 +19,34 @@ fn main(rt: HostRuntime) -> ExitCode {
         Ok(words) => words,
         Err(no_run) => return refuse(&rt, &no_run),
     };
-    let asked = match asked(rt.alloc(), words.as_slice()) {
-        Ok(asked) => asked,
-        Err(no_run) => return refuse(&rt, &no_run),
-    };
-    let Ok(watcher) = watch(&rt, &asked) else {
-        return refuse(&rt, &NoRun::Memory);
-    };
-    let mut writer = Counted::new(rt.stdout());
-    if is_standard_input(asked.file) {
-        let reader = Some(Counted::new(rt.stdin()));
-        return end(
-            &rt,
-            go(&rt, rt.alloc(), &asked, reader, &mut writer, &watcher),
-        );
+    match asked(rt.alloc(), words.as_slice()) {
+        Ok(asked) => start(&rt, &rt, &asked),
+        Err(no_run) => refuse(&rt, &no_run),
     }
-    let reader = File::open(&rt, asked.file).ok().map(Counted::new);
+}
+
+fn start<T: Threads + Wait + Sync>(wait: &T, rt: &HostRuntime, asked: &Asked<'_>) -> ExitCode {
+    let Ok(watcher) = watch(rt, asked) else {
+        return refuse(rt, &NoRun::Memory);
+    };
+    if is_standard_input(asked.file) {
+        run_from(wait, rt, asked, Some(rt.stdin()), &watcher)
+    } else {
+        run_from(wait, rt, asked, File::open(rt, asked.file).ok(), &watcher)
+    }
+}
+
+fn run_from<T: Threads + Wait + Sync, R: Read + Drop>(
+    wait: &T,
+    rt: &HostRuntime,
+    asked: &Asked<'_>,
+    input: Option<R>,
+    watcher: &Watcher<'_>,
+) -> ExitCode {
+    let reader = input.map(Counted::new);
+    let mut writer = Counted::new(rt.stdout());
     end(
-        &rt,
-        go(&rt, rt.alloc(), &asked, reader, &mut writer, &watcher),
+        rt,
+        go(wait, rt.alloc(), asked, reader, &mut writer, watcher),
     )
 }

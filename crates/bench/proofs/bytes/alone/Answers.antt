@@ -2,8 +2,8 @@ use Rattle.std.proofs.Common.{◌∙◌}
 use Rattle.std.proofs.lemmas.Result.{err_from_is_err_and}
 use Rattle.isa.specs.Listing.{listing}
 use Rattle.counted_io.proofs.Replied.{not_answered, replied}
-use Rattle.bench.specs.Answer.{IsAnswerAlone, most_taken}
-use Rattle.bench.specs.Parsed.{IsParsed}
+use Rattle.answers.specs.Answer.{IsAnswerAlone, most_taken}
+use Rattle.answers.specs.Parsed.{IsParsed}
 use Rattle.bench.proofs.bytes.alone.Goals as goal
 
 pub returns-clause-ok : goal.returns-clause-ok

@@ -2,7 +2,7 @@ use Rattle.std.proofs.Common.{◌≡◌, take}
 use Rattle.std.proofs.lemmas.Result.{err_from_is_err_and}
 use Rattle.counted_io.proofs.Replied.{text_for}
 use Rattle.counted_io.specs.Counted.{known_by, Gives, GivesPart}
-use Rattle.bench.specs.Answer.{most_taken}
+use Rattle.answers.specs.Answer.{most_taken}
 use Rattle.checker.specs.Checked.{IsCheck, IsSomeCheck}
 use Rattle.checker.proofs.WholeInputs.{check_of_taken}
 use Rattle.checker.proofs.checking.answered.Goals as goal

@@ -1,5 +1,5 @@
 use Rattle.counted_io.specs.Counted.{Gives}
-use Rattle.command.proofs.AsAlone.{reader_as_alone}
+use Rattle.on_threads.proofs.AsAlone.{reader_as_alone}
 use Rattle.command.proofs.running.go.Goals as goal
 
 pub returns-in-Ok-clause-same : goal.returns-in-Ok-clause-same

@@ -1,5 +1,5 @@
 use Rattle.std.proofs.Common.{string_bytes}
-use Rattle.command.proofs.Answering.{alone_reports}
+use Rattle.command.proofs.AloneReports.{alone_reports}
 use Rattle.command.proofs.single_thread.report.Goals as goal
 
 pub returns-clause-ok : goal.returns-clause-ok

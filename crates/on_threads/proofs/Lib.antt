@@ -1,0 +1,4 @@
+pub mod Answering
+pub mod AsAlone
+mod ThreadAnswers
+mod WholeRuns

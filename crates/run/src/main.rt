@@ -1,0 +1,66 @@
+//! The program `run`, which is `./ruu run` without `--alone`: its words, its file and its standard streams.
+#![tactic(auto)]
+
+ghost use Rattle.std.specs.Prelude.{◌≡◌, false};
+
+use command_line::{Asked, NoRun, REFUSED, asked, is_standard_input, refuse, words};
+use counted_io::{ClosedStreams, Counted};
+use on_threads::{Watcher, end, go, watch};
+use std::fs::File;
+use std::io::Read;
+use std::process::ExitCode;
+use std::sync::Wait;
+use std::thread::Threads;
+
+fn main(rt: HostRuntime) -> ExitCode {
+    let Ok(_closed) = ClosedStreams::taken(&rt) else {
+        return ExitCode::from(REFUSED);
+    };
+    let words = match words(&rt) {
+        Ok(words) => words,
+        Err(no_run) => return refuse(&rt, &no_run),
+    };
+    match asked(rt.alloc(), words.as_slice()) {
+        Ok(asked) => start(&rt, &rt, &asked),
+        Err(no_run) => refuse(&rt, &no_run),
+    }
+}
+
+fn start<T: Threads + Wait + Sync>(wait: &T, rt: &HostRuntime, asked: &Asked<'_>) -> ExitCode {
+    if asked.alone {
+        return refuse_alone(rt);
+    }
+    let Ok(watcher) = watch(rt, asked) else {
+        return refuse(rt, &NoRun::Memory);
+    };
+    if is_standard_input(asked.file) {
+        run_from(wait, rt, asked, Some(rt.stdin()), &watcher)
+    } else {
+        run_from(wait, rt, asked, File::open(rt, asked.file).ok(), &watcher)
+    }
+}
+
+fn run_from<T: Threads + Wait + Sync, R: Read + Drop>(
+    wait: &T,
+    rt: &HostRuntime,
+    asked: &Asked<'_>,
+    input: Option<R>,
+    watcher: &Watcher<'_>,
+) -> ExitCode
+    requires threads { asked.now.alone ≡ false }
+{
+    let reader = input.map(Counted::new);
+    let mut writer = Counted::new(rt.stdout());
+    end(
+        rt,
+        go(wait, rt.alloc(), asked, reader, &mut writer, watcher),
+    )
+}
+
+// The program `ruu` has the one-thread unit too.
+fn refuse_alone(rt: &HostRuntime) -> ExitCode {
+    match format!(in rt.alloc(); "error: this program has no --alone: the program ruu has it\n") {
+        Ok(text) => refuse(rt, &NoRun::Usage(text)),
+        Err(_) => refuse(rt, &NoRun::Memory),
+    }
+}
