@@ -3,6 +3,7 @@ import copy
 import functools
 import math
 import os
+import random
 import re
 import time
 
@@ -11,13 +12,23 @@ COSTS = f"{os.path.dirname(os.path.realpath(__file__))}/gate.txt"
 UNKNOWN = 60
 
 # A program is built twice in the gate. To keep a proof costs more, in the crates above too, which load it; where one was kept before,
-# only what has changed is proved. A check begins with so many seconds of one processor, and each further job has a share more to do.
+# only what has changed is proved.
 PROGRAM, KEEPING, KEPT = 0.55, 1.3, 0.25
-BEGINNING, FURTHER = 20, 0.17
+
+# A check begins with so many seconds of one processor; of a program's this part is to read. Where several jobs share what follows,
+# they begin with so many more, and it takes more in all, since each forgets what another has found; with each further job they wait
+# for each other more.
+BEGINNING, READING, SHARING, SHARED, WAITING = 15, 0.7, 14, 1.3, 0.08
 
 # What a proof takes at most with one job, and each further job.
 MEMORY, MORE = 1_600_000_000, 900_000_000
 MOST_JOBS = 4
+
+# A crate begins where those before it leave so much of a processor.
+LEAST = 0.3
+
+# So many changes of how many jobs the crates have are tried, before anything begins and each time that a crate is done.
+TRIES, FURTHER_TRIES = 800, 20
 
 
 @functools.lru_cache(maxsize=None)
@@ -36,10 +47,9 @@ def whole(name, is_program, is_kept, was_kept):
     return max(costs().get(name, UNKNOWN), 1) * math.prod(factor for factor, counts in factors if counts)
 
 
-def took(cost, jobs):
-    """About how many seconds go by where so many jobs are at it."""
-    alone = min(cost, BEGINNING)
-    return alone + (cost - alone) * (1 + FURTHER * (jobs - 1)) / jobs
+def alone(cost, is_program):
+    """About how many seconds of a crate's check are those of one job."""
+    return READING * cost if is_program else min(cost, BEGINNING)
 
 
 def below(uses, name):
@@ -80,79 +90,116 @@ def crowding(lanes):
 class Share:
     """What a crate at work has of the processors, and how far it is."""
 
-    def __init__(self, cost, jobs):
-        self.cost, self.jobs = cost, jobs
+    def __init__(self, cost, alone, jobs):
+        self.jobs = jobs
+        work = cost if jobs == 1 else alone + SHARING + SHARED * (cost - alone)
         # the seconds that it takes where nobody else is at work, as planned, those of them that are left, and how many it had
-        self.planned = self.rest = took(cost, jobs)
+        self.planned = self.rest = alone + (work - alone) * (1 + WAITING * (jobs - 1)) / jobs
         self.had = 0.0
+        # how many processors it has at work, on the mean, where there are enough
+        self.use = work / self.planned
+        # the seconds that the longest chain of crates takes that waits for it
+        self.behind = 0.0
 
     def memory(self):
         return MEMORY + MORE * (self.jobs - 1)
 
-    def left(self):
-        """How many seconds of one processor its work still takes."""
-        return self.cost * self.rest / self.planned
-
-    def use(self):
-        """How many processors it has at work, where there are enough."""
-        return 1 + (self.jobs - 1) * (1 - min(self.cost, BEGINNING) / self.planned)
+    def chain(self):
+        """The seconds until the last of those that wait for it is proved."""
+        return self.rest + self.behind
 
 
 class Plan:
-    """Which crates are at work and which wait for them, and what is to begin next: for the work, and to foresee how long it takes."""
+    """Which crates are at work and which wait for them, and what is to begin next: for the work, and to foresee how long it takes.
+
+    The crate for which most waits begins at once, and the others have the processors that it leaves. One job for each crate takes
+    the least work, but then what waits for a long chain of crates finds processors idle. So changes of how many jobs each crate is
+    to have are tried on the plan, and those stay with which all is done sooner."""
 
     def __init__(self, uses, cost, programs, lanes, memory):
-        self.uses, self.cost, self.programs, self.lanes, self.memory = uses, cost, programs, lanes, memory
-        self.waiting, self.running = list(cost), {}
+        self.uses, self.cost, self.lanes, self.memory = uses, cost, lanes, memory
+        self.waiting, self.running = [*cost], {}
+        # what stands on each crate
+        self.above = {it: [one for one in cost if it in uses[one]] for it in cost}
         self.highest = sorted(cost, key=lambda it: -len(below(uses, it)))
+        self.alone = {it: alone(cost[it], it in programs) for it in cost}
+        self.jobs = dict.fromkeys(cost, 1)
+        self.random = random.Random(1)
+        self.improve(TRIES)
 
-    def chains(self):
-        """Of each crate that is not proved, the seconds until the last of those that wait for it is."""
-        left = {**{it: self.cost[it] for it in self.waiting}, **{it: one.left() for it, one in self.running.items()}}
-        longest = {}
-        for name in filter(left.__contains__, self.highest):
-            above = [seconds for it, seconds in longest.items() if name in self.uses[it]]
-            longest[name] = left[name] + max(above, default=0)
+    def improve(self, tries):
+        """Tries other numbers of jobs for the crates that wait."""
+        least = self.foreseen()
+        for _ in range(tries if self.waiting else 0):
+            name = self.random.choice(self.waiting)
+            before, self.jobs[name] = self.jobs[name], self.random.randint(1, min(MOST_JOBS, self.lanes))
+            seconds = self.foreseen()
+            # a job more has to be worth a second
+            if seconds + self.jobs[name] > least + before:
+                self.jobs[name] = before
+            else:
+                least = seconds
+
+    def share(self, name):
+        """A crate with as many jobs as it is to have."""
+        return Share(self.cost[name], self.alone[name], self.jobs[name])
+
+    def behind(self):
+        """Of each crate that waits or is at work, the seconds that the longest chain of crates takes that waits for it."""
+        longest, waiting = {}, {*self.waiting}
+        for name in self.highest:
+            if name in waiting or name in self.running:
+                longest[name] = max((self.share(it).planned + longest[it] for it in self.above[name]), default=0)
         return longest
 
-    def start(self):
-        """Begins what can begin, and returns it. The crate that most waits for has about that share of the processors which what waits
-        for it has of all that is left. Each other library has two jobs: one costs less in all, but then what is last waits for it. A
-        program has one, since most of its check is to read. There is one job more than there are processors, or two."""
-        chain, begun = self.chains(), []
-        left = sum(self.cost[it] for it in self.waiting) + sum(it.left() for it in self.running.values())
-        while ready := [it for it in self.waiting if not any(one in self.waiting or one in self.running for one in self.uses[it])]:
-            name = max(ready, key=chain.get)
-            room = self.memory - sum(it.memory() for it in self.running.values())
-            if self.running and (room < MEMORY or sum(it.jobs for it in self.running.values()) > self.lanes):
-                break
-            leads = name not in self.programs and chain[name] >= max((chain[it] for it in self.running), default=0)
-            others = 1 if name in self.programs else 2
-            share = math.ceil(self.lanes * chain[name] / left - 0.2) if leads else others
-            jobs = max(min(share, MOST_JOBS, 1 + int((room - MEMORY) / MORE)), 1)
-            self.waiting.remove(name)
-            self.running[name] = Share(self.cost[name], jobs)
-            begun.append(name)
+    def order(self):
+        """The crates at work, the one for which most waits first."""
+        return sorted(self.running, key=lambda it: self.running[it].chain(), reverse=True)
+
+    def slack(self):
+        """Of each crate at work, how many seconds later it may end than the one for which most waits."""
+        most = max((it.chain() for it in self.running.values()), default=0)
+        return {name: most - it.chain() for name, it in self.running.items()}
+
+    def start(self, behind=None):
+        """Begins what can begin, and returns it: where those for which more waits leave a processor."""
+        behind, begun = behind or self.behind(), []
+        busy = {*self.waiting, *self.running}
+        ready = {it: self.share(it) for it in self.waiting if busy.isdisjoint(self.uses[it])}
+        for name, share in ready.items():
+            share.behind = behind[name]
+        both = {**self.running, **ready}
+        left, room = self.lanes, self.memory - sum(it.memory() for it in self.running.values())
+        for name in sorted(both, key=lambda it: both[it].chain(), reverse=True):
+            share = both[name]
+            if name in ready:
+                room -= share.memory()
+                if self.running and (left < LEAST or room < 0):
+                    break
+                self.waiting.remove(name)
+                self.running[name] = share
+                begun.append(name)
+            left -= share.use
         return begun
 
     def rates(self):
-        """How fast each crate is, where it would be as planned with enough processors for all. They have like shares of the processors,
-        whatever their jobs, since each is at work in a session of its own; what one leaves of its share is for the others."""
-        free, rates = self.lanes, {}
-        for name, it in sorted(self.running.items(), key=lambda it: it[1].use()):
-            has = min(it.use(), free / (len(self.running) - len(rates)))
-            rates[name] = has / it.use()
-            free -= has
+        """How fast each crate at work is, where it would be as planned with enough processors for all: those for which less waits
+        have the processors that the others leave."""
+        left, rates = self.lanes, {}
+        for name in self.order():
+            use = self.running[name].use
+            rates[name] = min(left / use, 1)
+            left -= rates[name] * use
         return rates
 
     def foreseen(self):
         """How many seconds it takes from now on, if all goes as planned."""
-        plan, seconds = copy.copy(self), 0
+        plan, seconds, behind = copy.copy(self), 0, self.behind()
         plan.waiting, plan.running = [*self.waiting], {name: copy.copy(it) for name, it in self.running.items()}
         while plan.waiting or plan.running:
-            plan.start()
+            plan.start(behind)
             rates = plan.rates()
-            first = min(it.rest / rates[name] for name, it in plan.running.items())
+            first = min(it.rest / rates[name] for name, it in plan.running.items() if rates[name] > 0)
             seconds += first
             for name, it in plan.running.items():
                 it.rest -= first * rates[name]

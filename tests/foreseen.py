@@ -16,19 +16,22 @@ PROGRAMS = ["ruu", "checker", "chart", "commits", "drive", "listing"]
 
 
 class World:
-    """The machine: crates at work share its processors evenly with `load` others."""
+    """The machine: `load` others have an even share of its processors, and of the crates at work the nicer ones what is left."""
 
-    def __init__(self, slow=1.0, spread=1.0, beginning=12, further=0.17, load=0):
-        self.slow, self.spread, self.beginning, self.further, self.load = slow, spread, beginning, further, load
+    def __init__(self, slow=1.0, spread=1.0, beginning=15, shared=1.4, load=0):
+        self.slow, self.spread, self.beginning, self.shared, self.load = slow, spread, beginning, shared, load
         self.now, self.running = 0.0, []
 
     def monotonic(self):
         return self.now
 
     def sleep(self, _):
-        uses = sum(it.use for it in self.running) + self.load
-        for it in self.running:
-            it.rest -= TICK * min(1, LANES / max(uses, 1))
+        uses = sum(it.use for it in self.running)
+        left = LANES * min(1, max(uses / max(uses + self.load, 1), 1 - self.load / LANES))
+        for it in sorted(self.running, key=lambda it: it.slack):
+            had = min(it.use, left)
+            it.rest -= TICK * had / it.use
+            left -= had
         self.now += TICK
 
 
@@ -41,9 +44,13 @@ class Proof:
         by_chance = random.Random(name).uniform(1 / world.spread, world.spread)
         cost = prove.whole(name, prove.is_program(name), is_kept, False) * world.slow * by_chance
         alone = min(cost, world.beginning * world.slow)
-        self.world, self.rest = world, alone + (cost - alone) * (1 + world.further * (jobs - 1)) / jobs
-        self.use = 1 + (jobs - 1) * (1 - alone / self.rest)
+        more = (cost - alone) * (world.shared if jobs > 1 else 1)
+        self.world, self.rest = world, alone + more * (1 + 0.08 * (jobs - 1)) / jobs
+        self.use, self.slack = (alone + more) / self.rest, 0
         world.running.append(self)
+
+    def give_way(self, slack):
+        self.slack = slack
 
     def has_ended(self):
         return self.rest <= 0
@@ -79,7 +86,7 @@ def told_in(world, names, is_kept):
 
 
 def main():
-    worlds = [{}, {"spread": 1.5}, {"beginning": 30}, {"further": 0.3}, {"load": 2}, {"load": 4}]
+    worlds = [{}, {"spread": 1.5}, {"beginning": 30}, {"shared": 1.7}, {"load": 2}, {"load": 4}]
     others = [{"slow": 1.6}, {"slow": 0.6}, {"slow": 2.5, "spread": 1.4}]
     wrong = count = 0
     for names, is_kept in ((["ruu"], False), (PROGRAMS, False), ([], True)):
