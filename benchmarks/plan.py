@@ -24,8 +24,9 @@ BEGINNING, READING, SHARING, SHARED, WAITING = 15, 0.7, 14, 1.3, 0.08
 MEMORY, MORE = 1_600_000_000, 900_000_000
 MOST_JOBS = 4
 
-# A crate begins where those before it leave so much of a processor.
-LEAST = 0.3
+# A crate begins unless those before it want more than so many processors that are not there: several jobs at times want less than as
+# planned, and those for which less waits are nicer.
+BEYOND = 1
 
 # So many changes of how many jobs the crates have are tried, before anything begins and each time that a crate is done.
 TRIES, FURTHER_TRIES = 800, 20
@@ -162,7 +163,7 @@ class Plan:
         return {name: most - it.chain() for name, it in self.running.items()}
 
     def start(self, behind=None):
-        """Begins what can begin, and returns it: where those for which more waits leave a processor."""
+        """Begins what can begin, and returns it."""
         behind, begun = behind or self.behind(), []
         busy = {*self.waiting, *self.running}
         ready = {it: self.share(it) for it in self.waiting if busy.isdisjoint(self.uses[it])}
@@ -174,7 +175,7 @@ class Plan:
             share = both[name]
             if name in ready:
                 room -= share.memory()
-                if self.running and (left < LEAST or room < 0):
+                if self.running and (left < -BEYOND or room < 0):
                     break
                 self.waiting.remove(name)
                 self.running[name] = share
