@@ -8,7 +8,7 @@ use Rattle.inorder.specs.History.{IsLegal, back, taken_of, unit_of}
 use Rattle.inorder.specs.OneHistory.{Adds}
 use Rattle.inorder.specs.Replies.{Has}
 use Rattle.inorder.specs.StationWords.{IsAddr, IsBusy, IsDone, IsFree, IsMiss, IsOpen, IsStop, HasFate, StationState as State, live_word, station_word}
-use Rattle.inorder.specs.Tenants.{Addr, Busy, Done, Fate, Live, Miss, Open, Stopped, Tenant}
+use Rattle.inorder.specs.Tenants.{Addr, Busy, Done, Fate, Guessed, Live, Miss, Open, Stopped, Tenant}
 use Rattle.inorder.specs.Unit.{Sizes, at, recent, younger}
 use Rattle.inorder.proofs.Histories.{allowed_steps}
 use Rattle.inorder.proofs.Positions.{younger_at}
@@ -90,6 +90,7 @@ module _ (P : Program) (C : Sizes) (h : List Entry) (legal : IsLegal P C h) wher
       tag_of_word g (Busy by) = refl
       tag_of_word g (Addr a) = refl
       tag_of_word g (Done v) = refl
+      tag_of_word g (Guessed x) = refl
       tag_of_word g (Miss x) = refl
       tag_of_word g (Stopped c) = refl
 

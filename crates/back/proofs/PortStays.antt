@@ -4,7 +4,7 @@ use Rattle.std.proofs.lemmas.Option.{same_Some}
 use Rattle.instructions.specs.Instruction.{kind}
 use Rattle.instructions.specs.Programs.{Program, instr_of}
 use Rattle.inorder.specs.declared.history.Act.{Act}
-use Rattle.inorder.specs.declared.history.Act.TheVariants.{Claim, Deliver, Finish, Link, Load as LoadIt, Mend, Retire, Squash}
+use Rattle.inorder.specs.declared.history.Act.TheVariants.{Claim, Deliver, Finish, Link, Load as LoadIt, Mend, Retire, Speculate, Squash}
 use Rattle.inorder.specs.declared.history.Entry.{Entry}
 use Rattle.inorder.specs.declared.history.Source.TheVariants.{First, Second}
 use Rattle.inorder.specs.declared.history.Step.{Step}
@@ -44,6 +44,7 @@ addr_live P by Finish ys t ts x b m l e = let f = m.fate in absurd (cc)
 addr_live P by LoadIt ys t ts x b m l e = absurd b
 addr_live P by (Retire n) ys t ts x b m l e = absurd b
 addr_live P by Squash ys t ts x b m l e = inr refl
+addr_live P by (Speculate s) ys t ts x b m l e = absurd b
 addr_live P by Mend ys t ts x b m l e = let f = m.fate in absurd (cc)
 
 -- what a step of others leaves of a tenant

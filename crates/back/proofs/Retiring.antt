@@ -15,7 +15,7 @@ use Rattle.inorder.specs.Committed.{ahead, ahead_by, commits, commits_by, commit
 use Rattle.inorder.specs.Legal.{Allowed, applied}
 use Rattle.inorder.specs.Machine.{State}
 use Rattle.inorder.specs.Steps.{IsNoRetiredStop, retired}
-use Rattle.inorder.specs.Tenants.{Addr, Busy, Done, Fate, IsNotLive, Live, Miss, Open, Retired, Squashed, Standing, Stopped, Tenant, instr, is_first, stands_on_path}
+use Rattle.inorder.specs.Tenants.{Addr, Busy, Done, Fate, Guessed, IsNotLive, Live, Miss, Open, Retired, Squashed, Standing, Stopped, Tenant, instr, is_first, stands_on_path}
 use Rattle.inorder.specs.Unit.{at, front_half, how_many, older, recent, Sizes, UpdateUnit, younger}
 use Rattle.inorder.proofs.AheadKept.{ahead_by_retire}
 use Rattle.inorder.proofs.Basics.{fetched_at, split_at}
@@ -45,6 +45,7 @@ settled_by Retired Open n g = tt
 settled_by Retired (Busy by) n g = tt
 settled_by Retired (Addr a) n g = tt
 settled_by Retired (Done v) n g = tt
+settled_by Retired (Guessed x) n g = tt
 settled_by Retired (Miss x) n g = tt
 settled_by Retired (Stopped c) n g = absurd (g refl c refl)
 

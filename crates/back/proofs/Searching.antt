@@ -14,7 +14,7 @@ use Rattle.inorder.specs.declared.history.Entry.{Entry}
 use Rattle.inorder.specs.History.{back, unit_of}
 use Rattle.inorder.specs.OneHistory.{Adds}
 use Rattle.inorder.specs.Loads.{address_by, entry_of, is_store}
-use Rattle.inorder.specs.Tenants.{Addr, Busy, Done, Fate, Miss, Open, Stopped, Tenant, computed, kind_of}
+use Rattle.inorder.specs.Tenants.{Addr, Busy, Done, Fate, Guessed, Miss, Open, Stopped, Tenant, computed, kind_of}
 use Rattle.inorder.specs.Unit.{Sizes, UpdateUnit}
 use Rattle.inorder.proofs.QueueBytes.{store_is}
 use Rattle.inorder.proofs.Pairs.{and_left}
@@ -29,6 +29,7 @@ by_stores Open o = refl
 by_stores (Busy by) o = refl
 by_stores (Addr a) o = refl
 by_stores (Done v) o = refl
+by_stores (Guessed x) o = refl
 by_stores (Miss x) o = refl
 by_stores (Stopped c) o = refl
 
@@ -37,6 +38,7 @@ address_back Open b e = absurd (cc e)
 address_back (Busy by) b e = absurd (cc e)
 address_back (Addr a) b e = ap Addr (cc e)
 address_back (Done v) b e = absurd (cc e)
+address_back (Guessed x) b e = absurd (cc e)
 address_back (Miss x) b e = absurd (cc e)
 address_back (Stopped c) b e = absurd (cc e)
 

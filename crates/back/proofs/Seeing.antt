@@ -6,7 +6,7 @@ use Rattle.inorder.specs.declared.history.Entry.{Entry}
 use Rattle.inorder.specs.History.{IsLegal, back, taken_of, unit_of}
 use Rattle.inorder.specs.OneHistory.{Adds}
 use Rattle.inorder.specs.StationWords.{live_word, station_word}
-use Rattle.inorder.specs.Tenants.{Addr, Busy, Done, Fate, Live, Miss, Open, Stopped, Tenant}
+use Rattle.inorder.specs.Tenants.{Addr, Busy, Done, Fate, Guessed, Live, Miss, Open, Stopped, Tenant}
 use Rattle.inorder.specs.Unit.{Sizes, at, older, recent, younger}
 use Rattle.inorder.proofs.Basics.{split_at}
 use Rattle.inorder.proofs.Grows.{sound_mid}
@@ -43,6 +43,7 @@ by_fate tag v Open h = refl
 by_fate tag v (Busy by) h = refl
 by_fate tag v (Addr a) h = ap Some h
 by_fate tag v (Done x) h = refl
+by_fate tag v (Guessed x) h = refl
 by_fate tag v (Miss x) h = refl
 by_fate tag v (Stopped c) h = refl
 

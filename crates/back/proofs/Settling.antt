@@ -6,7 +6,7 @@ use mathlib.Core.Logic.{dite}
 use native.Mathlib.Decide.{ℕ_discrete}
 use Rattle.instructions.specs.Programs.{Program}
 use Rattle.inorder.specs.declared.history.Act.{Act}
-use Rattle.inorder.specs.declared.history.Act.TheVariants.{Claim, Deliver, Finish, Link, Load as LoadIt, Mend, Retire, Squash}
+use Rattle.inorder.specs.declared.history.Act.TheVariants.{Claim, Deliver, Finish, Link, Load as LoadIt, Mend, Retire, Speculate, Squash}
 use Rattle.inorder.specs.declared.history.Entry.{Entry}
 use Rattle.inorder.specs.declared.history.Event.{Event}
 use Rattle.inorder.specs.declared.history.Event.TheVariants.{Does, Refuses}
@@ -41,6 +41,7 @@ use Rattle.back.proofs.PortStays.{asked_stays}
 use Rattle.back.proofs.Moments.{once_earlier, once_later, once_now}
 use Rattle.instructions.proofs.Histories.{starts_on}
 use Rattle.inorder.proofs.Recent.{live_is_recent}
+use Rattle.inorder.specs.declared.history.Speculation.TheVariants.{Confirm, Flush, Guess}
 
 apart : Live ≡ Squashed → ⊥
 apart x = cc x
@@ -57,6 +58,9 @@ done_on P by Finish ys t ts v m e = let x = sym e ∙ m.fate in absurd (cc x)
 done_on P by LoadIt ys t ts v m e = let x = sym e ∙ m.fate in absurd (cc x)
 done_on P by (Retire n) ys t ts v m e = e
 done_on P by Squash ys t ts v m e = e
+done_on P by (Speculate (Guess w)) ys t ts v m e = let x = sym e ∙ m.fate in absurd (cc x)
+done_on P by (Speculate Confirm) ys t ts v m e = let x = sym e ∙ m.fate in absurd (cc x)
+done_on P by (Speculate Flush) ys t ts v m e = e
 done_on P by Mend ys t ts v m e = let x = sym e ∙ m.fate in absurd (cc x)
 
 done_stays : (P : Program) (C : Sizes) (p v : ℕ) (U : UpdateUnit) (by : ℕ) (s : Step) → Allowed P C U by s → Has U p (λ t. t.fate ≡ Done v) → Has (applied P C U by s) p (λ t. t.fate ≡ Done v)

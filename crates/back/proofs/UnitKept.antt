@@ -8,7 +8,7 @@ use native.Mathlib.Decide.{ℕ_discrete}
 use Rattle.instructions.specs.Programs.{Program, instr_at}
 use Rattle.instructions.specs.declared.stop.Stop.{Stop}
 use Rattle.inorder.specs.declared.history.Act.{Act}
-use Rattle.inorder.specs.declared.history.Act.TheVariants.{Claim, Deliver, Finish, Link, Load, Mend, Retire, Squash}
+use Rattle.inorder.specs.declared.history.Act.TheVariants.{Claim, Deliver, Finish, Link, Load, Mend, Retire, Speculate, Squash}
 use Rattle.inorder.specs.declared.history.Entry.{Entry}
 use Rattle.inorder.specs.declared.history.Event.{Event}
 use Rattle.inorder.specs.declared.history.Event.TheVariants.{Does, Marks, Refuses}
@@ -28,7 +28,7 @@ use Rattle.inorder.specs.Tenants.{Retired, Tenant}
 use Rattle.inorder.specs.Unit.{Sizes, UpdateUnit, older, younger}
 use Rattle.inorder.proofs.AheadKept.{ahead_by_others}
 use Rattle.inorder.proofs.Commits.{by_others}
-use Rattle.inorder.proofs.Ends.{Acted, IsNotBacks, exact}
+use Rattle.inorder.proofs.Ends.{Acted, IsNotBacks, IsPlainAct, exact}
 use Rattle.inorder.proofs.Heads.{goes_on_stays, head_stays, live_goes_on}
 use Rattle.inorder.proofs.Histories.{legal_before, unit_sound, none_between, own_here, own_else}
 use Rattle.inorder.proofs.Moves.{IsActed, IsLeft, at_changed, came}
@@ -40,6 +40,7 @@ use Rattle.back.specs.Kept.WhyEnded.{ByStop, Nowhere}
 use Rattle.instructions.specs.Histories.{IsWithin}
 use Rattle.back.proofs.OwnEntries.{added_legal, added_own, heads}
 use Rattle.inorder.proofs.Recent.{counts_same}
+use Rattle.inorder.proofs.Speculating.{speculates_live}
 
 -- Steps
 
@@ -57,15 +58,23 @@ goes_on_load P C U by p a ok g q u is =
     (λ (z : IsLeft P us by p Load q was.tenant). subst IsNoRetiredStop (same_Some was.tenant u (sym z.now ∙ is)) (g q was.tenant was.is))
     (at_changed P us by p Load a.tenant a.is q was.tenant was.is)
 
--- a step that is neither a retirement nor a renewal
+-- a step that is neither a retirement nor a renewal, and no speculation
 abbrev pub IsPlain : Step → Type 0
 IsPlain (Let index predicted first second) = Unit {0}
-IsPlain (On p act) = IsNoRetire (On p act)
+IsPlain (On p act) = IsPlainAct act
 IsPlain Renew = ⊥
 
 pub no_retire : (s : Step) → IsPlain s → IsNoRetire s
 no_retire (Let index predicted first second) n = tt
-no_retire (On p act) n = n
+no_retire (On p (Link k)) n = tt
+no_retire (On p (Deliver k)) n = tt
+no_retire (On p Claim) n = tt
+no_retire (On p Finish) n = tt
+no_retire (On p Load) n = tt
+no_retire (On p (Retire k)) n = absurd n
+no_retire (On p Squash) n = tt
+no_retire (On p Mend) n = tt
+no_retire (On p (Speculate s)) n = tt
 no_retire Renew n = absurd n
 
 pub head_kept : (P : Program) (C : Sizes) (U : UpdateUnit) (by : ℕ) (s : Step) → IsPlain s → Allowed P C U by s → head_station C (applied P C U by s) ≡ head_station C U
@@ -78,6 +87,7 @@ head_kept P C U by (On p (Deliver k)) n a = head_stays P C U by (On p (Deliver k
 head_kept P C U by (On p Claim) n a = head_stays P C U by (On p Claim) tt a
 head_kept P C U by (On p Finish) n a = head_stays P C U by (On p Finish) tt a
 head_kept P C U by (On p Squash) n a = head_stays P C U by (On p Squash) tt a
+head_kept P C U by (On p (Speculate s)) n a = absurd n
 head_kept P C U by (On p Mend) n a = head_stays P C U by (On p Mend) tt a
 
 goes_on_kept : (P : Program) (C : Sizes) (U : UpdateUnit) (by : ℕ) (s : Step) → IsPlain s → Allowed P C U by s → IsSound P U.tenants → GoesOn U → GoesOn (applied P C U by s)
@@ -90,6 +100,7 @@ goes_on_kept P C U by (On p (Deliver k)) n a ok g = goes_on_stays P C U by (On p
 goes_on_kept P C U by (On p Claim) n a ok g = goes_on_stays P C U by (On p Claim) tt a ok g
 goes_on_kept P C U by (On p Finish) n a ok g = goes_on_stays P C U by (On p Finish) tt a ok g
 goes_on_kept P C U by (On p Squash) n a ok g = goes_on_stays P C U by (On p Squash) tt a ok g
+goes_on_kept P C U by (On p (Speculate s)) n a ok g = absurd n
 goes_on_kept P C U by (On p Mend) n a ok g = goes_on_stays P C U by (On p Mend) tt a ok g
 
 -- a retired tenant stays retired, with its fate
@@ -107,6 +118,7 @@ gone_on P by Finish ys t ts m r = let x = sym m.live ∙ r in absurd (cc x)
 gone_on P by Load ys t ts m r = let x = sym m.live ∙ r in absurd (cc x)
 gone_on P by (Retire n) ys t ts m r = let x = sym m.live ∙ r in absurd (cc x)
 gone_on P by Squash ys t ts m r = let x = sym m.live ∙ r in absurd (cc x)
+gone_on P by (Speculate s) ys t ts m r = let x = sym (speculates_live P s ys t ts m) ∙ r in absurd (cc x)
 gone_on P by Mend ys t ts m r = let x = sym m.live ∙ r in absurd (cc x)
 
 stop_kept : (P : Program) (C : Sizes) (U : UpdateUnit) (by : ℕ) (s : Step) (p : ℕ) (code : Stop) →
@@ -156,6 +168,7 @@ not_retire (On p Finish) b = tt
 not_retire (On p Load) b = tt
 not_retire (On p (Retire n)) b = absurd b
 not_retire (On p Squash) b = tt
+not_retire (On p (Speculate s)) b = absurd b
 not_retire (On p Mend) b = tt
 
 -- others retire nothing, where nothing is renewed

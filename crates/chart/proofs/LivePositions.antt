@@ -4,7 +4,7 @@ use Rattle.std.proofs.lemmas.List.{append-nil}
 use Rattle.std.specs.List.{AllByRecursion}
 use Rattle.instructions.specs.Programs.{Program}
 use Rattle.inorder.specs.declared.history.Act.{Act}
-use Rattle.inorder.specs.declared.history.Act.TheVariants.{Claim, Deliver, Finish, Link, Load, Mend, Retire, Squash}
+use Rattle.inorder.specs.declared.history.Act.TheVariants.{Claim, Deliver, Finish, Link, Load, Mend, Retire, Speculate, Squash}
 use Rattle.inorder.specs.declared.history.Source.TheVariants.{First, Second}
 use Rattle.inorder.specs.declared.history.Step.{Step}
 use Rattle.inorder.specs.declared.history.Step.TheVariants.{Let, On, Renew}
@@ -95,6 +95,7 @@ oldest_leaves t t' ts (y ∷ ys) n live gone = go (is_live y) refl (oldest_leave
 abbrev pub IsQuietAct : Act → Type 0
 IsQuietAct Squash = ⊥
 IsQuietAct (Retire n) = ⊥
+IsQuietAct (Speculate s) = ⊥
 IsQuietAct act = Unit {0}
 
 abbrev pub IsQuiet : Step → Type 0
@@ -111,6 +112,7 @@ act_stays P by Finish t ts q = (finished_station t (computed P t)).1
 act_stays P by Load t ts q = refl
 act_stays P by (Retire n) t ts q = absurd q
 act_stays P by Squash t ts q = absurd q
+act_stays P by (Speculate s) t ts q = absurd q
 act_stays P by Mend t ts q = (mended_station t t.fate).1
 
 -- a position of who was squashed
@@ -252,6 +254,7 @@ module _ (P : Program) (C : Sizes) (by : ℕ) where
   squash_once U (On p Finish) q m = absurd q
   squash_once U (On p Load) q m = absurd q
   squash_once U (On p (Retire n)) q m = absurd q
+  squash_once U (On p (Speculate s)) q m = absurd q
   squash_once U (On p Mend) q m = absurd q
 
   squash_keeps : (U : UpdateUnit) (s : Step) → IsSquash s → MayTake P C U by s → (q : ℕ) → IsSquashed U.tenants q → IsSquashed (applied P C U by s).tenants q
@@ -264,6 +267,7 @@ module _ (P : Program) (C : Sizes) (by : ℕ) where
   squash_keeps U (On p Finish) i m q h = absurd i
   squash_keeps U (On p Load) i m q h = absurd i
   squash_keeps U (On p (Retire n)) i m q h = absurd i
+  squash_keeps U (On p (Speculate s)) i m q h = absurd i
   squash_keeps U (On p Mend) i m q h = absurd i
 
   pub squash_run : (U : UpdateUnit) (ss : List Step) → AllByRecursion IsSquash ss → MayRun P C by U ss → Fewer U.tenants (run_on P C by U ss).tenants

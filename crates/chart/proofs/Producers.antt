@@ -2,7 +2,7 @@
 use Rattle.std.proofs.Common.{◌≡◌, ◌<◌, ℕ, zero, suc, Bool, true, false, cond, ◌&&◌, eqb, ltb, ltb-true, List, [], ◌∷◌, ◌++◌, length, map, Option, Some, None, refl, sym, ap, ◌∙◌, subst, arith}
 use Rattle.std.specs.List.{AllByRecursion}
 use Rattle.instructions.specs.Programs.{Program}
-use Rattle.inorder.specs.declared.history.Act.TheVariants.{Claim, Deliver, Finish, Link, Load, Mend, Retire, Squash}
+use Rattle.inorder.specs.declared.history.Act.TheVariants.{Claim, Deliver, Finish, Link, Load, Mend, Retire, Speculate, Squash}
 use Rattle.inorder.specs.declared.history.Source.{Source}
 use Rattle.inorder.specs.declared.history.Source.TheVariants.{First, Second}
 use Rattle.inorder.specs.declared.history.Step.{Step}
@@ -56,6 +56,7 @@ module _ (P : Program) (C : Sizes) (by : ℕ) where
   linked_once U (On p Finish) q m = absurd q
   linked_once U (On p Load) q m = absurd q
   linked_once U (On p (Retire n)) q m = absurd q
+  linked_once U (On p (Speculate s)) q m = absurd q
   linked_once U (On p Mend) q m = absurd q
 
   linked_after : (U : UpdateUnit) (more ss : List Step) → AllByRecursion IsLink more → MayRun P C by U (more ++ ss) →

@@ -5,7 +5,7 @@ use Rattle.std.specs.List.{AllByRecursion}
 use Rattle.std.specs.Prelude.{nat_lt}
 use Rattle.instructions.specs.Programs.{Program}
 use Rattle.inorder.specs.declared.history.Act.{Act}
-use Rattle.inorder.specs.declared.history.Act.TheVariants.{Claim, Deliver, Finish, Link, Load, Mend, Retire, Squash}
+use Rattle.inorder.specs.declared.history.Act.TheVariants.{Claim, Deliver, Finish, Link, Load, Mend, Retire, Speculate, Squash}
 use Rattle.inorder.specs.declared.history.Source.TheVariants.{First, Second}
 use Rattle.inorder.specs.declared.history.Step.{Step}
 use Rattle.inorder.specs.declared.history.Step.TheVariants.{Let as LetStep, On, Renew}
@@ -29,6 +29,7 @@ use Rattle.chart.specs.Watched.{AreTurns, Passed, unit_behind, kept_behind}
 use Rattle.counted_io.specs.Counted.{counted, raised}
 use Rattle.chart.proofs.RowsNamed.{Named, named, positions_length, row_count}
 use Rattle.chart.proofs.TurnPositions.{grows, retires}
+use Rattle.inorder.specs.declared.history.Speculation.TheVariants.{Confirm, Flush, Guess}
 
 -- Steps
 
@@ -43,6 +44,9 @@ act_counts P by Finish ys t ts m p q = ap stands_retired (finished_station t (co
 act_counts P by Load ys t ts m p q = refl
 act_counts P by (Retire n) ys t ts m p q = absurd q
 act_counts P by Squash ys t ts m p q = sym (ap stands_retired m.live)
+act_counts P by (Speculate (Guess v)) ys t ts m p q = refl
+act_counts P by (Speculate Confirm) ys t ts m p q = refl
+act_counts P by (Speculate Flush) ys t ts m p q = sym (ap stands_retired m.live)
 act_counts P by Mend ys t ts m p q = ap stands_retired (mended_station t t.fate).1
 
 -- one more has retired

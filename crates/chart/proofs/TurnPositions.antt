@@ -1,7 +1,7 @@
 -- What a turn does to the positions of the live tenants.
 use Rattle.std.proofs.Common.{◌≤◌, List, [], ◌∷◌, ◌++◌, length, refl, sym, ap, ◌∙◌, subst, arith}
 use Rattle.instructions.specs.Programs.{Program}
-use Rattle.inorder.specs.declared.history.Act.TheVariants.{Claim, Finish, Load, Mend, Retire}
+use Rattle.inorder.specs.declared.history.Act.TheVariants.{Claim, Finish, Load, Mend, Retire, Speculate}
 use Rattle.inorder.specs.declared.history.Step.{Step}
 use Rattle.inorder.specs.declared.history.Step.TheVariants.{Let as LetStep, On}
 use Rattle.inorder.specs.declared.history.Act.TheVariants as act
@@ -26,6 +26,7 @@ deliver_is_quiet (On p Claim) h = absurd h
 deliver_is_quiet (On p Finish) h = absurd h
 deliver_is_quiet (On p Load) h = absurd h
 deliver_is_quiet (On p (Retire n)) h = absurd h
+deliver_is_quiet (On p (Speculate s)) h = absurd h
 deliver_is_quiet (On p Mend) h = absurd h
 
 link_is_quiet : (s : Step) → IsLink s → IsQuiet s
@@ -38,6 +39,7 @@ link_is_quiet (On p Claim) h = absurd h
 link_is_quiet (On p Finish) h = absurd h
 link_is_quiet (On p Load) h = absurd h
 link_is_quiet (On p (Retire n)) h = absurd h
+link_is_quiet (On p (Speculate s)) h = absurd h
 link_is_quiet (On p Mend) h = absurd h
 
 module _ (P : Program) (C : Sizes) (U V : UpdateUnit) where

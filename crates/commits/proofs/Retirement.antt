@@ -12,7 +12,7 @@ use Rattle.inorder.specs.Machine.{write}
 use Rattle.inorder.specs.Moves.{IsReached}
 use Rattle.inorder.specs.Runs.{end_from}
 use Rattle.inorder.specs.Steps.{IsNoRetiredStop, MayRetire, made_at_end, retired}
-use Rattle.inorder.specs.Tenants.{Addr, Busy, Done, Fate, IsNotLive, Live, Miss, Open, Retired as RetiredStanding, Squashed, Standing, Stopped, Tenant, destination_of, instr, is_first, stands_on_path}
+use Rattle.inorder.specs.Tenants.{Addr, Busy, Done, Fate, Guessed, IsNotLive, Live, Miss, Open, Retired as RetiredStanding, Squashed, Standing, Stopped, Tenant, destination_of, instr, is_first, stands_on_path}
 use Rattle.inorder.specs.Unit.{Sizes, UpdateUnit, at, older}
 use Rattle.inorder.proofs.AheadKept.{ahead_by_retire}
 use Rattle.inorder.proofs.Basics.{fetched_at}
@@ -47,6 +47,7 @@ settled_by RetiredStanding Open l n = tt
 settled_by RetiredStanding (Busy by) l n = tt
 settled_by RetiredStanding (Addr a) l n = tt
 settled_by RetiredStanding (Done v) l n = tt
+settled_by RetiredStanding (Guessed x) l n = tt
 settled_by RetiredStanding (Miss x) l n = tt
 settled_by RetiredStanding (Stopped c) l n = absurd (n refl c refl)
 
@@ -163,6 +164,7 @@ made_same Open made e = refl
 made_same (Busy by) made e = refl
 made_same (Addr a) made e = refl
 made_same (Done v) made e = refl
+made_same (Guessed x) made e = refl
 made_same (Miss x) made e = refl
 made_same (Stopped c) made e = absurd (cc e)
 

@@ -2,7 +2,7 @@
 use Rattle.std.proofs.Common.{◌≡◌, ℕ, List, Option, Some, None, refl, sym, ap, ◌∙◌, ⊎_elim, inl, inr}
 use Rattle.instructions.specs.Programs.{Program}
 use Rattle.inorder.specs.declared.history.Act.{Act}
-use Rattle.inorder.specs.declared.history.Act.TheVariants.{Claim, Deliver, Finish, Link, Load, Mend, Retire, Squash}
+use Rattle.inorder.specs.declared.history.Act.TheVariants.{Claim, Deliver, Finish, Link, Load, Mend, Retire, Speculate, Squash}
 use Rattle.inorder.specs.declared.history.Source.TheVariants.{First, Second}
 use Rattle.inorder.specs.declared.history.Step.{Step}
 use Rattle.inorder.specs.declared.history.Step.TheVariants.{On}
@@ -14,6 +14,7 @@ use Rattle.inorder.proofs.Moves.{came, goes}
 use Rattle.inorder.proofs.Sound.{IsSound}
 use Rattle.front.specs.Knows.{IsFolded, IsGone, IsNewest, IsReused}
 use Rattle.front.specs.Trail.{Note}
+use Rattle.inorder.proofs.Speculating.{speculates_live}
 
 -- a tenant that has retired changes no more
 pub record StaysGone (t t' : Tenant) : Type 0 where
@@ -31,6 +32,7 @@ gone_on P by Finish ys t ts m r = let x = sym m.live ∙ r in absurd (cc x)
 gone_on P by Load ys t ts m r = let x = sym m.live ∙ r in absurd (cc x)
 gone_on P by (Retire n) ys t ts m r = let x = sym m.live ∙ r in absurd (cc x)
 gone_on P by Squash ys t ts m r = let x = sym m.live ∙ r in absurd (cc x)
+gone_on P by (Speculate s) ys t ts m r = let x = sym (speculates_live P s ys t ts m) ∙ r in absurd (cc x)
 gone_on P by Mend ys t ts m r = let x = sym m.live ∙ r in absurd (cc x)
 
 pub record GoneThere (us : List Tenant) (p : ℕ) (t : Tenant) : Type 0 where

@@ -4,7 +4,7 @@ use Rattle.std.specs.List.{AllByRecursion}
 use Rattle.std.proofs.lemmas.Option.{same_Some}
 use Rattle.instructions.specs.Programs.{Program}
 use Rattle.inorder.specs.declared.history.Act.{Act}
-use Rattle.inorder.specs.declared.history.Act.TheVariants.{Claim, Deliver, Finish, Link, Load, Mend, Retire, Squash}
+use Rattle.inorder.specs.declared.history.Act.TheVariants.{Claim, Deliver, Finish, Link, Load, Mend, Retire, Speculate, Squash}
 use Rattle.inorder.specs.declared.history.Event.{Event}
 use Rattle.inorder.specs.declared.history.Event.TheVariants.{Does, Marks}
 use Rattle.inorder.specs.declared.history.Mark.TheVariants.{Asked}
@@ -97,6 +97,7 @@ no_link_of (On p Finish) b = tt
 no_link_of (On p Load) b = tt
 no_link_of (On p (Retire n)) b = tt
 no_link_of (On p Squash) b = tt
+no_link_of (On p (Speculate s)) b = absurd b
 no_link_of (On p Mend) b = tt
 
 act_of : (p q : ℕ) (a b : Act) → On p a ≡ On q b → a ≡ b

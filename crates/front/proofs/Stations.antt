@@ -80,6 +80,7 @@ left_there t k w e free on left v = go t.standing refl
     live_state tag (Rattle.inorder.specs.Tenants.Addr a) = λ x. cc x
     live_state tag (Rattle.inorder.specs.Tenants.Done a) = λ x. cc x
     live_state tag (Rattle.inorder.specs.Tenants.Miss a) = λ x. cc x
+    live_state tag (Rattle.inorder.specs.Tenants.Guessed c) = λ x. cc x
     live_state tag (Rattle.inorder.specs.Tenants.Stopped c) = λ x. cc x
 
     go : (st : Standing) → t.standing ≡ st → HasLeft left t
@@ -122,6 +123,7 @@ module _ (P : Program) (C : Sizes) (h : List Entry) (legal : IsLegal P C h) wher
       live_state tag (Rattle.inorder.specs.Tenants.Addr a) = λ x. cc x
       live_state tag (Rattle.inorder.specs.Tenants.Done a) = λ x. cc x
       live_state tag (Rattle.inorder.specs.Tenants.Miss a) = λ x. cc x
+      live_state tag (Rattle.inorder.specs.Tenants.Guessed c) = λ x. cc x
       live_state tag (Rattle.inorder.specs.Tenants.Stopped c) = λ x. cc x
 
       by : (k : ℕ) (t : Tenant) (st : Standing) → (word_by k st t.tag t.fate t.made).state ≡ IsFree → (word_by k st t.tag t.fate t.made).tag ≡ k

@@ -4,7 +4,7 @@ use Rattle.std.specs.Prelude.{slice_index, is_none}
 use Rattle.instructions.specs.Instruction.{destination, fixed_next, is_access, is_first_half, kind}
 use Rattle.instructions.specs.Programs.{Program, instr_of}
 use Rattle.inorder.specs.declared.history.Act.{Act}
-use Rattle.inorder.specs.declared.history.Act.TheVariants.{Claim, Deliver, Finish, Link, Load, Mend, Retire, Squash}
+use Rattle.inorder.specs.declared.history.Act.TheVariants.{Claim, Deliver, Finish, Link, Load, Mend, Retire, Speculate, Squash}
 use Rattle.inorder.specs.declared.history.Entry.{Entry}
 use Rattle.inorder.specs.declared.history.Step.{Step}
 use Rattle.inorder.specs.declared.history.Step.TheVariants.{Let, On, Renew}
@@ -35,6 +35,7 @@ use Rattle.inorder.proofs.Recent.{counts_same}
 abbrev pub IsQuietAct : Act → Type 0
 IsQuietAct Squash = ⊥
 IsQuietAct Mend = ⊥
+IsQuietAct (Speculate s) = ⊥
 IsQuietAct _ = Unit {0}
 
 abbrev pub IsQuiet : Step → Type 0
@@ -51,6 +52,7 @@ quiet_of (On p Finish) b = tt
 quiet_of (On p Load) b = tt
 quiet_of (On p (Retire n)) b = tt
 quiet_of (On p Squash) b = absurd b
+quiet_of (On p (Speculate s)) b = absurd b
 quiet_of (On p Mend) b = absurd b
 
 pub quiet_grows : (P : Program) (by : ℕ) (act : Act) (ys : List Tenant) (t : Tenant) (ts : List Tenant) → IsQuietAct act → May P by act ys t ts → IsSoundAt P ts t → Grows P t (changed P by act t ts)
@@ -61,6 +63,7 @@ quiet_grows P by Finish ys t ts b m q = besides_grows P by Finish ys t ts tt m q
 quiet_grows P by Load ys t ts b m q = besides_grows P by Load ys t ts tt m q
 quiet_grows P by (Retire n) ys t ts b m q = besides_grows P by (Retire n) ys t ts tt m q
 quiet_grows P by Squash ys t ts b m q = absurd b
+quiet_grows P by (Speculate s) ys t ts b m q = absurd b
 quiet_grows P by Mend ys t ts b m q = absurd b
 
 -- what the front keeps of a tenant

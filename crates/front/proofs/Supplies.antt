@@ -11,7 +11,7 @@ use Rattle.instructions.specs.declared.stop.Outcome.TheVariants.{Address, Next, 
 use Rattle.inorder.specs.declared.history.Entry.{Entry}
 use Rattle.inorder.specs.History.{IsLegal, unit_of}
 use Rattle.inorder.specs.Steps.{MayComeFrom, MaySupply}
-use Rattle.inorder.specs.Tenants.{Addr, Busy, Done, Fate, Miss, Open, Standing, Stopped, Tenant, computed, kind_of}
+use Rattle.inorder.specs.Tenants.{Addr, Busy, Done, Fate, Guessed, Miss, Open, Standing, Stopped, Tenant, computed, kind_of}
 use Rattle.inorder.specs.Unit.{Sizes, UpdateUnit, at, creator, value_made, next_station, older, recent, value_of, younger}
 use Rattle.inorder.proofs.Basics.{split_at}
 use Rattle.inorder.proofs.Grows.{sound_mid}
@@ -41,6 +41,7 @@ links_made o pc pr nx made a b st Open na nh h = h.0
 links_made o pc pr nx made a b st (Busy x) na nh h = h.0
 links_made o pc pr nx made a b st (Addr x) na nh h = absurd (na x h.1)
 links_made o pc pr nx made a b st (Done x) na nh h = h.0.2
+links_made o pc pr nx made a b st (Guessed x) na nh h = absurd (na h.0.2.0 h.0.2.1)
 links_made o pc pr nx made a b st (Miss x) na nh h = h.0
 links_made o pc pr nx made a b st (Stopped x) na nh h = absurd (nh x h.1)
 

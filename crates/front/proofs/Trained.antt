@@ -15,7 +15,7 @@ use Rattle.inorder.specs.History.{IsLegal, unit_of}
 use Rattle.inorder.specs.Callers.{IsLastAt, is_retired, stands_retired}
 use Rattle.inorder.specs.StationWords.{last_of}
 use Rattle.inorder.specs.Steps.{CanRetire}
-use Rattle.inorder.specs.Tenants.{behind, Addr, Busy, Done, Fate, Live, Miss, Open, Retired, Squashed, Standing, Stopped, Tenant, computed, computed_next, instr, kind_of, next_by, operand_value}
+use Rattle.inorder.specs.Tenants.{Addr, Busy, Done, Fate, Guessed, Live, Miss, Open, Retired, Squashed, Standing, Stopped, Tenant, behind, computed, computed_next, instr, kind_of, next_by, operand_value}
 use Rattle.inorder.specs.Tenants.{stands_on_path}
 use Rattle.inorder.specs.Unit.{Sizes, UpdateUnit, at, newest_of, next_station, older, recent, younger}
 use Rattle.inorder.proofs.Basics.{split_at}
@@ -90,6 +90,7 @@ went_on P us ok p t is gone =
     go (Busy by) e c s = absurd (subst (CanRetire (kind_of P t) t.second.value) e c)
     go (Addr a) e c s = away (Address a) ((follows_from P (older us p) t s.own).fate.address a e) (λ x. address_not a x) s.own.goes_on
     go (Done v) e c s = (follows_from P (older us p) t s.own).fate.goes_on v e
+    go (Guessed x) e c s = absurd (subst (CanRetire (kind_of P t) t.second.value) e c)
     go (Miss x) e c s = absurd (subst (CanRetire (kind_of P t) t.second.value) e c)
     go (Stopped c') e c s = away (Stops c') ((follows_from P (older us p) t s.own).fate.stop c' e) (λ x. stop_not c' x) s.own.goes_on
 

@@ -6,14 +6,14 @@ use Rattle.std.proofs.lemmas.Bool.{cases_lt}
 use Rattle.std.proofs.lemmas.Option.{same_Some}
 use Rattle.instructions.specs.Programs.{Program}
 use Rattle.inorder.specs.declared.history.Act.{Act}
-use Rattle.inorder.specs.declared.history.Act.TheVariants.{Claim, Deliver, Finish, Link, Load, Mend, Retire, Squash}
+use Rattle.inorder.specs.declared.history.Act.TheVariants.{Claim, Deliver, Finish, Link, Load, Mend, Retire, Speculate, Squash}
 use Rattle.inorder.specs.declared.history.Entry.{Entry}
 use Rattle.inorder.specs.declared.history.Step.{Step}
 use Rattle.inorder.specs.declared.history.Step.TheVariants.{Let, On, Renew}
 use Rattle.inorder.specs.History.{IsLegal, unit_of}
 use Rattle.inorder.specs.Legal.{Allowed, May, MayAct, applied, change_at, changed}
 use Rattle.inorder.specs.Replies.{Has}
-use Rattle.inorder.specs.Steps.{mended_as, new_tenant, squashed}
+use Rattle.inorder.specs.Steps.{mended_as, new_tenant}
 use Rattle.inorder.specs.Tenants.{Fate, IsNotLive, Live, Squashed, Tenant, on_path}
 use Rattle.inorder.specs.Unit.{Sizes, UpdateUnit, at, creator, older, younger}
 use Rattle.inorder.proofs.Basics.{eqb_less, split_at}
@@ -26,6 +26,8 @@ use Rattle.inorder.proofs.Positions.{at_below, younger_at}
 use Rattle.inorder.proofs.QueuePlaces.{older_length}
 use Rattle.inorder.proofs.Sound.{IsSound, IsSoundAt}
 use Rattle.front.specs.Mended.{up_to}
+use Rattle.inorder.specs.declared.history.Speculation.TheVariants.{Confirm, Flush, Guess}
+use Rattle.std.specs.List.{AllByRecursion}
 
 -- The tenants up to a position
 
@@ -71,33 +73,43 @@ up_to_behind (y ∷ ys) ts p least most = dite (ℕ_discrete p (length ys + suc 
 
 -- Their creators stay, as long as the last of them is live
 
-stays_on_path : (P : Program) (by : ℕ) (act : Act) (ys : List Tenant) (t : Tenant) (ts : List Tenant) → act ≢ Squash → May P by act ys t ts → IsSoundAt P ts t →
+stays_on_path : (P : Program) (by : ℕ) (act : Act) (ys : List Tenant) (t : Tenant) (ts : List Tenant) → act ≢ Squash → act ≢ Speculate Flush → May P by act ys t ts → IsSoundAt P ts t →
     on_path (changed P by act t ts) ≡ on_path t
-stays_on_path P by (Link k) ys t ts other m ok = (link_grows P ts t k).path
-stays_on_path P by (Deliver k) ys t ts other m ok = (besides_grows P by (Deliver k) ys t ts tt m ok).path
-stays_on_path P by Claim ys t ts other m ok = (besides_grows P by Claim ys t ts tt m ok).path
-stays_on_path P by Finish ys t ts other m ok = (besides_grows P by Finish ys t ts tt m ok).path
-stays_on_path P by Load ys t ts other m ok = (besides_grows P by Load ys t ts tt m ok).path
-stays_on_path P by (Retire n) ys t ts other m ok = (besides_grows P by (Retire n) ys t ts tt m ok).path
-stays_on_path P by Squash ys t ts other m ok = absurd (other refl)
-stays_on_path P by Mend ys t ts other m ok = ap (λ (f : Fate). on_path (mended_as t f)) m.fate
+stays_on_path P by (Link k) ys t ts other others m ok = (link_grows P ts t k).path
+stays_on_path P by (Deliver k) ys t ts other others m ok = (besides_grows P by (Deliver k) ys t ts tt m ok).path
+stays_on_path P by Claim ys t ts other others m ok = (besides_grows P by Claim ys t ts tt m ok).path
+stays_on_path P by Finish ys t ts other others m ok = (besides_grows P by Finish ys t ts tt m ok).path
+stays_on_path P by Load ys t ts other others m ok = (besides_grows P by Load ys t ts tt m ok).path
+stays_on_path P by (Retire n) ys t ts other others m ok = (besides_grows P by (Retire n) ys t ts tt m ok).path
+stays_on_path P by Squash ys t ts other others m ok = absurd (other refl)
+stays_on_path P by (Speculate (Guess v)) ys t ts other others m ok = refl
+stays_on_path P by (Speculate Confirm) ys t ts other others m ok = refl
+stays_on_path P by (Speculate Flush) ys t ts other others m ok = absurd (others refl)
+stays_on_path P by Mend ys t ts other others m ok = ap (λ (f : Fate). on_path (mended_as t f)) m.fate
 
 abbrev pub IsLiveAt : UpdateUnit → ℕ → Type 0
 IsLiveAt V p = Has V p (λ t. t.standing ≡ Live)
 
 module _ (P : Program) (C : Sizes) (p : ℕ) where
-  -- none up to a live tenant is squashed, since the youngest is
-  none_squashed : (V : UpdateUnit) (by q : ℕ) → MayAct P V.tenants by q Squash → q ≤ p → IsLiveAt V p → IsLiveAt (applied P C V by (On q Squash)) p → ⊥
-  none_squashed V by q a le was now =
+  -- none up to a live tenant leaves the path, since only the youngest does
+  none_leaves : (V : UpdateUnit) (by q : ℕ) (act : Act) (a : MayAct P V.tenants by q act) → AllByRecursion IsNotLive (younger V.tenants q) →
+      (changed P by act a.tenant (older V.tenants q)).standing ≡ Squashed → q ≤ p → IsLiveAt V p → IsLiveAt (applied P C V by (On q act)) p → ⊥
+  none_leaves V by q act a youngest gone le was now =
       let ts = V.tenants in
       ⊎_elim
-      (λ (z : IsActed P ts by q Squash a.tenant p was.tenant).
-      let same : squashed a.tenant ≡ now.tenant = same_Some (squashed a.tenant) now.tenant (sym z.now ∙ now.is) in
-      let other : Squashed ≡ Live = ap (λ (t : Tenant). t.standing) same ∙ now.fact in absurd (cc other))
-      (λ (z : IsLeft P ts by q Squash p was.tenant).
+      (λ (z : IsActed P ts by q act a.tenant p was.tenant).
+      let same : changed P by act a.tenant (older ts q) ≡ now.tenant = same_Some (changed P by act a.tenant (older ts q)) now.tenant (sym z.now ∙ now.is) in
+      let other : Squashed ≡ Live = sym gone ∙ (ap (λ (t : Tenant). t.standing) same ∙ now.fact) in absurd (cc other))
+      (λ (z : IsLeft P ts by q act p was.tenant).
       let ne : p ≢ q = z.position in
-      younger_at IsNotLive ts q a.may.youngest p was.tenant (omega (arith, le, ne)) was.is was.fact)
-      (at_changed P ts by q Squash a.tenant a.is p was.tenant was.is)
+      younger_at IsNotLive ts q youngest p was.tenant (omega (arith, le, ne)) was.is was.fact)
+      (at_changed P ts by q act a.tenant a.is p was.tenant was.is)
+
+  none_squashed : (V : UpdateUnit) (by q : ℕ) → MayAct P V.tenants by q Squash → q ≤ p → IsLiveAt V p → IsLiveAt (applied P C V by (On q Squash)) p → ⊥
+  none_squashed V by q a le was now = none_leaves V by q Squash a a.may.youngest refl le was now
+
+  none_flushed : (V : UpdateUnit) (by q : ℕ) → MayAct P V.tenants by q (Speculate Flush) → q ≤ p → IsLiveAt V p → IsLiveAt (applied P C V by (On q (Speculate Flush))) p → ⊥
+  none_flushed V by q a le was now = none_leaves V by q (Speculate Flush) a a.may.youngest refl le was now
 
   creators_under : (V : UpdateUnit) (by q : ℕ) (act : Act) → MayAct P V.tenants by q act → IsSound P V.tenants → IsLiveAt V p → IsLiveAt (applied P C V by (On q act)) p → (r : ℕ) →
       creator P (up_to (applied P C V by (On q act)).tenants p) r ≡ creator P (up_to V.tenants p) r
@@ -121,8 +133,9 @@ module _ (P : Program) (C : Sizes) (p : ℕ) where
       let below = at_below us p was.tenant was.is in
       let e = up_to_behind ys ts p (omega (arith, le, long)) (omega (arith, below, all, parted)) in
       let other : act ≢ Squash = λ is. none_squashed V by q (subst (MayAct P us by q) is a) le was (subst (λ (z : Act). IsLiveAt (applied P C V by (On q z)) p) is now) in
+      let others : act ≢ Speculate Flush = λ is. none_flushed V by q (subst (MayAct P us by q) is a) le was (subst (λ (z : Act). IsLiveAt (applied P C V by (On q z)) p) is now) in
       ap (λ (z : List Tenant). creator P z r) (e.is t')
-      ∙ (creator_grows P t t' ts e.front r move.index move.half (stays_on_path P by act ys t ts other a.may own)
+      ∙ (creator_grows P t t' ts e.front r move.index move.half (stays_on_path P by act ys t ts other others a.may own)
       ∙ ap (λ (z : List Tenant). creator P z r) (sym (e.is t))))
       (cases_lt p q)
       ∙ ap (λ (z : List Tenant). creator P (up_to z p) r) (sym split))

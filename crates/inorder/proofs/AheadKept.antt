@@ -4,7 +4,7 @@ use Rattle.instructions.specs.Programs.{Program}
 use Rattle.instructions.specs.declared.op.Kind.{Kind}
 use Rattle.instructions.specs.declared.op.Kind.TheVariants.{Computes, Jumps, Links, Loads, Stores}
 use Rattle.inorder.specs.declared.history.Act.{Act}
-use Rattle.inorder.specs.declared.history.Act.TheVariants.{Claim, Deliver, Finish, Link, Load, Mend, Retire, Squash}
+use Rattle.inorder.specs.declared.history.Act.TheVariants.{Claim, Deliver, Finish, Link, Load, Mend, Retire, Speculate, Squash}
 use Rattle.inorder.specs.declared.history.Source.{Source}
 use Rattle.inorder.specs.declared.history.Source.TheVariants.{First, Second}
 use Rattle.inorder.specs.declared.history.Step.{Step}
@@ -24,6 +24,7 @@ use Rattle.inorder.proofs.InOrderStep.{needs_of}
 use Rattle.inorder.proofs.Kept.{parts, sound}
 use Rattle.inorder.proofs.SettledRegisters.{ahead_if, retired_leaves, retired_on}
 use Rattle.inorder.proofs.Sound.{DoneIs, IsSound, IsSoundAt, Needs}
+use Rattle.inorder.proofs.Speculating.{speculates_live}
 
 -- a tenant that commits has its sources
 full_by : (P : Program) (t : Tenant) (v : ℕ) (k : Kind) → Needs k t.first.value t.second.value → DoneIs P t v k →
@@ -77,6 +78,7 @@ leaves_same P by Finish ys t ts s other m so c = let e = commits_retired t.stand
 leaves_same P by Load ys t ts s other m so c = let e = commits_retired t.standing t.fate c in let l = m.live in absurd (cc)
 leaves_same P by (Retire n) ys t ts s other m so c = absurd (other n refl)
 leaves_same P by Squash ys t ts s other m so c = let e = commits_retired t.standing t.fate c in let l = m.live in absurd (cc)
+leaves_same P by (Speculate q) ys t ts s other m so c = let e = commits_retired t.standing t.fate c in let l = speculates_live P q ys t ts m in absurd (cc)
 leaves_same P by Mend ys t ts s other m so c = let e = commits_retired t.standing t.fate c in let l = m.live in absurd (cc)
 
 ahead_lift : (P : Program) (us vs ys : List Tenant) → ahead P us ≡ ahead P vs → ahead P (ys ++ us) ≡ ahead P (ys ++ vs)

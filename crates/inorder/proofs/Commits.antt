@@ -1,10 +1,10 @@
 -- Only retirements commit.
-use Rattle.std.proofs.Common.{◌≡◌, ◌≢◌, ◌≤◌, arith, ℕ, suc, Bool, true, false, cond, not, ◌&&◌, List, [], ◌∷◌, ◌++◌, Some, refl, sym, ap, ◌∙◌, subst}
+use Rattle.std.proofs.Common.{◌≡◌, ◌≢◌, ◌≤◌, arith, ℕ, suc, Bool, true, false, cond, not, ◌&&◌, List, [], ◌∷◌, ◌++◌, Some, refl, sym, ap, ◌∙◌, subst, unwrap_or}
 use Rattle.instructions.specs.Programs.{Program}
 use Rattle.instructions.specs.declared.stop.Outcome.{Outcome}
 use Rattle.instructions.specs.declared.stop.Outcome.TheVariants.{Address, Next, Pair, Stop as Stops, Value}
 use Rattle.inorder.specs.declared.history.Act.{Act}
-use Rattle.inorder.specs.declared.history.Act.TheVariants.{Claim, Deliver, Finish, Link, Load, Mend, Retire, Squash}
+use Rattle.inorder.specs.declared.history.Act.TheVariants.{Claim, Deliver, Finish, Link, Load, Mend, Retire, Speculate, Squash}
 use Rattle.inorder.specs.declared.history.Source.TheVariants.{First, Second}
 use Rattle.inorder.specs.declared.history.Step.{Step}
 use Rattle.inorder.specs.declared.history.Step.TheVariants.{Let, On, Renew}
@@ -14,7 +14,7 @@ use Rattle.inorder.specs.Legal.{Allowed, AreAllowed, May, Taken, applied, change
 use Rattle.inorder.specs.Machine.{State}
 use Rattle.inorder.specs.Runs.{after}
 use Rattle.inorder.specs.Steps.{finished, mended_as, retired}
-use Rattle.inorder.specs.Tenants.{Addr, Busy, Done, Fate, Live, Miss, Open, Stopped, Tenant, computed, is_first, stands_on_path}
+use Rattle.inorder.specs.Tenants.{Addr, Busy, Done, Fate, Guessed, Live, Miss, Open, Stopped, Tenant, computed, is_first, stands_on_path}
 use Rattle.inorder.specs.Unit.{Sizes, UpdateUnit, at, older, younger}
 use Rattle.inorder.proofs.Basics.{split_at}
 use Rattle.inorder.proofs.Follows.{commits_retired, state_of}
@@ -22,6 +22,7 @@ use Rattle.inorder.proofs.Grows.{all_mid}
 use Rattle.inorder.proofs.Kept.{kept, parts, sound}
 use Rattle.inorder.proofs.SettledRegisters.{ahead_if, committed_if, same_rest}
 use Rattle.inorder.proofs.Sound.{IsSettled, IsSound, IsSoundAt, SettledBy}
+use Rattle.inorder.specs.declared.history.Speculation.TheVariants.{Confirm, Flush, Guess}
 
 pub live_not : (t : Tenant) → t.standing ≡ Live → commits t ≡ false
 live_not t e = ap (λ s. commits_by s t.fate) e
@@ -131,6 +132,7 @@ mend_stays t (Busy v) e = refl
 mend_stays t (Addr v) e = refl
 mend_stays t (Done v) e = refl
 mend_stays t (Miss v) e = ap (λ s. commits_by s (Done v)) e ∙ sym (live_not t e)
+mend_stays t (Guessed v) e = refl
 mend_stays t (Stopped v) e = refl
 
 pub act_stays : (P : Program) (by : ℕ) (act : Act) (ys : List Tenant) (t : Tenant) (ts : List Tenant) →
@@ -145,6 +147,9 @@ act_stays P by Load ys t ts other m =
     ap (λ s. commits_by s (changed P by Load t ts).fate) m.live ∙ sym (live_not t m.live)
 act_stays P by (Retire n) ys t ts other m = absurd (other n refl)
 act_stays P by Squash ys t ts other m = sym (live_not t m.live)
+act_stays P by (Speculate (Guess v)) ys t ts other m = ap (λ s. commits_by s (Guessed v)) m.live ∙ sym (live_not t m.live)
+act_stays P by (Speculate Confirm) ys t ts other m = ap (λ s. commits_by s (Done (unwrap_or t.made 0))) m.live ∙ sym (live_not t m.live)
+act_stays P by (Speculate Flush) ys t ts other m = sym (live_not t m.live)
 act_stays P by Mend ys t ts other m = mend_stays t t.fate m.live
 
 half_stays : (P : Program) (by : ℕ) (act : Act) (t : Tenant) (ts : List Tenant) →
@@ -165,6 +170,9 @@ half_stays P by Finish t ts = go (computed P t)
 half_stays P by Load t ts = refl
 half_stays P by (Retire n) t ts = refl
 half_stays P by Squash t ts = refl
+half_stays P by (Speculate (Guess v)) t ts = refl
+half_stays P by (Speculate Confirm) t ts = refl
+half_stays P by (Speculate Flush) t ts = refl
 half_stays P by Mend t ts = go t.fate
   where
     go : (f : Fate) → is_first P (mended_as t f) ≡ is_first P t
@@ -172,6 +180,7 @@ half_stays P by Mend t ts = go t.fate
     go (Busy v) = refl
     go (Addr v) = refl
     go (Done v) = refl
+    go (Guessed v) = refl
     go (Miss v) = refl
     go (Stopped v) = refl
 
@@ -189,6 +198,7 @@ is_other p Claim h n e = cc
 is_other p Finish h n e = cc
 is_other p Load h n e = cc
 is_other p Squash h n e = cc
+is_other p (Speculate s) h n e = cc
 is_other p Mend h n e = cc
 
 count_kept : (P : Program) (C : Sizes) (U : UpdateUnit) (by : ℕ) (s : Step) → IsNoRetire s →
@@ -236,6 +246,7 @@ step_count P C U by (On p Claim) s a = let e = count_kept P C U by (On p Claim) 
 step_count P C U by (On p Finish) s a = let e = count_kept P C U by (On p Finish) tt a in omega (arith, e)
 step_count P C U by (On p Load) s a = let e = count_kept P C U by (On p Load) tt a in omega (arith, e)
 step_count P C U by (On p Squash) s a = let e = count_kept P C U by (On p Squash) tt a in omega (arith, e)
+step_count P C U by (On p (Speculate q)) s a = let e = count_kept P C U by (On p (Speculate q)) tt a in omega (arith, e)
 step_count P C U by (On p Mend) s a = let e = count_kept P C U by (On p Mend) tt a in omega (arith, e)
 step_count P C U by Renew s a = omega arith
 

@@ -5,7 +5,7 @@ use Rattle.instructions.specs.Instruction.{kind}
 use Rattle.instructions.specs.Programs.{Program, instr_of}
 use Rattle.instructions.specs.declared.op.Kind.{Kind}
 use Rattle.inorder.specs.declared.history.Act.{Act}
-use Rattle.inorder.specs.declared.history.Act.TheVariants.{Claim, Deliver, Finish, Link, Load, Mend, Retire, Squash}
+use Rattle.inorder.specs.declared.history.Act.TheVariants.{Claim, Deliver, Finish, Link, Load, Mend, Retire, Speculate, Squash}
 use Rattle.inorder.specs.declared.history.Source.TheVariants.{First, Second}
 use Rattle.inorder.specs.declared.history.Step.{Step}
 use Rattle.inorder.specs.declared.history.Step.TheVariants.{Let, On, Renew}
@@ -13,7 +13,7 @@ use Rattle.inorder.specs.Callers.{CanLeave, CanMend, CanSquash, IsMissing, IsYou
 use Rattle.inorder.specs.Legal.{Allowed, May, applied, changed}
 use Rattle.inorder.specs.Replies.{Has}
 use Rattle.inorder.specs.Steps.{CanRetire, IsNoRetiredStop, MayMend, MayRetire, MaySquash, new_tenant}
-use Rattle.inorder.specs.Tenants.{Addr, Busy, Done, Fate, IsNotLive, Live, Miss, Open, Retired, Stopped, Tenant, computed, kind_of}
+use Rattle.inorder.specs.Tenants.{Addr, Busy, Done, Fate, Guessed, IsNotLive, Live, Miss, Open, Retired, Stopped, Tenant, computed, kind_of}
 use Rattle.inorder.specs.Unit.{Sizes, UpdateUnit, at, older, younger}
 use Rattle.inorder.proofs.Basics.{eqb_less}
 use Rattle.inorder.proofs.Letting.{IsBesides, IsBesidesAct}
@@ -21,6 +21,8 @@ use Rattle.inorder.proofs.Moves.{IsActed, IsLeft, at_changed, came, goes}
 use Rattle.inorder.proofs.Positions.{all_at, at_below, at_more, at_there, not_eqb, older_at, older_from, younger_from}
 use Rattle.inorder.proofs.Sound.{IsSound}
 use Rattle.inorder.proofs.Stations.{finished_station, mended_station}
+use Rattle.inorder.specs.declared.history.Speculation.TheVariants.{Confirm, Flush, Guess}
+use Rattle.inorder.specs.Speculation.{MayFlush}
 
 -- the tenant at q stays as it is, or the step acts on it
 pub record Acted (P : Program) (U : UpdateUnit) (by : ℕ) (s : Step) (vs : List Tenant) (q : ℕ) (t : Tenant) : Type 0 where
@@ -46,10 +48,11 @@ exact P C U by (On p act) a q t is =
     (at_changed P ts by p act a.tenant a.is q t is)
 exact P C U by Renew a q t is = inl is
 
--- a tenant stays where it stands, unless it retires or is squashed
+-- a tenant stays where it stands, unless it retires, or is squashed or flushed
 pub data Leaves (P : Program) (ys : List Tenant) (t : Tenant) (ts : List Tenant) : Type 0 where
   retires : (n : ℕ) → MayRetire P n ts t → Leaves P ys t ts
   is_squashed : MaySquash ys t ts → Leaves P ys t ts
+  is_flushed : MayFlush ys t → Leaves P ys t ts
 
 pub stands_on : (P : Program) (by : ℕ) (act : Act) (ys : List Tenant) (t : Tenant) (ts : List Tenant) → May P by act ys t ts → ((changed P by act t ts).standing ≡ t.standing) ⊎ Leaves P ys t ts
 stands_on P by (Link First) ys t ts m = inl refl
@@ -61,6 +64,9 @@ stands_on P by Finish ys t ts m = inl (finished_station t (computed P t)).1
 stands_on P by Load ys t ts m = inl refl
 stands_on P by (Retire n) ys t ts m = inr (retires n m)
 stands_on P by Squash ys t ts m = inr (is_squashed m)
+stands_on P by (Speculate (Guess v)) ys t ts m = inl refl
+stands_on P by (Speculate Confirm) ys t ts m = inl refl
+stands_on P by (Speculate Flush) ys t ts m = inr (is_flushed m)
 stands_on P by Mend ys t ts m = inl (mended_station t t.fate).1
 
 -- others than the front squash none
@@ -75,6 +81,7 @@ besides_squash P by Finish ys t ts b m = inl (finished_station t (computed P t))
 besides_squash P by Load ys t ts b m = inl refl
 besides_squash P by (Retire n) ys t ts b m = inr (n, m)
 besides_squash P by Squash ys t ts b m = absurd b
+besides_squash P by (Speculate s) ys t ts b m = absurd b
 besides_squash P by Mend ys t ts b m = absurd b
 
 -- a miss stays one, but for the front
@@ -88,6 +95,7 @@ miss_on P by Finish ys t ts x b m e = let f = m.fate in absurd (cc)
 miss_on P by Load ys t ts x b m e = let f = m.fate in absurd (cc)
 miss_on P by (Retire n) ys t ts x b m e = e
 miss_on P by Squash ys t ts x b m e = absurd b
+miss_on P by (Speculate s) ys t ts x b m e = absurd b
 miss_on P by Mend ys t ts x b m e = absurd b
 
 pub no_retire_miss : (P : Program) (t : Tenant) (ts : List Tenant) (x n : ℕ) → t.fate ≡ Miss x → MayRetire P n ts t → ⊥
@@ -181,7 +189,14 @@ may_mend U p x c = record {
 abbrev pub IsNotBacksAct : Act → Type 0
 IsNotBacksAct Load = ⊥
 IsNotBacksAct (Retire n) = ⊥
+IsNotBacksAct (Speculate s) = ⊥
 IsNotBacksAct _ = Unit {0}
+
+-- any act but a retirement, and none of speculation
+abbrev pub IsPlainAct : Act → Type 0
+IsPlainAct (Retire n) = ⊥
+IsPlainAct (Speculate s) = ⊥
+IsPlainAct _ = Unit {0}
 
 abbrev pub IsNotBacks : Step → Type 0
 IsNotBacks (Let index predicted first second) = Unit {0}
@@ -212,6 +227,7 @@ ready_fate P by Finish ys t ts f b m e c = absurd (subst (CanRetire (kind_of P t
 ready_fate P by Load ys t ts f b m e c = absurd b
 ready_fate P by (Retire n) ys t ts f b m e c = absurd b
 ready_fate P by Squash ys t ts f b m e c = e
+ready_fate P by (Speculate s) ys t ts f b m e c = absurd b
 ready_fate P by Mend ys t ts f b m e c = absurd (subst (CanRetire (kind_of P t) t.second.value) (sym e ∙ m.fate) c)
 
 can_more : (k k' : Kind) (b b' : Option ℕ) (f : Fate) → k' ≡ k → ((v : ℕ) → b ≡ Some v → b' ≡ Some v) → CanRetire k b f → CanRetire k' b' f
@@ -219,6 +235,7 @@ can_more k k' b b' Open e g c = absurd c
 can_more k k' b b' (Busy by) e g c = absurd c
 can_more k k' b b' (Addr a) e g c = (e ∙ c.0, (c.1.0, g c.1.0 c.1.1))
 can_more k k' b b' (Done v) e g c = tt
+can_more k k' b b' (Guessed x) e g c = absurd c
 can_more k k' b b' (Miss x) e g c = absurd c
 can_more k k' b b' (Stopped x) e g c = tt
 
@@ -235,6 +252,7 @@ retired_on P by Finish ys t ts b m e = let l : t.standing ≡ Retired = sym (fin
 retired_on P by Load ys t ts b m e = absurd b
 retired_on P by (Retire n) ys t ts b m e = absurd b
 retired_on P by Squash ys t ts b m e = absurd (cc)
+retired_on P by (Speculate s) ys t ts b m e = absurd b
 retired_on P by Mend ys t ts b m e = let l : t.standing ≡ Retired = sym (mended_station t t.fate).1 ∙ e in let k = m.live in absurd (cc)
 
 no_stop_on : (t : Tenant) (t' : Tenant) → IsNoRetiredStop t → (t'.standing ≡ Retired → (t.standing ≡ Retired) × (t'.fate ≡ t.fate)) → IsNoRetiredStop t'
@@ -267,7 +285,7 @@ module _ (P : Program) (C : Sizes) (U : UpdateUnit) (by : ℕ) (s : Step) (b : I
     below : p < length us
     below = at_below us p t is
 
-    -- the oldest live tenant is squashed by nobody, and only the back retires it
+    -- the oldest live tenant is squashed by nobody, and only the back retires it; a flush could take it
     keeps : (act : Act) → IsNotBacksAct act → May P by act (younger us p) t (older us p) → (changed P by act t (older us p)).standing ≡ t.standing
     keeps (Link First) b m = refl
     keeps (Link Second) b m = refl
@@ -278,6 +296,7 @@ module _ (P : Program) (C : Sizes) (U : UpdateUnit) (by : ℕ) (s : Step) (b : I
     keeps Load b m = absurd b
     keeps (Retire n) b m = absurd b
     keeps Squash b m = absurd (all_at IsNotLive (older us p) (older_from IsNotLive us p below (λ q u lt e. oldest q u lt e)) m.p m.miss m.miss_at m.miss_live)
+    keeps (Speculate s) b m = absurd b
     keeps Mend b m = (mended_station t t.fate).1
 
     pub oldest_live : (u : Tenant) → at V.tenants p ≡ Some u → u.standing ≡ Live

@@ -5,7 +5,7 @@ use Rattle.instructions.specs.declared.op.Kind.{Kind}
 use Rattle.instructions.specs.declared.op.Kind.TheVariants.{Computes, Jumps, Links, Loads, Stores}
 use Rattle.inorder.specs.Fates.{DoneSays, FateSays, FatesFollow, FollowsFrom}
 use Rattle.inorder.specs.Legal.{Taken, reached}
-use Rattle.inorder.specs.Tenants.{Addr, Busy, Done, Fate, Miss, Open, Stopped, Tenant, kind_of, missing_of}
+use Rattle.inorder.specs.Tenants.{Addr, Busy, Done, Fate, Guessed, Miss, Open, Stopped, Tenant, kind_of, missing_of}
 use Rattle.inorder.specs.Unit.{Sizes, older, younger}
 use Rattle.inorder.proofs.Basics.{split_at}
 use Rattle.inorder.proofs.Theorem.DeliveryKept.{no_first, no_second}
@@ -41,6 +41,7 @@ claimed_needs P t Open n h = absurd (n refl)
 claimed_needs P t (Busy by) n h = h.2
 claimed_needs P t (Addr a) n h = h.2
 claimed_needs P t (Done v) n h = h.1
+claimed_needs P t (Guessed x) n h = h.1
 claimed_needs P t (Miss x) n h = h.2
 claimed_needs P t (Stopped c) n h = h.2
 

@@ -8,13 +8,13 @@ use Rattle.instructions.specs.declared.instr.Instr.{Instr}
 use Rattle.instructions.specs.declared.op.Kind.{Kind}
 use Rattle.instructions.specs.declared.op.Kind.TheVariants.{Computes, Jumps, Links, Loads, Stores}
 use Rattle.instructions.specs.declared.stop.Outcome.{Outcome}
-use Rattle.inorder.specs.Memory.{Stored, byte_after, byte_at, covers, stored}
+use Rattle.inorder.specs.Memory.{Stored, byte_after, byte_at, covers, lacks_address, lacks_address_by, raw_at, stored, sure_byte_at, sure_raw_at}
 use Rattle.inorder.specs.Steps.{HasAddress}
-use Rattle.inorder.specs.Tenants.{Addr, Busy, Done, Fate, IsNotLive, Live, Miss, Open, Retired, Squashed, Standing, Stopped, Tenant, destination_of, instr, is_first, kind_of, on_path, stands_on_path}
+use Rattle.inorder.specs.Tenants.{Addr, Busy, Done, Fate, Guessed, IsNotLive, Live, Miss, Open, Retired, Squashed, Standing, Stopped, Tenant, destination_of, instr, is_first, kind_of, on_path, stands_on_path}
 use Rattle.inorder.specs.Unit.{at, can_be_written, creator, front_half, front_pc, half_after, last_writer, value_made, value_of}
 use Rattle.lsq.specs.Bytes.{byte_of}
 use Rattle.inorder.proofs.Basics.{number_stays}
-use Rattle.inorder.proofs.Sound.{HasRead, IsInPlace, IsOwn, IsSettled, IsSound, IsSoundAt, LoadIs, SettledBy}
+use Rattle.inorder.proofs.Sound.{HasRead, HasSureRead, IsInPlace, IsOwn, IsSettled, IsSound, IsSoundAt, LoadIs, SettledBy}
 
 -- a store stays, and may get its data
 abbrev pub StoredGrows : Option Stored → Option Stored → Type 0
@@ -149,6 +149,101 @@ byte_grows P t t' ts (y ∷ ys) x b g h =
     byte_over (stored P y) x b (byte_at P (ys ++ t ∷ ts) x) (byte_at P (ys ++ t' ∷ ts) x)
     (byte_grows P t t' ts ys x b g) h
 
+-- bytes that no store can still change
+
+not_lacking : (P : Program) (t : Tenant) → HasAddress P t → lacks_address P t ≡ false
+not_lacking P t h = go t.standing (kind_of P t) t.fate refl refl refl
+  where
+    go : (st : Standing) (k : Kind) (f : Fate) → t.standing ≡ st → kind_of P t ≡ k → t.fate ≡ f → lacks_address_by st k f ≡ false
+    go Live Stores (Addr a) e ek ef = refl
+    go Live Stores Open e ek ef = let x = (h e ek).1 in absurd (cc)
+    go Live Stores (Busy c) e ek ef = let x = (h e ek).1 in absurd (cc)
+    go Live Stores (Done c) e ek ef = let x = (h e ek).1 in absurd (cc)
+    go Live Stores (Miss c) e ek ef = let x = (h e ek).1 in absurd (cc)
+    go Live Stores (Stopped c) e ek ef = let x = (h e ek).1 in absurd (cc)
+    go Live Stores (Guessed c) e ek ef = let x = (h e ek).1 in absurd (cc)
+    go Live Computes f e ek ef = refl
+    go Live Jumps f e ek ef = refl
+    go Live Links f e ek ef = refl
+    go Live Loads f e ek ef = refl
+    go Retired k f e ek ef = refl
+    go Squashed k f e ek ef = refl
+
+has_from : (P : Program) (t : Tenant) → lacks_address P t ≡ false → HasAddress P t
+has_from P t l live store = go t.fate refl (sym (λ i. lacks_address_by (live i) (store i) t.fate) ∙ l)
+  where
+    go : (f : Fate) → t.fate ≡ f → lacks_address_by Live Stores f ≡ false → (a : ℕ) × (t.fate ≡ Addr a)
+    go (Addr a) e h = (a, e)
+    go Open e h = absurd (true≢false h)
+    go (Busy c) e h = absurd (true≢false h)
+    go (Done c) e h = absurd (true≢false h)
+    go (Miss c) e h = absurd (true≢false h)
+    go (Stopped c) e h = absurd (true≢false h)
+    go (Guessed c) e h = absurd (true≢false h)
+
+-- where each older live store has its address, none can still change it
+sure_known : (P : Program) (ts : List Tenant) (x b : ℕ) → AllByRecursion (HasAddress P) ts → byte_at P ts x ≡ Some b →
+    sure_byte_at P ts x ≡ Some b
+sure_known P [] x b k h = h
+sure_known P (t ∷ ts) x b k h =
+    ap (λ l. cond l None (byte_after (stored P t) x (sure_byte_at P ts x))) (not_lacking P t k.0)
+    ∙ byte_over (stored P t) x b (byte_at P ts x) (sure_byte_at P ts x) (sure_known P ts x b k.1) h
+
+pub sure_raw : (P : Program) (ts : List Tenant) (i : Instr) (a n : ℕ) → AllByRecursion (HasAddress P) ts →
+    raw_at P ts i a ≡ Some n → sure_raw_at P ts i a ≡ Some n
+sure_raw P ts i a n k h =
+    number_stays (byte_at P ts) (sure_byte_at P ts) a (width i.op) n (λ x b. sure_known P ts x b k) h
+
+sure_is : (P : Program) (ts : List Tenant) (x b : ℕ) → sure_byte_at P ts x ≡ Some b → byte_at P ts x ≡ Some b
+sure_is P [] x b h = h
+sure_is P (t ∷ ts) x b h = go (lacks_address P t) (sure_is P ts x b) h
+  where
+    go : (l : Bool) → (sure_byte_at P ts x ≡ Some b → byte_at P ts x ≡ Some b) →
+        cond l None (byte_after (stored P t) x (sure_byte_at P ts x)) ≡ Some b →
+        byte_after (stored P t) x (byte_at P ts x) ≡ Some b
+    go true more e = absurd (cc)
+    go false more e = byte_over (stored P t) x b (sure_byte_at P ts x) (byte_at P ts x) more e
+
+-- they are the bytes that the older stores leave
+pub raw_sure : (P : Program) (ts : List Tenant) (i : Instr) (a n : ℕ) → sure_raw_at P ts i a ≡ Some n →
+    raw_at P ts i a ≡ Some n
+raw_sure P ts i a n h =
+    number_stays (sure_byte_at P ts) (byte_at P ts) a (width i.op) n (λ x b. sure_is P ts x b) h
+
+-- and they stay
+sure_grows : (P : Program) (t t' : Tenant) (ts ys : List Tenant) (x b : ℕ) → Grows P t t' →
+    sure_byte_at P (ys ++ t ∷ ts) x ≡ Some b → sure_byte_at P (ys ++ t' ∷ ts) x ≡ Some b
+sure_grows P t t' ts [] x b g h = go (lacks_address P t) refl h
+  where
+    go : (l : Bool) → lacks_address P t ≡ l → cond l None (byte_after (stored P t) x (sure_byte_at P ts x)) ≡ Some b →
+        sure_byte_at P (t' ∷ ts) x ≡ Some b
+    go true q e = absurd (cc)
+    go false q e =
+        let has = has_from P t q in
+        ap (λ l. cond l None (byte_after (stored P t') x (sure_byte_at P ts x))) (not_lacking P t' (g.address has))
+        ∙ byte_under (stored P t) (stored P t') x b (sure_byte_at P ts x) (g.stores has) e
+sure_grows P t t' ts (y ∷ ys) x b g h = go (lacks_address P y) (sure_grows P t t' ts ys x b g) h
+  where
+    go : (l : Bool) → (sure_byte_at P (ys ++ t ∷ ts) x ≡ Some b → sure_byte_at P (ys ++ t' ∷ ts) x ≡ Some b) →
+        cond l None (byte_after (stored P y) x (sure_byte_at P (ys ++ t ∷ ts) x)) ≡ Some b →
+        cond l None (byte_after (stored P y) x (sure_byte_at P (ys ++ t' ∷ ts) x)) ≡ Some b
+    go true more e = absurd (cc)
+    go false more e =
+        byte_over (stored P y) x b (sure_byte_at P (ys ++ t ∷ ts) x) (sure_byte_at P (ys ++ t' ∷ ts) x) more e
+
+sure_read_grows : (P : Program) (t t' : Tenant) (ts ys : List Tenant) (i : Instr) (o : Outcome) (v : ℕ) →
+    Grows P t t' → HasSureRead P (ys ++ t ∷ ts) i o v → HasSureRead P (ys ++ t' ∷ ts) i o v
+sure_read_grows P t t' ts ys i o v g r =
+    record {
+      a = r.a;
+      n = r.n;
+      computes = r.computes;
+      sure =
+          number_stays (sure_byte_at P (ys ++ t ∷ ts)) (sure_byte_at P (ys ++ t' ∷ ts)) r.a (width i.op) r.n
+          (λ x b. sure_grows P t t' ts ys x b g) r.sure;
+      value = r.value;
+    }
+
 -- a load
 pub read_grows : (P : Program) (t t' : Tenant) (ts ys : List Tenant) (i : Instr) (o : Outcome) (v : ℕ) →
     Grows P t t' → HasRead P (ys ++ t ∷ ts) i o v → HasRead P (ys ++ t' ∷ ts) i o v
@@ -167,10 +262,11 @@ read_grows P t t' ts ys i o v g r =
 
 load_grows : (P : Program) (t t' : Tenant) (ts ys : List Tenant) (i : Instr) (o : Outcome) (k : Kind)
     (f : Fate) → Grows P t t' → LoadIs P (ys ++ t ∷ ts) i o k f → LoadIs P (ys ++ t' ∷ ts) i o k f
-load_grows P t t' ts ys i o Loads (Done v) g l = read_grows P t t' ts ys i o v g l
+load_grows P t t' ts ys i o Loads (Done v) g l = sure_read_grows P t t' ts ys i o v g l
 load_grows P t t' ts ys i o Loads Open g l = tt
 load_grows P t t' ts ys i o Loads (Busy c) g l = tt
 load_grows P t t' ts ys i o Loads (Addr c) g l = tt
+load_grows P t t' ts ys i o Loads (Guessed c) g l = tt
 load_grows P t t' ts ys i o Loads (Miss c) g l = tt
 load_grows P t t' ts ys i o Loads (Stopped c) g l = tt
 load_grows P t t' ts ys i o Computes f g l = tt

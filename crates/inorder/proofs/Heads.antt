@@ -4,7 +4,7 @@ use Rattle.std.specs.List.{AllByRecursion}
 use Rattle.std.proofs.lemmas.Option.{same_Some}
 use Rattle.instructions.specs.Programs.{Program}
 use Rattle.inorder.specs.declared.history.Act.{Act}
-use Rattle.inorder.specs.declared.history.Act.TheVariants.{Claim, Deliver, Finish, Link, Load, Mend, Retire, Squash}
+use Rattle.inorder.specs.declared.history.Act.TheVariants.{Claim, Deliver, Finish, Link, Load, Mend, Retire, Speculate, Squash}
 use Rattle.inorder.specs.declared.history.Source.TheVariants.{First, Second}
 use Rattle.inorder.specs.declared.history.Step.{Step}
 use Rattle.inorder.specs.declared.history.Step.TheVariants.{Let, On, Renew}
@@ -24,6 +24,7 @@ use Rattle.inorder.proofs.Positions.{all_at, at_below, at_more, at_new, older_fr
 use Rattle.inorder.proofs.Sound.{IsSettled, IsSound, SettledBy}
 use Rattle.inorder.proofs.Recent.{among_all, counts_same, live_recent, recent_at}
 use Rattle.inorder.proofs.Stations.{AreSettling, OldGone, finished_station, mended_station, settling, settling_newest}
+use Rattle.inorder.proofs.Speculating.{speculates_live}
 
 -- The oldest live tenant, or none
 
@@ -120,6 +121,7 @@ retired_same P by Finish ys t ts b m = ap stands_retired (finished_station t (co
 retired_same P by Load ys t ts b m = absurd b
 retired_same P by (Retire n) ys t ts b m = absurd b
 retired_same P by Squash ys t ts b m = sym (ap stands_retired m.live)
+retired_same P by (Speculate s) ys t ts b m = absurd b
 retired_same P by Mend ys t ts b m = ap stands_retired (mended_station t t.fate).1
 
 pub head_stays : (P : Program) (C : Sizes) (U : UpdateUnit) (by : ℕ) (s : Step) → IsNotBacks s → Allowed P C U by s → head_station C (applied P C U by s) ≡ head_station C U
@@ -164,6 +166,7 @@ addr_on P by Finish ys t ts x b m e = let f = m.fate in absurd (cc)
 addr_on P by Load ys t ts x b m e = absurd b
 addr_on P by (Retire n) ys t ts x b m e = absurd b
 addr_on P by Squash ys t ts x b m e = e
+addr_on P by (Speculate s) ys t ts x b m e = absurd b
 addr_on P by Mend ys t ts x b m e = let f = m.fate in absurd (cc)
 
 -- the head with its address, and its instruction
@@ -204,6 +207,7 @@ stop_on P by Finish ys t ts m r = let x = sym m.live ∙ r.standing in absurd (c
 stop_on P by Load ys t ts m r = let x = sym m.live ∙ r.standing in absurd (cc x)
 stop_on P by (Retire n) ys t ts m r = let x = sym m.live ∙ r.standing in absurd (cc x)
 stop_on P by Squash ys t ts m r = let x = sym m.live ∙ r.standing in absurd (cc x)
+stop_on P by (Speculate s) ys t ts m r = let x = sym (speculates_live P s ys t ts m) ∙ r.standing in absurd (cc x)
 stop_on P by Mend ys t ts m r = let x = sym m.live ∙ r.standing in absurd (cc x)
 
 pub over_stays : (P : Program) (C : Sizes) (U : UpdateUnit) (by : ℕ) (s : Step) → Allowed P C U by s → IsOver U → IsOver (applied P C U by s)

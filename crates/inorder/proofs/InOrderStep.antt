@@ -19,7 +19,7 @@ use Rattle.inorder.specs.Committed.{ahead, committed, with_stored, with_tenant}
 use Rattle.inorder.specs.Machine.{Goes, Halts, State, advanced, after_access, fetched, ran, step, store_bytes, write}
 use Rattle.inorder.specs.Memory.{byte_at, stored, stored_by}
 use Rattle.inorder.specs.Steps.{CanRetire}
-use Rattle.inorder.specs.Tenants.{Addr, Busy, Done, Fate, IsThere, Miss, Open, Operand, Stopped, Tenant, behind, behind_by, computed, computed_next, destination_of, instr, is_first, kind_of, next_by}
+use Rattle.inorder.specs.Tenants.{Addr, Busy, Done, Fate, Guessed, IsThere, Miss, Open, Operand, Stopped, Tenant, behind, behind_by, computed, computed_next, destination_of, instr, is_first, kind_of, next_by}
 use Rattle.inorder.specs.Tenants.{on_path, operand_value}
 use Rattle.inorder.specs.Unit.{creator, value_of}
 use Rattle.lsq.specs.Bytes.{little_endian}
@@ -28,7 +28,8 @@ use Rattle.inorder.proofs.SettledMemory.{byte_given}
 use Rattle.inorder.proofs.SettledRegisters.{committed_pc, retired_leaves, retired_on, same_rest, source_given}
 use Rattle.inorder.proofs.Halves.{Waits, first_low}
 use Rattle.inorder.proofs.Pairs.{and_left, pair_computes, pair_makes}
-use Rattle.inorder.proofs.Sound.{DoneIs, FateIs, HasRead, IsInPlace, IsOwn, IsSettled, IsSound, LoadIs, Needs, ValueIs}
+use Rattle.inorder.proofs.Sound.{DoneIs, FateIs, HasSureRead, IsInPlace, IsOwn, IsSettled, IsSound, LoadIs, Needs, ValueIs}
+use Rattle.inorder.proofs.Grows.{raw_sure}
 
 -- One step
 
@@ -88,6 +89,7 @@ needs_of P t Open s c = absurd c
 needs_of P t (Busy by) s c = absurd c
 needs_of P t (Addr a) s c = s.2
 needs_of P t (Done v) s c = s.1
+needs_of P t (Guessed x) s c = absurd c
 needs_of P t (Miss x) s c = absurd c
 needs_of P t (Stopped x) s c = s.2
 
@@ -215,7 +217,7 @@ module _ (P : Program) (ts : List Tenant) (t : Tenant) (sound : IsSound P ts) (h
       ap (λ q. fetched P (committed P ts) (instr_at P q)) (pc_same ∙ own.place)
       ∙ ap (fetched P (committed P ts)) (fetched_at P t.index own.inside)
 
-  pub load_read : (v a : ℕ) → kind_of P t ≡ Loads → HasRead P ts (instr P t) (computed P t) v →
+  pub load_read : (v a : ℕ) → kind_of P t ≡ Loads → HasSureRead P ts (instr P t) (computed P t) v →
       computed P t ≡ Address a →
       v ≡ loaded (instr P t).op (little_endian (slice_index (committed P ts).memory) a (width (instr P t).op))
   load_read v a ek r e =
@@ -224,7 +226,7 @@ module _ (P : Program) (ts : List Tenant) (t : Tenant) (sound : IsSound P ts) (h
       let inside = load_in P t r.a ek r.computes in
       let there = number_there (byte_at P ts) (slice_index (committed P ts).memory) r.a w
       (λ x l m. byte_given P ts sound h x (omega arith)) in
-      let n : Some r.n ≡ Some (little_endian (slice_index (committed P ts).memory) r.a w) = sym r.raw ∙ there in
+      let n : Some r.n ≡ Some (little_endian (slice_index (committed P ts).memory) r.a w) = sym (raw_sure P ts (instr P t) r.a r.n r.sure) ∙ there in
       let n' : r.n ≡ little_endian (slice_index (committed P ts).memory) r.a w = cc n in
       r.value ∙ ap (loaded (instr P t).op) n'
       ∙ ap (λ q. loaded (instr P t).op (little_endian (slice_index (committed P ts).memory) q w)) same

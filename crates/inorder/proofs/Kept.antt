@@ -2,7 +2,7 @@
 use Rattle.std.proofs.Common.{◌≡◌, ℕ, List, [], ◌∷◌, ◌++◌, Some, refl, sym, ap, ◌∙◌, subst}
 use Rattle.instructions.specs.Programs.{Program}
 use Rattle.inorder.specs.declared.history.Act.{Act}
-use Rattle.inorder.specs.declared.history.Act.TheVariants.{Claim, Deliver, Finish, Link, Load, Mend, Retire, Squash}
+use Rattle.inorder.specs.declared.history.Act.TheVariants.{Claim, Deliver, Finish, Link, Load, Mend, Retire, Speculate, Squash}
 use Rattle.inorder.specs.declared.history.Step.{Step}
 use Rattle.inorder.specs.declared.history.Step.TheVariants.{Let, On, Renew}
 use Rattle.inorder.specs.Legal.{Allowed, AreAllowed, May, Taken, applied, change_at, changed, reached}
@@ -15,10 +15,13 @@ use Rattle.inorder.proofs.Theorem.FinishKept.{claim_sound, finish_sound, load_ma
 use Rattle.inorder.proofs.Grows.{end_sound, grow_sound, sound_mid}
 use Rattle.inorder.proofs.Theorem.LeaveKept.{mend_sound, retire_sound, squash_sound}
 use Rattle.inorder.proofs.Theorem.LetKept.{let_sound}
+use Rattle.inorder.proofs.Theorem.SpeculationKept.{confirm_sound, guess_sound}
 use Rattle.inorder.proofs.Sound.{IsSound}
 pub use Rattle.inorder.proofs.Theorem.DeliveryKept.{deliver_grows, link_grows}
 pub use Rattle.inorder.proofs.Theorem.FinishKept.{claim_grows, finish_grows, load_may_grow}
 pub use Rattle.inorder.proofs.Theorem.LeaveKept.{retire_grows}
+pub use Rattle.inorder.proofs.Theorem.SpeculationKept.{confirm_grows, guess_grows}
+use Rattle.inorder.specs.declared.history.Speculation.TheVariants.{Confirm, Flush, Guess}
 
 -- Any step
 
@@ -47,6 +50,14 @@ act_keeps P by (Retire n) ys t ts m s =
     let q = sound_mid P t ts ys s in
     grow_sound P t _ ts ys (retire_grows P ts t n m q) (retire_sound P ts t n m q) s
 act_keeps P by Squash ys t ts m s =
+    end_sound P t _ ts ys (λ v e. e) m.live m.youngest (squash_sound P ts t m.live (sound_mid P t ts ys s)) s
+act_keeps P by (Speculate (Guess v)) ys t ts m s =
+    let q = sound_mid P t ts ys s in
+    grow_sound P t _ ts ys (guess_grows P ts t v m q) (guess_sound P ts t v m q) s
+act_keeps P by (Speculate Confirm) ys t ts m s =
+    let q = sound_mid P t ts ys s in
+    grow_sound P t _ ts ys (confirm_grows P ts t m q) (confirm_sound P ts t m q) s
+act_keeps P by (Speculate Flush) ys t ts m s =
     end_sound P t _ ts ys (λ v e. e) m.live m.youngest (squash_sound P ts t m.live (sound_mid P t ts ys s)) s
 act_keeps P by Mend ys t ts m s =
     let new = end_sound P t (record t { fate = Done m.x; next = m.x }) ts ys (λ v e. e) m.live m.youngest

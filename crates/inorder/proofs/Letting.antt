@@ -6,7 +6,7 @@ use Rattle.instructions.specs.Instruction.{first_of, fixed_next, is_access, kind
 use Rattle.instructions.specs.declared.op.Half.{Half}
 use Rattle.instructions.specs.Programs.{Program, instr_of}
 use Rattle.inorder.specs.declared.history.Act.{Act}
-use Rattle.inorder.specs.declared.history.Act.TheVariants.{Claim, Deliver, Finish, Link, Load, Mend, Retire, Squash}
+use Rattle.inorder.specs.declared.history.Act.TheVariants.{Claim, Deliver, Finish, Link, Load, Mend, Retire, Speculate, Squash}
 use Rattle.inorder.specs.declared.history.Step.{Step}
 use Rattle.inorder.specs.declared.history.Step.TheVariants.{Let, On, Renew}
 use Rattle.inorder.specs.declared.history.Supply.{Supply}
@@ -44,6 +44,7 @@ besides_grows P by Finish ys t ts b m q = finish_grows P ts t by (computed P t) 
 besides_grows P by Load ys t ts b m q = load_may_grow P ts t m q
 besides_grows P by (Retire n) ys t ts b m q = retire_grows P ts t n m q
 besides_grows P by Squash ys t ts b m q = absurd b
+besides_grows P by (Speculate s) ys t ts b m q = absurd b
 besides_grows P by Mend ys t ts b m q = absurd b
 
 pub how_many_same : (f : Tenant → Bool) (t t' : Tenant) (ts ys : List Tenant) → f t' ≡ f t → how_many f (ys ++ t' ∷ ts) ≡ how_many f (ys ++ t ∷ ts)

@@ -6,6 +6,7 @@ pub mod SettledRegisters
 pub mod SettledMemory
 pub mod InOrderStep
 pub mod Follows
+pub mod Speculating
 pub mod Kept
 pub mod Stations
 pub mod Commits
@@ -26,6 +27,7 @@ pub mod Ends
 pub mod Creators
 pub mod Loading
 pub mod Histories
+pub mod Shared
 pub mod Recent
 pub mod Renewing
 pub mod Serving

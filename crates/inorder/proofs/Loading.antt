@@ -8,7 +8,7 @@ use Rattle.instructions.specs.Programs.{Program, instr_of}
 use Rattle.instructions.specs.declared.op.Kind.TheVariants.{Loads}
 use Rattle.instructions.specs.declared.stop.Outcome.TheVariants.{Address}
 use Rattle.inorder.specs.declared.history.Act.{Act}
-use Rattle.inorder.specs.declared.history.Act.TheVariants.{Claim, Deliver, Finish, Link, Load, Mend, Retire, Squash}
+use Rattle.inorder.specs.declared.history.Act.TheVariants.{Claim, Deliver, Finish, Link, Load, Mend, Retire, Speculate, Squash}
 use Rattle.inorder.specs.declared.history.Source.TheVariants.{First, Second}
 use Rattle.inorder.specs.declared.history.Step.{Step}
 use Rattle.inorder.specs.declared.history.Step.TheVariants.{Let, On, Renew}
@@ -19,7 +19,7 @@ use Rattle.inorder.specs.Replies.{IsStale}
 use Rattle.inorder.specs.Tenants.{Addr, IsNotLive, Live, Squashed, Tenant, instr, kind_of}
 use Rattle.inorder.specs.Unit.{Sizes, UpdateUnit, at, older, replaced, younger}
 use Rattle.inorder.proofs.Basics.{eqb_less, replaced_split, split_at}
-use Rattle.inorder.proofs.Ends.{Acted, IsNotBacks, IsNotBacksAct, at_older, exact, is_squashed, retires, stands_on}
+use Rattle.inorder.proofs.Ends.{Acted, IsNotBacks, IsNotBacksAct, at_older, exact, is_flushed, is_squashed, retires, stands_on}
 use Rattle.inorder.proofs.Grows.{Grows, read_grows, sound_mid}
 use Rattle.inorder.proofs.Kept.{link_grows}
 use Rattle.inorder.proofs.Letting.{besides_grows}
@@ -93,6 +93,7 @@ load_on P by Finish ys t ts a b m live fate = let f = m.fate in absurd (cc)
 load_on P by Load ys t ts a b m live fate = absurd b
 load_on P by (Retire n) ys t ts a b m live fate = absurd b
 load_on P by Squash ys t ts a b m live fate = inr refl
+load_on P by (Speculate s) ys t ts a b m live fate = absurd b
 load_on P by Mend ys t ts a b m live fate = let f = m.fate in absurd (cc)
 
 -- an older tenant grows, since only the youngest live one is squashed or mended
@@ -114,6 +115,7 @@ older_grows P us by r p act t b a ok is live lt = go act b a.may
     go Load b m = absurd b
     go (Retire n) b m = absurd b
     go Squash b m = absurd (younger_at IsNotLive us r m.youngest p t lt is live)
+    go (Speculate s) b m = absurd b
     go Mend b m = absurd (younger_at IsNotLive us r m.youngest p t lt is live)
 
 read_at : (P : Program) (U : UpdateUnit) (by r p a v : ℕ) (act : Act) → IsNotBacksAct act → MayAct P U.tenants by r act → IsSound P U.tenants → (c : Reads P U p a v) →
@@ -214,7 +216,7 @@ gone_stays P C U by s may p g = ⊎_elim
     (λ e. record { tenant = g.tenant; is = e; fact = g.fact })
     (λ (z : Acted P U by s (applied P C U by s).tenants p g.tenant). ⊎_elim
     (λ e. record { tenant = changed P by z.act g.tenant (older U.tenants p); is = z.now; fact = e ∙ g.fact })
-    (λ w. absurd (elim w [ retires n m ↦ not_both m.live | is_squashed m ↦ not_both m.live ]))
+    (λ w. absurd (elim w [ retires n m ↦ not_both m.live | is_squashed m ↦ not_both m.live | is_flushed m ↦ not_both m.live ]))
     (stands_on P by z.act (younger U.tenants p) g.tenant (older U.tenants p) z.may))
     (exact P C U by s may p g.tenant g.is)
   where

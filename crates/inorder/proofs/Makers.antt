@@ -11,7 +11,7 @@ use Rattle.instructions.specs.declared.stop.Outcome.{Outcome}
 use Rattle.instructions.specs.declared.stop.Outcome.TheVariants.{Pair, Address, Next, Stop as Stops, Value}
 use Rattle.instructions.specs.declared.stop.Stop.{Stop}
 use Rattle.inorder.specs.declared.history.Act.{Act}
-use Rattle.inorder.specs.declared.history.Act.TheVariants.{Claim, Deliver, Finish, Link, Load, Mend, Retire, Squash}
+use Rattle.inorder.specs.declared.history.Act.TheVariants.{Claim, Deliver, Finish, Link, Load, Mend, Retire, Speculate, Squash}
 use Rattle.inorder.specs.declared.history.Source.{Source}
 use Rattle.inorder.specs.declared.history.Source.TheVariants.{First, Second}
 use Rattle.inorder.specs.declared.history.Step.{Step}
@@ -21,7 +21,7 @@ use Rattle.inorder.specs.declared.history.Supply.TheVariants.{From, Known}
 use Rattle.inorder.specs.Legal.{Allowed, AreAllowed, May, Taken, applied, changed, reached}
 use Rattle.inorder.specs.StationWords.{left_value}
 use Rattle.inorder.specs.Steps.{CanRetire, MaySupply, finished, let_operand, linked, made_at_end, mended_as, new_tenant}
-use Rattle.inorder.specs.Tenants.{Addr, AtLet, Busy, Done, Fate, IsThere, Linked, Live, Miss, Open, Retired, Stopped, Tenant, Unlinked, computed, destination_of, instr, kind_of, made_at_let, on_path}
+use Rattle.inorder.specs.Tenants.{Addr, AtLet, Busy, Done, Fate, Guessed, IsThere, Linked, Live, Miss, Open, Retired, Stopped, Tenant, Unlinked, computed, destination_of, instr, kind_of, made_at_let, on_path}
 use Rattle.inorder.specs.Tenants.{operand, stands_on_path}
 use Rattle.inorder.specs.Unit.{Sizes, UpdateUnit, at, can_be_written, creator, last_writer, value_made, next_station, older, recent, value_of, younger}
 use Rattle.inorder.proofs.Basics.{Below, eqb_less, last_writer_below, split_at}
@@ -34,6 +34,7 @@ use Rattle.inorder.proofs.Positions.{at_below, at_more, at_new}
 use Rattle.inorder.proofs.Serving.{linked_way, not_linked, other_way, source_same}
 use Rattle.inorder.proofs.Sound.{DoneBy, FateBy, IsSound, IsSoundAt}
 use Rattle.inorder.proofs.Stations.{finished_station, mended_station}
+use Rattle.inorder.specs.declared.history.Speculation.TheVariants.{Confirm, Flush, Guess}
 
 -- A source that was not known at the let has a creator, which links nothing
 
@@ -87,6 +88,12 @@ not_at_let P by (Retire n) ys t ts First m e = e
 not_at_let P by (Retire n) ys t ts Second m e = e
 not_at_let P by Squash ys t ts First m e = e
 not_at_let P by Squash ys t ts Second m e = e
+not_at_let P by (Speculate (Guess v)) ys t ts First m e = e
+not_at_let P by (Speculate (Guess v)) ys t ts Second m e = e
+not_at_let P by (Speculate Confirm) ys t ts First m e = e
+not_at_let P by (Speculate Confirm) ys t ts Second m e = e
+not_at_let P by (Speculate Flush) ys t ts First m e = e
+not_at_let P by (Speculate Flush) ys t ts Second m e = e
 not_at_let P by Mend ys t ts First m e = ap (λ f. (mended_as t f).first.way) m.fate ∙ e
 not_at_let P by Mend ys t ts Second m e = ap (λ f. (mended_as t f).second.way) m.fate ∙ e
 
@@ -189,6 +196,9 @@ stop_made P by Finish ys t ts c m h e f = let l : t.standing ≡ Retired = sym (
 stop_made P by Load ys t ts c m h e f = let l = m.live in absurd (cc)
 stop_made P by (Retire n) ys t ts c m h e f = (n, ap (λ z. made_at_end z t.made n) f)
 stop_made P by Squash ys t ts c m h e f = absurd (cc e)
+stop_made P by (Speculate (Guess v)) ys t ts c m h e f = let l = m.live in absurd (cc)
+stop_made P by (Speculate Confirm) ys t ts c m h e f = let l = m.live in absurd (cc)
+stop_made P by (Speculate Flush) ys t ts c m h e f = absurd (cc e)
 stop_made P by Mend ys t ts c m h e f = let l : t.standing ≡ Retired = sym (mended_station t t.fate).1 ∙ e in let k = m.live in absurd (cc)
 
 stops_kept : (P : Program) (C : Sizes) (U : UpdateUnit) (by : ℕ) (s : Step) → Allowed P C U by s → IsSound P U.tenants → StopsMade U.tenants → StopsMade (applied P C U by s).tenants
@@ -220,6 +230,7 @@ stops_made P C (s ∷ ss) a p t c is e f = stops_kept P C (reached P C ss) s.by 
 -- live and not done: nothing. Else, unless it was squashed: what it leaves
 abbrev pub Unmade : Fate → Type 0
 Unmade (Done v) = ⊥
+Unmade (Guessed v) = ⊥
 Unmade _ = Unit {0}
 
 module _ (P : Program) (us : List Tenant) (ok : IsSound P us) (q : ℕ) (u : Tenant) (is : at us q ≡ Some u) (waits : kind_of P u ≢ Links) (writer : IsWriter P u) where
@@ -258,6 +269,7 @@ module _ (P : Program) (us : List Tenant) (ok : IsSound P us) (q : ℕ) (u : Ten
       go (Busy by) un h = h.0 ∙ none_at_let (kind_of P u) waits u.pc
       go (Addr a) un h = h.0
       go (Done v) un h = absurd un
+      go (Guessed v) un h = absurd un
       go (Miss x) un h = h.0 ∙ none_at_let (kind_of P u) waits u.pc
       go (Stopped c) un h = h.0 (λ r. let x = sym live ∙ r in cc x)
 
@@ -273,6 +285,7 @@ module _ (P : Program) (us : List Tenant) (ok : IsSound P us) (q : ℕ) (u : Ten
       go Open e c = absurd (subst (CanRetire (kind_of P u) u.second.value) e c)
       go (Busy by) e c = absurd (subst (CanRetire (kind_of P u) u.second.value) e c)
       go (Addr a) e c = absurd (not_stores (subst (CanRetire (kind_of P u) u.second.value) e c).0)
+      go (Guessed v) e c = absurd (subst (CanRetire (kind_of P u) u.second.value) e c)
       go (Miss x) e c = absurd (subst (CanRetire (kind_of P u) u.second.value) e c)
 
 -- A link that came too late: the creator has made its value
@@ -374,6 +387,7 @@ late_kept P C ss by (On p act) are a all r t k is late = ⊎_elim
     go Load e = inl (plain (subst Plain (sym e) tt))
     go (Retire n) e = inl (plain (subst Plain (sym e) tt))
     go Squash e = inl (plain (subst Plain (sym e) tt))
+    go (Speculate s) e = inl (plain (subst Plain (sym e) tt))
     go Mend e = inl (plain (subst Plain (sym e) tt))
 late_kept P C ss by Renew are a all r t k is late = all r t k is late
 

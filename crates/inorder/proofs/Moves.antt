@@ -7,7 +7,7 @@ use Rattle.instructions.specs.Programs.{Program}
 use Rattle.instructions.specs.declared.stop.Outcome.{Outcome}
 use Rattle.instructions.specs.declared.stop.Outcome.TheVariants.{Pair, Address, Next, Stop as Stops, Value}
 use Rattle.inorder.specs.declared.history.Act.{Act}
-use Rattle.inorder.specs.declared.history.Act.TheVariants.{Claim, Deliver, Finish, Link, Load, Mend, Retire, Squash}
+use Rattle.inorder.specs.declared.history.Act.TheVariants.{Claim, Deliver, Finish, Link, Load, Mend, Retire, Speculate, Squash}
 use Rattle.inorder.specs.declared.history.Source.{Source}
 use Rattle.inorder.specs.declared.history.Source.TheVariants.{First, Second}
 use Rattle.inorder.specs.declared.history.Step.{Step}
@@ -16,14 +16,15 @@ use Rattle.inorder.specs.Callers.{IsHeld}
 use Rattle.inorder.specs.Legal.{Allowed, May, MayAct, applied, change_at, changed}
 use Rattle.inorder.specs.Replies.{IsOpen}
 use Rattle.inorder.specs.Steps.{CanRetire, finished, linked, mended_as, new_tenant}
-use Rattle.inorder.specs.Tenants.{Addr, Busy, Done, Fate, Linked, Live, Miss, Open, Operand, Retired, Squashed, Standing, Stopped, Tenant, computed, kind_of, operand, with_operand, instr}
+use Rattle.inorder.specs.Tenants.{Addr, Busy, Done, Fate, Guessed, Linked, Live, Miss, Open, Operand, Retired, Squashed, Standing, Stopped, Tenant, computed, instr, kind_of, operand, with_operand}
 use Rattle.inorder.specs.Unit.{Sizes, UpdateUnit, at, older, replaced, younger}
 use Rattle.inorder.proofs.Basics.{split_at}
 use Rattle.inorder.proofs.Grows.{MadeGrows, sound_mid}
 use Rattle.inorder.proofs.Theorem.FinishKept.{never_pair}
-use Rattle.inorder.proofs.Kept.{finish_grows, load_may_grow, retire_grows}
+use Rattle.inorder.proofs.Kept.{finish_grows, guess_grows, load_may_grow, retire_grows}
 use Rattle.inorder.proofs.Positions.{at_below, at_more, at_replaced_else, at_replaced_here, at_there, length_replaced}
 use Rattle.inorder.proofs.Sound.{IsSound, IsSoundAt}
+use Rattle.inorder.specs.declared.history.Speculation.TheVariants.{Confirm, Flush, Guess}
 
 abbrev pub IsNoLinkAct : Act → Type 0
 IsNoLinkAct (Link k) = ⊥
@@ -220,6 +221,12 @@ changed_goes P by p (Retire n) ys t ts m q =
     (λ c n b. absurd (subst (CanRetire (kind_of P t) t.second.value) b.fate m.can))
 changed_goes P by p Squash ys t ts m q =
     refated by (On p Squash) t t.fate Squashed t.made t.next (λ e. m.live) (λ v e. e) (λ l f. absurd (cc)) (λ c n b. record { fate = b.fate; stays = inr refl })
+changed_goes P by p (Speculate (Guess v)) ys t ts m q =
+    refated by (On p (Speculate (Guess v))) t (Guessed v) t.standing (Some v) t.next (λ e. e) (guess_grows P ts t v m q).made (λ l f. absurd (cc)) (λ c n b. let f = b.fate in let was = m.fate in absurd (cc))
+changed_goes P by p (Speculate Confirm) ys t ts m q =
+    refated by (On p (Speculate Confirm)) t (Done _) t.standing t.made t.next (λ e. e) (λ v e. e) (λ l f. absurd (cc)) (λ c n b. let f = b.fate in let was = m.fate in absurd (cc))
+changed_goes P by p (Speculate Flush) ys t ts m q =
+    refated by (On p (Speculate Flush)) t t.fate Squashed t.made t.next (λ e. m.live) (λ v e. e) (λ l f. absurd (cc)) (λ c n b. record { fate = b.fate; stays = inr refl })
 changed_goes P by p Mend ys t ts m q =
     subst (λ f. Goes by (On p Mend) t (mended_as t f)) (sym m.fate)
     (refated by (On p Mend) t (Done m.x) t.standing t.made m.x (λ e. e) (λ v e. e) (λ l f. absurd (cc)) (λ c n b. let f = b.fate in let was = m.fate in absurd (cc)))

@@ -7,5 +7,7 @@ pub mod Left
 pub mod Creators
 pub mod Dispatch
 pub mod Execution
+pub mod Passing
+pub mod Flushing
 pub mod Recovery
 pub mod Retirement

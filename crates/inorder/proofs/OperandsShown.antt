@@ -5,7 +5,7 @@ use Rattle.instructions.specs.Programs.{Program}
 use Rattle.instructions.specs.declared.stop.Outcome.{Outcome}
 use Rattle.instructions.specs.declared.stop.Outcome.TheVariants.{Pair, Address, Next, Stop as Stops, Value}
 use Rattle.inorder.specs.declared.history.Act.{Act}
-use Rattle.inorder.specs.declared.history.Act.TheVariants.{Claim, Deliver, Finish, Link, Load, Mend, Retire, Squash}
+use Rattle.inorder.specs.declared.history.Act.TheVariants.{Claim, Deliver, Finish, Link, Load, Mend, Retire, Speculate, Squash}
 use Rattle.inorder.specs.declared.history.Source.{Source}
 use Rattle.inorder.specs.declared.history.Source.TheVariants.{First, Second}
 use Rattle.inorder.specs.declared.history.Step.TheVariants.{Let, On}
@@ -15,12 +15,13 @@ use Rattle.inorder.specs.Legal.{Allowed, Taken, applied, changed, reached}
 use Rattle.inorder.specs.OperandWords.{let_word, KeepsOperands, MovesOperands, OperandsFollow, operand_word, operand_word_of, supply_for}
 use Rattle.inorder.specs.StationWords.{last_of}
 use Rattle.inorder.specs.Steps.{delivered, finished, mended_as, new_tenant}
-use Rattle.inorder.specs.Tenants.{Addr, Busy, Done, Fate, Miss, Open, Stopped, Tenant, computed, operand}
+use Rattle.inorder.specs.Tenants.{Addr, Busy, Done, Fate, Guessed, Miss, Open, Stopped, Tenant, computed, operand}
 use Rattle.inorder.specs.Unit.{is_old, newest_of, Sizes, UpdateUnit, at, next_station, next_tag, older, recent, value_of, younger}
 use Rattle.inorder.proofs.Basics.{eqb_less, eqb_self, split_at}
 use Rattle.inorder.proofs.QueuePlaces.{older_length}
 use Rattle.inorder.proofs.Kept.{parts}
 use Rattle.inorder.proofs.Tags.{IsNewPlace, IsOldPlace, cut, AreTagged, higher, same_place, tagged}
+use Rattle.inorder.specs.declared.history.Speculation.TheVariants.{Confirm, Flush, Guess}
 
 -- The last tenant of a station, as seen by a function of it
 seen_same : {X : Type 0} (g : Option Tenant → X) (t u : Tenant) (ts ys : List Tenant) (s : ℕ) →
@@ -128,6 +129,12 @@ kept_operand P by (Retire n) t ts First k = refl
 kept_operand P by (Retire n) t ts Second k = refl
 kept_operand P by Squash t ts First k = refl
 kept_operand P by Squash t ts Second k = refl
+kept_operand P by (Speculate (Guess v)) t ts First k = refl
+kept_operand P by (Speculate (Guess v)) t ts Second k = refl
+kept_operand P by (Speculate Confirm) t ts First k = refl
+kept_operand P by (Speculate Confirm) t ts Second k = refl
+kept_operand P by (Speculate Flush) t ts First k = refl
+kept_operand P by (Speculate Flush) t ts Second k = refl
 kept_operand P by Mend t ts j k = go t.fate j
   where
     go : (f : Fate) (j : Source) → operand_word_of j (Some (mended_as t f)) ≡ operand_word_of j (Some t)
@@ -137,6 +144,7 @@ kept_operand P by Mend t ts j k = go t.fate j
     go (Done v) j = refl
     go (Miss v) First = refl
     go (Miss v) Second = refl
+    go (Guessed v) j = refl
     go (Stopped v) j = refl
 
 module _ (P : Program) (C : Sizes) (U : UpdateUnit) (by : ℕ) (tags : AreTagged C (recent U)) where

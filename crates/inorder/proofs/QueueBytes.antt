@@ -19,7 +19,7 @@ use Rattle.inorder.specs.Loads.{access_width, address_by, content_by, entry_in, 
 use Rattle.inorder.specs.Machine.{State}
 use Rattle.inorder.specs.Memory.{byte_after, byte_at, stored, stored_by}
 use Rattle.inorder.specs.Steps.{HasAddress}
-use Rattle.inorder.specs.Tenants.{Addr, Busy, Done, Fate, Live, Miss, Open, Retired, Squashed, Standing, Stopped, Tenant, computed, instr, is_live_access, kind_of, on_path, stands_live}
+use Rattle.inorder.specs.Tenants.{Addr, Busy, Done, Fate, Guessed, Live, Miss, Open, Retired, Squashed, Standing, Stopped, Tenant, computed, instr, is_live_access, kind_of, on_path, stands_live}
 use Rattle.inorder.specs.Tenants.{stands_on_path}
 use Rattle.lsq.specs.Bytes.{joined, little_endian_if_there}
 use Rattle.lsq.specs.Entries.{bytes}
@@ -77,6 +77,7 @@ addressed (Addr a) o h = (a, refl)
 addressed Open o h = absurd (true≢false (sym h))
 addressed (Busy c) o h = absurd (true≢false (sym h))
 addressed (Done c) o h = absurd (true≢false (sym h))
+addressed (Guessed c) o h = absurd (true≢false (sym h))
 addressed (Miss c) o h = absurd (true≢false (sym h))
 addressed (Stopped c) o h = absurd (true≢false (sym h))
 
@@ -112,6 +113,7 @@ left_by Stores (Addr a) o v d x q = refl
 left_by Stores Open o v d x q = refl
 left_by Stores (Busy c) o v d x q = refl
 left_by Stores (Done c) o v d x q = refl
+left_by Stores (Guessed c) o v d x q = refl
 left_by Stores (Miss c) o v d x q = refl
 left_by Stores (Stopped c) o v d x q = refl
 left_by Computes f o v d x q = refl
@@ -232,6 +234,7 @@ byte_left_live P (t ∷ ts) s x l = go t.standing refl (byte_left_live P ts s.1 
         by_fate (Busy c) ef = settled_one e (Busy c) ef tt tail
         by_fate (Addr c) ef = settled_one e (Addr c) ef tt tail
         by_fate (Done c) ef = settled_one e (Done c) ef tt tail
+        by_fate (Guessed c) ef = settled_one e (Guessed c) ef tt tail
         by_fate (Miss c) ef = settled_one e (Miss c) ef tt tail
         by_fate (Stopped c) ef =
             off (ap (λ y. commits_by y t.fate) e ∙ ap (commits_by Retired) ef)

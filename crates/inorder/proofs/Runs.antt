@@ -7,6 +7,7 @@ pub mod SharedRun
 mod LoopRun
 mod WrongPathRun
 mod StoreRun
+mod SpeculationRun
 mod ReletRun
 mod DeadLinkRun
 mod TurnsRun

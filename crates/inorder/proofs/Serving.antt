@@ -5,7 +5,7 @@ use Rattle.std.proofs.lemmas.Option.{same_Some}
 use Rattle.instructions.specs.Instruction.{first_of, second_of}
 use Rattle.instructions.specs.Programs.{Program, instr_of}
 use Rattle.inorder.specs.declared.history.Act.{Act}
-use Rattle.inorder.specs.declared.history.Act.TheVariants.{Claim, Deliver, Finish, Link, Load, Mend, Retire, Squash}
+use Rattle.inorder.specs.declared.history.Act.TheVariants.{Claim, Deliver, Finish, Link, Load, Mend, Retire, Speculate, Squash}
 use Rattle.inorder.specs.declared.history.Entry.{Entry}
 use Rattle.inorder.specs.declared.history.Event.{Event}
 use Rattle.inorder.specs.declared.history.Event.TheVariants.{Does, Marks, Refuses}
@@ -121,6 +121,7 @@ module _ (P : Program) (C : Sizes) where
         go Load e = plain (subst (λ a. Rattle.inorder.proofs.Moves.IsNoLinkAct a) (sym e) tt)
         go (Retire n) e = plain (subst (λ a. Rattle.inorder.proofs.Moves.IsNoLinkAct a) (sym e) tt)
         go Squash e = plain (subst (λ a. Rattle.inorder.proofs.Moves.IsNoLinkAct a) (sym e) tt)
+        go (Speculate s) e = plain (subst (λ a. Rattle.inorder.proofs.Moves.IsNoLinkAct a) (sym e) tt)
         go Mend e = plain (subst (λ a. Rattle.inorder.proofs.Moves.IsNoLinkAct a) (sym e) tt)
 
     pub linked_act : (c : ℕ) (k : Source) (Fact : Tenant → Type 0) → ((t t' : Tenant) → Goes by (On p act) t t' → Fact t → Fact t') → AreLinked U q c k Fact → AreLinked V q c k Fact

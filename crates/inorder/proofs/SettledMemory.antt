@@ -10,7 +10,7 @@ use Rattle.instructions.specs.declared.op.Kind.TheVariants.{Computes, Jumps, Lin
 use Rattle.inorder.specs.Committed.{ahead, commits, committed, with_retired, with_stored}
 use Rattle.inorder.specs.Machine.{State, store_bytes}
 use Rattle.inorder.specs.Memory.{Stored, byte_after, byte_at, covers, stored, stored_by}
-use Rattle.inorder.specs.Tenants.{Addr, Busy, Done, Fate, IsThere, Miss, Open, Retired, Squashed, Stopped, Tenant, instr, is_first, kind_of, on_path}
+use Rattle.inorder.specs.Tenants.{Addr, Busy, Done, Fate, Guessed, IsThere, Miss, Open, Retired, Squashed, Stopped, Tenant, instr, is_first, kind_of, on_path}
 use Rattle.lsq.specs.Bytes.{byte_of}
 use Rattle.inorder.proofs.Basics.{length_put, put_in, put_out}
 use Rattle.inorder.proofs.Pairs.{first_half_computes}
@@ -88,6 +88,7 @@ content_leaves P ts t l =
     addr true Stores Open h = tt
     addr true Stores (Busy c) h = tt
     addr true Stores (Done c) h = tt
+    addr true Stores (Guessed c) h = tt
     addr true Stores (Miss c) h = tt
     addr true Stores (Stopped c) h = tt
     addr true Computes f h = tt

@@ -13,7 +13,7 @@ use Rattle.inorder.specs.Committed.{ahead, commits, commits_by, committed, compl
 use Rattle.inorder.specs.Machine.{State, write}
 use Rattle.inorder.specs.Memory.{Stored, byte_after, byte_at, stored, stored_by}
 use Rattle.inorder.specs.Steps.{CanRetire}
-use Rattle.inorder.specs.Tenants.{Addr, Busy, Done, Fate, IsThere, Live, Miss, Open, Retired, Squashed, Standing, Stopped, Tenant, behind, behind_by, computed, computed_next, destination_of, instr}
+use Rattle.inorder.specs.Tenants.{Addr, Busy, Done, Fate, Guessed, IsThere, Live, Miss, Open, Retired, Squashed, Standing, Stopped, Tenant, behind, behind_by, computed, computed_next, destination_of, instr}
 use Rattle.inorder.specs.Tenants.{is_first, kind_of, on_path, stands_on_path}
 use Rattle.inorder.specs.Unit.{at, creator, front_pc, last_writer, value_of}
 use Rattle.inorder.proofs.Basics.{eqb_self, last_writer_below, length_write, read_other, read_same, read_zero, value_of_more}
@@ -28,6 +28,7 @@ settled_cases Retired Open h = inr (refl, refl)
 settled_cases Retired (Busy c) h = inr (refl, refl)
 settled_cases Retired (Addr c) h = inr (refl, refl)
 settled_cases Retired (Done c) h = inr (refl, refl)
+settled_cases Retired (Guessed c) h = inr (refl, refl)
 settled_cases Retired (Miss c) h = inr (refl, refl)
 settled_cases Retired (Stopped c) h = absurd h
 
@@ -45,6 +46,7 @@ leaves P ts t Open e c s h = absurd h
 leaves P ts t (Busy by) e c s h = absurd h
 leaves P ts t (Addr a) e c s h = inr (a, e, s.1, h.0, h.1)
 leaves P ts t (Done v) e c s h = inl (v, e, s.0)
+leaves P ts t (Guessed x) e c s h = absurd h
 leaves P ts t (Miss x) e c s h = absurd h
 leaves P ts t (Stopped x) e c s h = absurd (true≢false (sym c))
 

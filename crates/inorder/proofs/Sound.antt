@@ -9,9 +9,9 @@ use Rattle.instructions.specs.declared.op.Kind.{Kind}
 use Rattle.instructions.specs.declared.op.Kind.TheVariants.{Computes, Jumps, Links, Loads, Stores}
 use Rattle.instructions.specs.declared.stop.Outcome.{Outcome}
 use Rattle.instructions.specs.declared.stop.Outcome.TheVariants.{Address, Next, Stop as Stops, Value}
-use Rattle.inorder.specs.Memory.{raw_at}
+use Rattle.inorder.specs.Memory.{raw_at, sure_raw_at}
 use Rattle.inorder.specs.Steps.{CanRetire, HasAddress}
-use Rattle.inorder.specs.Tenants.{Addr, Busy, Done, Fate, IsThere, Live, Miss, Open, Operand, Retired, Squashed, Standing, Stopped, Tenant, behind, computed, instr, kind_of, made_at_let, on_path}
+use Rattle.inorder.specs.Tenants.{Addr, Busy, Done, Fate, Guessed, IsThere, Live, Miss, Open, Operand, Retired, Squashed, Standing, Stopped, Tenant, behind, computed, instr, kind_of, made_at_let, on_path}
 use Rattle.inorder.specs.Unit.{creator, front_half, front_pc, value_of}
 
 -- a delivered value is what the creator has made
@@ -43,6 +43,8 @@ FateBy k o pc predicted next made a b st (Busy by) =
 FateBy k o pc predicted next made a b st (Addr q) = (made ≡ None) × (o ≡ Address q) × Needs k a b
 FateBy k o pc predicted next made a b st (Done v) = DoneBy o pc next made v k × Needs k a b
 FateBy k o pc predicted next made a b st (Miss x) = (made ≡ made_at_let k pc) × (o ≡ Next x) × Needs k a b
+FateBy k o pc predicted next made a b st (Guessed v) =
+    ((k ≡ Loads) × (made ≡ Some v) × ((q : ℕ) × (o ≡ Address q))) × Needs k a b
 FateBy k o pc predicted next made a b st (Stopped c) =
     (st ≢ Retired → made ≡ None) × (o ≡ Stops c) × Needs k a b
 
@@ -65,7 +67,7 @@ pub record IsOwn (P : Program) (ts : List Tenant) (t : Tenant) : Type 0 where
   pub goes_on : GoesOn (kind_of P t) (behind P t) t.next
   pub fate : FateIs P t t.fate
 
--- a load has read what the older stores of the path leave
+-- a load reads what the older stores of the path leave, each with its address
 pub record HasRead (P : Program) (ts : List Tenant) (i : Instr) (o : Outcome) (v : ℕ) : Type 0 where
   pub a : ℕ
   pub n : ℕ
@@ -74,8 +76,16 @@ pub record HasRead (P : Program) (ts : List Tenant) (i : Instr) (o : Outcome) (v
   pub value : v ≡ loaded i.op n
   pub addresses : AllByRecursion (HasAddress P) ts
 
+-- a load has read what the older stores of the path leave, and none of them can still change it
+pub record HasSureRead (P : Program) (ts : List Tenant) (i : Instr) (o : Outcome) (v : ℕ) : Type 0 where
+  pub a : ℕ
+  pub n : ℕ
+  pub computes : o ≡ Address a
+  pub sure : sure_raw_at P ts i a ≡ Some n
+  pub value : v ≡ loaded i.op n
+
 abbrev pub LoadIs : Program → List Tenant → Instr → Outcome → Kind → Fate → Type 0
-LoadIs P ts i o Loads (Done v) = HasRead P ts i o v
+LoadIs P ts i o Loads (Done v) = HasSureRead P ts i o v
 LoadIs P ts i o _ _ = Unit {0}
 
 -- it is squashed, or retired and no stop

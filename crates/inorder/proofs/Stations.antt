@@ -7,14 +7,14 @@ use Rattle.instructions.specs.Programs.{Program}
 use Rattle.instructions.specs.declared.stop.Outcome.{Outcome}
 use Rattle.instructions.specs.declared.stop.Outcome.TheVariants.{Address, Next, Pair, Stop as Stops, Value}
 use Rattle.inorder.specs.declared.history.Act.{Act}
-use Rattle.inorder.specs.declared.history.Act.TheVariants.{Claim, Deliver, Finish, Link, Load, Mend, Retire, Squash}
+use Rattle.inorder.specs.declared.history.Act.TheVariants.{Claim, Deliver, Finish, Link, Load, Mend, Retire, Speculate, Squash}
 use Rattle.inorder.specs.declared.history.Source.TheVariants.{First, Second}
 use Rattle.inorder.specs.declared.history.Step.{Step}
 use Rattle.inorder.specs.declared.history.Step.TheVariants.{Let, On, Renew}
 use Rattle.inorder.specs.Laws.{FitsRing}
 use Rattle.inorder.specs.Legal.{Allowed, AreAllowed, May, Taken, applied, changed, reached}
 use Rattle.inorder.specs.Steps.{finished, mended_as, new_tenant}
-use Rattle.inorder.specs.Tenants.{Addr, Busy, Done, Fate, IsNotLive, Live, Miss, Open, Retired, Squashed, Standing, Stopped, Tenant, computed, is_live, on_path, stands_live, stands_on_path}
+use Rattle.inorder.specs.Tenants.{Addr, Busy, Done, Fate, Guessed, IsNotLive, Live, Miss, Open, Retired, Squashed, Standing, Stopped, Tenant, computed, is_live, on_path, stands_live, stands_on_path}
 use Rattle.inorder.specs.Unit.{Sizes, UpdateUnit, at, how_many, newest_of, next_station, older, recent, younger}
 use Rattle.inorder.proofs.Basics.{split_at}
 use Rattle.inorder.proofs.Grows.{all_grows, all_mid}
@@ -22,6 +22,8 @@ use Rattle.inorder.proofs.Kept.{parts, sound}
 use Rattle.inorder.proofs.Tags.{IsNewPlace, IsOldPlace, cut, passed}
 use Rattle.inorder.proofs.Sound.{IsSettled, IsSound, SettledBy}
 use Rattle.inorder.proofs.Letting.{how_many_same}
+use Rattle.inorder.specs.declared.history.Speculation.TheVariants.{Confirm, Flush, Guess}
+use Rattle.inorder.proofs.Speculating.{speculates_live}
 
 -- whoever retired has only settled ones before it
 abbrev pub AreSettling : List Tenant → Type 0
@@ -264,6 +266,7 @@ mended_station t Open = (refl, refl)
 mended_station t (Busy v) = (refl, refl)
 mended_station t (Addr v) = (refl, refl)
 mended_station t (Done v) = (refl, refl)
+mended_station t (Guessed v) = (refl, refl)
 mended_station t (Miss v) = (refl, refl)
 mended_station t (Stopped v) = (refl, refl)
 
@@ -281,6 +284,9 @@ act_stands P C by Finish ys t ts zs m so q =
 act_stands P C by Load ys t ts zs m so q = stands_same C t _ zs ys refl refl q
 act_stands P C by (Retire n) ys t ts zs m so q = stands_retired C t _ zs ys refl m.live refl q
 act_stands P C by Squash ys t ts zs m so q = stands_squashed P C t _ zs ys refl m.live refl m.youngest so q
+act_stands P C by (Speculate (Guess v)) ys t ts zs m so q = stands_same C t _ zs ys refl refl q
+act_stands P C by (Speculate Confirm) ys t ts zs m so q = stands_same C t _ zs ys refl refl q
+act_stands P C by (Speculate Flush) ys t ts zs m so q = stands_squashed P C t _ zs ys refl m.live refl m.youngest so q
 act_stands P C by Mend ys t ts zs m so q = let e = mended_station t t.fate in stands_same C t _ zs ys e.0 e.1 q
 
 stands_kept : (P : Program) (C : Sizes) (U : UpdateUnit) (by : ℕ) (s : Step) → Allowed P C U by s →
@@ -348,6 +354,7 @@ act_gone P by Finish ys t ts m n = absurd (n m.live)
 act_gone P by Load ys t ts m n = absurd (n m.live)
 act_gone P by (Retire k) ys t ts m n = absurd (n m.live)
 act_gone P by Squash ys t ts m n = absurd (n m.live)
+act_gone P by (Speculate s) ys t ts m n = absurd (n (speculates_live P s ys t ts m))
 act_gone P by Mend ys t ts m n = absurd (n m.live)
 
 abbrev pub OldGone : UpdateUnit → Type 0

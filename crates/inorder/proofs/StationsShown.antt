@@ -4,14 +4,14 @@ use Rattle.std.proofs.Common.{ne_eqb}
 use Rattle.std.specs.List.{AllByRecursion}
 use Rattle.instructions.specs.Programs.{Program}
 use Rattle.inorder.specs.declared.history.Act.{Act}
-use Rattle.inorder.specs.declared.history.Act.TheVariants.{Claim, Deliver, Finish, Link, Load, Mend, Retire, Squash}
+use Rattle.inorder.specs.declared.history.Act.TheVariants.{Claim, Deliver, Finish, Link, Load, Mend, Retire, Speculate, Squash}
 use Rattle.inorder.specs.declared.history.Source.TheVariants.{First, Second}
 use Rattle.inorder.specs.declared.history.Step.TheVariants.{Let, On}
 use Rattle.inorder.specs.declared.history.Supply.{Supply}
 use Rattle.inorder.specs.Legal.{Allowed, May, Taken, applied, changed, reached}
 use Rattle.inorder.specs.StationWords.{ChangesStation, HasFate, IsFree, KeepsStations, WordsMove, NamedBy, StationsFollow, last_of, live_word, station_word, station_word_of, word_by}
 use Rattle.inorder.specs.Steps.{new_tenant}
-use Rattle.inorder.specs.Tenants.{Addr, Busy, Done, Fate, Live, Miss, Open, Retired, Squashed, Standing, Stopped, Tenant, IsNotLive, is_live}
+use Rattle.inorder.specs.Tenants.{Addr, Busy, Done, Fate, Guessed, IsNotLive, Live, Miss, Open, Retired, Squashed, Standing, Stopped, Tenant, is_live}
 use Rattle.inorder.specs.Unit.{newest_of, Sizes, UpdateUnit, at, how_many, next_station, next_tag, older, recent, tag_after, younger}
 use Rattle.inorder.proofs.Basics.{eqb_self, split_at}
 use Rattle.inorder.proofs.Grows.{all_mid}
@@ -19,6 +19,7 @@ use Rattle.inorder.proofs.Kept.{parts, sound}
 use Rattle.inorder.proofs.Sound.{IsSound}
 use Rattle.inorder.proofs.Stations.{OldGone, fewer_newest, old_gone, settling, settling_newest, AreApart, IsElsewhere, Stands, all_elsewhere, stands}
 use Rattle.inorder.proofs.Tags.{AreTagged, IsNewPlace, IsOldPlace, cut, live_new, passed, count_same, same_place, tagged}
+use Rattle.inorder.proofs.Speculating.{speculates_live}
 
 -- The last tenant of a station
 
@@ -162,7 +163,8 @@ last_at (u ∷ us) s t e = go (eqb u.station s) refl e (last_at us s t)
 -- the fate that a live word shows
 live_fate : (tag : ℕ) (f : Fate) → HasFate (live_word tag f).state (live_word tag f).value f
 live_fate tag Open = refl
-live_fate tag (Busy by) = (by, refl)
+live_fate tag (Busy by) = tt
+live_fate tag (Guessed v) = tt
 live_fate tag (Addr a) = (a, refl, refl)
 live_fate tag (Done v) = (v, refl, refl)
 live_fate tag (Miss x) = (x, refl, refl)
@@ -173,6 +175,7 @@ live_tag tag Open = refl
 live_tag tag (Busy by) = refl
 live_tag tag (Addr a) = refl
 live_tag tag (Done v) = refl
+live_tag tag (Guessed v) = refl
 live_tag tag (Miss x) = refl
 live_tag tag (Stopped c) = refl
 
@@ -252,6 +255,7 @@ acts_live P by Finish ys t ts c m = m.live
 acts_live P by Load ys t ts c m = m.live
 acts_live P by (Retire n) ys t ts c m = m.live
 acts_live P by Squash ys t ts c m = m.live
+acts_live P by (Speculate s) ys t ts c m = speculates_live P s ys t ts m
 acts_live P by Mend ys t ts c m = m.live
 
 module _ (P : Program) (C : Sizes) (U : UpdateUnit) (by : ℕ) (sound_U : IsSound P U.tenants) (st : Stands C
@@ -318,6 +322,7 @@ module _ (P : Program) (C : Sizes) (U : UpdateUnit) (by : ℕ) (sound_U : IsSoun
   same_word Load t ts n k = absurd k
   same_word (Retire m) t ts n k = absurd k
   same_word Squash t ts n k = absurd k
+  same_word (Speculate s) t ts n k = absurd k
   same_word Mend t ts n k = absurd k
 
   station_kept : (p : ℕ) (act : Act) (s : ℕ) → KeepsStations act → Allowed P C U by (On p act) →

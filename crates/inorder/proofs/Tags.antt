@@ -5,17 +5,18 @@ use Rattle.instructions.specs.Programs.{Program}
 use Rattle.instructions.specs.declared.stop.Outcome.{Outcome}
 use Rattle.instructions.specs.declared.stop.Outcome.TheVariants.{Address, Next, Pair, Stop as Stops, Value}
 use Rattle.inorder.specs.declared.history.Act.{Act}
-use Rattle.inorder.specs.declared.history.Act.TheVariants.{Claim, Deliver, Finish, Link, Load, Mend, Retire, Squash}
+use Rattle.inorder.specs.declared.history.Act.TheVariants.{Claim, Deliver, Finish, Link, Load, Mend, Retire, Speculate, Squash}
 use Rattle.inorder.specs.declared.history.Source.TheVariants.{First, Second}
 use Rattle.inorder.specs.declared.history.Step.{Step}
 use Rattle.inorder.specs.declared.history.Step.TheVariants.{Let, On, Renew}
 use Rattle.inorder.specs.Legal.{Allowed, AreAllowed, Taken, applied, changed, reached}
 use Rattle.inorder.specs.Steps.{finished, mended_as}
-use Rattle.inorder.specs.Tenants.{Addr, Busy, Done, Fate, IsNotLive, Live, Miss, Open, Stopped, Tenant, computed}
+use Rattle.inorder.specs.Tenants.{Addr, Busy, Done, Fate, Guessed, IsNotLive, Live, Miss, Open, Stopped, Tenant, computed}
 use Rattle.inorder.specs.Unit.{Sizes, UpdateUnit, at, how_many, newest_of, older, recent, tag_after, younger}
 use Rattle.inorder.proofs.Basics.{eqb_self, split_at}
 use Rattle.inorder.proofs.Grows.{all_mid}
 use Rattle.inorder.proofs.Kept.{parts}
+use Rattle.inorder.specs.declared.history.Speculation.TheVariants.{Confirm, Flush, Guess}
 
 abbrev pub AreTagged : Sizes → List Tenant → Type 0
 AreTagged C [] = Unit {0}
@@ -98,6 +99,9 @@ same_place P by Finish t ts = go (computed P t)
 same_place P by Load t ts = (refl, refl)
 same_place P by (Retire n) t ts = (refl, refl)
 same_place P by Squash t ts = (refl, refl)
+same_place P by (Speculate (Guess v)) t ts = (refl, refl)
+same_place P by (Speculate Confirm) t ts = (refl, refl)
+same_place P by (Speculate Flush) t ts = (refl, refl)
 same_place P by Mend t ts = go t.fate
   where
     go : (f : Fate) → ((mended_as t f).station ≡ t.station) × ((mended_as t f).tag ≡ t.tag)
@@ -105,6 +109,7 @@ same_place P by Mend t ts = go t.fate
     go (Busy v) = (refl, refl)
     go (Addr v) = (refl, refl)
     go (Done v) = (refl, refl)
+    go (Guessed v) = (refl, refl)
     go (Miss v) = (refl, refl)
     go (Stopped v) = (refl, refl)
 

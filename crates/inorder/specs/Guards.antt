@@ -39,7 +39,7 @@ StopEnds P C history =
     at (reached P C history).tenants q ≡ Some t → t.standing ≡ Retired → t.fate ≡ Stopped c →
     ¬ Allowed P C (reached P C history) by (On p (Retire n))
 
--- A load completes only where each older live store has its address
+-- `Load` completes a load only where each older live store has its address
 abbrev pub LoadWaits : Program → Sizes → List Taken → Type 0
 LoadWaits P C history =
     (by p q : ℕ) (t : Tenant) → Allowed P C (reached P C history) by (On p Load) → q < p →

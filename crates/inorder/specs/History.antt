@@ -4,7 +4,7 @@ use Rattle.std.specs.Prelude.{⊤, ◌≡◌, ◌⊎◌, ℕ, suc, ◌<◌, ◌�
 use Rattle.instructions.specs.Histories.{StartsWith}
 use Rattle.instructions.specs.Programs.{Program}
 use Rattle.inorder.specs.declared.history.Act.{Act}
-use Rattle.inorder.specs.declared.history.Act.TheVariants.{Claim, Deliver, Finish, Link, Load, Mend, Retire, Squash}
+use Rattle.inorder.specs.declared.history.Act.TheVariants.{Claim, Deliver, Finish, Link, Load, Mend, Retire, Speculate, Squash}
 use Rattle.inorder.specs.declared.history.Entry.{Entry}
 use Rattle.inorder.specs.declared.history.Event.{Event}
 use Rattle.inorder.specs.declared.history.Event.TheVariants.{Does, Marks, Refuses}
@@ -77,7 +77,7 @@ pub record WasOpen (P : Program) (C : Sizes) (h : List Entry) (p : ℕ) : Type 0
 
 -- Who may do what
 
--- This caller may act so, if the unit allows it: anybody delivers
+-- This caller may act so, if the unit allows it: anybody delivers, and nobody speculates
 abbrev pub IsTheirAct : ℕ → Act → Type 0
 IsTheirAct by (Link k) = by ≡ front
 IsTheirAct by (Deliver k) = ⊤
@@ -87,6 +87,7 @@ IsTheirAct by Load = by ≡ back
 IsTheirAct by (Retire n) = by ≡ back
 IsTheirAct by Squash = by ≡ front
 IsTheirAct by Mend = by ≡ front
+IsTheirAct by (Speculate s) = ⊥
 
 -- The front lets no tenant with a spent tag, and it renews
 abbrev pub IsTheirs : Sizes → UpdateUnit → ℕ → Step → Type 0

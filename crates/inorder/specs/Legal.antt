@@ -2,10 +2,11 @@
 use Rattle.std.specs.Prelude.{⊤, ◌≡◌, ℕ, suc, List, [], ◌∷◌, Option, Some, None}
 use Rattle.instructions.specs.Programs.{Program}
 use Rattle.inorder.specs.declared.history.Act.{Act}
-use Rattle.inorder.specs.declared.history.Act.TheVariants.{Claim, Deliver, Finish, Link, Load, Mend, Retire, Squash}
+use Rattle.inorder.specs.declared.history.Act.TheVariants.{Claim, Deliver, Finish, Link, Load, Mend, Retire, Speculate, Squash}
 use Rattle.inorder.specs.declared.history.Step.{Step}
 use Rattle.inorder.specs.declared.history.Step.TheVariants.{Let, On, Renew}
 use Rattle.inorder.specs.Steps.{MayClaim, MayDeliver, MayFinish, MayLet, MayLink, MayLoad, MayMend, MayRenew, MayRetire, MaySquash, delivered, finished, linked, mended, new_tenant, retired, settled, squashed}
+use Rattle.inorder.specs.Speculation.{MaySpeculate, speculated}
 use Rattle.inorder.specs.Tenants.{Busy, Tenant, computed}
 use Rattle.inorder.specs.Unit.{Sizes, UpdateUnit, at, empty_unit, older, replaced, younger}
 
@@ -19,6 +20,7 @@ May P by Load ys t ts = MayLoad P ts t
 May P by (Retire n) ys t ts = MayRetire P n ts t
 May P by Squash ys t ts = MaySquash ys t ts
 May P by Mend ys t ts = MayMend ys t
+May P by (Speculate s) ys t ts = MaySpeculate P s ys t ts
 
 -- The tenant t behind an act, with ts before it
 abbrev pub changed : Program → ℕ → Act → Tenant → List Tenant → Tenant
@@ -30,6 +32,7 @@ changed P by Load t ts = settled P ts t
 changed P by (Retire n) t ts = retired t n
 changed P by Squash t ts = squashed t
 changed P by Mend t ts = mended t
+changed P by (Speculate s) t ts = speculated s t
 
 -- There is a tenant at position p, and the caller may act on it
 pub record MayAct (P : Program) (ts : List Tenant) (by p : ℕ) (act : Act) : Type 0 where

@@ -5,6 +5,7 @@ pub mod Unit
 pub mod Memory
 pub mod Committed
 pub mod Steps
+pub mod Speculation
 pub mod Legal
 pub mod Theorem
 pub mod Laws
@@ -15,6 +16,7 @@ pub mod Fates
 pub mod Numbers
 pub mod Loads
 pub mod Guards
+pub mod SpeculationLaws
 pub mod Replies
 pub mod History
 pub mod OneHistory

@@ -1,12 +1,12 @@
 -- Memory as the older stores of the path leave it, and what a load reads.
-use Rattle.std.specs.Prelude.{ℕ, ◌+◌, ◌-◌, Bool, true, ◌&&◌, List, [], ◌∷◌, Option, Some, None, option_map, unwrap_or, nat_le, nat_lt, if◌then◌else◌, slice_index}
+use Rattle.std.specs.Prelude.{ℕ, ◌+◌, ◌-◌, Bool, true, false, ◌&&◌, List, [], ◌∷◌, Option, Some, None, option_map, unwrap_or, nat_le, nat_lt, if◌then◌else◌, slice_index}
 use Rattle.instructions.specs.Instruction.{width}
 use Rattle.instructions.specs.Operations.{loaded}
 use Rattle.instructions.specs.Programs.{Program}
 use Rattle.instructions.specs.declared.instr.Instr.{Instr}
 use Rattle.instructions.specs.declared.op.Kind.{Kind}
 use Rattle.instructions.specs.declared.op.Kind.TheVariants.{Stores}
-use Rattle.inorder.specs.Tenants.{Addr, Fate, Tenant, instr, kind_of, on_path}
+use Rattle.inorder.specs.Tenants.{Addr, Fate, Live, Standing, Tenant, instr, kind_of, on_path}
 use Rattle.lsq.specs.Bytes.{byte_of, little_endian_if_there}
 
 -- A store of the path whose address is known, with its data if that was delivered
@@ -48,6 +48,27 @@ raw_at P ts i a = little_endian_if_there (byte_at P ts) a (width i.op)
 abbrev pub raw : Program → List Tenant → Instr → Fate → Option ℕ
 raw P ts i (Addr a) = raw_at P ts i a
 raw P ts i _ = None
+
+-- A live store of this fate has no address yet
+abbrev pub lacks_address_by : Standing → Kind → Fate → Bool
+lacks_address_by Live Stores (Addr a) = false
+lacks_address_by Live Stores f = true
+lacks_address_by st k f = false
+
+-- A live store that has no address yet
+abbrev pub lacks_address : Program → Tenant → Bool
+lacks_address P t = lacks_address_by t.standing (kind_of P t) t.fate
+
+-- The byte at x of the last store of the path to it, if its data is there and each live store behind
+-- it has its address: none of the stores before can still change it
+abbrev pub sure_byte_at : Program → List Tenant → ℕ → Option ℕ
+sure_byte_at P [] x = Some (slice_index P.bytes x)
+sure_byte_at P (t ∷ ts) x =
+    if lacks_address P t then None else byte_after (stored P t) x (sure_byte_at P ts x)
+
+-- The bytes of a load at address a, where none of the stores before it can still change them
+abbrev pub sure_raw_at : Program → List Tenant → Instr → ℕ → Option ℕ
+sure_raw_at P ts i a = little_endian_if_there (sure_byte_at P ts) a (width i.op)
 
 -- The value of a load
 abbrev pub load_value : Program → List Tenant → Tenant → ℕ

@@ -1,9 +1,9 @@
 -- The numbers of a unit are 32-bit words.
-use Rattle.std.specs.Prelude.{◌≡◌, ℕ, ◌^◌, ◌<◌, ◌≤◌, List, length, Some, IfSome, slice_index, ⊤}
+use Rattle.std.specs.Prelude.{◌≡◌, ℕ, ◌<◌, ◌≤◌, List, length, Some, IfSome, slice_index, ⊤}
 use Rattle.instructions.specs.Operations.{IsWord}
 use Rattle.instructions.specs.Programs.{Program, instr_of}
 use Rattle.inorder.specs.Legal.{AreAllowed, Taken, reached}
-use Rattle.inorder.specs.Tenants.{Addr, Done, Fate, Miss, Tenant}
+use Rattle.inorder.specs.Tenants.{Addr, Done, Fate, Guessed, Miss, Tenant}
 use Rattle.inorder.specs.Unit.{Sizes, at}
 
 -- What a listing gives: numbers that are words, bytes below 256, at most 16384 instructions
@@ -17,6 +17,7 @@ abbrev pub FateIsWord : Fate → Type 0
 FateIsWord (Addr a) = IsWord a
 FateIsWord (Done v) = IsWord v
 FateIsWord (Miss x) = IsWord x
+FateIsWord (Guessed v) = IsWord v
 FateIsWord _ = ⊤
 
 -- Each value, address and pc of a tenant

@@ -9,7 +9,7 @@ use Rattle.inorder.specs.declared.history.Act.TheVariants.{Deliver, Link}
 use Rattle.inorder.specs.declared.history.Step.TheVariants.{Let, On}
 use Rattle.inorder.specs.declared.history.Supply.{Supply}
 use Rattle.inorder.specs.Legal.{Allowed, AreAllowed, Taken, applied, changed, reached}
-use Rattle.inorder.specs.Tenants.{Addr, Busy, Done, Fate, Live, Miss, Open, Retired, Squashed, Standing, Stopped, Tenant}
+use Rattle.inorder.specs.Tenants.{Addr, Busy, Done, Fate, Guessed, Live, Miss, Open, Retired, Squashed, Standing, Stopped, Tenant}
 use Rattle.inorder.specs.Unit.{Sizes, UpdateUnit, at, next_station, next_tag, older, recent, tag_after, younger}
 
 -- The states of a station's word
@@ -35,6 +35,7 @@ live_word tag (Busy by) = record { tag = tag; state = IsBusy; value = Some 0 }
 live_word tag (Addr a) = record { tag = tag; state = IsAddr; value = Some a }
 live_word tag (Done v) = record { tag = tag; state = IsDone; value = Some v }
 live_word tag (Miss x) = record { tag = tag; state = IsMiss; value = Some x }
+live_word tag (Guessed v) = record { tag = tag; state = IsBusy; value = Some 0 }
 live_word tag (Stopped c) = record { tag = tag; state = IsStop; value = Some (code_of c) }
 
 -- The value that a retired tenant leaves
@@ -77,11 +78,17 @@ KeepsStations (Link k) = ⊤
 KeepsStations (Deliver k) = ⊤
 KeepsStations _ = ⊥
 
+-- A tenant of this fate is claimed, or has guessed: its word shows no more
+abbrev pub IsUnderWay : Fate → Type 0
+IsUnderWay (Busy by) = ⊤
+IsUnderWay (Guessed v) = ⊤
+IsUnderWay _ = ⊥
+
 -- A fate by the state and value of a word
 abbrev pub HasFate : StationState → Option ℕ → Fate → Type 0
 HasFate IsFree value fate = ⊥
 HasFate IsOpen value fate = fate ≡ Open
-HasFate IsBusy value fate = (by : ℕ) × (fate ≡ Busy by)
+HasFate IsBusy value fate = IsUnderWay fate
 HasFate IsAddr value fate = (a : ℕ) × (value ≡ Some a) × (fate ≡ Addr a)
 HasFate IsDone value fate = (v : ℕ) × (value ≡ Some v) × (fate ≡ Done v)
 HasFate IsMiss value fate = (x : ℕ) × (value ≡ Some x) × (fate ≡ Miss x)

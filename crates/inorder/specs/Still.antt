@@ -1,6 +1,6 @@
 -- Units in which nothing is on its way.
 use Rattle.std.specs.Prelude.{⊤, ◌≡◌, Bool, List, [], ◌∷◌, None}
-use Rattle.inorder.specs.Tenants.{Busy, Fate, Linked, Operand, Tenant}
+use Rattle.inorder.specs.Tenants.{Busy, Fate, Guessed, Linked, Operand, Tenant}
 use Rattle.inorder.specs.Unit.{value_of}
 
 -- A link was asked for
@@ -12,12 +12,13 @@ pub record SourceIsStill (ts : List Tenant) (o : Operand) : Type 0 where
   pub value : o.value ≡ value_of ts o.creator
   pub way : o.value ≡ None → WasLinked o
 
--- A tenant of this fate is not claimed, or is finished
+-- A tenant of this fate is not claimed, or is finished, and has no guess
 abbrev pub IsNotBusy : Fate → Type 0
 IsNotBusy (Busy by) = ⊥
+IsNotBusy (Guessed v) = ⊥
 IsNotBusy _ = ⊤
 
--- Every delivery that is permitted was made, and nobody is busy
+-- Every delivery that is permitted was made, and nobody is busy or has guessed
 abbrev pub AreStill : List Tenant → Type 0
 AreStill [] = ⊤
 AreStill (t ∷ ts) = (SourceIsStill ts t.first × SourceIsStill ts t.second × IsNotBusy t.fate) × AreStill ts

@@ -34,6 +34,7 @@ pub data Fate : Type 0 where
   Done : (value : ℕ) → Fate
   Miss : (next : ℕ) → Fate
   Stopped : (code : Stop) → Fate
+  Guessed : (value : ℕ) → Fate  -- a load that took a value which is not confirmed
 
 -- Whether it has left, and how
 pub data Standing : Type 0 where

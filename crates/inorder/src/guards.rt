@@ -26,7 +26,7 @@ pub fn a_retired_stop_ends_the_unit()
     ensures { (p : Program) (c : Sizes) (history : List Taken) → StopEnds p c history }
 {}
 
-/// A load completes only where each older live store has its address.
+/// `Load` completes a load only where each older live store has its address.
 pub fn a_load_passes_no_unknown_store()
     ensures { (p : Program) (c : Sizes) (history : List Taken) → LoadWaits p c history }
 {}

@@ -14,6 +14,16 @@ pub enum Supply {
     From,
 }
 
+/// An act that runs ahead of what the unit knows, or takes it back. No caller of a shared unit has one.
+pub enum Speculation {
+    /// A load with its address takes this value, whatever the older stores will leave.
+    Guess(u64),
+    /// The value that a load has guessed is the one that the older stores leave.
+    Confirm,
+    /// The youngest live tenant leaves the path, with or without a miss.
+    Flush,
+}
+
 /// An act on one tenant.
 pub enum Act {
     Link(Source),
@@ -25,6 +35,7 @@ pub enum Act {
     Retire(u64),
     Squash,
     Mend,
+    Speculate(Speculation),
 }
 
 /// A step of the unit.

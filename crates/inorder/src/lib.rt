@@ -9,6 +9,7 @@ pub mod history;
 mod laws;
 mod machine;
 mod ring;
+mod speculation;
 
 pub use accesses::{access_entry, access_width, is_store};
 pub use committed::Committed;
@@ -27,3 +28,7 @@ pub use laws::{
 };
 pub use machine::{Ended, Machine, Stepped};
 pub use ring::wrapped;
+pub use speculation::{
+    a_done_load_is_sure, a_flush_restores, a_guess_does_not_retire,
+    nobody_of_a_shared_unit_speculates,
+};

@@ -10,7 +10,7 @@ use Rattle.instructions.specs.declared.op.Op.{Op}
 use Rattle.instructions.specs.declared.stop.Outcome.{Outcome}
 use Rattle.instructions.specs.declared.stop.Outcome.TheVariants.{Address, Next, Pair, Stop, Value}
 use Rattle.inorder.specs.Tenants.{Fate, Tenant, destination_of, instr, is_live, made_at_let}
-use Rattle.inorder.specs.Tenants.{Open as OpenFate, Busy, Addr as AddrFate, Done as DoneFate, Miss as MissFate, Stopped}
+use Rattle.inorder.specs.Tenants.{Open as OpenFate, Busy, Addr as AddrFate, Done as DoneFate, Miss as MissFate, Stopped, Guessed}
 use Rattle.inorder.specs.Unit.{can_be_written, half_after}
 use Rattle.one_thread.specs.declared.execute.Operands.{Operands}
 use Rattle.one_thread.specs.declared.station.Stage.{Stage}
@@ -25,6 +25,7 @@ stage_of (Busy by) = Open
 stage_of (AddrFate a) = Addr a
 stage_of (DoneFate v) = Done
 stage_of (MissFate x) = Miss x
+stage_of (Guessed v) = Open
 stage_of (Stopped c) = Stops c
 
 -- What a station keeps of its tenant

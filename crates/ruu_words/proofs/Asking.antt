@@ -6,7 +6,7 @@ use Rattle.atomic_table.proofs.Lists.{exchanged}
 use Rattle.instructions.specs.Programs.{Program}
 use Rattle.instructions.specs.declared.op.Kind.TheVariants.{Links}
 use Rattle.inorder.specs.declared.history.Act.{Act}
-use Rattle.inorder.specs.declared.history.Act.TheVariants.{Claim, Deliver, Finish, Link, Load, Mend, Retire, Squash}
+use Rattle.inorder.specs.declared.history.Act.TheVariants.{Claim, Deliver, Finish, Link, Load, Mend, Retire, Speculate, Squash}
 use Rattle.inorder.specs.declared.history.Entry.{Entry}
 use Rattle.inorder.specs.declared.history.Event.{Event}
 use Rattle.inorder.specs.declared.history.Event.TheVariants.{Does, Marks}
@@ -23,7 +23,7 @@ use Rattle.inorder.specs.OperandWords.{operand_word, operand_word_of}
 use Rattle.inorder.specs.Replies.{Has, IsDelivered}
 use Rattle.inorder.specs.StationWords.{last_of, live_word, station_word, station_word_of, word_by}
 use Rattle.inorder.specs.Steps.{delivered}
-use Rattle.inorder.specs.Tenants.{Addr, Busy, Done, Fate, Linked, Live, Miss, Open, Retired, Squashed, Standing, Stopped, Tenant, computed, kind_of, on_path, operand, stands_on_path}
+use Rattle.inorder.specs.Tenants.{Addr, Busy, Done, Fate, Guessed, Linked, Live, Miss, Open, Retired, Squashed, Standing, Stopped, Tenant, computed, kind_of, on_path, operand, stands_on_path}
 use Rattle.inorder.specs.Unit.{Sizes, UpdateUnit, at, is_old, older, recent, tag_after, value_of, younger}
 use Rattle.inorder.proofs.Creators.{are_older, value_by}
 use Rattle.inorder.proofs.Ends.{Acted, at_older, exact}
@@ -50,6 +50,7 @@ use Rattle.ruu_words.specs.Plans.{Plan, Plans}
 use Rattle.ruu_words.proofs.Linking.{last_stays}
 use Rattle.ruu_words.proofs.StationWords.{its_word}
 use Rattle.ruu_words.proofs.Stays.{front_stays, named_stays, tenant_stays}
+use Rattle.inorder.proofs.Shared.{never_guessed}
 
 -- others than the front squash none
 pub path_on : (P : Program) (by : ℕ) (act : Act) (ys : List Tenant) (t : Tenant) (ts : List Tenant) → IsBesidesAct act → May P by act ys t ts → on_path t ≡ true →
@@ -62,6 +63,7 @@ path_on P by Finish ys t ts b m e = ap stands_on_path (finished_station t (compu
 path_on P by Load ys t ts b m e = e
 path_on P by (Retire n) ys t ts b m e = refl
 path_on P by Squash ys t ts b m e = absurd b
+path_on P by (Speculate s) ys t ts b m e = absurd b
 path_on P by Mend ys t ts b m e = absurd b
 
 -- what the front has asked
@@ -166,6 +168,7 @@ module _ (P : Program) (C : Sizes) where
         live l Open e x = inl (not_ends (state_of n) 1 x.state (λ z. cc z) (λ z. cc z), in_time (unmade_before P us (unit_sound P C h legal) q u is_q maker_waits writer Open e tt l))
         live l (Busy by) e x = inl (not_ends (state_of n) 2 x.state (λ z. cc z) (λ z. cc z), in_time (unmade_before P us (unit_sound P C h legal) q u is_q maker_waits writer (Busy by) e tt l))
         live l (Addr a) e x = inl (not_ends (state_of n) 3 x.state (λ z. cc z) (λ z. cc z), in_time (unmade_before P us (unit_sound P C h legal) q u is_q maker_waits writer (Addr a) e tt l))
+        live l (Guessed a) e x = absurd (never_guessed P C h legal q u is_q a e)
         live l (Miss a) e x = inl (not_ends (state_of n) 5 x.state (λ z. cc z) (λ z. cc z), in_time (unmade_before P us (unit_sound P C h legal) q u is_q maker_waits writer (Miss a) e tt l))
         live l (Stopped c) e x = inl (not_ends (state_of n) 6 x.state (λ z. cc z) (λ z. cc z), in_time (unmade_before P us (unit_sound P C h legal) q u is_q maker_waits writer (Stopped c) e tt l))
 

@@ -2,7 +2,7 @@
 use Rattle.std.proofs.Common.{◌≡◌, ◌≢◌, ℕ, suc, true, false, cond, eqb, List, [], ◌∷◌, Some, refl, sym, ap, ◌∙◌, subst, ne_eqb}
 use Rattle.instructions.specs.Programs.{Program}
 use Rattle.inorder.specs.declared.history.Act.{Act}
-use Rattle.inorder.specs.declared.history.Act.TheVariants.{Claim, Deliver, Finish, Link, Load, Mend, Retire, Squash}
+use Rattle.inorder.specs.declared.history.Act.TheVariants.{Claim, Deliver, Finish, Link, Load, Mend, Retire, Speculate, Squash}
 use Rattle.inorder.specs.declared.history.Entry.{Entry}
 use Rattle.inorder.specs.declared.history.Event.{Event}
 use Rattle.inorder.specs.declared.history.Event.TheVariants.{Does, Marks, Refuses}
@@ -51,6 +51,7 @@ no_link Finish h = tt
 no_link Load h = tt
 no_link (Retire n) h = tt
 no_link Squash h = tt
+no_link (Speculate s) h = tt
 no_link Mend h = tt
 
 -- and keeps the operands
@@ -62,6 +63,7 @@ keeps_operands Finish h = tt
 keeps_operands Load h = tt
 keeps_operands (Retire n) h = tt
 keeps_operands Squash h = tt
+keeps_operands (Speculate s) h = tt
 keeps_operands Mend h = tt
 
 -- the number of a station's place

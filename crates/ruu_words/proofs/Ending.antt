@@ -14,7 +14,7 @@ use Rattle.inorder.specs.OperandWords.{operand_word}
 use Rattle.inorder.specs.Replies.{IsNotDone, IsOver}
 use Rattle.inorder.specs.StationWords.{last_of, live_word, station_word, station_word_of, word_by}
 use Rattle.inorder.specs.Steps.{CanRetire, IsNoRetiredStop}
-use Rattle.inorder.specs.Tenants.{Addr, Busy, Done, Fate, IsNotLive, IsThere, Live, Miss, Open, Retired, Squashed, Standing, Stopped, Tenant, kind_of}
+use Rattle.inorder.specs.Tenants.{Addr, Busy, Done, Fate, Guessed, IsNotLive, IsThere, Live, Miss, Open, Retired, Squashed, Standing, Stopped, Tenant, kind_of}
 use Rattle.inorder.specs.Unit.{Sizes, UpdateUnit, at, recent, tag_after}
 use Rattle.inorder.proofs.Heads.{HasAddr, Oldest, addr_head_stays, find_oldest, goes_on_stays, head_at, head_stays, over_stays}
 use Rattle.inorder.proofs.Histories.{allowed_steps, unit_lasts, unit_sound}
@@ -42,6 +42,7 @@ early_or_late g n Open w = inl (inl w.state, λ k b c. c)
 early_or_late g n (Busy by) w = inl (inr (inl w.state), λ k b c. c)
 early_or_late g n (Addr a) w = inr (inl w.state)
 early_or_late g n (Done v) w = inr (inr (inl w.state))
+early_or_late g n (Guessed v) w = inl (inr (inl w.state), λ k b c. c)
 early_or_late g n (Miss x) w = inl (inr (inr w.state), λ k b c. c)
 early_or_late g n (Stopped c) w = inr (inr (inr w.state))
 

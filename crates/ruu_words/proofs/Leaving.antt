@@ -10,7 +10,7 @@ use Rattle.inorder.proofs.Recent.{live_is_recent}
 use Rattle.inorder.specs.History.{IsLegal, back, own, unit_of}
 use Rattle.inorder.specs.StationWords.{IsFree, left_value, live_word, station_word, station_word_of}
 use Rattle.inorder.specs.Steps.{made_at_end, mended_as}
-use Rattle.inorder.specs.Tenants.{Addr, Busy, Done, Fate, Live, Miss, Open, Stopped, Tenant}
+use Rattle.inorder.specs.Tenants.{Addr, Busy, Done, Fate, Guessed, Live, Miss, Open, Stopped, Tenant}
 use Rattle.inorder.specs.Unit.{Sizes, UpdateUnit, at, recent}
 use Rattle.inorder.proofs.Ends.{leave_stays, may_retire}
 use Rattle.ruu_words.specs.declared.place.Place.TheVariants.{Station}
@@ -33,6 +33,7 @@ left_same Open made m = refl
 left_same (Busy by) made m = refl
 left_same (Addr a) made m = refl
 left_same (Done v) made m = refl
+left_same (Guessed v) made m = refl
 left_same (Miss x) made m = refl
 left_same (Stopped c) made m = refl
 

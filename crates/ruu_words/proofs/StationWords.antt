@@ -5,7 +5,7 @@ use Rattle.inorder.specs.declared.history.Entry.{Entry}
 use Rattle.inorder.specs.History.{IsLegal, taken_of, unit_of}
 use Rattle.inorder.specs.Replies.{HasNoOpen}
 use Rattle.inorder.specs.StationWords.{last_of, live_word, station_word, station_word_of, word_by}
-use Rattle.inorder.specs.Tenants.{Addr, Busy, Done, Fate, Live, Miss, Open, Retired, Squashed, Standing, Stopped, Tenant}
+use Rattle.inorder.specs.Tenants.{Addr, Busy, Done, Fate, Guessed, Live, Miss, Open, Retired, Squashed, Standing, Stopped, Tenant}
 use Rattle.inorder.specs.Unit.{Sizes, UpdateUnit, at, is_old, recent, tag_after}
 use Rattle.inorder.proofs.Positions.{at_more, at_new}
 use Rattle.inorder.proofs.StationsShown.{stations_follow}
@@ -67,6 +67,7 @@ open_state g n (Busy by) w e = let s = w.state in absurd (omega arith)
 open_state g n (Addr a) w e = let s = w.state in absurd (omega arith)
 open_state g n (Done v) w e = let s = w.state in absurd (omega arith)
 open_state g n (Miss x) w e = let s = w.state in absurd (omega arith)
+open_state g n (Guessed v) w e = let s = w.state in absurd (omega arith)
 open_state g n (Stopped c) w e = let s = w.state in absurd (omega arith)
 
 pub addr_state : (g n : ℕ) (f : Fate) → IsStation (live_word g f) n → state_of n ≡ 3 → f ≡ Addr (word_value n)
@@ -75,6 +76,7 @@ addr_state g n (Busy by) w e = let s = w.state in absurd (omega arith)
 addr_state g n (Addr a) w e = ap Addr (sym w.value)
 addr_state g n (Done v) w e = let s = w.state in absurd (omega arith)
 addr_state g n (Miss x) w e = let s = w.state in absurd (omega arith)
+addr_state g n (Guessed v) w e = let s = w.state in absurd (omega arith)
 addr_state g n (Stopped c) w e = let s = w.state in absurd (omega arith)
 
 pub done_state : (g n : ℕ) (f : Fate) → IsStation (live_word g f) n → state_of n ≡ 4 → f ≡ Done (word_value n)
@@ -83,6 +85,7 @@ done_state g n (Busy by) w e = let s = w.state in absurd (omega arith)
 done_state g n (Addr a) w e = let s = w.state in absurd (omega arith)
 done_state g n (Done v) w e = ap Done (sym w.value)
 done_state g n (Miss x) w e = let s = w.state in absurd (omega arith)
+done_state g n (Guessed v) w e = let s = w.state in absurd (omega arith)
 done_state g n (Stopped c) w e = let s = w.state in absurd (omega arith)
 
 pub miss_state : (g n : ℕ) (f : Fate) → IsStation (live_word g f) n → state_of n ≡ 5 → f ≡ Miss (word_value n)
@@ -91,6 +94,7 @@ miss_state g n (Busy by) w e = let s = w.state in absurd (omega arith)
 miss_state g n (Addr a) w e = let s = w.state in absurd (omega arith)
 miss_state g n (Done v) w e = let s = w.state in absurd (omega arith)
 miss_state g n (Miss x) w e = ap Miss (sym w.value)
+miss_state g n (Guessed v) w e = let s = w.state in absurd (omega arith)
 miss_state g n (Stopped c) w e = let s = w.state in absurd (omega arith)
 
 pub live_state : (g n : ℕ) (f : Fate) → IsStation (live_word g f) n → (tag_of n ≡ g) × (state_of n ≢ 0)
@@ -99,6 +103,7 @@ live_state g n (Busy by) w = (w.tag, let s = w.state in omega arith)
 live_state g n (Addr a) w = (w.tag, let s = w.state in omega arith)
 live_state g n (Done v) w = (w.tag, let s = w.state in omega arith)
 live_state g n (Miss x) w = (w.tag, let s = w.state in omega arith)
+live_state g n (Guessed v) w = (w.tag, let s = w.state in omega arith)
 live_state g n (Stopped c) w = (w.tag, let s = w.state in omega arith)
 
 -- a word of a live tenant is one word
@@ -108,6 +113,7 @@ one_live g (Busy by) n m w w' = same_word n m (w.tag ∙ sym w'.tag) (w.state �
 one_live g (Addr a) n m w w' = same_word n m (w.tag ∙ sym w'.tag) (w.state ∙ sym w'.state) (w.value ∙ sym w'.value)
 one_live g (Done v) n m w w' = same_word n m (w.tag ∙ sym w'.tag) (w.state ∙ sym w'.state) (w.value ∙ sym w'.value)
 one_live g (Miss x) n m w w' = same_word n m (w.tag ∙ sym w'.tag) (w.state ∙ sym w'.state) (w.value ∙ sym w'.value)
+one_live g (Guessed v) n m w w' = same_word n m (w.tag ∙ sym w'.tag) (w.state ∙ sym w'.state) (w.value ∙ sym w'.value)
 one_live g (Stopped c) n m w w' = same_word n m (w.tag ∙ sym w'.tag) (w.state ∙ sym w'.state) (w.value ∙ sym w'.value)
 
 module _ (P : Program) (C : Sizes) (h : List Entry) (legal : IsLegal P C h) where

@@ -9,7 +9,7 @@ use Rattle.instructions.specs.declared.op.Half.{Half}
 use Rattle.instructions.specs.declared.op.Kind.{Kind}
 use Rattle.instructions.specs.declared.op.Kind.TheVariants.{Computes, Jumps, Links, Loads, Stores}
 use Rattle.inorder.specs.declared.history.Act.{Act}
-use Rattle.inorder.specs.declared.history.Act.TheVariants.{Claim, Deliver, Finish, Link, Load, Mend, Retire, Squash}
+use Rattle.inorder.specs.declared.history.Act.TheVariants.{Claim, Deliver, Finish, Link, Load, Mend, Retire, Speculate, Squash}
 use Rattle.inorder.specs.declared.history.Entry.{Entry}
 use Rattle.inorder.specs.declared.history.Event.{Event}
 use Rattle.inorder.specs.declared.history.Source.TheVariants.{First, Second}
@@ -68,6 +68,7 @@ besides_of C U by (On p act) h ne = go act h
     go (Retire n) h = tt
     go Squash h = absurd (ne h)
     go Mend h = absurd (ne h)
+    go (Speculate s) h = absurd h
 
 -- only the back loads and retires
 pub not_backs : (C : Sizes) (U : UpdateUnit) (by : ℕ) (s : Step) → s ≢ Renew → IsTheirs C U by s → by ≢ back → IsNotBacks s
@@ -84,6 +85,7 @@ not_backs C U by (On p act) plain h ne = go act h
     go (Retire n) h = absurd (ne h)
     go Squash h = tt
     go Mend h = tt
+    go (Speculate s) h = absurd h
 
 module _ (P : Program) (C : Sizes) where
   -- what the front has seen, and others keep

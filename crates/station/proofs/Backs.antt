@@ -3,7 +3,7 @@ use Rattle.std.proofs.Common.{◌≡◌, ◌⊎◌, ℕ, ◌%◌, Bool, true, fa
 use Rattle.std.specs.List.{AllByRecursion}
 use Rattle.atomic_table.specs.Table.{Me}
 use Rattle.instructions.specs.Programs.{Program}
-use Rattle.inorder.specs.declared.history.Act.TheVariants.{Claim, Deliver, Finish, Link, Load, Mend, Retire, Squash}
+use Rattle.inorder.specs.declared.history.Act.TheVariants.{Claim, Deliver, Finish, Link, Load, Mend, Retire, Speculate, Squash}
 use Rattle.inorder.specs.declared.history.Entry.{Entry}
 use Rattle.inorder.specs.declared.history.Event.{Event}
 use Rattle.inorder.specs.declared.history.Event.TheVariants.{Does, Marks, Refuses}
@@ -12,13 +12,12 @@ use Rattle.inorder.specs.declared.history.Step.TheVariants.{Let, On, Renew}
 use Rattle.inorder.specs.Callers.{GoesOn, head_station, is_retired}
 use Rattle.inorder.specs.History.{IsLegal, MayAdd, back, entry, own, unit_of, renewals, renewed_by}
 use Rattle.inorder.specs.OneHistory.{Adds}
-use Rattle.inorder.specs.Laws.{IsNoRetire}
 use Rattle.inorder.specs.Legal.{Allowed, applied, changed}
 use Rattle.inorder.specs.Steps.{IsNoRetiredStop}
 use Rattle.inorder.specs.Tenants.{Tenant}
 use Rattle.inorder.specs.Unit.{Sizes, UpdateUnit, older, younger}
 use Rattle.inorder.proofs.Basics.{split_at}
-use Rattle.inorder.proofs.Ends.{IsNotBacks}
+use Rattle.inorder.proofs.Ends.{IsNotBacks, IsPlainAct}
 use Rattle.inorder.proofs.Grows.{all_grows}
 use Rattle.inorder.proofs.Heads.{goes_on_stays, head_stays, live_goes_on, over_stays}
 use Rattle.inorder.proofs.Histories.{own-append, unit_sound, none_between}
@@ -31,11 +30,11 @@ use Rattle.station.specs.Seats.{HasRetiredStop, IsAtHead, IsSeated}
 use Rattle.station.proofs.Splitting.{cut_back}
 use Rattle.inorder.proofs.Recent.{counts_same}
 
--- A step that is neither a retirement nor a renewal
+-- A step that is neither a retirement nor a renewal, and no speculation
 
 abbrev pub IsPlain : Step → Type 0
 IsPlain (Let index predicted first second) = Unit {0}
-IsPlain (On p act) = IsNoRetire (On p act)
+IsPlain (On p act) = IsPlainAct act
 IsPlain Renew = ⊥
 
 is_load_or_not : (s : Step) → IsPlain s → IsNotBacks s ⊎ ((p : ℕ) × (s ≡ On p Load))
@@ -47,6 +46,7 @@ is_load_or_not (On p Finish) h = inl tt
 is_load_or_not (On p Load) h = inr (p, refl)
 is_load_or_not (On p (Retire n)) h = absurd h
 is_load_or_not (On p Squash) h = inl tt
+is_load_or_not (On p (Speculate s)) h = absurd h
 is_load_or_not (On p Mend) h = inl tt
 is_load_or_not Renew h = absurd h
 
@@ -100,6 +100,7 @@ module _ (P : Program) (C : Sizes) where
   only_back h by (Does (On p Load)) may many same ne = tt
   only_back h by (Does (On p (Retire n))) may many same ne = let e : false ≡ true = sym ne ∙ ap (λ z. eqb z back) may.0 in absurd (cc e)
   only_back h by (Does (On p Squash)) may many same ne = tt
+  only_back h by (Does (On p (Speculate s))) may many same ne = absurd may.0
   only_back h by (Does (On p Mend)) may many same ne = tt
   only_back h by (Refuses r) may many same ne = tt
   only_back h by (Marks m) may many same ne = tt

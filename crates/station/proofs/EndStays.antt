@@ -3,7 +3,7 @@ use Rattle.std.proofs.Common.{◌≡◌, ℕ, suc, List, [], ◌++◌, Some, ref
 use Rattle.instructions.specs.Instruction.{kind}
 use Rattle.instructions.specs.Programs.{Program, instr_of}
 use Rattle.inorder.specs.declared.history.Act.{Act}
-use Rattle.inorder.specs.declared.history.Act.TheVariants.{Claim, Deliver, Finish, Link, Load, Mend, Retire, Squash}
+use Rattle.inorder.specs.declared.history.Act.TheVariants.{Claim, Deliver, Finish, Link, Load, Mend, Retire, Speculate, Squash}
 use Rattle.inorder.specs.declared.history.Entry.{Entry}
 use Rattle.inorder.specs.declared.history.Source.TheVariants.{First, Second}
 use Rattle.inorder.specs.declared.history.Step.{Step}
@@ -49,6 +49,7 @@ late_fate P by Finish ys t ts b m e = absurd (subst IsLateFate m.fate e)
 late_fate P by Load ys t ts b m e = absurd b
 late_fate P by (Retire n) ys t ts b m e = absurd b
 late_fate P by Squash ys t ts b m e = refl
+late_fate P by (Speculate s) ys t ts b m e = absurd b
 late_fate P by Mend ys t ts b m e = absurd (subst IsLateFate m.fate e)
 
 found : (t u : Tenant) → Some t ≡ Some u → t ≡ u

@@ -5,7 +5,7 @@ use Rattle.instructions.specs.Programs.{Program}
 use Rattle.instructions.specs.declared.stop.Stop.{Stop}
 use Rattle.inorder.specs.Callers.{is_retired, stands_retired}
 use Rattle.inorder.specs.StationWords.{live_word}
-use Rattle.inorder.specs.Tenants.{Addr, Busy, Done, Fate, Live, Miss, Open, Stopped, Tenant}
+use Rattle.inorder.specs.Tenants.{Addr, Busy, Done, Fate, Guessed, Live, Miss, Open, Stopped, Tenant}
 use Rattle.inorder.specs.Unit.{how_many}
 use Rattle.ruu_words.specs.declared.station.StationState.{StationState}
 use Rattle.ruu_words.specs.declared.station.StationState.TheVariants.{Addr as AddrState, Busy as BusyState, Done as DoneState, Free as FreeState, Miss as MissState, Open as OpenState}
@@ -57,6 +57,7 @@ stop_state g n Open w e = let s = w.state in absurd (omega arith)
 stop_state g n (Busy by) w e = let s = w.state in absurd (omega arith)
 stop_state g n (Addr a) w e = let s = w.state in absurd (omega arith)
 stop_state g n (Done v) w e = let s = w.state in absurd (omega arith)
+stop_state g n (Guessed x) w e = let s = w.state in absurd (omega arith)
 stop_state g n (Miss x) w e = let s = w.state in absurd (omega arith)
 stop_state g n (Stopped c) w e = (c, w.value, refl)
 

@@ -9,7 +9,7 @@ use Rattle.instructions.specs.declared.op.Kind.TheVariants.{Computes, Jumps, Lin
 use Rattle.instructions.specs.declared.stop.Outcome.{Outcome}
 use Rattle.instructions.specs.declared.stop.Outcome.TheVariants.{Address, Next, Pair, Stop as Stops, Value}
 use Rattle.inorder.specs.declared.history.Act.{Act}
-use Rattle.inorder.specs.declared.history.Act.TheVariants.{Claim, Deliver, Finish, Link, Load, Mend, Retire, Squash}
+use Rattle.inorder.specs.declared.history.Act.TheVariants.{Claim, Deliver, Finish, Link, Load, Mend, Retire, Speculate, Squash}
 use Rattle.inorder.specs.declared.history.Entry.{Entry}
 use Rattle.inorder.specs.declared.history.Event.{Event}
 use Rattle.inorder.specs.declared.history.Event.TheVariants.{Does, Marks, Refuses}
@@ -41,6 +41,7 @@ use Rattle.station.proofs.WalkStays.{all_append}
 use Rattle.station.proofs.Splitting.{cut_back}
 use Rattle.inorder.proofs.Recent.{old_since}
 use Rattle.inorder.proofs.Renewing.{begins_again}
+use Rattle.inorder.specs.declared.history.Speculation.TheVariants.{Confirm, Flush, Guess}
 
 -- What a job says stays
 
@@ -78,6 +79,9 @@ held_by P by id Finish ys t ts n m h = absurd (n refl)
 held_by P by id Load ys t ts n m h = let f = m.fate in let g = h.fate in absurd (cc (sym f ∙ g))
 held_by P by id (Retire r) ys t ts n m h = absurd (subst (CanRetire (kind_of P t) t.second.value) h.fate m.can)
 held_by P by id Squash ys t ts n m h = record { fate = h.fate; stays = inr refl }
+held_by P by id (Speculate (Guess v)) ys t ts n m h = let f = m.fate in let g = h.fate in absurd (cc (sym f ∙ g))
+held_by P by id (Speculate Confirm) ys t ts n m h = let f = m.fate in let g = h.fate in absurd (cc (sym f ∙ g))
+held_by P by id (Speculate Flush) ys t ts n m h = record { fate = h.fate; stays = inr refl }
 held_by P by id Mend ys t ts n m h = let f = m.fate in let g = h.fate in absurd (cc (sym f ∙ g))
 
 found : (x y : Tenant) → Some x ≡ Some y → x ≡ y

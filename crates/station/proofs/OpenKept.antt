@@ -7,7 +7,7 @@ use Rattle.std.proofs.lemmas.Bool.{cases_lt}
 use Rattle.std.specs.List.{AllByRecursion}
 use Rattle.instructions.specs.Programs.{Program}
 use Rattle.inorder.specs.declared.history.Act.{Act}
-use Rattle.inorder.specs.declared.history.Act.TheVariants.{Claim, Deliver, Finish, Link, Load, Mend, Retire, Squash}
+use Rattle.inorder.specs.declared.history.Act.TheVariants.{Claim, Deliver, Finish, Link, Load, Mend, Retire, Speculate, Squash}
 use Rattle.inorder.specs.declared.history.Entry.{Entry}
 use Rattle.inorder.specs.declared.history.Event.{Event}
 use Rattle.inorder.specs.declared.history.Event.TheVariants.{Does, Marks, Refuses}
@@ -53,6 +53,7 @@ module _ (P : Program) (C : Sizes) where
   open_by id e Load ys t ts w m o = let f = m.fate in let g = o.fate in absurd (cc (sym f ∙ g))
   open_by id e (Retire r) ys t ts w m o = absurd (subst (CanRetire (kind_of P t) t.second.value) o.fate m.can)
   open_by id e Squash ys t ts w m o = absurd (omega arith)
+  open_by id e (Speculate s) ys t ts w m o = absurd w
   open_by id e Mend ys t ts w m o = absurd (omega arith)
 
   open_step : (p : ℕ) (U : UpdateUnit) (id : ℕ) → id ≡ back → (s : Step) → IsTheirs C U id s → Allowed P C U id s → (t t' : Tenant) → at U.tenants p ≡ Some t →

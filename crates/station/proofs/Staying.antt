@@ -2,7 +2,7 @@
 use Rattle.std.proofs.Common.{◌≡◌, ℕ, ◌<◌, true, List, [], ◌++◌, sym, ap, ◌∙◌, subst}
 use Rattle.instructions.specs.Programs.{Program}
 use Rattle.inorder.specs.declared.history.Act.{Act}
-use Rattle.inorder.specs.declared.history.Act.TheVariants.{Claim, Deliver, Finish, Link, Load, Mend, Retire, Squash}
+use Rattle.inorder.specs.declared.history.Act.TheVariants.{Claim, Deliver, Finish, Link, Load, Mend, Retire, Speculate, Squash}
 use Rattle.inorder.specs.declared.history.Entry.{Entry}
 use Rattle.inorder.specs.declared.history.Source.{Source}
 use Rattle.inorder.specs.declared.history.Step.{Step}
@@ -40,6 +40,7 @@ no_link_act Finish b = tt
 no_link_act Load b = tt
 no_link_act (Retire n) b = tt
 no_link_act Squash b = tt
+no_link_act (Speculate s) b = absurd b
 no_link_act Mend b = tt
 
 no_link : (s : Step) → IsBesides s → IsNoLink s

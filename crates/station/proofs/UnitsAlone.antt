@@ -6,7 +6,7 @@ use Rattle.instructions.specs.Programs.{Program}
 use Rattle.instructions.specs.declared.stop.Outcome.{Outcome}
 use Rattle.instructions.specs.declared.stop.Outcome.TheVariants.{Address, Next, Pair, Stop as Stops, Value}
 use Rattle.inorder.specs.declared.history.Act.{Act}
-use Rattle.inorder.specs.declared.history.Act.TheVariants.{Claim, Deliver, Finish, Link, Load, Mend, Retire, Squash}
+use Rattle.inorder.specs.declared.history.Act.TheVariants.{Claim, Deliver, Finish, Link, Load, Mend, Retire, Speculate, Squash}
 use Rattle.inorder.specs.declared.history.Entry.{Entry}
 use Rattle.inorder.specs.declared.history.Event.{Event}
 use Rattle.inorder.specs.declared.history.Event.TheVariants.{Does, Marks, Refuses}
@@ -104,6 +104,7 @@ live_kept P id u Finish ys t ts w m l = finished_live t (computed P t) l
 live_kept P id u Load ys t ts w m l = l
 live_kept P id u (Retire n) ys t ts w m l = absurd (omega arith)
 live_kept P id u Squash ys t ts w m l = absurd (omega arith)
+live_kept P id u (Speculate s) ys t ts w m l = absurd w
 live_kept P id u Mend ys t ts w m l = absurd (omega arith)
 
 pub outcome_kept : (o : Outcome) → Keeps (HasOutcome o)
@@ -115,6 +116,7 @@ outcome_kept o P id u Finish ys t ts w m h = absurd (not_busy t.predicted id o (
 outcome_kept o P id u Load ys t ts w m h = absurd (omega arith)
 outcome_kept o P id u (Retire n) ys t ts w m h = absurd (omega arith)
 outcome_kept o P id u Squash ys t ts w m h = absurd (omega arith)
+outcome_kept o P id u (Speculate s) ys t ts w m h = absurd w
 outcome_kept o P id u Mend ys t ts w m h = absurd (omega arith)
 
 module _ (P : Program) (C : Sizes) where

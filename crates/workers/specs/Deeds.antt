@@ -5,7 +5,7 @@ use Rattle.counts.specs.declared.tally.Total.TheVariants.{Claims, Finishes, Hint
 use Rattle.counts.specs.Shares.{share_of}
 use Rattle.counts.specs.Totals.{position_of}
 use Rattle.inorder.specs.declared.history.Act.{Act}
-use Rattle.inorder.specs.declared.history.Act.TheVariants.{Claim, Deliver, Finish, Link, Load, Mend, Retire, Squash}
+use Rattle.inorder.specs.declared.history.Act.TheVariants.{Claim, Deliver, Finish, Link, Load, Mend, Retire, Speculate, Squash}
 use Rattle.inorder.specs.declared.history.Entry.{Entry}
 use Rattle.inorder.specs.declared.history.Event.{Event}
 use Rattle.inorder.specs.declared.history.Event.TheVariants.{Does, Marks, Refuses}
@@ -31,6 +31,7 @@ total_of_act Finish = Some Finishes
 total_of_act Load = Some Loads
 total_of_act (Retire n) = None
 total_of_act Squash = Some Squashes
+total_of_act (Speculate s) = None
 total_of_act Mend = Some Mends
 
 -- The total to which a step adds one. Renewals are counted by those in the history

@@ -12,7 +12,7 @@ use Rattle.instructions.specs.declared.op.Kind.TheVariants.{Links}
 use Rattle.instructions.specs.declared.stop.Outcome.{Outcome}
 use Rattle.instructions.specs.declared.stop.Outcome.TheVariants.{Address, Next, Stop as Stops}
 use Rattle.inorder.specs.Steps.{IsNoRetiredStop, MayComeFrom}
-use Rattle.inorder.specs.Tenants.{Addr, Busy, Done, Fate, Live, Miss, Open, Retired, Squashed, Standing, Stopped, Tenant, computed, destination_of, instr, is_live, kind_of, on_path, operand_value}
+use Rattle.inorder.specs.Tenants.{Addr, Busy, Done, Fate, Guessed, Live, Miss, Open, Retired, Squashed, Standing, Stopped, Tenant, computed, destination_of, instr, is_live, kind_of, on_path, operand_value}
 use Rattle.inorder.specs.Tenants.{stands_on_path}
 use Rattle.inorder.specs.Unit.{Sizes, UpdateUnit, at, creator, how_many, last_writer, value_made, newest_of, next_station, older, recent, value_of, younger}
 use Rattle.inorder.proofs.Basics.{Below, eqb_less, eqb_self, last_writer_below, split_at}
@@ -89,6 +89,7 @@ early_made o pc pr nx made a b st Open na nh h = λ e. let no : None ≡ Some (p
 early_made o pc pr nx made a b st (Busy x) na nh h = λ e. let no : None ≡ Some (pc_plus_4 pc) = sym e ∙ h.0 in absurd (cc)
 early_made o pc pr nx made a b st (Addr x) na nh h = absurd (na x h.1)
 early_made o pc pr nx made a b st (Done x) na nh h = λ e. let no : None ≡ Some (pc_plus_4 pc) = sym e ∙ h.0.2 in absurd (cc)
+early_made o pc pr nx made a b st (Guessed x) na nh h = absurd (na h.0.2.0 h.0.2.1)
 early_made o pc pr nx made a b st (Miss x) na nh h = λ e. let no : None ≡ Some (pc_plus_4 pc) = sym e ∙ h.0 in absurd (cc)
 early_made o pc pr nx made a b st (Stopped x) na nh h = absurd (nh x h.1)
 

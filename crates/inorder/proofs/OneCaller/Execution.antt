@@ -29,13 +29,13 @@ pub record ActRun (P : Program) (C : Sizes) (by : ℕ) (U : UpdateUnit) (ys : Li
   pub stops : AllByRecursion IsNoRetiredStop later
 
 -- what such steps keep of the tenant
-record Keeps (t u : Tenant) : Type 0 where
+pub record Keeps (t u : Tenant) : Type 0 where
   pub standing : u.standing ≡ t.standing
   pub first : u.first ≡ t.first
   pub second : u.second ≡ t.second
   pub free : IsNotBusy u.fate
 
-act_run : (P : Program) (C : Sizes) (by : ℕ) (U : UpdateUnit) (ys : List Tenant) (t u : Tenant) (ts : List Tenant) (steps : List Step) → IsSound P (ys ++ t ∷ ts) → AreStill (ys ++ t ∷ ts) →
+pub act_run : (P : Program) (C : Sizes) (by : ℕ) (U : UpdateUnit) (ys : List Tenant) (t u : Tenant) (ts : List Tenant) (steps : List Step) → IsSound P (ys ++ t ∷ ts) → AreStill (ys ++ t ∷ ts) →
     AllByRecursion IsNoRetiredStop (ys ++ t ∷ ts) → t.standing ≡ Live → Keeps t u → Leads P C by (with_tenants U (ys ++ t ∷ ts)) steps (with_tenants U (ys ++ u ∷ ts)) → ActRun P C by U ys t u ts steps
 act_run P C by U ys t u ts steps s h ns live k l = go (all_run P C by U [] V (asked_middle P ys t u ts k.first k.second k.free sound' h))
   where

@@ -4,7 +4,7 @@ use Rattle.std.specs.List.{AllByRecursion}
 use Rattle.instructions.specs.Programs.{Program}
 use Rattle.inorder.specs.Committed.{ahead, commits, commits_by, committed}
 use Rattle.inorder.specs.Steps.{IsNoRetiredStop}
-use Rattle.inorder.specs.Tenants.{Addr, Busy, Done, Fate, Live, Miss, Open, Retired, Stopped, Tenant, stands_on_path}
+use Rattle.inorder.specs.Tenants.{Addr, Busy, Done, Fate, Guessed, Live, Miss, Open, Retired, Stopped, Tenant, stands_on_path}
 use Rattle.inorder.proofs.Commits.{live_not, not_complete, over, over_ahead}
 use Rattle.inorder.proofs.SettledRegisters.{ahead_if, committed_if}
 use Rattle.inorder.proofs.Sound.{IsSettled, IsSound, SettledBy}
@@ -18,6 +18,7 @@ retired_all P t ts s e n = (here t.fate refl, (s.0.placed (ap stands_on_path e))
     go (Busy x) q = tt
     go (Addr x) q = tt
     go (Done x) q = tt
+    go (Guessed x) q = tt
     go (Miss x) q = tt
     go (Stopped x) q = absurd (n e x q)
 
@@ -32,6 +33,7 @@ retired_commits t e n = ap (λ s. commits_by s t.fate) e ∙ go t.fate refl
     go (Busy x) q = refl
     go (Addr x) q = refl
     go (Done x) q = refl
+    go (Guessed x) q = refl
     go (Miss x) q = refl
     go (Stopped x) q = absurd (n e x q)
 

@@ -39,7 +39,7 @@ record SquashRun (P : Program) (C : Sizes) (by : ℕ) (U : UpdateUnit) (zs ys : 
   pub still : AreStill (zs ++ (ys ++ t ∷ ts)) → AreStill (zs ++ (gone ys ++ t ∷ ts))
   pub stops : AllByRecursion IsNoRetiredStop (zs ++ (ys ++ t ∷ ts)) → AllByRecursion IsNoRetiredStop (zs ++ (gone ys ++ t ∷ ts))
 
-left_more : (zs : List Tenant) (y : Tenant) → AllByRecursion IsNotLive zs → IsNotLive y → AllByRecursion IsNotLive (zs ++ y ∷ [])
+pub left_more : (zs : List Tenant) (y : Tenant) → AllByRecursion IsNotLive zs → IsNotLive y → AllByRecursion IsNotLive (zs ++ y ∷ [])
 left_more [] y a b = (b, tt)
 left_more (z ∷ zs) y a b = (a.0, left_more zs y a.1 b)
 

@@ -2,7 +2,7 @@
 use Rattle.std.proofs.Common.{◌≡◌, ℕ, suc, List, [], ◌∷◌, ◌++◌, length, refl, sym, ap, ◌∙◌, subst}
 use Rattle.std.specs.List.{AllByRecursion}
 use Rattle.instructions.specs.Programs.{Program}
-use Rattle.inorder.specs.declared.history.Act.TheVariants.{Claim, Deliver, Finish, Link, Load, Mend, Retire, Squash}
+use Rattle.inorder.specs.declared.history.Act.TheVariants.{Claim, Deliver, Finish, Link, Load, Mend, Retire, Speculate, Squash}
 use Rattle.inorder.specs.declared.history.Step.{Step}
 use Rattle.inorder.specs.declared.history.Step.TheVariants.{Let, On, Renew}
 use Rattle.inorder.specs.Committed.{committed}
@@ -130,6 +130,7 @@ squash_quiet (On p Claim) h = absurd h
 squash_quiet (On p Finish) h = absurd h
 squash_quiet (On p Load) h = absurd h
 squash_quiet (On p (Retire n)) h = absurd h
+squash_quiet (On p (Speculate s)) h = absurd h
 squash_quiet (On p Mend) h = absurd h
 
 pub link_quiet : (s : Step) → IsLink s → IsNoRetire s
@@ -142,6 +143,7 @@ link_quiet (On p Claim) h = absurd h
 link_quiet (On p Finish) h = absurd h
 link_quiet (On p Load) h = absurd h
 link_quiet (On p (Retire n)) h = absurd h
+link_quiet (On p (Speculate s)) h = absurd h
 link_quiet (On p Mend) h = absurd h
 
 pub deliver_quiet : (s : Step) → IsDeliver s → IsNoRetire s
@@ -154,4 +156,5 @@ deliver_quiet (On p Claim) h = absurd h
 deliver_quiet (On p Finish) h = absurd h
 deliver_quiet (On p Load) h = absurd h
 deliver_quiet (On p (Retire n)) h = absurd h
+deliver_quiet (On p (Speculate s)) h = absurd h
 deliver_quiet (On p Mend) h = absurd h

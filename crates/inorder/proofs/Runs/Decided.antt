@@ -3,8 +3,10 @@ use Rattle.std.proofs.Common.{◌≡◌, ◌≢◌, ℕ, ◌<◌, Bool, true, fa
 use Rattle.std.specs.List.{AllByRecursion}
 use Rattle.instructions.specs.declared.op.Kind.{Kind}
 use Rattle.instructions.specs.declared.op.Kind.TheVariants.{Computes, Jumps, Links, Loads, Stores}
-use Rattle.inorder.specs.Tenants.{Addr, Busy, Fate, Linked, Live, Miss, Open, Retired, Squashed, Standing, Tenant, Unlinked, Way}
+use Rattle.inorder.specs.Tenants.{Addr, Busy, Fate, Guessed, Linked, Live, Miss, Open, Retired, Squashed, Standing, Tenant, Unlinked, Way}
 use Rattle.inorder.proofs.Runs.Examples.{computes_not_links, computes_not_stores, jumps_not_stores, loads_not_links, loads_not_stores, retired_not_live, squashed_not_live}
+use Rattle.instructions.specs.declared.stop.Outcome.{Outcome}
+use Rattle.instructions.specs.declared.stop.Outcome.TheVariants.{Address}
 
 -- What was found
 pub given : {X : Type 0} (o : Option X) → is_some o ≡ true → X
@@ -94,6 +96,14 @@ has_address _ = None
 abbrev pub is_miss : (f : Fate) → Option ((x : ℕ) × (f ≡ Miss x))
 is_miss (Miss x) = Some (x, refl)
 is_miss _ = None
+
+abbrev pub is_guess : (f : Fate) → Option ((v : ℕ) × (f ≡ Guessed v))
+is_guess (Guessed v) = Some (v, refl)
+is_guess _ = None
+
+abbrev pub is_address : (o : Outcome) → Option ((a : ℕ) × (o ≡ Address a))
+is_address (Address a) = Some (a, refl)
+is_address _ = None
 
 abbrev pub is_unlinked : (w : Way) → Option (w ≡ Unlinked)
 is_unlinked Unlinked = Some refl

@@ -4,7 +4,7 @@ use Rattle.instructions.specs.Programs.{Program}
 use Rattle.instructions.specs.declared.op.Kind.{Kind}
 use Rattle.instructions.specs.declared.stop.Stop.{Stop}
 use Rattle.inorder.specs.declared.history.Act.{Act}
-use Rattle.inorder.specs.declared.history.Act.TheVariants.{Claim, Deliver, Finish, Link, Load, Mend, Retire, Squash}
+use Rattle.inorder.specs.declared.history.Act.TheVariants.{Claim, Deliver, Finish, Link, Load, Mend, Retire, Speculate, Squash}
 use Rattle.inorder.specs.declared.history.Entry.{Entry}
 use Rattle.inorder.specs.declared.history.Event.{Event}
 use Rattle.inorder.specs.declared.history.Event.TheVariants.{Does, Marks, Refuses}
@@ -19,7 +19,7 @@ use Rattle.inorder.specs.declared.history.Step.TheVariants.{Let, On, Renew}
 use Rattle.inorder.specs.History.{IsLegal, IsTheirAct, IsTheirs, MayAdd, MayMark, MayRefuse, WasOpen, back, front, unit_of}
 use Rattle.inorder.specs.Replies.{Has, IsOpen, IsRetiredStop, last_tag}
 use Rattle.inorder.specs.Steps.{CanRetire}
-use Rattle.inorder.specs.Tenants.{Addr, AtLet, Busy, Done, Fate, IsThere, Linked, Miss, Open, Retired, Squashed, Standing, Stopped, Tenant, Unlinked, Way, kind_of, missing, operand}
+use Rattle.inorder.specs.Tenants.{Addr, AtLet, Busy, Done, Fate, Guessed, IsThere, Linked, Miss, Open, Retired, Squashed, Standing, Stopped, Tenant, Unlinked, Way, kind_of, missing, operand}
 use Rattle.inorder.specs.Unit.{Sizes, UpdateUnit, at, next_tag, older, recent}
 use Rattle.inorder.proofs.Runs.Decided.{all, equal, has_left, is_apart, is_less, some_of, stands_live, stays_open, stores_not, then}
 use Rattle.inorder.proofs.Runs.DecidedSteps.{allowed, no_stop, none_live}
@@ -51,11 +51,15 @@ miss_not_open x e = cc
 pub stopped_not_open : (c : Stop) → Stopped c ≢ Open
 stopped_not_open c e = cc
 
+pub guessed_not_open : (v : ℕ) → Guessed v ≢ Open
+guessed_not_open v e = cc
+
 abbrev pub goes_on : (f : Fate) → Option (f ≢ Open)
 goes_on Open = None
 goes_on (Busy by) = Some (busy_not_open by)
 goes_on (Addr a) = Some (addr_not_open a)
 goes_on (Done v) = Some (done_not_open v)
+goes_on (Guessed v) = Some (guessed_not_open v)
 goes_on (Miss x) = Some (miss_not_open x)
 goes_on (Stopped c) = Some (stopped_not_open c)
 
@@ -98,6 +102,7 @@ retired_stop t = then (has_retired t.standing) (λ standing. then (stops t.fate)
 abbrev pub retires_not : (k : Kind) (second : Option ℕ) (f : Fate) → Option (¬ CanRetire k second f)
 retires_not k second Open = Some (λ c. c)
 retires_not k second (Busy by) = Some (λ c. c)
+retires_not k second (Guessed x) = Some (λ c. c)
 retires_not k second (Miss x) = Some (λ c. c)
 retires_not k second (Addr a) = then (stores_not k) (λ not. Some (λ c. not c.0))
 retires_not k second f = None
@@ -199,6 +204,7 @@ their_act by Finish = is_less 1 by
 their_act by Load = equal by back
 their_act by (Retire n) = equal by back
 their_act by Squash = equal by front
+their_act by (Speculate s) = None
 their_act by Mend = equal by front
 
 abbrev pub is_theirs : (C : Sizes) (U : UpdateUnit) (by : ℕ) (s : Step) → Option (IsTheirs C U by s)

@@ -7,19 +7,21 @@ use Rattle.instructions.specs.declared.op.Kind.{Kind}
 use Rattle.instructions.specs.declared.op.Kind.TheVariants.{Stores}
 use Rattle.instructions.specs.declared.stop.Stop.{Stop}
 use Rattle.inorder.specs.declared.history.Act.{Act}
-use Rattle.inorder.specs.declared.history.Act.TheVariants.{Claim, Deliver, Finish, Link, Load, Mend, Retire, Squash}
+use Rattle.inorder.specs.declared.history.Act.TheVariants.{Claim, Deliver, Finish, Link, Load, Mend, Retire, Speculate, Squash}
 use Rattle.inorder.specs.declared.history.Step.{Step}
 use Rattle.inorder.specs.declared.history.Step.TheVariants.{Let, On, Renew}
 use Rattle.inorder.specs.declared.history.Supply.{Supply}
 use Rattle.inorder.specs.declared.history.Supply.TheVariants.{From, Known}
 use Rattle.inorder.specs.Legal.{Allowed, AreAllowed, May, Taken, reached}
-use Rattle.inorder.specs.Memory.{raw_at}
+use Rattle.inorder.specs.Memory.{raw_at, sure_raw_at}
 use Rattle.inorder.specs.Steps.{CanRetire, HasAddress, IsNoRetiredStop, MayLet, MaySupply}
-use Rattle.inorder.specs.Tenants.{Addr, Done, Fate, IsNotLive, Live, Miss, Retired, Squashed, Standing, Stopped, Tenant, instr, is_live, is_live_access, kind_of, missing, operand}
+use Rattle.inorder.specs.Tenants.{Addr, Done, Fate, IsNotLive, Live, Miss, Retired, Squashed, Standing, Stopped, Tenant, computed, instr, is_live, is_live_access, kind_of, missing, operand}
 use Rattle.inorder.specs.Unit.{Sizes, UpdateUnit, at, creator, front_half, front_pc, how_many, is_old, next_station, older, recent, value_of, younger}
-use Rattle.inorder.proofs.Runs.Decided.{all, equal, has_address, has_left, if_some_is, if_true, is_apart, is_busy, is_false, is_less, is_linked, is_miss, is_unlinked, links_not, loads, none_of}
+use Rattle.inorder.proofs.Runs.Decided.{all, equal, has_address, has_left, if_some_is, if_true, is_address, is_apart, is_busy, is_false, is_guess, is_less, is_linked, is_miss, is_unlinked, links_not, loads, none_of}
 use Rattle.inorder.proofs.Runs.Decided.{some_is, some_of, stands_live, stays_open, stores_not, then}
 use Rattle.inorder.proofs.Runs.Examples.{addr_not_stop, done_not_stop, live_not_retired, retired_not_live, squashed_not_live, squashed_not_retired}
+use Rattle.inorder.specs.declared.history.Speculation.TheVariants.{Confirm, Flush, Guess}
+use Rattle.instructions.specs.Operations.{loaded}
 
 -- A let
 
@@ -117,6 +119,20 @@ may P by Squash ys t ts =
     then (stands_live m.0.standing) (λ miss_live.
     then (is_miss m.0.fate) (λ x.
     Some (record { live = live; youngest = youngest; p = miss_in ts; miss = m.0; x = x.0; miss_at = m.1; miss_live = miss_live; miss_fate = x.1 }))))))
+may P by (Speculate (Guess v)) ys t ts =
+    then (is_less v (2 ^ 32)) (λ small.
+    then (stands_live t.standing) (λ live.
+    then (loads (kind_of P t)) (λ kind.
+    then (has_address t.fate) (λ a. Some (record { small = small; live = live; kind = kind; a = a.0; fate = a.1 })))))
+may P by (Speculate Confirm) ys t ts =
+    then (stands_live t.standing) (λ live.
+    then (is_guess t.fate) (λ v.
+    then (is_address (computed P t)) (λ a.
+    then (some_of (sure_raw_at P ts (instr P t) a.0)) (λ b.
+    then (equal v.0 (loaded (instr P t).op b.0)) (λ right.
+    Some (record { live = live; v = v.0; fate = v.1; a = a.0; computes = a.1; bytes = b.0; read = b.1; right = right }))))))
+may P by (Speculate Flush) ys t ts =
+    then (stands_live t.standing) (λ live. then (none_live ys) (λ youngest. Some (record { live = live; youngest = youngest })))
 may P by Mend ys t ts =
     then (stands_live t.standing) (λ live.
     then (none_live ys) (λ youngest.

@@ -2,8 +2,8 @@
 use Rattle.std.proofs.Common.{List, [], ◌∷◌, arith, ◌≡◌, ◌≢◌, ℕ, Option, Some, None, refl, sym, ap, ◌∙◌, subst}
 use Rattle.std.specs.Prelude.{option_map}
 use Rattle.instructions.specs.Operations.{checked_address, computed_by, jump_target, loaded}
-use Rattle.instructions.specs.Programs.{instr_at}
-use Rattle.inorder.specs.declared.history.Act.TheVariants.{Claim, Finish, Load, Retire}
+use Rattle.instructions.specs.Programs.{instr_at, instr_of}
+use Rattle.inorder.specs.declared.history.Act.TheVariants.{Claim, Finish, Load, Retire, Speculate}
 use Rattle.inorder.specs.declared.history.Step.TheVariants.{Let, On}
 use Rattle.inorder.specs.declared.history.Supply.{Supply}
 use Rattle.inorder.specs.declared.history.Supply.TheVariants.{From, Known}
@@ -11,15 +11,21 @@ use Rattle.lsq.specs.declared.answer.Answer.TheVariants.{Blocked, Forward}
 use Rattle.inorder.specs.Legal.{Allowed, Taken, reached}
 use Rattle.inorder.specs.Loads.{queue_of}
 use Rattle.inorder.specs.Steps.{CanRetire}
-use Rattle.inorder.specs.Tenants.{Addr, Busy, Fate, Miss, Open, Squashed, Standing, Tenant, kind_of}
-use Rattle.inorder.specs.Unit.{creator}
+use Rattle.inorder.specs.Tenants.{Addr, AtLet, Busy, Fate, Guessed, Live, Miss, Open, Squashed, Standing, Tenant, kind_of}
+use Rattle.inorder.specs.Unit.{creator, older}
 use Rattle.lsq.specs.LoadRule.{answer}
 use Rattle.inorder.proofs.Runs.DeadLinkRun.{dead_link, linked_elsewhere, linked_on_the_wrong_path}
-use Rattle.inorder.proofs.Runs.Examples.{apart, busy_not_open, four_entries, four_stations, squashed_not_live, taken, two_stations}
+use Rattle.inorder.proofs.Runs.Examples.{apart, busy_not_open, four_entries, four_stations, known, squashed_not_live, taken, two_stations}
 use Rattle.inorder.proofs.Runs.LoopRun.{loop}
 use Rattle.inorder.proofs.Runs.ReletRun.{job_on_the_wrong_path, relet, relets}
 use Rattle.inorder.proofs.Runs.StoreRun.{bytes_and_words, forwards, load_has_address, stores_have_addresses, word_forwarded}
 use Rattle.inorder.proofs.Runs.WrongPathRun.{fault_on_the_wrong_path, recovered, skips}
+use Rattle.inorder.specs.declared.history.Speculation.TheVariants.{Confirm}
+use Rattle.inorder.specs.Speculation.{MayConfirm}
+use Rattle.inorder.specs.Memory.{sure_raw_at}
+use Rattle.inorder.proofs.Runs.SpeculationRun.{doubles, eight_stations, guessed_wrong, older_unknown, passes}
+use Rattle.instructions.specs.declared.op.Half.TheVariants.{Low}
+use Rattle.instructions.specs.declared.op.Op.TheVariants.{Lw}
 
 -- the fate and standing of the tenant at a position
 fate_is : (o : Option Tenant) (t : Tenant) (f : Fate) → o ≡ Some t → option_map (λ u. u.fate) o ≡ Some f →
@@ -124,3 +130,43 @@ full_queue : (by predicted : ℕ) (first second : Supply) → ¬ Allowed bytes_a
     (reached bytes_and_words four_stations queue_of_two_is_full) by (Let 3 predicted first second)
 unfolding instr_at computed_by jump_target checked_address loaded
 full_queue by predicted first second a = let room = a.queue refl in absurd (omega arith)
+
+-- A guess is no result: the load does not retire with it, were it the oldest
+guess_retires_not : (n : ℕ) → ¬ Allowed doubles four_stations (reached doubles four_stations guessed_wrong) 1 (On 2 (Retire n))
+unfolding instr_at computed_by jump_target checked_address loaded
+guess_retires_not n a =
+    subst (CanRetire (kind_of doubles a.tenant) a.tenant.second.value) (fate_is _ a.tenant (Guessed 0) a.is refl) a.may.can
+
+-- A wrong guess is not confirmed: the store has left 7
+abbrev wrong_load : Tenant
+wrong_load =
+    record {
+      station = 2;
+      tag = 1;
+      index = 2;
+      half = Low;
+      pc = 0x400008;
+      predicted = 0x40000c;
+      next = 0x40000c;
+      first = record { creator = None; way = AtLet; value = Some 0 };
+      second = record { creator = None; way = AtLet; value = Some 0 };
+      made = Some 0;
+      fate = Guessed 0;
+      standing = Live;
+    }
+
+wrong_guess_stays : ¬ Allowed doubles four_stations (reached doubles four_stations guessed_wrong) 1 (On 2 (Speculate Confirm))
+unfolding instr_at computed_by jump_target checked_address loaded
+wrong_guess_stays a =
+    let ts = older (reached doubles four_stations guessed_wrong).tenants 2 in
+    let m : MayConfirm doubles ts wrong_load = known (MayConfirm doubles ts) _ a.tenant wrong_load a.is refl a.may in
+    let zero_is : 0 ≡ m.a = cc m.computes in
+    let seven : Some 7 ≡ Some m.bytes = subst (λ z. sure_raw_at doubles ts (instr_of doubles 2) z ≡ Some m.bytes) (sym zero_is) m.read in
+    let bytes : 7 ≡ m.bytes = cc seven in
+    let value : 0 ≡ m.v = cc m.fate in
+    apart 0 7 refl (value ∙ (m.right ∙ ap (loaded Lw) (sym bytes)))
+
+-- No load passes a store of unknown address as Load has it, though a guess can be confirmed there
+load_passes_none : ¬ Allowed passes eight_stations (reached passes eight_stations older_unknown) 1 (On 4 Load)
+unfolding instr_at computed_by jump_target checked_address loaded
+load_passes_none a = let known = a.may.addresses.1.0 refl refl in open_not_addr known.0 known.1

@@ -4,7 +4,7 @@ use Rattle.instructions.specs.Programs.{Program}
 use Rattle.instructions.specs.declared.stop.Outcome.{Outcome}
 use Rattle.instructions.specs.declared.stop.Outcome.TheVariants.{Pair, Address, Next, Stop as Stops, Value}
 use Rattle.inorder.specs.declared.history.Act.{Act}
-use Rattle.inorder.specs.declared.history.Act.TheVariants.{Claim, Deliver, Finish, Link, Load, Mend, Retire, Squash}
+use Rattle.inorder.specs.declared.history.Act.TheVariants.{Claim, Deliver, Finish, Link, Load, Mend, Retire, Speculate, Squash}
 use Rattle.inorder.specs.declared.history.Source.{Source}
 use Rattle.inorder.specs.declared.history.Source.TheVariants.{First, Second}
 use Rattle.inorder.specs.declared.history.Step.{Step}
@@ -17,6 +17,7 @@ use Rattle.inorder.specs.Unit.{Sizes, UpdateUnit, at, older, value_of, younger}
 use Rattle.inorder.proofs.Moves.{IsActed, IsLeft, at_changed}
 use Rattle.inorder.proofs.Positions.{at_more}
 use Rattle.inorder.proofs.Theorem.Forbidden.{same_tenant}
+use Rattle.inorder.specs.declared.history.Speculation.TheVariants.{Confirm, Flush, Guess}
 
 -- the source that a delivery is for
 here : (ts : List Tenant) (t : Tenant) (k : Source) → (operand k (delivered ts t k)).value ≡ value_of ts (operand k t).creator
@@ -62,6 +63,12 @@ act_keeps P by p (Retire n) ys t ts First m ne = refl
 act_keeps P by p (Retire n) ys t ts Second m ne = refl
 act_keeps P by p Squash ys t ts First m ne = refl
 act_keeps P by p Squash ys t ts Second m ne = refl
+act_keeps P by p (Speculate (Guess v)) ys t ts First m ne = refl
+act_keeps P by p (Speculate (Guess v)) ys t ts Second m ne = refl
+act_keeps P by p (Speculate Confirm) ys t ts First m ne = refl
+act_keeps P by p (Speculate Confirm) ys t ts Second m ne = refl
+act_keeps P by p (Speculate Flush) ys t ts First m ne = refl
+act_keeps P by p (Speculate Flush) ys t ts Second m ne = refl
 act_keeps P by p Mend ys t ts k m ne =
     subst (λ (f : Fate). (operand k (mended_as t f)).value ≡ (operand k t).value) (sym m.fate) (both k)
   where

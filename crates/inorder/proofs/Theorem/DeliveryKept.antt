@@ -13,7 +13,7 @@ use Rattle.inorder.specs.declared.history.Source.{Source}
 use Rattle.inorder.specs.declared.history.Source.TheVariants.{First, Second}
 use Rattle.inorder.specs.Memory.{Stored, stored, stored_by}
 use Rattle.inorder.specs.Steps.{CanRetire, HasAddress, MayDeliver, delivered, linked}
-use Rattle.inorder.specs.Tenants.{Addr, Busy, Done, Fate, Live, Miss, Open, Retired, Standing, Stopped, Tenant, computed, instr, kind_of, on_path, operand_value, stands_on_path}
+use Rattle.inorder.specs.Tenants.{Addr, Busy, Done, Fate, Guessed, Live, Miss, Open, Retired, Standing, Stopped, Tenant, computed, instr, kind_of, on_path, operand_value, stands_on_path}
 use Rattle.inorder.specs.Unit.{value_of}
 use Rattle.inorder.proofs.Grows.{Grows, MadeGrows, StoredGrows}
 use Rattle.inorder.proofs.Sound.{FateBy, IsSettled, IsSoundAt, LoadIs, Needs, SettledBy}
@@ -155,6 +155,7 @@ first_fate k o o' pc pr nx made w b st Open h = h
 first_fate k o o' pc pr nx made w b st (Busy by) h = absurd (no_first k b h.2)
 first_fate k o o' pc pr nx made w b st (Addr a) h = absurd (no_first k b h.2)
 first_fate k o o' pc pr nx made w b st (Done a) h = absurd (no_first k b h.1)
+first_fate k o o' pc pr nx made w b st (Guessed a) h = absurd (no_first k b h.1)
 first_fate k o o' pc pr nx made w b st (Miss a) h = absurd (no_first k b h.2)
 first_fate k o o' pc pr nx made w b st (Stopped a) h = absurd (no_first k b h.2)
 
@@ -164,6 +165,7 @@ first_load P ts i Loads o o' pc pr nx made b st (Done a) h = absurd (no_first Lo
 first_load P ts i Loads o o' pc pr nx made b st Open h = tt
 first_load P ts i Loads o o' pc pr nx made b st (Busy a) h = tt
 first_load P ts i Loads o o' pc pr nx made b st (Addr a) h = tt
+first_load P ts i Loads o o' pc pr nx made b st (Guessed a) h = tt
 first_load P ts i Loads o o' pc pr nx made b st (Miss a) h = tt
 first_load P ts i Loads o o' pc pr nx made b st (Stopped a) h = tt
 first_load P ts i Computes o o' pc pr nx made b st f h = tt
@@ -177,6 +179,7 @@ second_others k o o' pc pr nx made a w st Open n h = h
 second_others k o o' pc pr nx made a w st (Busy by) n h = absurd (no_second k a n h.2)
 second_others k o o' pc pr nx made a w st (Addr q) n h = absurd (no_second k a n h.2)
 second_others k o o' pc pr nx made a w st (Done q) n h = absurd (no_second k a n h.1)
+second_others k o o' pc pr nx made a w st (Guessed q) n h = absurd (no_second k a n h.1)
 second_others k o o' pc pr nx made a w st (Miss q) n h = absurd (no_second k a n h.2)
 second_others k o o' pc pr nx made a w st (Stopped q) n h = absurd (no_second k a n h.2)
 
@@ -186,6 +189,7 @@ second_store o pc pr nx made a w st Open h = h
 second_store o pc pr nx made a w st (Busy by) h = h
 second_store o pc pr nx made a w st (Addr q) h = h
 second_store o pc pr nx made a w st (Done q) h = h
+second_store o pc pr nx made a w st (Guessed q) h = h
 second_store o pc pr nx made a w st (Miss q) h = h
 second_store o pc pr nx made a w st (Stopped q) h = h
 
@@ -208,6 +212,7 @@ second_load P ts i Loads o o' pc pr nx made b st (Done a) h = absurd (no_second 
 second_load P ts i Loads o o' pc pr nx made b st Open h = tt
 second_load P ts i Loads o o' pc pr nx made b st (Busy a) h = tt
 second_load P ts i Loads o o' pc pr nx made b st (Addr a) h = tt
+second_load P ts i Loads o o' pc pr nx made b st (Guessed a) h = tt
 second_load P ts i Loads o o' pc pr nx made b st (Miss a) h = tt
 second_load P ts i Loads o o' pc pr nx made b st (Stopped a) h = tt
 second_load P ts i Computes o o' pc pr nx made b st f h = tt
@@ -220,6 +225,7 @@ second_can k w Open h = h
 second_can k w (Busy a) h = h
 second_can k w (Addr a) h = let e = h.1.1 in absurd (cc)
 second_can k w (Done a) h = h
+second_can k w (Guessed a) h = h
 second_can k w (Miss a) h = h
 second_can k w (Stopped a) h = h
 
@@ -229,6 +235,7 @@ second_stores true Stores (Addr a) n w = (refl, refl, λ d e. absurd (cc))
 second_stores true Stores Open n w = tt
 second_stores true Stores (Busy a) n w = tt
 second_stores true Stores (Done a) n w = tt
+second_stores true Stores (Guessed a) n w = tt
 second_stores true Stores (Miss a) n w = tt
 second_stores true Stores (Stopped a) n w = tt
 second_stores true Computes f n w = tt

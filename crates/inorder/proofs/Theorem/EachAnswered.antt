@@ -18,7 +18,7 @@ use Rattle.inorder.specs.Answered.{ClaimIsAnswered, FinishIsAnswered, MayRetireO
 use Rattle.inorder.specs.History.{IsLegal, IsUnit, IsUnitOrBack, MayAdd, back, taken_of, unit_of}
 use Rattle.inorder.specs.Replies.{IsOpen, IsRetiredStop}
 use Rattle.inorder.specs.Steps.{CanRetire, IsNoRetiredStop}
-use Rattle.inorder.specs.Tenants.{Addr, Busy, Done, Fate, IsNotLive, Live, Miss, Open, Retired, Squashed, Standing, Stopped, Tenant, kind_of, missing, stands_on_path}
+use Rattle.inorder.specs.Tenants.{Addr, Busy, Done, Fate, Guessed, IsNotLive, Live, Miss, Open, Retired, Squashed, Standing, Stopped, Tenant, kind_of, missing, stands_on_path}
 use Rattle.inorder.specs.Unit.{Sizes, at, older, younger}
 use Rattle.inorder.proofs.Basics.{split_at}
 use Rattle.inorder.proofs.Runs.Examples.{less}
@@ -67,6 +67,7 @@ open_or_not t = go t.standing t.fate refl refl
     go Live (Busy by) e g = not_open (Busy by) g (λ x. cc x)
     go Live (Addr a) e g = not_open (Addr a) g (λ x. cc x)
     go Live (Done v) e g = not_open (Done v) g (λ x. cc x)
+    go Live (Guessed x) e g = not_open (Guessed x) g (λ x. cc x)
     go Live (Miss x) e g = not_open (Miss x) g (λ x. cc x)
     go Live (Stopped c) e g = not_open (Stopped c) g (λ x. cc x)
 
@@ -105,6 +106,7 @@ stop_or_not t = go t.standing t.fate refl refl
     go Retired (Busy by) e g = goes_on (Busy by) g (λ c x. cc x)
     go Retired (Addr a) e g = goes_on (Addr a) g (λ c x. cc x)
     go Retired (Done v) e g = goes_on (Done v) g (λ c x. cc x)
+    go Retired (Guessed x) e g = goes_on (Guessed x) g (λ c x. cc x)
     go Retired (Miss x) e g = goes_on (Miss x) g (λ c x. cc x)
     go Retired (Stopped c) e g = inl (record { code = c; standing = e; fate = g })
 
@@ -122,6 +124,7 @@ find_stop (t ∷ ts) = ⊎_elim
 can_or_not : (k : Kind) (second : Option ℕ) (f : Fate) → CanRetire k second f ⊎ (¬ CanRetire k second f)
 can_or_not k second Open = inr (λ c. c)
 can_or_not k second (Busy by) = inr (λ c. c)
+can_or_not k second (Guessed x) = inr (λ c. c)
 can_or_not k second (Miss x) = inr (λ c. c)
 can_or_not k second (Done v) = inl tt
 can_or_not k second (Stopped c) = inl tt

@@ -14,8 +14,8 @@ use Rattle.inorder.specs.Memory.{load_value, raw}
 use Rattle.inorder.specs.Steps.{HasAddress, MayClaim, MayFinish, MayLoad, finished, settled}
 use Rattle.inorder.specs.Tenants.{Addr, Busy, Done, Fate, Live, Miss, Stopped, Tenant, computed, instr, kind_of, made_at_let, missing_of}
 use Rattle.inorder.proofs.Theorem.DeliveryKept.{fresh_grows, live_not_retired}
-use Rattle.inorder.proofs.Grows.{Grows}
-use Rattle.inorder.proofs.Sound.{DoneBy, FateBy, FateIs, GoesOn, HasRead, IsSoundAt, LoadIs, Needs, own_with, placed_with}
+use Rattle.inorder.proofs.Grows.{Grows, sure_raw}
+use Rattle.inorder.proofs.Sound.{DoneBy, FateBy, FateIs, GoesOn, HasSureRead, IsSoundAt, LoadIs, Needs, own_with, placed_with}
 
 -- A live tenant with another fate, and with what it made
 
@@ -258,17 +258,16 @@ load_may P ts t m s =
     addr : FateIs P t (Addr m.a)
     addr = subst (FateIs P t) m.fate s.own.fate
 
-    read : HasRead P ts (instr P t) (computed P t) (load_value P ts t)
+    read : HasSureRead P ts (instr P t) (computed P t) (load_value P ts t)
     read =
         record {
           a = m.a;
           n = m.bytes;
           computes = addr.1;
-          raw = m.read;
+          sure = sure_raw P ts (instr P t) m.a m.bytes m.addresses m.read;
           value =
               ap (λ f. loaded (instr P t).op (unwrap_or (raw P ts (instr P t) f) 0)) m.fate
               ∙ ap (λ r. loaded (instr P t).op (unwrap_or r 0)) m.read;
-          addresses = m.addresses;
         }
 
 pub load_may_grow : (P : Program) (ts : List Tenant) (t : Tenant) → MayLoad P ts t → IsSoundAt P ts t →

@@ -100,11 +100,11 @@ load_waits P C history by p q t a l e live k =
 
 -- Recovery
 
-abbrev IsOff : Tenant → Type 0
+abbrev pub IsOff : Tenant → Type 0
 IsOff t = on_path t ≡ false
 
 -- nobody after the youngest live tenant is on the path
-all_off : (P : Program) (t : Tenant) (ts ys : List Tenant) → t.standing ≡ Live → AllByRecursion IsNotLive ys →
+pub all_off : (P : Program) (t : Tenant) (ts ys : List Tenant) → t.standing ≡ Live → AllByRecursion IsNotLive ys →
     IsSound P (ys ++ t ∷ ts) → AllByRecursion IsOff ys
 all_off P t ts [] live last s = tt
 all_off P t ts (y ∷ ys) live last s = (go y.standing refl, all_off P t ts ys live last.1 s.1)
@@ -123,11 +123,11 @@ writer_skips P (y ∷ ys) zs r h =
     ap (λ b. cond (b && eqb (destination_of P y) r) (Some (length (ys ++ zs)))
     (last_writer P (ys ++ zs) r)) h.0 ∙ writer_skips P ys zs r h.1
 
-creator_skips : (P : Program) (ys zs : List Tenant) (r : ℕ) → AllByRecursion IsOff ys →
+pub creator_skips : (P : Program) (ys zs : List Tenant) (r : ℕ) → AllByRecursion IsOff ys →
     creator P (ys ++ zs) r ≡ creator P zs r
 creator_skips P ys zs r h = ap (λ o. cond (can_be_written r) o None) (writer_skips P ys zs r h)
 
-front_skips : (ys zs : List Tenant) → AllByRecursion IsOff ys → front_pc (ys ++ zs) ≡ front_pc zs
+pub front_skips : (ys zs : List Tenant) → AllByRecursion IsOff ys → front_pc (ys ++ zs) ≡ front_pc zs
 front_skips [] zs h = refl
 front_skips (y ∷ ys) zs h = ap (λ b. cond b y.next (front_pc (ys ++ zs))) h.0 ∙ front_skips ys zs h.1
 

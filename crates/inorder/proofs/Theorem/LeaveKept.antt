@@ -7,7 +7,7 @@ use Rattle.instructions.specs.declared.op.Kind.{Kind}
 use Rattle.instructions.specs.declared.stop.Outcome.{Outcome}
 use Rattle.inorder.specs.Memory.{stored, stored_by}
 use Rattle.inorder.specs.Steps.{IsNoRetiredStop, MayRetire, made_at_end, retired, squashed}
-use Rattle.inorder.specs.Tenants.{Addr, Busy, Done, Fate, IsNotLive, Live, Miss, Open, Retired, Squashed, Standing, Stopped, Tenant, behind, computed, instr, kind_of}
+use Rattle.inorder.specs.Tenants.{Addr, Busy, Done, Fate, Guessed, IsNotLive, Live, Miss, Open, Retired, Squashed, Standing, Stopped, Tenant, behind, computed, instr, kind_of}
 use Rattle.inorder.proofs.Theorem.DeliveryKept.{live_not_retired, live_on, live_unsettled, stores_self}
 use Rattle.inorder.proofs.Theorem.FinishKept.{next_goes_on, next_is_done, next_load}
 use Rattle.inorder.proofs.Grows.{Grows, StoredGrows}
@@ -27,6 +27,7 @@ settled_from (t ∷ ts) h n = (go t.standing t.fate refl refl, settled_from ts h
     go Retired (Busy c) e ef = tt
     go Retired (Addr c) e ef = tt
     go Retired (Done c) e ef = tt
+    go Retired (Guessed c) e ef = tt
     go Retired (Miss c) e ef = tt
     go Retired (Stopped c) e ef = absurd (n.0 e c ef)
 
@@ -36,6 +37,7 @@ retire_fate k o pc pr nx made a b st n Open h = h
 retire_fate k o pc pr nx made a b st n (Busy c) h = h
 retire_fate k o pc pr nx made a b st n (Addr c) h = h
 retire_fate k o pc pr nx made a b st n (Done c) h = h
+retire_fate k o pc pr nx made a b st n (Guessed c) h = h
 retire_fate k o pc pr nx made a b st n (Miss c) h = h
 retire_fate k o pc pr nx made a b st n (Stopped c) h = ((λ ne. absurd (ne refl)), h.1, h.2)
 
@@ -45,6 +47,7 @@ retire_made k o pc pr nx made a b n Open h v e = e
 retire_made k o pc pr nx made a b n (Busy c) h v e = e
 retire_made k o pc pr nx made a b n (Addr c) h v e = e
 retire_made k o pc pr nx made a b n (Done c) h v e = e
+retire_made k o pc pr nx made a b n (Guessed c) h v e = e
 retire_made k o pc pr nx made a b n (Miss c) h v e = e
 retire_made k o pc pr nx made a b n (Stopped c) h v e =
     let none : made ≡ None = h.0 (λ q. absurd (cc)) in absurd (cc)
@@ -92,6 +95,7 @@ squash_fate k o pc pr nx made a b Open h = h
 squash_fate k o pc pr nx made a b (Busy c) h = h
 squash_fate k o pc pr nx made a b (Addr c) h = h
 squash_fate k o pc pr nx made a b (Done c) h = h
+squash_fate k o pc pr nx made a b (Guessed c) h = h
 squash_fate k o pc pr nx made a b (Miss c) h = h
 squash_fate k o pc pr nx made a b (Stopped c) h = ((λ ne. h.0 (λ e. absurd (cc))), h.1, h.2)
 

@@ -13,7 +13,7 @@ use Rattle.instructions.specs.declared.op.Op.TheVariants.{Lb}
 use Rattle.instructions.specs.declared.stop.Outcome.{Outcome}
 use Rattle.instructions.specs.declared.stop.Outcome.TheVariants.{Pair, Address, Next, Stop as Stops, Value}
 use Rattle.inorder.specs.declared.history.Act.{Act}
-use Rattle.inorder.specs.declared.history.Act.TheVariants.{Claim, Deliver, Finish, Link, Load, Mend, Retire, Squash}
+use Rattle.inorder.specs.declared.history.Act.TheVariants.{Claim, Deliver, Finish, Link, Load, Mend, Retire, Speculate, Squash}
 use Rattle.inorder.specs.declared.history.Source.TheVariants.{First, Second}
 use Rattle.inorder.specs.declared.history.Step.{Step}
 use Rattle.inorder.specs.declared.history.Step.TheVariants.{Let, On, Renew}
@@ -23,13 +23,14 @@ use Rattle.inorder.specs.Legal.{Allowed, AreAllowed, May, Taken, applied, change
 use Rattle.inorder.specs.Memory.{Stored, byte_after, byte_at, covers, load_value, raw, stored}
 use Rattle.inorder.specs.Numbers.{AreWords, FateIsWord, HasWords, ValuesAreWords}
 use Rattle.inorder.specs.Steps.{MayLet, MaySupply, finished, let_operand, made_at_end, mended_as, new_tenant}
-use Rattle.inorder.specs.Tenants.{Addr, Busy, Done, Fate, Miss, Open, Stopped, Tenant, computed, instr, kind_of, made_at_let}
+use Rattle.inorder.specs.Tenants.{Addr, Busy, Done, Fate, Guessed, Miss, Open, Stopped, Tenant, computed, instr, kind_of, made_at_let}
 use Rattle.inorder.specs.Unit.{Sizes, UpdateUnit, at, creator, front_pc, value_made, next_station, older, recent, value_of, younger}
 use Rattle.lsq.specs.Bytes.{byte_of, joined, little_endian_if_there}
 use Rattle.inorder.proofs.Basics.{split_at}
 use Rattle.inorder.proofs.Grows.{all_grows, all_mid}
 use Rattle.inorder.proofs.Kept.{parts}
 use Rattle.instructions.proofs.Words.{OutcomeIsWord, loaded_words, outcome_words}
+use Rattle.inorder.specs.declared.history.Speculation.TheVariants.{Confirm, Flush, Guess}
 
 -- bytes
 
@@ -93,6 +94,7 @@ raw_word P w ts i Open = tt
 raw_word P w ts i (Busy c) = tt
 raw_word P w ts i (Done c) = tt
 raw_word P w ts i (Miss c) = tt
+raw_word P w ts i (Guessed c) = tt
 raw_word P w ts i (Stopped c) = tt
 
 or_zero : (o : Option ℕ) → IfSome o IsWord → IsWord (unwrap_or o 0)
@@ -183,6 +185,7 @@ end_word Open made n u h = h
 end_word (Busy c) made n u h = h
 end_word (Addr c) made n u h = h
 end_word (Done c) made n u h = h
+end_word (Guessed c) made n u h = h
 end_word (Miss c) made n u h = h
 
 act_words : (P : Program) → HasWords P →
@@ -254,6 +257,18 @@ act_words P w by Squash ys t ts m us h =
       made = h.made;
       fate = h.fate;
     }
+act_words P w by (Speculate (Guess v)) ys t ts m us h = remade_words t (Guessed v) (Some v) m.small m.small h
+act_words P w by (Speculate Confirm) ys t ts m us h = remade_words t (Done (unwrap_or t.made 0)) t.made (or_zero t.made h.made) h.made h
+act_words P w by (Speculate Flush) ys t ts m us h =
+    record {
+      pc = h.pc;
+      predicted = h.predicted;
+      next = h.next;
+      first = h.first;
+      second = h.second;
+      made = h.made;
+      fate = h.fate;
+    }
 act_words P w by Mend ys t ts m us h = go t.fate h.fate
   where
     go : (f : Fate) → FateIsWord f → AreWords (mended_as t f)
@@ -271,6 +286,7 @@ act_words P w by Mend ys t ts m us h = go t.fate h.fate
           made = h.made;
           fate = u;
         }
+    go (Guessed v) u = h
     go (Stopped v) u = h
 
 words_tail : (t : Tenant) (ts ys : List Tenant) → AllByRecursion AreWords (ys ++ t ∷ ts) →
