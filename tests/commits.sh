@@ -7,9 +7,9 @@
 build_refuse
 build run ruu
 build run listing
-build run commits
+build run commit_log
 ruu=crates/ruu/out/ruu
-commits=crates/commits/out/commits
+commits=crates/commit_log/out/commit_log
 
 log() { # listing, options
   "$commits" commits "$@" > "$work/out" 2> "$work/err"

@@ -12,7 +12,7 @@ import edits  # noqa: E402
 prove = edits.prove()
 
 LANES, TICK = 4, 3
-PROGRAMS = ["ruu", "checker", "chart", "commits", "drive", "listing"]
+PROGRAMS = ["ruu", "checker", "chart", "commit_log", "drive", "listing"]
 
 
 class World:

@@ -17,12 +17,12 @@ LAYERS = [
     ("The unit that threads share", "ruu_words station snapshots front back client session"),
     ("Threads", "hints counts workers committing pool"),
     ("What a command line asks for", "command_line on_threads command"),
-    ("Programs", "alone run ruu checker chart commits drive listing"),
+    ("Programs", "alone run ruu checker chart commit_log drive listing"),
     ("Tests and measurements", "examples proved_tests"),
 ]
 
 PICTURE = """\
- alone    chart    commits    ruu      run    drive            listing
+ alone    chart  commit_log   ruu      run    drive            listing
    |        |         |        |        |       |                 |
    +--------+---------+---- command     |       |            disassembly
             |                  |        |       |                 |

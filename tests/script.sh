@@ -3,7 +3,7 @@
 # of the programs; and how the work is told and foreseen, with a kit that proves nothing. With the word `renew` those texts are
 # written anew from the programs.
 . "$(dirname "$0")/common.bash"
-programs=(run ruu checker chart commits drive listing)
+programs=(run ruu checker chart commit_log drive listing)
 words=(run check chart commits drive listing)
 for program in "${programs[@]}"; do
   build run "$program"
