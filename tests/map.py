@@ -1,8 +1,8 @@
 #!/usr/bin/env python3
-"""Writes docs/MAP.md: tests/map.py > docs/MAP.md
+"""Writes the page of the crates: tests/map.py > crates/README.md
 
-Which crate stands on which is read from crates.txt, and what a crate is from the first sentence of its root. The layers
-below say where a crate stands on the page: each crate is in one, and stands on crates of its own layer and of those before.
+The sections are those of crates.txt: each begins with its title, as a comment, and ends with an empty line. What a crate is comes from the first
+sentence of its root. A crate has to stand on crates of earlier lines alone, and each folder of crates/ has to have its line.
 """
 import os
 import re
@@ -10,16 +10,22 @@ import sys
 
 ROOT = os.path.dirname(os.path.dirname(os.path.realpath(__file__)))
 
-LAYERS = [
-    ("The language, and bytes in and out", "lexical instructions isa encoding elf disassembly counted_io"),
-    ("The machine, and the unit as definitions", "lsq inorder answers lockstep ruu_step elf_runs"),
-    ("The unit by one thread", "one_thread in_order_issue bench"),
-    ("The unit that threads share", "ruu_words station snapshots front back client session"),
-    ("Threads", "hints counts workers committing pool"),
-    ("What a command line asks for", "command_line on_threads command"),
-    ("Programs", "alone run ruu checker chart commit_log drive listing"),
-    ("Tests and measurements", "examples proved_tests"),
-]
+PAGE = """# The crates
+
+Written by `tests/map.py` from `crates.txt` and the first sentence of each crate's root.
+
+```text
+{picture}
+```
+
+The picture has the main crates. The sections below have all, the lowest first: a crate stands on crates that come before it.
+
+**Where to begin.** `inorder/specs/Theorem.antt` states what is proved, over the unit of `inorder/specs/Unit.antt` and the
+operations of `instructions/specs/Operations.antt`. `one_thread/src/bench.rt` is that unit by one thread. What threads share
+begins with the words of `ruu_words/specs`, `station` has each call on them, and `run/src/main.rt` leads through `on_threads` to
+`pool`, where the threads start. [CONTRIBUTING](../docs/CONTRIBUTING.md) tells a crate's folders.
+
+{sections}"""
 
 PICTURE = """\
  alone    chart  commit_log   ruu      run    drive            listing
@@ -44,34 +50,33 @@ PICTURE = """\
                             |                         definitions, and the theorem
                       instructions -- isa -- lexical  operations; listings"""
 
-HEAD = """# Map of the code
 
-Written by `tests/map.py` from `crates.txt` and the first sentence of each crate's root.
-
-```text
-{picture}
-```
-
-The picture has the main crates. The list has all, the lowest layer first: a crate stands on crates of its own
-layer and of earlier ones. [CONTRIBUTING.md](CONTRIBUTING.md) tells a crate's folders; `ruu` runs the programs, `prove` proves
-crates side by side, `check` is the gate.
-"""
-
-
-def uses():
-    """Of each crate the crates of the repository that it stands on."""
-    lines = {}
+def sections():
+    """The sections of crates.txt, each a title and its lines: a crate and the libraries that it uses."""
     with open(f"{ROOT}/crates.txt", encoding="utf-8") as it:
-        for line in it:
-            head, _, deps = line.partition("#")[0].partition(":")
-            if head.split():
-                lines[head.split()[0]] = deps.split()
-    return {name: [it for it in deps if it in lines] for name, deps in lines.items()}
+        paragraphs = [it.split("\n") for it in it.read().strip().split("\n\n")]
+    found = []
+    for lines in paragraphs:
+        crates = [it.partition(":")[::2] for it in lines if not it.startswith("#")]
+        if crates:
+            found.append((lines[0].removeprefix("# "), [(head.split()[0], libraries.split()) for head, libraries in crates]))
+    return found
+
+
+def faults(found):
+    """What is wrong with the list: a crate above one that stands on it, a line without a folder or a folder without a line."""
+    names = [name for _, lines in found for name, _ in lines]
+    folders = [it for it in os.listdir(f"{ROOT}/crates") if os.path.isdir(f"{ROOT}/crates/{it}/src")]
+    wrong = [f"{name} is no folder" for name in names if name not in folders]
+    wrong += [f"{it} has no line" for it in sorted(folders) if it not in names]
+    for at, (name, libraries) in enumerate(line for _, lines in found for line in lines):
+        wrong += [f"{name} stands before {it}, which it uses" for it in libraries if it in names[at:]]
+    return wrong
 
 
 def first_sentence(crate):
-    """What the root of a crate says of it, up to the first full stop, or to a colon or semicolon behind more than two words, or to a
-    comma behind more than seven."""
+    """What the root of a crate says of it, up to the first full stop, or to a colon or semicolon after more than two words, or to a
+    comma after more than seven."""
     src = f"{ROOT}/crates/{crate}/src"
     root = next(it for it in (f"{src}/lib.rt", f"{src}/main.rt") if os.path.exists(it))
     said = []
@@ -87,23 +92,13 @@ def first_sentence(crate):
     return sentence
 
 
-def placed(lines):
-    """The layers with their crates, where each crate of crates.txt has its place."""
-    layers = [(title, names.split()) for title, names in LAYERS]
-    at = {name: level for level, (_, names) in enumerate(layers) for name in names}
-    wrong = [f"no layer for {it}" for it in lines if it not in at] + [f"no crate {it}" for it in at if it not in lines]
-    wrong += [f"{name} stands on {it} of a later layer" for name in lines for it in lines[name] if at.get(it, 0) > at.get(name, len(layers))]
-    if wrong:
-        sys.exit("tests/map.py: " + "; ".join(wrong))
-    return layers
-
-
 def main():
-    lines = uses()
-    page = [HEAD.format(picture=PICTURE)]
-    for title, names in placed(lines):
-        page += [f"## {title}\n", *(f"- [`{name}`](../crates/{name}): {first_sentence(name)}" for name in names), ""]
-    print("\n".join(page).rstrip("\n"))
+    found = sections()
+    wrong = faults(found)
+    if wrong:
+        sys.exit("crates.txt: " + "; ".join(wrong))
+    text = [f"## {title}\n\n" + "\n".join(f"- [`{name}`]({name}): {first_sentence(name)}" for name, _ in lines) for title, lines in found]
+    print(PAGE.format(picture=PICTURE, sections="\n\n".join(text)))
 
 
 if __name__ == "__main__":
