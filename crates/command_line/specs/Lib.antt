@@ -14,4 +14,5 @@ pub mod Drive
 pub mod Statuses
 pub mod Exits
 pub mod Replies
+pub mod Answered
 pub mod Predictors

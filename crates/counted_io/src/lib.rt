@@ -10,5 +10,5 @@ mod streams;
 pub use counted::Counted;
 pub use fault::Fault;
 pub use input::read_up_to;
-pub use output::{WriteFailed, write_whole};
+pub use output::{WriteFailed, write_text, write_whole};
 pub use streams::ClosedStreams;

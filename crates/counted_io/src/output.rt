@@ -2,8 +2,11 @@
 
 ghost use Rattle.std.specs.Prelude.{◌≡◌, ◌+◌, ◌-◌, ◌^◌, ◌<◌, OnOk, OnErr};
 ghost use Rattle.counted_io.specs.Counted.{failures_of, Gives, GivesPart};
+ghost use Rattle.counted_io.specs.Writes.{IsBeginningOf, IsWritten, Writes};
 
 use crate::counted::Counted;
+use crate::fault::Fault;
+use std::alloc::AllocError;
 use std::io::Write;
 
 /// The writer failed, or took no byte. There is no second try.
@@ -26,5 +29,18 @@ pub fn write_whole<W: Write>(writer: &mut Counted<W>, text: &[u8]) -> Result<(),
             Ok(n) => done += n,
         }
     }
+    Ok(())
+}
+
+/// Writes a text, if there was memory to make it, in as many calls as the writer asks for.
+pub fn write_text<W: Write>(
+    writer: &mut Counted<W>,
+    text: Result<String, AllocError>,
+) -> Result<(), Fault>
+    requires room { failures_of writer.old < 2 ^ 64 - 1 }
+    ensures { Writes W.contents writer.old writer.new (λ _. IsWritten text) (IsBeginningOf text) result }
+{
+    let text = text?;
+    write_whole(writer, text.as_str().as_bytes())?;
     Ok(())
 }
