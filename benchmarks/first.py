@@ -1,14 +1,14 @@
 #!/usr/bin/env python3
-"""Times what `./ruu run FILE` does the first time, for two commits in turn: benchmarks/first.py COMMIT COMMIT.
+"""Times the first command of two commits in turn: benchmarks/first.py COMMIT COMMIT.
 
-In a clean clone of each commit `./prove --statements` proves and builds the program that runs a file on threads. The two go on in
-turn, for a short time each, so that both meet the same machine where its speed changes: all processes of the one stand still while
-the other's go on. Printed are the seconds that each went on for, and those of all processors. Then both programs run a loop in
-turn, seven times: the least seconds of each. The clones stand in a folder that is removed, and take some 400 MB each. It takes half
-an hour on four processors."""
+In a clean clone of each, `./ruu run examples/sum.s` proves and builds what it runs, with a kit of its own that has kept nothing. The
+two go on in turn, for a short time each, so that both meet the same machine where its speed changes: all processes of the one stand
+still while the other's go on. Printed are the seconds that each went on for, and those of all processors. The clones take some GB
+each, in a folder that is removed. It takes half an hour on four processors."""
 import argparse
 import os
 import re
+import shutil
 import signal
 import subprocess
 import sys
@@ -19,8 +19,6 @@ ROOT = os.path.dirname(os.path.dirname(os.path.realpath(__file__)))
 
 # How many seconds one goes on before it is the other's turn.
 TURN = 15
-
-RUNS = 7
 
 
 def descendants(pid):
@@ -39,23 +37,35 @@ def descendants(pid):
     return found
 
 
+def kit_in(room):
+    """A kit that has kept nothing: what checks keep stands beside the folder of the command `rt`."""
+    said = subprocess.run(["rt", "doc"], capture_output=True, text=True, check=True, stdin=subprocess.DEVNULL)
+    kit = os.path.dirname(said.stdout.strip())
+    os.makedirs(f"{room}/kit")
+    for it in os.listdir(kit):
+        if it != "bin":
+            os.symlink(f"{kit}/{it}", f"{room}/kit/{it}")
+    shutil.copytree(f"{kit}/bin", f"{room}/kit/bin")
+    return f"{room}/kit/bin"
+
+
 class First:
     """The first command of a commit, in a clone of its own."""
 
     def __init__(self, commit, room):
-        self.commit, self.clone = commit, f"{room}/{commit}"
+        self.commit, self.clone = commit, f"{room}/clone"
         subprocess.run(["git", "clone", "-q", ROOT, self.clone], check=True)
         subprocess.run(["git", "-C", self.clone, "checkout", "-q", commit], check=True)
-        self.program = "run" if os.path.isdir(f"{self.clone}/crates/run") else "ruu"
-        self.log = open(f"{room}/{commit}.log", "w+", errors="replace")
+        self.env = {**os.environ, "PATH": f"{kit_in(room)}:{os.environ['PATH']}"}
+        self.log = open(f"{room}/log", "w+", encoding="utf-8", errors="replace")
         self.work, self.status, self.seconds, self.used = None, None, 0.0, 0.0
 
     def go_on(self):
         """Goes on for a turn, or until it has ended."""
         began = time.monotonic()
         if self.work is None:
-            words = ["./prove", "--statements", self.program]
-            self.work = subprocess.Popen(words, cwd=self.clone, stdin=subprocess.DEVNULL, stderr=self.log)
+            how = {"cwd": self.clone, "env": self.env, "stdin": subprocess.DEVNULL, "stdout": self.log, "stderr": self.log}
+            self.work = subprocess.Popen(["./ruu", "run", "examples/sum.s"], **how)
         self.tell(signal.SIGCONT)
         while self.status is None and time.monotonic() - began < TURN:
             time.sleep(0.05)
@@ -77,20 +87,16 @@ class First:
                     pass
             told = [*told, *new]
 
-    def run(self):
-        """The seconds of one run of the loop on threads."""
-        began = time.monotonic()
-        words = [f"{self.clone}/crates/{self.program}/out/{self.program}", "run", "benchmarks/loop.s", "--limit", "300000"]
-        subprocess.run(words, cwd=ROOT, stdout=subprocess.DEVNULL, stderr=subprocess.DEVNULL, check=False)
-        return time.monotonic() - began
-
 
 def main():
     parser = argparse.ArgumentParser(description=__doc__, formatter_class=argparse.RawDescriptionHelpFormatter)
     parser.add_argument("commit", nargs=2)
     given = parser.parse_args()
     with tempfile.TemporaryDirectory(dir=os.environ.get("TMPDIR")) as room:
-        both = [First(it, room) for it in given.commit]
+        both = []
+        for at, commit in enumerate(given.commit):
+            os.mkdir(f"{room}/{at}")
+            both.append(First(commit, f"{room}/{at}"))
         try:
             while going := [it for it in both if it.status is None]:
                 for it in going:
@@ -106,9 +112,6 @@ def main():
                 it.log.seek(0)
                 print(it.log.read(), file=sys.stderr)
             return 1
-        runs = [[it.run() for it in both] for _ in range(RUNS)]
-        for it, seconds in zip(both, zip(*runs)):
-            print(f"{it.commit} loop on threads {min(seconds):.3f} s")
         print(f"ratio {both[1].seconds / both[0].seconds:.3f}, of one processor {both[1].used / both[0].used:.3f}")
     return 0
 

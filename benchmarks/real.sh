@@ -15,7 +15,7 @@ shift
 work=$(mktemp -d)
 trap 'rm -rf "$work"' EXIT
 
-"$here/../prove" --statements ruu
+"$here/../prove" ruu
 for listing in "$folder"/*.s; do
   name=$(basename "$listing" .s)
   [ -e "$folder/$name.expected" ] || continue

@@ -26,7 +26,7 @@ def check_files(asked):
         with open(asked.listing, "rb") as listing:
             listing.read(1)
     except OSError as error:
-        refuse(f"{asked.listing}: the listing cannot be read: {error.strerror}")
+        refuse(f"{asked.listing}: {error.strerror}")
     folder = os.path.dirname(asked.out) or "."
     if os.path.isdir(asked.out):
         refuse(f"{asked.out}: the page cannot be written: Is a directory")

@@ -1,8 +1,8 @@
 #!/usr/bin/env bash
 # Reads the listings of tests/listings/check with `ruu check`, from the file and from standard input: what is written is what
 # stands beside each, with status 0 or 2, and where there is a text for it, what `--all` writes. Of a fault each run writes the
-# first line of that and nothing else. Each row of tests/listings/remedies.txt is told what helps. Then what a run on a terminal
-# tells behind its report, files that do not open, a writer that takes nothing, and want of memory.
+# first line of that and nothing else. Each row of tests/listings/remedies.txt is told what helps. Then files that do not open, a
+# writer that takes nothing, and want of memory.
 . "$(dirname "$0")/common.bash"
 build_refuse
 build run ruu
@@ -94,25 +94,6 @@ for n in 200 201; do
   [ "$(grep -c ': error: ' "$work/out")" -eq 200 ] || fail "another number of $n faults"
   grep -o "^$work/many.s:[0-9]*" "$work/out" | cut -d : -f 2 | cmp -s - <(seq 200) || fail "$n faults are told in another order"
 done
-
-# On a terminal a run tells behind its report which line has the fault, or where it stopped.
-if command -v script > /dev/null; then
-  printf '# one\nL: M: lw $t1,1($zero) # x\nbreak\n' > "$work/stop.s"
-  printf 'break\n\nadu $t0,$t1,$t2\n' > "$work/fault.s"
-  printf 'j end\nend:\n' > "$work/end.s"
-  behind() { # listing, what is told behind the report, status
-    script -qec "here=$PWD program=$PWD/$ruu bash docs/help/behind.bash run $1 --alone" /dev/null < /dev/null | tr -d '\r' > "$work/out"
-    status=${PIPESTATUS[0]}
-    [ "$status" -eq "$3" ] && [ "$(tail -n +"$4" "$work/out")" = "$2" ] || { cat "$work/out"; fail "$1 on a terminal: status $status"; }
-  }
-  behind "$work/stop.s" "$work/stop.s:2: the run stopped here: lw \$t1,1(\$zero)" 1 4
-  behind "$work/end.s" "$work/end.s: no instruction stands at 0x00400004" 1 4
-  behind "$work/fault.s" "$("$check" check "$work/fault.s" | tail -n +2)" 2 2
-  behind examples/sum.s '' 0 100
-  echo 'a run on a terminal tells where it stopped'
-else
-  echo 'without the command script no run on a terminal was looked at'
-fi
 
 : > "$work/none"
 "$check" check "$work/nowhere.s" > "$work/out" 2> "$work/err"

@@ -13,8 +13,6 @@ function calls one that is not proved, the edit waits for the next check. If a g
 check changes, or if no edit would be settled, each of them is tried alone. So is an edit of what stands in no body: by a check
 of what its line `function: MODULE::NAME` names, or of the whole crate."""
 import concurrent.futures
-import importlib.machinery
-import importlib.util
 import os
 import re
 import shutil
@@ -29,6 +27,7 @@ FOLDERS = ("edits", "more_edits")
 
 sys.dont_write_bytecode = True
 sys.path.insert(0, f"{ROOT}/tests")
+from built import rtlib  # noqa: E402
 from functions import functions, is_end  # noqa: E402
 
 
@@ -199,37 +198,19 @@ class Trials:
         print(f"{edit.name}: {f'refused, as it must be: {goal[:160]}' if goal else f'NOT REFUSED: {why}'}", flush=True)
 
 
-def prove():
-    """The script `prove`, whose functions know the crates."""
-    loader = importlib.machinery.SourceFileLoader("prove", f"{ROOT}/prove")
-    made = importlib.util.module_from_spec(importlib.util.spec_from_loader("prove", loader))
-    loader.exec_module(made)
-    return made
+# The kit's own module gives the words of a check: `rt check` would build anew the libraries that `rt ci` leaves, which have no stamp.
+KIT = rtlib()
+CRATES = {it.name: it for it in KIT.crates_below(ROOT)}
 
 
-def is_built(script, names):
+def is_built(names):
     """Whether all below these crates is built."""
-    uses = script.crates_of(ROOT)
-    lower = sorted({it for name in names for it in script.below(uses, name)})
-    return not lower or not subprocess.run([f"{ROOT}/prove", "--statements", *lower], check=False).returncode
+    lower = sorted({it.name for name in names for it in CRATES[name].below()})
+    return not lower or not subprocess.run([f"{ROOT}/prove", *lower], check=False).returncode
 
 
-# The words of a check of a crate over the libraries as they stand: those that `rt ci` leaves have no stamp, by which `rt check`
-# would know them, and it would build them anew.
-WORDS = """
-import importlib.util, sys
-sys.dont_write_bytecode = True
-kit, crates, name = sys.argv[1:]
-spec = importlib.util.spec_from_file_location("rtlib", f"{kit}/bin/rtlib.py")
-rtlib = sys.modules["rtlib"] = importlib.util.module_from_spec(spec)
-spec.loader.exec_module(rtlib)
-crate = next(it for it in rtlib.crates_below(crates) if it.folder == f"{crates}/crates/{name}")
-print("\\n".join([rtlib.RATTLE, "check", *crate.words(["--jobs", "1"], keeps=False)]))
-"""
-
-
-def trials(script, name, edits):
-    words = run([sys.executable, "-c", WORDS, script.kit(), ROOT, name], ROOT).stdout.split("\n")[:-1]
+def trials(name, edits):
+    words = [KIT.RATTLE, "check", *CRATES[name].words(["--jobs", "1"], keeps=False)]
     with tempfile.TemporaryDirectory(prefix="edits-") as room:
         return Trials(name, words, room, edits).run()
 
@@ -250,12 +231,12 @@ def look(names):
 
 def try_all(names, folders):
     found = {name: edits_of(name, folders) for name in names}
-    names, script = sorted((it for it in names if found[it]), key=lambda it: -len(found[it])), prove()
-    if not os.environ.get("BUILT") and not is_built(script, names):
+    names = sorted((it for it in names if found[it]), key=lambda it: -len(found[it]))
+    if not os.environ.get("BUILT") and not is_built(names):
         return 1
-    lanes = max(min(script.processors(), script.free_memory() // MEMORY), 1)
-    with concurrent.futures.ThreadPoolExecutor(lanes) as pool:
-        counts = [*pool.map(lambda it: trials(script, it, found[it]), names)]
+    lanes = min(len(os.sched_getaffinity(0)), os.sysconf("SC_PHYS_PAGES") * os.sysconf("SC_PAGE_SIZE") // MEMORY)
+    with concurrent.futures.ThreadPoolExecutor(max(lanes, 1)) as pool:
+        counts = [*pool.map(lambda it: trials(it, found[it]), names)]
     refused, missed = (sum(it[at] for it in counts) for at in (0, 1))
     print(f"{refused} refused, {missed} not refused")
     return 1 if missed else 0

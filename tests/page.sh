@@ -74,8 +74,8 @@ says 3 'error: --seed is given twice' examples/sum.s "$work/x.html" --seed 1 --s
 says 3 'error: --seed takes a value' examples/sum.s "$work/x.html" --seed
 says 3 'error: the listing is read twice, and FILE cannot be -' - "$work/x.html"
 says 3 'error: OUT.html takes a file' examples/sum.s -
-says 5 'ruu: nowhere.s: the listing cannot be read: No such file or directory' nowhere.s "$work/x.html"
-says 5 'ruu: -h: the listing cannot be read: No such file or directory' -- -h "$work/x.html"
+says 5 'ruu: nowhere.s: No such file or directory' nowhere.s "$work/x.html"
+says 5 'ruu: -h: No such file or directory' -- -h "$work/x.html"
 says 5 "ruu: $work/no/x.html: the page cannot be written: No such file or directory" examples/sum.s "$work/no/x.html"
 says 5 "ruu: $work: the page cannot be written: Is a directory" examples/sum.s "$work"
 says 5 'ruu: /dev/full: the page cannot be written: No space left on device' examples/sum.s /dev/full

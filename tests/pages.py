@@ -10,6 +10,7 @@ and no page is longer or wider than its limits.
 import glob
 import os
 import re
+import shutil
 import subprocess
 import sys
 import tempfile
@@ -47,16 +48,15 @@ def prose(page):
 
 
 def place(room):
-    """A folder that looks like the repository, where `./ruu` starts the programs that are built, and proves none."""
+    """A folder that looks like the repository, where `./ruu` starts the programs that are built, and proves none, as in a package."""
     for it in os.listdir(ROOT):
-        if it != "ruu":
+        if it not in ("ruu", "crates.txt"):
             os.symlink(f"{ROOT}/{it}", f"{room}/{it}")
-    with open("ruu", encoding="utf-8") as it:
-        chooses, _, proves = it.read().partition("\nis_built() {")
-    here = re.sub(r"^here=.*$", f"here='{ROOT}'", chooses, flags=re.M)
-    with open(f"{room}/ruu", "w", encoding="utf-8") as script:
-        script.write(f"{here}\n{proves.splitlines()[-1]}\n")
-    os.chmod(f"{room}/ruu", 0o755)
+    shutil.copy("ruu", room)
+    os.mkdir(f"{room}/bin")
+    for it in os.listdir("crates"):
+        if os.access(f"crates/{it}/out/{it}", os.X_OK):
+            os.symlink(f"{ROOT}/crates/{it}/out/{it}", f"{room}/bin/{it}")
 
 
 def told(line):
