@@ -3,7 +3,7 @@
 
     benchmarks/soak.py [SECONDS] [SEED]     about so long (60), with this seed (1) and the next ones
 
-A round has a random listing (random_listing.py) of its seed, and one of the examples and test listings in turn. Each runs with
+A round has a random listing (`./ruu random`) of its seed, and one of the examples and test listings in turn. Each runs with
 1, 2, 4, 8 and 64 units on rings of 2, 4, 8, 16 and 32 stations, with each predictor in turn, and on one thread in the order of
 the seed. The program is the one that was built last; RUU names another. A report that differs ends it with status 1, and is
 told with the words that gave it. The last line adds up what the tallies say."""
@@ -58,7 +58,7 @@ def main():
     with tempfile.TemporaryDirectory() as work:
         while seed == first or time.monotonic() - began < seconds:
             with open(f"{work}/random.s", "w", encoding="ascii") as listing:
-                subprocess.run([f"{ROOT}/benchmarks/random_listing.py", str(seed)], stdout=listing, check=True)
+                subprocess.run([f"{ROOT}/random/random_listing.py", "--seed", str(seed)], stdout=listing, check=True)
             soak.listing(f"{work}/random.s", seed)
             soak.listing(known[(seed - first) % len(known)], seed)
             seed += 1

@@ -1,7 +1,7 @@
-"""Reads a log of commits and the report of the same run: commits.py LOG REPORT [zeroed].
+"""Reads a log of commits and the report of the same run: commits.py LOG REPORT [LISTING].
 
 What the lines write, one after the other, has to be what the report shows of registers, count, pc and stop; and of data
-memory, where that begins with zeros. Each line has its form, and its pc is where the line before went on, unless that was a
+memory, where a listing is named whose data is its `.word` lines, and else zeros. Each line has its form, and its pc is where the line before went on, unless that was a
 branch or a jump."""
 import re
 import sys
@@ -12,12 +12,21 @@ VALUE = re.compile(r"(x\d+|lo|hi) +0x([0-9a-f]{8})")
 STORE = re.compile(r"mem 0x([0-9a-f]{8}) 0x([0-9a-f]+)")
 JUMPS = {"beq", "bne", "blez", "bgtz", "bltz", "bgez", "j", "jal", "jr", "jalr"}
 NUMBERS = {"lo": 32, "hi": 33}
+WORDS = re.compile(r"^ +\.word (.*)$", re.M)
+
+
+def data_of(listing):
+    """The bytes of the `.word` lines of a listing, by their addresses."""
+    with open(listing, encoding="ascii") as it:
+        words = [int(word, 0) for line in WORDS.findall(it.read()) for word in line.split(",")]
+    return {4 * at + k: word >> 8 * k & 255 for at, word in enumerate(words) for k in range(4)}
 
 
 def main():
     with open(sys.argv[1], encoding="ascii") as it:
         lines = it.read().splitlines()
-    registers, memory, at, stop = [0] * 34, {}, 0x400000, None
+    listing = sys.argv[3] if len(sys.argv) > 3 else None
+    registers, memory, at, stop = [0] * 34, data_of(listing) if listing else {}, 0x400000, None
     if lines and (last := STOP.fullmatch(lines[-1])):
         stop = last
         lines.pop()
@@ -40,12 +49,12 @@ def main():
         told.append(f"pc {stop[1]}")
     names = [*(f"r{n}" for n in range(32)), "lo", "hi"]
     told += [f"{name} 0x{value:08x}" for name, value in zip(names, registers) if value]
-    if "zeroed" in sys.argv:
+    if listing:
         words = {a - a % 4 for a in memory}
         numbers = {a: sum(memory.get(a + k, 0) << 8 * k for k in range(4)) for a in words}
         told += [f"m 0x{a:08x} 0x{numbers[a]:08x}" for a in sorted(numbers) if numbers[a]]
     with open(sys.argv[2], encoding="ascii") as it:
-        report = [line for line in it.read().splitlines() if "zeroed" in sys.argv or not line.startswith("m ")]
+        report = [line for line in it.read().splitlines() if listing or not line.startswith("m ")]
     if not stop:
         report = [line for line in report if not line.startswith("pc ")]
     if told != report:

@@ -17,7 +17,7 @@ log() { # listing, options
 }
 
 # The log of a listing, which has to agree with its report and to be the same for other sizes.
-agrees() { # listing, its report, zeroed or nothing
+agrees() { # listing, its report, the listing once more where its data is its .word lines
   log "$1"
   [ $status -eq "$(status_of "$2")" ] && [ ! -s "$work/err" ] || fail "$1: status $status"
   python3 tests/commits.py "$work/out" "$2" ${3:+"$3"} 2> "$work/err" || fail "$1: the log and the report differ"
@@ -46,11 +46,11 @@ done
 echo "the logs of the examples agree with their reports"
 
 for seed in {1..100}; do
-  python3 benchmarks/random_listing.py "$seed" > "$work/random.s"
+  python3 random/random_listing.py --seed "$seed" > "$work/random.s"
   "$ruu" run "$work/random.s" --alone > "$work/report" 2> "$work/err" || fail "seed $seed: status $?"
   "$ruu" run "$work/random.s" --units $((1 + seed % 4)) > "$work/threads" 2> "$work/err" || fail "seed $seed: status $?"
   cmp -s "$work/threads" "$work/report" || fail "seed $seed: threads have another report"
-  agrees "$work/random.s" "$work/report" zeroed
+  agrees "$work/random.s" "$work/report" "$work/random.s"
 done
 words=$(grep -ohE '^        [a-z]+' "$work/random.s" | sort -u | wc -l)
 [ "$words" -eq 51 ] || fail "a random listing has $words operations"
