@@ -58,7 +58,7 @@ def main():
     with tempfile.TemporaryDirectory() as work:
         while seed == first or time.monotonic() - began < seconds:
             with open(f"{work}/random.s", "w", encoding="ascii") as listing:
-                subprocess.run([f"{ROOT}/random/random_listing.py", "--seed", str(seed)], stdout=listing, check=True)
+                subprocess.run([f"{ROOT}/ruu", "random", "--seed", str(seed)], stdout=listing, check=True)
             soak.listing(f"{work}/random.s", seed)
             soak.listing(known[(seed - first) % len(known)], seed)
             seed += 1

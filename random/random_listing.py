@@ -1,7 +1,7 @@
 #!/usr/bin/env python3
-"""Writes a random listing that reaches its `break` and has every operation.
+"""Writes a random listing that reaches its `break` and has every operation: `./ruu random`, whose path is the first word.
 
-usage: random_listing.py [--seed N] [--kind even|dense|mixed] [--blocks N]
+usage: ruu random [--seed N] [--kind even|dense|mixed] [--blocks N]
 
 --seed N     one seed gives one listing (by default 0)
 --kind KIND  even: each operation is as frequent as any other
@@ -244,4 +244,4 @@ def main(words):
 
 
 if __name__ == "__main__":
-    sys.exit(main(sys.argv[1:]))
+    sys.exit(main(sys.argv[2:]))

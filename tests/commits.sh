@@ -46,7 +46,7 @@ done
 echo "the logs of the examples agree with their reports"
 
 for seed in {1..100}; do
-  python3 random/random_listing.py --seed "$seed" > "$work/random.s"
+  ./ruu random --seed "$seed" > "$work/random.s"
   "$ruu" run "$work/random.s" --alone > "$work/report" 2> "$work/err" || fail "seed $seed: status $?"
   "$ruu" run "$work/random.s" --units $((1 + seed % 4)) > "$work/threads" 2> "$work/err" || fail "seed $seed: status $?"
   cmp -s "$work/threads" "$work/report" || fail "seed $seed: threads have another report"
