@@ -10,6 +10,7 @@ use Rattle.inorder.specs.Committed.{committed}
 use Rattle.inorder.specs.Legal.{Taken}
 use Rattle.inorder.specs.Machine.{State, fetched}
 use Rattle.inorder.specs.Moves.{IsReached, SeveralLead}
+use Rattle.inorder.specs.Plain.{IsPlainlyReached, PlainLead}
 use Rattle.inorder.specs.Runs.{after, end_state, stop, stop_of, then_stop}
 use Rattle.inorder.specs.Theorem.{IsInOrder, IsRight}
 use Rattle.inorder.specs.Unit.{UpdateUnit}
@@ -36,14 +37,12 @@ module _ (P : Program) (right : (history : List Taken) → IsRight P one history
   }
 
 -- what the laws say of the model
-pub stands_on : ((P : Program) → SeveralLead P one 0) → (b later : OneStation) → ModelStandsForSome b → Goes (Ok tt) b later → ModelStandsForSome later
+pub stands_on : ((P : Program) → PlainLead P one 0) → (b later : OneStation) → ModelStandsForSome b → Goes (Ok tt) b later → ModelStandsForSome later
 stands_on lead b later u m =
     let x = m.0 u.unit u.reached u.stands in
-    record {
-      unit = x.unit;
-      reached = subst (λ p. IsReached p.now one x.unit) (sym m.1) ((lead b.program.now).reached u.unit x.unit x.steps u.reached x.leads);
-      stands = x.stands;
-    }
+    let r : IsPlainlyReached later.program.now one x.unit =
+    subst (λ p. IsPlainlyReached p.now one x.unit) (sym m.1) (lead b.program.now u.unit x.unit x.steps x.leads x.plain (record { reached = u.reached; plain = u.plain })) in
+    record { unit = x.unit; reached = r.reached; plain = r.plain; stands = x.stands }
 
 module _ (right : (P : Program) (history : List Taken) → IsRight P one history) (P : Program) (limit : ℕ) (b : OneStation) (same : b.program.now ≡ P) (u : ModelStandsForSome b) (e : End) where
   -- a run that has reached its limit

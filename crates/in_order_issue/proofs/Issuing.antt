@@ -19,6 +19,7 @@ use Rattle.inorder.specs.Committed.{with_stored}
 use Rattle.inorder.specs.Machine.{store_bytes, write}
 use Rattle.inorder.specs.Memory.{raw_at, stored_by}
 use Rattle.inorder.specs.Moves.{Leads, with_let}
+use Rattle.inorder.specs.Plain.{ArePlain}
 use Rattle.inorder.specs.Steps.{MayLet, finished}
 use Rattle.inorder.specs.Tenants.{Addr, Busy, Done, Fate, Miss, Open, Stopped, Tenant, behind_by, made_at_let, next_by}
 use Rattle.inorder.specs.Unit.{UpdateUnit, front_half, front_pc}
@@ -99,14 +100,17 @@ module _ (b : OneStation) (U : UpdateUnit) (s : ModelStandsFor b U) (k a d : ℕ
           (act_on P U _ Finish (t (Busy 0) made) (record { live = refl; fate = refl }) (act_on P U _ Claim (t Open made) (record { live = refl; fate = refl; needs = refl })
           (leads_once P one 0 U (with_let U (t Open made)) (Let k pr (Known a) (Known d)) may refl)))
 
+      quiet : ArePlain steps
+      quiet = (tt, (tt, (tt, tt)))
+
       next : (x : ℕ) → (first ≡ false → next_by (pc_plus_4 pc) o ≡ x) → first ≡ false → next_by (behind_by first pc) (comes (kind i.op)) ≡ x
       next x e f = ap (next_by (behind_by first pc)) is ∙ ap (λ q. next_by (behind_by q pc) o) f ∙ e f
 
       -- one that is done and stores nothing
-      done : (v : ℕ) (m : Option ℕ) (ss : List Step) → Leads P one 0 U ss (with_let U (t (Done v) m)) → (w x : ℕ) →
+      done : (v : ℕ) (m : Option ℕ) (ss : List Step) → Leads P one 0 U ss (with_let U (t (Done v) m)) → ArePlain ss → (w x : ℕ) →
           ((r : List ℕ) → write r (destination i half) (unwrap_or m 0) ≡ write r (destination i half) w) → next_by (pc_plus_4 pc) o ≡ x → MovesTo b U (left_in b i half w x)
-      done v m ss leads w x writes goes =
-          moves b U s k a d pr (Done v) m ss leads tt refl b.state.memory w x writes
+      done v m ss leads q w x writes goes =
+          moves b U s k a d pr (Done v) m ss leads q tt refl b.state.memory w x writes
           (ap (λ z. with_stored z b.state.memory) (stored_done true (kind i.op) v (width i.op) (Some d))) (λ f. refl) (next x (λ f. goes))
 
     -- where it goes on is predicted
@@ -126,7 +130,7 @@ module _ (b : OneStation) (U : UpdateUnit) (s : ModelStandsFor b U) (k a d : ℕ
     jumps kd ek x word predicts is writes =
         let may = enter x word predicts in
         let m = made_at_let (kind i.op) pc in
-        done x may (Next x) is x m _ (ran x may (Next x) is (let_with b U s k a d x (Done x) m) (ap (λ q. let_with b U s k a d x (cond q (Done x) (Miss x)) m) (eq-eqb x x refl))) (pc_plus_4 pc) x
+        done x may (Next x) is x m _ (ran x may (Next x) is (let_with b U s k a d x (Done x) m) (ap (λ q. let_with b U s k a d x (cond q (Done x) (Miss x)) m) (eq-eqb x x refl))) (quiet x may (Next x) is) (pc_plus_4 pc) x
         (subst (λ q. (r : List ℕ) → write r (destination_by q (target_of i half)) (unwrap_or (made_at_let q pc) 0) ≡ write r (destination_by q (target_of i half)) (pc_plus_4 pc)) (sym ek) writes) refl
 
     by_kind : (kd : Kind) → kind i.op ≡ kd → IsWord (comes kd) → GoesBy (comes kd) → MovesTo b U (behind b i half pc d (comes kd))
@@ -138,7 +142,7 @@ module _ (b : OneStation) (U : UpdateUnit) (s : ModelStandsFor b U) (k a d : ℕ
             let may = plain (goes Computes ek) in
             let is : comes (kind i.op) ≡ Value v = ap comes ek ∙ ap as_value e in
             let leads = ran (behind_by first pc) may (Value v) is (let_with b U s k a d (behind_by first pc) (Done v) (Some v)) refl in
-            done (behind_by first pc) may (Value v) is v (Some v) _ leads v (pc_plus_4 pc) (λ r. refl) refl
+            done (behind_by first pc) may (Value v) is v (Some v) _ leads (quiet (behind_by first pc) may (Value v) is) v (pc_plus_4 pc) (λ r. refl) refl
     by_kind Jumps ek w n = jumps Jumps ek _ w (goes Jumps ek) (ap comes ek) (λ r. refl)
     by_kind Links ek w n = jumps Links ek _ w (goes Links ek) (ap comes ek) (λ r. refl)
     by_kind Loads ek w n = go (checked_address (width i.op) (sum a i.number) (length P.bytes)) refl n
@@ -156,7 +160,7 @@ module _ (b : OneStation) (U : UpdateUnit) (s : ModelStandsFor b U) (k a d : ℕ
             (act_on P U _ Load asked (record { live = refl; kind = ek; a = at; fate = refl; addresses = no_addresses P U.tenants s.nobody; bytes = bytes; read = read })
             (ran (behind_by first pc) may (Address at) is asked refl)) in
             subst (λ q. MovesTo b U (accessed q b i half pc at d)) (sym ek)
-            (done (behind_by first pc) may (Address at) is (loaded i.op bytes) (Some (loaded i.op bytes)) _ leads (loaded i.op bytes) (pc_plus_4 pc) (λ r. refl) refl)
+            (done (behind_by first pc) may (Address at) is (loaded i.op bytes) (Some (loaded i.op bytes)) _ leads (tt, quiet (behind_by first pc) may (Address at) is) (loaded i.op bytes) (pc_plus_4 pc) (λ r. refl) refl)
     by_kind Stores ek w n = go (checked_address (width i.op) (sum a i.number) (length P.bytes)) refl n
       where
         go : (r : Result ℕ Stop) → checked_address (width i.op) (sum a i.number) (length P.bytes) ≡ r → GoesBy (as_address r) → MovesTo b U (behind b i half pc d (as_address r))
@@ -166,7 +170,8 @@ module _ (b : OneStation) (U : UpdateUnit) (s : ModelStandsFor b U) (k a d : ℕ
             let is : comes (kind i.op) ≡ Address at = ap comes ek ∙ ap as_address e in
             let m = made_at_let (kind i.op) pc in
             subst (λ q. MovesTo b U (accessed q b i half pc at d)) (sym ek)
-            (moves b U s k a d (behind_by first pc) (Addr at) m _ (ran (behind_by first pc) may (Address at) is (let_with b U s k a d (behind_by first pc) (Addr at) m) refl) (ek, (d, refl)) refl
+            (moves b U s k a d (behind_by first pc) (Addr at) m _ (ran (behind_by first pc) may (Address at) is (let_with b U s k a d (behind_by first pc) (Addr at) m) refl)
+            (quiet (behind_by first pc) may (Address at) is) (ek, (d, refl)) refl
             (store_bytes b.state.memory at (width i.op) d) 0 (pc_plus_4 pc)
             (subst (λ q. (r : List ℕ) → write r (destination_by q (target_of i half)) (unwrap_or (made_at_let q pc) 0) ≡ write r (destination_by q (target_of i half)) 0) (sym ek) (λ r. refl))
             (ap (λ q. with_stored (stored_by true q (Addr at) (width i.op) (Some d)) b.state.memory) ek) (no_half Stores ek (λ q. cc q))
@@ -183,7 +188,8 @@ module _ (b : OneStation) (U : UpdateUnit) (s : ModelStandsFor b U) (k a d : ℕ
         here e =
             let may = plain e in
             let m = made_at_let (kind i.op) pc in
-            ends b U s k a d (behind_by first pc) (Stopped c) m _ (ran (behind_by first pc) may (Stops c) is (let_with b U s k a d (behind_by first pc) (Stopped c) m) refl) tt c refl
+            ends b U s k a d (behind_by first pc) (Stopped c) m _ (ran (behind_by first pc) may (Stops c) is (let_with b U s k a d (behind_by first pc) (Stopped c) m) refl)
+            (quiet (behind_by first pc) may (Stops c) is) tt c refl
 
         stops : (kd : Kind) → kind i.op ≡ kd → Ended b U c
         stops Computes ek = here (goes Computes ek)

@@ -19,6 +19,7 @@ use Rattle.inorder.specs.Legal.{May, changed}
 use Rattle.inorder.specs.Machine.{write}
 use Rattle.inorder.specs.Memory.{stored_by}
 use Rattle.inorder.specs.Moves.{Leads, with_let}
+use Rattle.inorder.specs.Plain.{ArePlain}
 use Rattle.inorder.specs.Steps.{CanRetire, made_at_end, new_tenant, retired}
 use Rattle.inorder.specs.Tenants.{Fate, Retired, Stopped, Tenant, computed_next}
 use Rattle.inorder.specs.Unit.{UpdateUnit, front_half, half_after}
@@ -71,7 +72,8 @@ module _ (b : OneStation) (U : UpdateUnit) (s : ModelStandsFor b U) (k a d predi
   abbrev pub let_with : Fate → Option ℕ → Tenant
   let_with fate made = record (new_tenant P one U k predicted (Known a) (Known d)) { fate = fate; made = made }
 
-  module _ (fate : Fate) (made : Option ℕ) (steps : List Step) (leads : Leads P one 0 U steps (with_let U (let_with fate made))) (can : CanRetire (kind i.op) (Some d) fate) where
+  module _ (fate : Fate) (made : Option ℕ) (steps : List Step) (leads : Leads P one 0 U steps (with_let U (let_with fate made))) (quiet : ArePlain steps)
+      (can : CanRetire (kind i.op) (Some d) fate) where
     abbrev t : Tenant
     t = let_with fate made
 
@@ -86,6 +88,7 @@ module _ (b : OneStation) (U : UpdateUnit) (s : ModelStandsFor b U) (k a d predi
     ends c is = record {
       unit = with_let U t';
       steps = On (length ts) (Retire 0) ∷ steps;
+      plain = (tt, quiet);
       leads = leads';
       state = s.state ∙ ap (λ f. cond (commits_by Retired f && not (is_first_half i.op half)) (with_tenant P t' (ahead P ts)) (committed P ts)) (sym is);
       stops = ByStop (length ts) t' (at_middle [] t' ts) refl is;
@@ -137,4 +140,4 @@ module _ (b : OneStation) (U : UpdateUnit) (s : ModelStandsFor b U) (k a d predi
           waits false = refl
 
       pub moves : MovesTo b U (left_by (is_first_half i.op half) with_memory i half v x)
-      moves = record { unit = with_let U t'; steps = On (length ts) (Retire 0) ∷ steps; leads = leads'; stands = stands (is_first_half i.op half) refl }
+      moves = record { unit = with_let U t'; steps = On (length ts) (Retire 0) ∷ steps; plain = (tt, quiet); leads = leads'; stands = stands (is_first_half i.op half) refl }

@@ -6,15 +6,17 @@ use Rattle.instructions.specs.declared.stop.Stop.TheVariants.{BadPc}
 use Rattle.inorder.specs.declared.history.Step.{Step}
 use Rattle.inorder.specs.Committed.{committed}
 use Rattle.inorder.specs.Moves.{IsReached, Leads}
+use Rattle.inorder.specs.Plain.{ArePlain}
 use Rattle.inorder.specs.Tenants.{Retired, Stopped, Tenant}
 use Rattle.inorder.specs.Unit.{UpdateUnit, at}
 use Rattle.in_order_issue.specs.declared.station.OneStation.{OneStation}
 use Rattle.in_order_issue.specs.StandsFor.{ModelStandsFor, one}
 
--- From the unit U allowed steps lead to one that the later model stands for
+-- From the unit U allowed steps, none of which speculates, lead to one that the later model stands for
 pub record MovesTo (b : OneStation) (U : UpdateUnit) (later : OneStation) : Type 0 where
   pub unit : UpdateUnit
   pub steps : List Step
+  pub plain : ArePlain steps
   pub leads : Leads b.program.now one 0 U steps unit
   pub stands : ModelStandsFor later unit
 
@@ -23,10 +25,11 @@ pub data StopsWith (P : Program) (ts : List Tenant) (c : Stop) : Type 0 where
   ByStop : (p : ℕ) (t : Tenant) → at ts p ≡ Some t → t.standing ≡ Retired → t.fate ≡ Stopped c → StopsWith P ts c
   Nowhere : c ≡ BadPc → instr_at P (committed P ts).pc ≡ None → StopsWith P ts c
 
--- From the unit U allowed steps lead to one that stops, and that has left what the model has
+-- From the unit U allowed steps, none of which speculates, lead to one that stops, and that has left what the model has
 pub record Ended (b : OneStation) (U : UpdateUnit) (c : Stop) : Type 0 where
   pub unit : UpdateUnit
   pub steps : List Step
+  pub plain : ArePlain steps
   pub leads : Leads b.program.now one 0 U steps unit
   pub state : b.state ≡ committed b.program.now unit.tenants
   pub stops : StopsWith b.program.now unit.tenants c

@@ -24,4 +24,5 @@ pub mod Wakes
 pub mod Callers
 pub mod Answered
 pub mod Moves
+pub mod Plain
 pub mod Still

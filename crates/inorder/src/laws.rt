@@ -15,6 +15,7 @@ ghost use Rattle.inorder.specs.History.{IsLegal};
 ghost use Rattle.inorder.specs.OneHistory.{TellsOn, TellsOne};
 ghost use Rattle.inorder.specs.Wakes.{AreMarked, LosesNoWake};
 ghost use Rattle.inorder.specs.Moves.{LeadOn, SeveralLead};
+ghost use Rattle.inorder.specs.Plain.{PlainLead};
 ghost use Rattle.inorder.specs.Loads.{LoadsAreAnswered};
 ghost use Rattle.inorder.specs.Legal.{reached};
 ghost use Rattle.inorder.specs.Renewals.{BeginsAgain, IsKnownOfBefore, PastIsPast, PastStays, RenewalsCount, StopIsNotRenewed};
@@ -90,9 +91,11 @@ pub fn histories_grow()
 
 /// Several allowed steps of one caller lead from a unit that is reached to one that is reached too,
 /// and those of them that retire nobody commit nothing. Two such sequences, one after the other, are one.
+/// What is reached without speculation stays so, if none of them speculates.
 pub fn several_steps_lead_on()
     ensures lead { (p : Program) (c : Sizes) (by : ℕ) → SeveralLead p c by }
     ensures on { (p : Program) (c : Sizes) (by : ℕ) → LeadOn p c by }
+    ensures plain { (p : Program) (c : Sizes) (by : ℕ) → PlainLead p c by }
 {}
 
 /// Of the tenants let since the last renewal a live one is what its station shows, a station that is

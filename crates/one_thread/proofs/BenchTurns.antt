@@ -22,6 +22,7 @@ use Rattle.one_thread.specs.Steps.{Makes, named}
 use Rattle.one_thread.specs.declared.possible.Step.{Step}
 use Rattle.one_thread.specs.declared.possible.Step.TheVariants.{Let as LetStep}
 use Rattle.one_thread.proofs.Moved.{MovesAs}
+use Rattle.one_thread.proofs.PlainTurns.{does_plain}
 use Rattle.one_thread.specs.Window.{let_at}
 use Rattle.one_thread.proofs.Start.{Comes, unit_next}
 use Rattle.one_thread.proofs.LetTurns.{LetTurned, let_turn}
@@ -42,6 +43,7 @@ module _ {S : Type 0} (Predicts : S → ℕ → Instr → ℕ → S → Type 0) 
         made = record {
           unit = x.unit;
           reached = x.reached;
+          plain = does_plain b.pipeline.program.now (sizes b.pipeline) U x.unit answer x.does;
           stands = x.stands;
           does = x.does;
           trains = no_let_trains b.pipeline.program.now (sizes b.pipeline) U x.unit answer x.does (named step) b.predictor later.predictor x.is other e;
@@ -53,13 +55,31 @@ module _ {S : Type 0} (Predicts : S → ℕ → Instr → ℕ → S → Type 0) 
   pub guess_fixed : (f : Option ℕ) (pc : ℕ) (i : Instr) (guess : ℕ) (old new : S) → IsAsked Predicts f pc i guess old new → IfSome f (λ x. guess ≡ x)
   guess_fixed f pc i guess old new a = grind (arith, common_steps)
 
+  let_trains : (b later : BenchFields S) (f : Fetched) (guess : ℕ) (left : Option Leaver) (U : UpdateUnit) (x : LetTurned b.pipeline U f guess later.pipeline) →
+      slice_get b.pipeline.leavers ((b.pipeline.oldest + length b.pipeline.window) % b.pipeline.ring) ≡ Some left →
+      Guesses Predicts Learns left f.instr f.half f.pc guess b.predictor later.predictor →
+      Trains Predicts Learns b.pipeline.program.now U x.unit Let b.predictor later.predictor
+  let_trains b later f guess left U x el g = grind (arith, common_steps)
+
   -- the let trains as it guesses
   pub let_turned : (b later : BenchFields S) (f : Fetched) (guess : ℕ) (left : Option Leaver) →
       slice_get b.pipeline.leavers ((b.pipeline.oldest + length b.pipeline.window) % b.pipeline.ring) ≡ Some left →
       Guesses Predicts Learns left f.instr f.half f.pc guess b.predictor later.predictor → ((U : UpdateUnit) →
       IsReached b.pipeline.program.now (sizes b.pipeline) U → StandsFor b.pipeline U →
       LetTurned b.pipeline U f guess later.pipeline) → Makes Predicts Learns b (LetStep f) Let later
-  let_turned b later f guess left el g h U r s = grind (arith, common_steps)
+  let_turned b later f guess left el g h U r s =
+      let x = h U r s in
+      record {
+        made = record {
+          unit = x.unit;
+          reached = x.reached;
+          plain = does_plain b.pipeline.program.now (sizes b.pipeline) U x.unit Let x.does;
+          stands = x.stands;
+          does = x.does;
+          trains = let_trains b later f guess left U x el g;
+        };
+        is = refl;
+      }
 
 -- Let
 

@@ -19,6 +19,7 @@ use Rattle.one_thread.specs.Turns.{Before, BenchFields, Moves}
 use Rattle.one_thread.proofs.FirstSteps.{nobody_first}
 use Rattle.one_thread.proofs.Leaving.{nowhere_turn}
 use Rattle.one_thread.proofs.Listed.{given_none}
+use Rattle.one_thread.proofs.PlainTurns.{does_plain}
 use Rattle.one_thread.proofs.PossibleUnit.{one_stopped, possible_is}
 
 -- The list that is chosen from
@@ -48,7 +49,7 @@ module _ {S Q : Type 0} (Predicts : S → ℕ → Instr → ℕ → S → Type 0
   before_by b q c e U r s =
       let o : HasStopped U.tenants c = subst (OverIs U.tenants) e s.over in
       record {
-        made = record { unit = U; reached = r; stands = s; does = Before o refl; trains = refl };
+        made = record { unit = U; reached = r; plain = λ p. p; stands = s; does = Before o refl; trains = refl };
         picks = Nothing (ap (λ x. cond x [] (steps_of b.pipeline.program.now (sizes b.pipeline) U.tenants)) (one_stopped U.tenants c o)) refl refl;
       }
 
@@ -59,7 +60,14 @@ module _ {S Q : Type 0} (Predicts : S → ℕ → Instr → ℕ → S → Type 0
       let first = none_possible b.pipeline p in
       let m = nowhere_turn b.pipeline none h.room first.1 h.least (nobody_first b.pipeline h first) U r s in
       record {
-        made = record { unit = m.unit; reached = m.reached; stands = m.stands; does = m.does; trains = refl };
+        made = record {
+          unit = m.unit;
+          reached = m.reached;
+          plain = does_plain b.pipeline.program.now (sizes b.pipeline) U m.unit (Over BadPc) m.does;
+          stands = m.stands;
+          does = m.does;
+          trains = refl;
+        };
         picks = Nothing (sym (possible_is b.pipeline U [] none r s p)) m.is refl;
       }
 

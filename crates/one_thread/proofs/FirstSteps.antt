@@ -28,6 +28,7 @@ use Rattle.one_thread.proofs.Firsts.{first_made, head_left}
 use Rattle.one_thread.proofs.Known.{Knows, knows}
 use Rattle.one_thread.proofs.Leaving.{nowhere_turn}
 use Rattle.one_thread.proofs.Listed.{first_given, none_given}
+use Rattle.one_thread.proofs.PlainTurns.{does_plain}
 use Rattle.one_thread.proofs.PossibleUnit.{let_alike, listed_is, loads_alike_in, recovery_alike, retire_alike, runs_alike}
 
 -- It is permitted
@@ -115,6 +116,7 @@ module _ {S : Type 0} (Predicts : S → ℕ → Instr → ℕ → S → Type 0) 
       record {
         unit = m.unit;
         reached = m.reached;
+        plain = does_plain P (sizes b.pipeline) U m.unit (Over BadPc) m.does;
         stands = m.stands;
         does = (m.does, first_made P (sizes b.pipeline) U m.unit (Over BadPc) m.does (m.is ∙ none_begins b.pipeline U none r s first));
         trains = refl;
@@ -123,7 +125,7 @@ module _ {S : Type 0} (Predicts : S → ℕ → Instr → ℕ → S → Type 0) 
   pub before_turn : (b : BenchFields S) (c : Stop) → b.pipeline.over ≡ Some c → IsTurn Predicts Learns b (Over c) b
   before_turn b c e U r s =
       let o : HasStopped U.tenants c = subst (OverIs U.tenants) e s.over in
-      record { unit = U; reached = r; stands = s; does = (Before o refl, tt); trains = refl }
+      record { unit = U; reached = r; plain = λ p. p; stands = s; does = (Before o refl, tt); trains = refl }
 
   -- Such a turn is made of legal steps
   pub turn_moves : (b later : BenchFields S) (answer : Turn) → IsTurn Predicts Learns b answer later → Moves b.pipeline answer later.pipeline

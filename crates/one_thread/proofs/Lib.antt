@@ -22,6 +22,7 @@ pub mod Ranks
 pub mod Turns
 pub mod LetTurns
 pub mod Moved
+pub mod PlainTurns
 pub mod Known
 pub mod Changed
 pub mod RanTurns

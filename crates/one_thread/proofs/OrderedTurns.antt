@@ -18,7 +18,7 @@ module _ {S Q : Type 0} (Predicts : S → ℕ → Instr → ℕ → S → Type 0
   first_in b later answer turned U r s =
       let m = turned U r s in
       record {
-        made = record { unit = m.unit; reached = m.reached; stands = m.stands; does = m.does.0; trains = m.trains };
+        made = record { unit = m.unit; reached = m.reached; plain = m.plain; stands = m.stands; does = m.does.0; trains = m.trains };
         asked = m.does.1;
       }
 

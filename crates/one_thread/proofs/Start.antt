@@ -4,8 +4,9 @@ use Rattle.std.proofs.Common.{◌≡◌, ℕ, ◌-◌, ◌<◌, ◌≤◌, zero,
 use Rattle.std.proofs.Math.Nat.{mod-lt, zero-mod}
 use Rattle.std.specs.Prelude.{slice_get, slice_set, replicate}
 use Rattle.inorder.specs.Machine.{start}
+use Rattle.inorder.specs.Callers.{is_retired}
 use Rattle.inorder.specs.Unit.{UpdateUnit, how_many}
-use Rattle.inorder.specs.Moves.{IsReached}
+use Rattle.inorder.specs.Plain.{IsPlainlyReached}
 use Rattle.one_thread.specs.declared.bench.Turn.{Turn}
 use Rattle.instructions.specs.declared.guessing.Leaver.{Leaver}
 use Rattle.one_thread.specs.declared.pipeline.Pipeline.{Pipeline}
@@ -14,6 +15,7 @@ use Rattle.one_thread.specs.Decoding.{IsDecoded}
 use Rattle.one_thread.specs.Leaves.{RetiresTo}
 use Rattle.one_thread.specs.StandsFor.{OverIs, StandsFor, StandsForSome, sizes}
 use Rattle.one_thread.specs.Turns.{Falls, Moves, SizesStay}
+use Rattle.one_thread.proofs.PlainTurns.{does_plain}
 
 -- each of n options is none
 abbrev nobody : Option Leaver
@@ -44,6 +46,7 @@ start_unit b w c o l n f room most least code =
     record {
       unit = Rattle.inorder.specs.Unit.empty_unit;
       reached = record { history = []; allowed = tt; is = refl; never = refl };
+      plain = tt;
       stands = start_stands b w c o l n f most;
       room = room;
       ring = most;
@@ -53,14 +56,36 @@ start_unit b w c o l n f room most least code =
       code = code;
     }
 
+sizes_same : (b later : Pipeline) → SizesStay b later → sizes later ≡ sizes b
+sizes_same b later e = λ i. record { ring = e.ring i; queue = e.queue i; first_tag = e.first_tag i }
+
+code_same : (b later : Pipeline) → StandsForSome b → SizesStay b later → IsDecoded later.code.items later.program.now
+code_same b later h e = subst (λ v. IsDecoded v.items later.program.now) (sym e.code) (subst (λ p. IsDecoded b.code.items p.now) (sym e.program) h.code)
+
 -- the unit that steps have led to stands behind the later fields
-pub unit_on : (b later : Pipeline) (V : UpdateUnit) → StandsForSome b → IsReached b.program.now (sizes b) V → StandsFor later V → SizesStay b later →
+pub unit_on : (b later : Pipeline) (V : UpdateUnit) → StandsForSome b → IsPlainlyReached b.program.now (sizes b) V → StandsFor later V → SizesStay b later →
     length later.leavers ≡ 32 → StandsForSome later
-unit_on b later V h reached stands e l = grind (arith, common_steps, mod-lt)
+unit_on b later V h r stands e l =
+    let s = sizes_same b later e in
+    let r' : IsPlainlyReached later.program.now (sizes later) V = subst (λ C. IsPlainlyReached later.program.now C V) (sym s) (subst (λ p. IsPlainlyReached p.now (sizes b) V) (sym e.program) r) in
+    record {
+      unit = V;
+      reached = r'.reached;
+      plain = r'.plain;
+      stands = stands;
+      room = subst (λ n. 0 < n) (sym e.ring) h.room;
+      ring = subst (λ n. n ≤ 32) (sym e.ring) h.ring;
+      least = subst (λ n. 2 ≤ n) (sym e.queue) h.least;
+      leavers = l;
+      oldest = subst (λ n. n < later.ring) (sym stands.oldest) (mod-lt (how_many is_retired V.tenants) (subst (λ n. 0 < n) (sym e.ring) h.room));
+      code = code_same b later h e;
+    }
 
 pub unit_next : (b later : Pipeline) (answer : Turn) → StandsForSome b → Moves b answer later → SizesStay b later →
     length later.leavers ≡ 32 → StandsForSome later
-unit_next b later answer h t e l = let x = t h.unit h.reached h.stands in unit_on b later x.unit h x.reached x.stands e l
+unit_next b later answer h t e l =
+    let x = t h.unit h.reached h.stands in
+    unit_on b later x.unit h (does_plain b.program.now (sizes b) h.unit x.unit answer x.does (record { reached = h.reached; plain = h.plain })) x.stands e l
 
 -- what a retirement keeps
 pub record IsKept (b later : Pipeline) : Type 0 where

@@ -6,6 +6,7 @@ use Rattle.instructions.specs.declared.instr.Instr.{Instr}
 use Rattle.instructions.specs.declared.stop.Stop.{Stop}
 use Rattle.inorder.specs.declared.history.Supply.{Supply}
 use Rattle.inorder.specs.Moves.{IsReached}
+use Rattle.inorder.specs.Plain.{StaysPlain}
 use Rattle.inorder.specs.Steps.{MayClaim, MayLet}
 use Rattle.inorder.specs.Tenants.{Tenant}
 use Rattle.inorder.specs.Unit.{Sizes, UpdateUnit}
@@ -66,10 +67,12 @@ DoesFirst P C U V answer = (does : Does P C U V answer) × IsFirst P C U V answe
 
 -- Turns with what they do to a predictor, by what it says of being asked and told
 module _ {S : Type 0} (Predicts : S → ℕ → Instr → ℕ → S → Type 0) (Learns : S → ℕ → ℕ → S → Type 0) where
-  -- From the unit U the first possible turn leads to one that the bench stands for then, and changes the predictor
+  -- From the unit U the first possible turn leads to one that the bench stands for then, without speculation, and
+  -- changes the predictor
   pub record Turned (b : BenchFields S) (U : UpdateUnit) (answer : Turn) (later : BenchFields S) : Type 0 where
     pub unit : UpdateUnit
     pub reached : IsReached b.pipeline.program.now (sizes b.pipeline) unit
+    pub plain : StaysPlain b.pipeline.program.now (sizes b.pipeline) U unit
     pub stands : StandsFor later.pipeline unit
     pub does : DoesFirst b.pipeline.program.now (sizes b.pipeline) U unit answer
     pub trains : Trains Predicts Learns b.pipeline.program.now U unit answer b.predictor later.predictor

@@ -13,6 +13,7 @@ use Rattle.one_thread.specs.Decoding.{IsDecoded}
 use Rattle.one_thread.specs.Leavers.{leaver}
 use Rattle.one_thread.specs.Window.{window}
 use Rattle.inorder.specs.Moves.{IsReached}
+use Rattle.inorder.specs.Plain.{WasPlain}
 use Rattle.inorder.specs.Still.{AreStill}
 
 -- The sizes of the fields, as those of a unit
@@ -45,10 +46,11 @@ pub record StandsFor (b : Pipeline) (U : UpdateUnit) : Type 0 where
   pub low : b.low ≡ low_of b.program.now U.tenants
   pub oldest : b.oldest ≡ how_many is_retired U.tenants % b.ring
 
--- Some unit that legal steps reach stands behind the fields
+-- Some unit that legal steps reach, none of which speculates, stands behind the fields
 pub record StandsForSome (b : Pipeline) : Type 0 where
   pub unit : UpdateUnit
   pub reached : IsReached b.program.now (sizes b) unit
+  pub plain : WasPlain reached.history
   pub stands : StandsFor b unit
   pub room : 0 < b.ring
   pub ring : b.ring ≤ 32

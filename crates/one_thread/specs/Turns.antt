@@ -24,6 +24,7 @@ use Rattle.one_thread.specs.Leavers.{leaver}
 use Rattle.one_thread.specs.Blocked.{IsUnblocked}
 use Rattle.one_thread.specs.StandsFor.{HasStopped, NoStopRetired, StandsFor, sizes}
 use Rattle.inorder.specs.Moves.{IsDeliver, IsLink, IsReached, IsSquash, Leads}
+use Rattle.inorder.specs.Plain.{StaysPlain}
 use Rattle.inorder.specs.Still.{AreStill}
 
 -- A tenant that is no live miss
@@ -197,10 +198,11 @@ module _ {S : Type 0} (Predicts : S → ℕ → Instr → ℕ → S → Type 0) 
   Trains P U V _ old new = new ≡ old
 
   -- From the unit U a turn makes steps that lead to one that the bench stands for then, and changes the
-  -- predictor by them
+  -- predictor by them. None of them speculates
   pub record Made (b : BenchFields S) (U : UpdateUnit) (answer : Turn) (later : BenchFields S) : Type 0 where
     pub unit : UpdateUnit
     pub reached : IsReached b.pipeline.program.now (sizes b.pipeline) unit
+    pub plain : StaysPlain b.pipeline.program.now (sizes b.pipeline) U unit
     pub stands : StandsFor later.pipeline unit
     pub does : Does b.pipeline.program.now (sizes b.pipeline) U unit answer
     pub trains : Trains b.pipeline.program.now U unit answer b.predictor later.predictor

@@ -17,6 +17,7 @@ use Rattle.inorder.proofs.Recent.{newest_all}
 use Rattle.inorder.proofs.Sound.{IsSound}
 use Rattle.inorder.proofs.Stations.{Stands, stands}
 use Rattle.inorder.specs.Moves.{IsDeliver, IsLink, IsReached, IsSquash, Leads, MayRun, MayTake, run_on}
+use Rattle.inorder.specs.Plain.{ArePlain, IsPlain, StaysPlain, WasPlain}
 
 -- a step that may be taken is allowed
 pub allowed_of : (P : Program) (C : Sizes) (U : UpdateUnit) (by : ℕ) (s : Step) → MayTake P C U by s → Allowed P C U by s
@@ -158,3 +159,55 @@ deliver_quiet (On p Load) h = absurd h
 deliver_quiet (On p (Retire n)) h = absurd h
 deliver_quiet (On p (Speculate s)) h = absurd h
 deliver_quiet (On p Mend) h = absurd h
+
+-- Squashes, links and deliveries do not speculate
+
+pub squash_plain : (s : Step) → IsSquash s → IsPlain s
+squash_plain (On p Squash) h = tt
+squash_plain (Let i p f g) h = absurd h
+squash_plain Renew h = absurd h
+squash_plain (On p (Link k)) h = absurd h
+squash_plain (On p (Deliver k)) h = absurd h
+squash_plain (On p Claim) h = absurd h
+squash_plain (On p Finish) h = absurd h
+squash_plain (On p Load) h = absurd h
+squash_plain (On p (Retire n)) h = absurd h
+squash_plain (On p (Speculate s)) h = absurd h
+squash_plain (On p Mend) h = absurd h
+
+pub link_plain : (s : Step) → IsLink s → IsPlain s
+link_plain (On p (Link k)) h = tt
+link_plain (Let i p f g) h = absurd h
+link_plain Renew h = absurd h
+link_plain (On p Squash) h = absurd h
+link_plain (On p (Deliver k)) h = absurd h
+link_plain (On p Claim) h = absurd h
+link_plain (On p Finish) h = absurd h
+link_plain (On p Load) h = absurd h
+link_plain (On p (Retire n)) h = absurd h
+link_plain (On p (Speculate s)) h = absurd h
+link_plain (On p Mend) h = absurd h
+
+pub deliver_plain : (s : Step) → IsDeliver s → IsPlain s
+deliver_plain (On p (Deliver k)) h = tt
+deliver_plain (Let i p f g) h = absurd h
+deliver_plain Renew h = absurd h
+deliver_plain (On p Squash) h = absurd h
+deliver_plain (On p (Link k)) h = absurd h
+deliver_plain (On p Claim) h = absurd h
+deliver_plain (On p Finish) h = absurd h
+deliver_plain (On p Load) h = absurd h
+deliver_plain (On p (Retire n)) h = absurd h
+deliver_plain (On p (Speculate s)) h = absurd h
+deliver_plain (On p Mend) h = absurd h
+
+-- A unit that is reached without speculation stays so
+
+plain_more : (by : ℕ) (more : List Step) (h : List Taken) → ArePlain more → WasPlain h → WasPlain (taken by more ++ h)
+plain_more by [] h a b = b
+plain_more by (s ∷ more) h a b = (a.0, plain_more by more h a.1 b)
+
+pub plain_on : (P : Program) (C : Sizes) (by : ℕ) (U : UpdateUnit) (steps : List Step) (V : UpdateUnit) → Leads P C by U steps V → ArePlain steps → StaysPlain P C U V
+unfolding reach_on
+plain_on P C by U steps V l a r =
+    record { reached = reach_on P C by U steps V r.reached l; plain = plain_more by steps r.reached.history a r.plain }

@@ -1,4 +1,4 @@
-use Rattle.inorder.proofs.OneCaller.Sequences.{committed_on, leads_more, reach_on, sound_of}
+use Rattle.inorder.proofs.OneCaller.Sequences.{committed_on, leads_more, plain_on, reach_on, sound_of}
 use Rattle.inorder.proofs.laws.several_steps_lead_on.Goals as goal
 
 pub returns-clause-lead : goal.returns-clause-lead
@@ -10,3 +10,6 @@ returns-clause-lead c = λ p sizes by.
 
 pub returns-clause-on : goal.returns-clause-on
 returns-clause-on c = λ p sizes by U V W more steps a b. leads_more p sizes by U V W more steps a b
+
+pub returns-clause-plain : goal.returns-clause-plain
+returns-clause-plain c = λ p sizes by U V steps l a. plain_on p sizes by U steps V l a

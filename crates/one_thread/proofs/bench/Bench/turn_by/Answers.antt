@@ -1,10 +1,9 @@
 -- A turn by choice.
-use Rattle.std.proofs.Common.{arith}
-use Rattle.std.proofs.lemmas.Grind.{common_steps}
-use Rattle.std.proofs.Common.{◌≡◌, ◌<◌, ◌%◌, length, Some, subst}
+use Rattle.std.proofs.Common.{◌≡◌, ◌<◌, ◌%◌, [], length, Some, subst}
 use Rattle.std.specs.Prelude.{slice_get}
 use Rattle.one_thread.specs.Choices.{IsTurnBy}
-use Rattle.one_thread.specs.Steps.{Permits}
+use Rattle.instructions.specs.declared.stop.Stop.TheVariants.{BadPc}
+use Rattle.one_thread.specs.Steps.{ArePossible, Permits}
 use Rattle.one_thread.specs.Turns.{fields}
 use Rattle.one_thread.specs.declared.bench.Turn.TheVariants.{Over}
 use Rattle.one_thread.proofs.ChosenTurns.{before_by, chosen_by, none_listed, nothing_by, some_listed}
@@ -19,7 +18,13 @@ returns-in-Some-clause-turn g c =
     (before_by g.P.Predictor.Predicts g.P.Predictor.Learns g.C.Chooser.Chooses b q c.in-Some.code c.in-Some.is)
 
 pub returns-then-is_empty-clause-turn : goal.returns-then-is_empty-clause-turn
-returns-then-is_empty-clause-turn g c = grind (arith, common_steps, none_listed, nothing_by)
+returns-then-is_empty-clause-turn g c =
+    let b = fields c.self.inside.pipeline c.self.inside.predictor in
+    let q = c.args.chooser.now in
+    let none : c.possible_steps-steps.result.items ≡ [] = none_listed c.possible_steps-steps.result.items c.is_empty.result c.is_empty.ensures c.if-is_empty.true in
+    subst (λ x. IsTurnBy g.P.Predictor.Predicts g.P.Predictor.Learns g.C.Chooser.Chooses x q (Over BadPc) x q) c.self.view_is
+    (nothing_by g.P.Predictor.Predicts g.P.Predictor.Learns g.C.Chooser.Chooses b q c.self.invariant c.in_default.is
+    (subst (ArePossible b.pipeline) none c.possible_steps-steps.ensures))
 
 pub make-requires-clause-can : goal.make-requires-clause-can
 make-requires-clause-can g c =
