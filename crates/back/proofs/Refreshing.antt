@@ -1,5 +1,6 @@
 -- What was found of the stations answers the call.
-use Rattle.std.proofs.Common.{◌≡◌, false, ◌⊎◌, ℕ, ◌<◌, List, [], ◌∷◌, ◌++◌, Option, Some, None, sym, ◌∙◌, subst, inl, inr, append_assoc}
+use Rattle.std.proofs.Common.{◌≡◌, false, ◌⊎◌, ℕ, ◌+◌, ◌-◌, ◌%◌, ◌<◌, List, [], ◌∷◌, ◌++◌, Option, Some, None, sym, ap, ◌∙◌, subst, inl, inr, append_assoc, arith}
+use Rattle.std.proofs.Math.Nat.{add-mod_right, mod-add-mod, mod-eq_of_lt}
 use Rattle.std.specs.List.{AllByRecursion}
 use Rattle.std.proofs.lemmas.Bool.{cases_lt}
 use Rattle.instructions.specs.Programs.{Program}
@@ -26,7 +27,7 @@ use Rattle.back.specs.Refreshes.{EachLoad, HasFoundBlocked, HasLoaded, HasLoaded
 use Rattle.back.specs.declared.answers.Refresh.{Refresh}
 use Rattle.back.specs.declared.answers.Refresh.TheVariants.{Blocked, Idle, Loaded}
 use Rattle.back.specs.Scans.{FirstIs, IsFirstBlocked, Scanned}
-use Rattle.back.specs.Trials.{DidLoad, HoldsBack, IsLoadAt}
+use Rattle.back.specs.Trials.{DidLoad, HoldsBack, IsLoadAt, RefreshAtAnswers}
 use Rattle.back.proofs.Ranks.{rank}
 use Rattle.back.proofs.Moments.{once_earlier}
 use Rattle.back.proofs.UnitKept.{IsQuiet, committed_kept, head_kept_on}
@@ -173,6 +174,22 @@ is_calm d by old new (Loaded station tag value) x = record {
 }
 is_calm d by old new (Blocked load store) x = record { events = x.nothing.late; quiet = late_quiet x.nothing.late x.nothing.are_late; adds = x.nothing.adds }
 is_calm d by old new Idle x = record { events = x.nothing.late; quiet = late_quiet x.nothing.late x.nothing.are_late; adds = x.nothing.adds }
+
+pub is_calm_at : (d : TheCore) (by : ℕ) (old new : List Entry) (station : ℕ) (r : Refresh) → RefreshAtAnswers d by old new station r → IsCalm d.program d.sizes by old new
+is_calm_at d by old new station (Loaded load tag value) x = record {
+  events = x.1.carried ++ Does (On x.1.p LoadIt) ∷ [];
+  quiet = both_quiet x.1.carried (Does (On x.1.p LoadIt) ∷ []) (walk_quiet d.program d.sizes new x.1.p x.1.carried x.1.walk) (tt, tt);
+  adds = x.1.adds;
+}
+is_calm_at d by old new station (Blocked load store) x = record { events = []; quiet = tt; adds = x.1.adds }
+is_calm_at d by old new station Idle x = record { events = x.late; quiet = late_quiet x.late x.are_late; adds = x.adds }
+
+-- the place of a station from the head's on
+pub place_at : (head station ring at : ℕ) → head < ring → station < ring → at ≡ (station + (ring - head)) % ring → station_behind head ring at ≡ station
+place_at head station ring at inside small is =
+    let around : (station + (ring - head)) + head ≡ station + ring = omega (arith, inside) in
+    ap (λ n. (head + n) % ring) is ∙ (ap (λ n. n % ring) (omega arith) ∙ (mod-add-mod (station + (ring - head)) ring head
+    ∙ (ap (λ n. n % ring) around ∙ (add-mod_right station ring ∙ mod-eq_of_lt small))))
 
 -- the head and the state in the middle of a scan
 pub head_now : (P : Program) (C : Sizes) (old now : List Entry) (head ring k : ℕ) (blocked : Option (ℕ × ℕ)) → Scanned P C back old now head ring k blocked

@@ -23,6 +23,8 @@ use Rattle.station.specs.Writeback.{IsWalk}
 use Rattle.back.specs.Loads.{IsLiveLoad, WasNotWaiting}
 use Rattle.back.specs.Port.{IsAskedInOrder, IsBlockedAt, station_behind}
 use Rattle.back.specs.Refreshes.{IsTooLate}
+use Rattle.back.specs.declared.answers.Refresh.{Refresh}
+use Rattle.back.specs.declared.answers.Refresh.TheVariants as refresh
 use Rattle.back.specs.declared.port.Load.{Load}
 use Rattle.back.specs.declared.port.Tried.{Tried}
 use Rattle.back.specs.declared.port.Tried.TheVariants.{Blocked, Loaded, Passed}
@@ -115,3 +117,12 @@ StationAnswers P C by old new station (Loaded tag value) = DidLoad P C by old ne
 abbrev pub TriedAnswers : TheCore → ℕ → List Entry → List Entry → (head k : ℕ) → Tried → Type 0
 TriedAnswers core by old new head k tried =
     StationAnswers core.program core.sizes by old new (station_behind head core.sizes.ring k) tried
+
+-- A refresh of the load of one station is answered so: that load got its value, or a store of another station held it
+-- back, or none waited there
+abbrev pub RefreshAtAnswers : TheCore → ℕ → List Entry → List Entry → (station : ℕ) → Refresh → Type 0
+RefreshAtAnswers core by old new station (refresh.Loaded load tag value) =
+    (load ≡ station) × DidLoad core.program core.sizes by old new station tag value
+RefreshAtAnswers core by old new station (refresh.Blocked load store) =
+    (load ≡ station) × HasHeldBack core.program core.sizes by old new station store
+RefreshAtAnswers core by old new station refresh.Idle = HasPassed core.program core.sizes by old new station

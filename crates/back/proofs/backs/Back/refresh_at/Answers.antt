@@ -1,0 +1,32 @@
+use Rattle.std.proofs.Common.{sym, ap, ◌∙◌, subst}
+use Rattle.station.specs.Seats.{TheCore}
+use Rattle.back.specs.Backs.{IsSameBack, TheBack, back_of}
+use Rattle.back.specs.Trials.{RefreshAtAnswers}
+use Rattle.back.proofs.Calls.{head_inside, is_same}
+use Rattle.back.proofs.Refreshing.{is_calm_at}
+use Rattle.back.proofs.SeatKept.{kept_by}
+use Rattle.back.proofs.backs.Back.refresh_at.Goals as goal
+
+pub try_at-requires-clause-head : goal.try_at-requires-clause-head
+try_at-requires-clause-head g c =
+    head_inside c.self.invariant c.self.view_is c.requires.core c.ring-ring.ensures.value c.ring-ring.ensures.least
+
+pub invariant_of-self : goal.invariant_of-self
+invariant_of-self g c =
+    let b = c.self.inside in
+    let core = ap (λ (s : TheBack). s.core) c.self.view_is ∙ c.requires.core in
+    let reply = subst (λ (d : TheCore). RefreshAtAnswers d b.seat.by b.seat.seen c.try_at.new.seat.seen c.args.station c.try_at.result) (sym core) c.try_at.ensures.reply in
+    let calm = is_calm_at b.seat.core b.seat.by b.seat.seen c.try_at.new.seat.seen c.args.station c.try_at.result reply in
+    kept_by g.J.Naming.program b.committed b.low b.head b.ended b.publisher b.seat c.try_at.new.seat calm.events c.self.invariant c.try_at.ensures.kept.core c.try_at.ensures.kept.by calm.adds
+    calm.quiet
+
+pub returns-clause-kept : goal.returns-clause-kept
+returns-clause-kept g c =
+    let b = c.self.inside in
+    let core = ap (λ (s : TheBack). s.core) c.self.view_is ∙ c.requires.core in
+    let reply = subst (λ (d : TheCore). RefreshAtAnswers d b.seat.by b.seat.seen c.try_at.new.seat.seen c.args.station c.try_at.result) (sym core) c.try_at.ensures.reply in
+    let calm = is_calm_at b.seat.core b.seat.by b.seat.seen c.try_at.new.seat.seen c.args.station c.try_at.result reply in
+    let kept = kept_by g.J.Naming.program b.committed b.low b.head b.ended b.publisher b.seat c.try_at.new.seat calm.events c.self.invariant c.try_at.ensures.kept.core c.try_at.ensures.kept.by
+    calm.adds calm.quiet in
+    subst (λ old. IsSameBack old (back_of c.try_at.new.seat b.ended b.publisher)) c.self.view_is
+    (is_same g.J.Naming.program b.committed b.low b.head b.ended b.publisher b.seat c.try_at.new.seat c.self.invariant kept c.try_at.ensures.kept.core c.try_at.ensures.kept.by)
