@@ -193,7 +193,7 @@ with_kit env UNPROVED=inorder "$fresh/ruu" run a.s
   || fail "a crate that is not proved: status $status"
 [ ! -e "$fresh/crates/inorder/out/rlib/stamp" ] || fail 'a crate that is not proved was kept'
 with_kit "$fresh/prove" nothing
-[ $status -eq 2 ] && [ "$(cat "$work/err")" = 'prove: crates.txt names no crate nothing' ] || fail "a crate that there is not: status $status"
+[ $status -eq 1 ] && [ "$(cat "$work/err")" = 'prove: crates.txt names no crate nothing' ] || fail "a crate that there is not: status $status"
 
 # a first look: from the program's folder, with the places of files, and with what the program says and its status
 unproved() { # what the kit is asked for, words
