@@ -162,7 +162,7 @@ def made_of(program, is_data):
 
 
 def cases():
-    """Each case becomes what stands behind its arrow."""
+    """Each case becomes what stands after its arrow."""
     count = 0
     with open("tests/translate/cases.txt", encoding="utf-8") as lines:
         for number, line in enumerate(lines, 1):

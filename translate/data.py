@@ -114,7 +114,7 @@ class Data:
         self.memory.align(2 ** number if is_power else max(1, number), statement.place)
 
     def end(self, faults):
-        """The labels at the end, and behind all data what was reserved and no line defines, at multiples of 8."""
+        """The labels at the end, and after all data what was reserved and no line defines, at multiples of 8."""
         self.name()
         for token, size in self.memory.reserved:
             if token.text not in self.symbols.places:

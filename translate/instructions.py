@@ -21,7 +21,7 @@ def check_word(statement):
     near = difflib.get_close_matches(statement.name, ROWS, 1, 0.75)
     advice = f"Is {near[0]} meant?" if near else ""
     if not statement.tokens or statement.tokens[0].text.lower() in ROWS:
-        advice = f"If it is a label, a colon stands behind it: write {statement.word.text}:."
+        advice = f"If it is a label, a colon stands after it: write {statement.word.text}:."
     raise Fault(statement.word.place, f"{statement.word.text} is no instruction of MARS or SPIM.", advice)
 
 

@@ -12,7 +12,7 @@ from segment import Segment
 from symbols import START
 
 MOST = 16384
-# What a run does not go on behind.
+# After these a run goes on elsewhere.
 ENDS = re.compile(r"(?:j|jr|break)\b|beq +\$zero,\$zero,")
 
 
@@ -98,12 +98,12 @@ class Layout:
         """The address of each label, and the heap's place."""
         at = count_of(self.first)
         for statement, lines in zip(self.code, self.made):
-            self.symbols.addresses |= {label.text: START + 4 * at for label in statement.labels_here}
+            self.symbols.addresses.update({label.text: START + 4 * at for label in statement.labels_here})
             at += count_of(lines)
             if at + count_of(self.last) > MOST:
                 self.faults.add(Fault(statement.place, f"The program has more than {MOST} instructions."))
                 return
-        self.symbols.addresses |= {label.text: START + 4 * at for label in self.sections.text_labels}
+        self.symbols.addresses.update({label.text: START + 4 * at for label in self.sections.text_labels})
         if self.calls.may_grow():
             self.memory.align(8, self.code[-1].place)
             self.memory.write(HEAP, self.memory.end, 4)

@@ -102,8 +102,10 @@ class Match:
         is_late = value.label is not None and value.part is None and self.symbols.is_text(value.label.text)
         if is_late and kind != "N" or not least <= number <= most or (kind == "W" and number % 0x10000):
             return False
-        self.texts |= {kind: str(number), f"high({kind})": str(number >> 16 & 0xffff), f"low({kind})": str(number & 0xffff)}
-        self.texts |= {"-I": str(-number)} if kind == "-I" else {"32-H": str((32 - number) % 32)} if kind == "H" else {}
+        self.texts.update({kind: str(number), f"high({kind})": str(number >> 16 & 0xffff), f"low({kind})": str(number & 0xffff)})
+        if kind == "-I":
+            self.texts[kind] = str(-number)
+        self.texts["32-H"] = str((32 - number) % 32)
         return True
 
     def keep_base(self, kind, operand):
@@ -114,7 +116,7 @@ class Match:
         value = operand.value if isinstance(operand, Place) else operand
         self.base = operand.base.text if isinstance(operand, Place) else "$zero"
         number = self.symbols.number(value)
-        self.texts |= {f"{kind}+{more}": f"{number + more}({self.base})" for more in range(1, 5)}
+        self.texts.update({f"{kind}+{more}": f"{number + more}({self.base})" for more in range(1, 5)})
         self.texts[kind] = f"{number}({self.base})"
         return True
 
@@ -127,7 +129,7 @@ class Match:
 
     def reads(self, line, register):
         """Whether a line of the row reads a register by one of its holes."""
-        holes = {kind: rf"(?<![\w$]){kind}(?!\w)" for kind in ("S", "T")} | {"D": r",D(?!\w)"}
+        holes = {"S": r"(?<![\w$])S(?!\w)", "T": r"(?<![\w$])T(?!\w)", "D": r",D(?!\w)"}
         named = [hole for kind, hole in holes.items() if kind in self.texts and REGISTERS[self.texts[kind]] == register]
         named += [r"(?<![\w$])[AP](?!\w)"] if self.base and REGISTERS[self.base] == register else []
         return any(re.search(hole, line) for hole in named)

@@ -1,6 +1,7 @@
 #!/usr/bin/env python3
 """Writes the listing of a program for MARS or SPIM: translate.py PROGRAM FILE [--run ..], where PROGRAM takes the word `run`. The
 script `ruu` starts it, and is that program."""
+import codecs
 import os
 import sys
 
@@ -24,8 +25,10 @@ def read_lines(file):
                 text = program.read()
     except OSError as error:
         end(5, f"ruu: {file}: the program cannot be read: {error.strerror}")
-    text = text.decode("latin-1").removeprefix("\xef\xbb\xbf")
-    return text.replace("\r\n", "\n").replace("\r", "\n").removesuffix("\n").split("\n")
+    if text.startswith(codecs.BOM_UTF8):
+        text = text[len(codecs.BOM_UTF8):]
+    lines = text.decode("latin-1").replace("\r\n", "\n").replace("\r", "\n").split("\n")
+    return lines if lines[-1] else lines[:-1]
 
 
 class Translation:

@@ -23,13 +23,13 @@ def read(words):
         words, run = words[:at], words[at + 1:]
     if "--" in words:
         at = words.index("--")
-        words, behind = words[:at], words[at + 1:]
+        words, names = words[:at], words[at + 1:]
     else:
-        behind = []
+        names = []
     for word in words:
         if word.startswith("-") and word != "-":
             mistaken(f"there is no option {word}")
-    files = [*words, *behind]
+    files = [*words, *names]
     if len(files) != 1:
         mistaken("translate takes one file: the program")
     return Words(files[0], run)

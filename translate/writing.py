@@ -1,4 +1,4 @@
-"""The listing: the lines of the program in their order, each behind `#`, with what stands for them."""
+"""The listing: the lines of the program in their order, each after `#`, with what stands for them."""
 from memory import FIRST, LIMIT, STACK
 from sections import RESERVED
 
@@ -105,7 +105,7 @@ class Listing:
         return source if not source or source.startswith("#") else f"# {source_of(statement)}"
 
     def of_item(self, item):
-        """The words that data completes. The source is behind the first of them."""
+        """The words that data completes. The source stands after the first of them."""
         last = -(-item.last // 4) * 4 if item is self.memory.items[-1] else item.last // 4 * 4
         lines = [*words_of(self.memory, self.done, last, item.size)]
         self.done = max(self.done, last)
@@ -114,7 +114,7 @@ class Listing:
         yield from [*first, *lines[1:]]
 
     def of_code(self, statement):
-        """The instructions of a statement. The source is behind the first."""
+        """The instructions of a statement. The source stands after the first."""
         lines, comment = self.made[id(statement)], source_of(statement)
         *alone, last = [f"{label}:" for label in self.text_labels(statement)] or [""]
         if len(last) >= LABEL or not lines or lines[0].endswith(":"):
