@@ -125,7 +125,8 @@ is_refused_as() { # line, words
   [ $status -eq 5 ] && [ ! -s "$work/out" ] && [ "$(cat "$work/err")" = "ruu: $1" ] || fail "ruu ${*:2}: status $status"
 }
 mkdir "$work/folder"
-for word in "${words[@]}"; do
+mapfile -t readers < <(sed -n "/^table='/,/^'/s/^\([a-z]\+\) .* FILE$/\1/p" ruu)
+for word in "${readers[@]}"; do
   is_refused_as 'nowhere.s: No such file or directory' "$word" nowhere.s
   is_refused_as 'folder: Is a directory' "$word" folder
   is_refused_as '-a: No such file or directory' "$word" -- -a
