@@ -22,6 +22,8 @@ def check_word(statement):
     advice = f"Is {near[0]} meant?" if near else ""
     if not statement.tokens or statement.tokens[0].text.lower() in ROWS:
         advice = f"If it is a label, a colon stands after it: write {statement.word.text}:."
+    if statement.source is None:
+        advice = "A semicolon stands between two statements, and # before a comment."
     raise Fault(statement.word.place, f"{statement.word.text} is no instruction of MARS or SPIM.", advice)
 
 
@@ -43,6 +45,8 @@ def unfit(statement, word, operands, symbols):
         return Fault(operand.place, "A text stands in .asciiz or .ascii alone.")
     if isinstance(operand, Value) and operand.label and f"${operand.label.text.lower()}" in REGISTERS:
         return Fault(operand.place, f"A register begins with $: write ${operand.label.text}.")
+    if isinstance(operand, Value) and operand.label:
+        symbols.check(operand.label)
     if isinstance(operand, Register) and "a place" in advice:
         return Fault(operand.place, f"A place in memory stands here, as 0({operand.text}).")
     place = operand.place if operand else statement.place

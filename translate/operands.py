@@ -1,5 +1,6 @@
 """Operands: registers, values, places in memory and texts, read from tokens. Commas between them may be left out."""
 from faults import Fault
+from lexing import REGISTERS
 
 PARTS = ("hi", "lo")
 
@@ -90,18 +91,20 @@ class Operands:
         if self.has_base():
             return Place(Value(0, None, token.place), self.base())
         value = self.value()
-        return Place(value, self.base()) if self.has_base() else value
+        return Place(value, self.base()) if self.is_next("(") and not self.in_list else value
 
     def has_base(self):
-        """Whether a register in parentheses comes next."""
+        """Whether a register in parentheses comes next, or a name that is meant for one."""
         token = self.peek(1)
-        return self.is_next("(") and token is not None and (token.kind == "register" or token.text[0] == "$")
+        if not self.is_next("(") or token is None:
+            return False
+        return token.kind == "register" or token.kind == "name" and f"${token.text.lower()}" in REGISTERS
 
     def base(self):
         self.take()
-        token = self.take()
-        if token.kind != "register":
-            raise Fault(token.place, f"There is no register {token.text}.")
+        token = self.take() if self.peek() else None
+        if token is None or token.kind != "register":
+            raise no_base(token.place if token else self.end, token.text if token else "")
         if not self.is_next(")"):
             raise Fault(token.place, "A ) stands after the register.")
         self.take()
@@ -165,6 +168,13 @@ class Operands:
             raise Fault(token.place, "%hi and %lo stand before a label in parentheses.")
         found = self.factor()
         return Value(found.number, found.label, token.place, part.text)
+
+
+def no_base(place, text):
+    """What stands in parentheses after a value, and is no register."""
+    if f"${text.lower()}" in REGISTERS:
+        return Fault(place, f"A register begins with $: write ${text}.")
+    return Fault(place, f"There is no register {text}." if text else "A register stands in the parentheses.")
 
 
 def unfit(token):

@@ -153,4 +153,4 @@ def what_fits(word, operands, symbols):
     kinds = {WHAT.get(row.kinds[at].lstrip("-"), "a place in memory"): None for row in rows if takes_place(row, operands, symbols) == at}
     if WHAT["N"] in kinds:
         kinds = {kind: None for kind in kinds if not kind.startswith("a number ")}
-    return operands[at], f"Here stands {' or '.join(kinds)}."
+    return operands[at], f"Here may stand {' or '.join(kinds)}."

@@ -24,7 +24,7 @@ class Sections:
         self.code, self.globals = [], set()
         self.in_data, self.is_skipped, self.is_reordered = False, False, True
         self.before = (False, False)
-        self.text_labels, self.list_size = [], None
+        self.text_labels, self.list = [], None
 
     def take_all(self, statements):
         """All statements, and what waits at the end."""
@@ -66,16 +66,19 @@ class Sections:
         self.code.append(statement)
 
     def go_on(self, statement):
-        """More values of the list before, as MARS takes them."""
-        if self.list_size is None or statement.name in ROWS or statement.name == "syscall":
+        """More values or texts of the directive before, as MARS takes them."""
+        if self.list is None or statement.name in ROWS or statement.name == "syscall":
             raise Fault(statement.place, "An instruction stands in the text, and this is data.", "Write .text before it.")
         if statement.word:
             statement.tokens = [statement.word, *statement.tokens]
-        self.data.values(statement, self.list_size)
+        if self.list in data.LISTS:
+            self.data.values(statement, data.LISTS[self.list])
+        else:
+            self.data.texts(statement, data.TEXTS[self.list])
 
     def directive(self, statement, name):
         if name not in GLOBAL:
-            self.list_size = data.LISTS.get(name)
+            self.list = name if name in data.LISTS or name in data.TEXTS else None
         if name in SECTIONS:
             self.enter(statement, name)
         elif name in GLOBAL:
@@ -125,4 +128,7 @@ class Sections:
         if self.in_data:
             self.data.take(statement)
         elif name not in data.POWERS + data.SIZES:
+            # its labels are of data, and nothing more is wrong with them
+            self.data.labels += self.text_labels
+            self.text_labels = []
             raise Fault(statement.place, "Data stands in .data, and this is the text.", "Write .data before it, and .text after it.")

@@ -47,6 +47,8 @@ class Symbols:
             raise Fault(token.place, "There are no registers of floating point.")
         if token.text.startswith("$"):
             raise Fault(token.place, f"There is no register {token.text}.")
+        if re.fullmatch(r"[rR]\d+", token.text):
+            raise Fault(token.place, f"A register begins with $: write ${token.text[1:]}.")
         others = [name for name in self.places if name.lower() == token.text.lower()]
         advice = f"The case of letters counts: {others[0]} stands in line {self.places[others[0]][0]}." if others else ""
         raise Fault(token.place, f"No line has the label {token.text}.", advice)
