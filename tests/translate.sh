@@ -30,6 +30,8 @@ says() { # status, first line on standard error, words
 # a run tells registers and data by their names, with the status of the run
 translate examples/translate/strings.s --run --alone
 [ $status -eq 0 ] && cmp -s "$work/out" tests/translate/strings.told || { cat "$work/out"; fail "a run of strings.s: status $status"; }
+translate examples/translate/globals.s --run --alone
+[ $status -eq 0 ] && grep -qx 'shared byte 40    0, 6' "$work/out" || fail "a run of globals.s: status $status"
 printf 'main: li $t0,3\nlw $t1,($t0)\n' > "$work/odd.s"
 translate "$work/odd.s" --run --alone
 [ $status -eq 1 ] && [ "$(head -n 1 "$work/out")" = "stop unaligned after 3 instructions, in line 2: lw \$t1,(\$t0)" ] || fail "a run of odd.s: status $status"

@@ -53,7 +53,11 @@ def values_of(item, first, content):
     """What stands in memory from a byte of an item on, as its directive says it."""
     if item.size is None or item.is_space and is_text(content):
         return [quoted(content)]
-    size = item.size if first % item.size == 0 and len(content) % item.size == 0 else 1
+    return numbers_of(content, item.size if first % item.size == 0 and len(content) % item.size == 0 else 1)
+
+
+def numbers_of(content, size):
+    """Numbers of so many bytes each, and how many more there are than a line can show."""
     numbers = [signed(int.from_bytes(content[at:at + size], "little"), size) for at in range(0, len(content), size)]
     more = [f".. and {len(numbers) - MOST} more"] if len(numbers) > MOST else []
     return [*map(str, numbers[:MOST]), *more]
@@ -99,7 +103,8 @@ class Teller:
             begin, end = max(first, item.first), min(last, item.last)
             if begin < end:
                 found += values_of(item, begin, self.report.memory[begin:end])
-        return found
+        # what was reserved has no item
+        return found or numbers_of(self.report.memory[first:last], 1 if (first | last) % 4 else 4)
 
 
 def told(program, translation, options):
