@@ -35,7 +35,7 @@ class Numbers:
         self.settled = frozenset()
 
     def reach(self, number, held):
-        """Takes that `$v0` may hold these numbers before a statement."""
+        """Takes that `$v0` may hold these numbers before a statement. Those of settled statements stay."""
         if number in self.settled:
             return
         if number in self.before:
@@ -106,7 +106,7 @@ class Calls:
         numbers = Numbers(flow, symbols)
         numbers.reach(begin, Numbers.ANY)
         numbers.settle()
-        self.reached = numbers.settled = frozenset(numbers.before)
+        numbers.settled = frozenset(numbers.before)
         for number in range(len(flow.code)):
             if number not in numbers.before:
                 numbers.reach(number, Numbers.ANY)
@@ -117,8 +117,6 @@ class Calls:
         """The rows for the system call at a statement, each with its number if it has one; or a fault."""
         statement, held = self.flow.code[number], self.held[number]
         if held is None:
-            if number not in self.reached:
-                return [("break", None)]
             raise Unseen(statement.place, "What this system call does is not seen: $v0 comes from elsewhere.",
                          "Write li $v0,.. right before syscall.")
         for call in sorted(held):

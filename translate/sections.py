@@ -67,6 +67,8 @@ class Sections:
 
     def go_on(self, statement):
         """More values or texts of the directive before, as MARS takes them."""
+        if statement.word and statement.tokens and statement.tokens[0].text.lower() in data.NAMES:
+            raise Fault(statement.place, f"A colon stands after a label: write {statement.word.text}:.")
         if self.list is None or statement.name in ROWS or statement.name == "syscall":
             raise Fault(statement.place, "An instruction stands in the text, and this is data.", "Write .text before it.")
         if statement.word:
