@@ -150,6 +150,8 @@ const RUN_ABOUT: &str = "Runs a listing of MIPS I instructions and writes a repo
 const RUN_NOTES: &str = "\
 Example: ruu run examples/sum.s --ruu-size 8 --bpred taken
 
+Where a run stopped is the last line that 'ruu commits FILE' writes.
+
 Exit status: 0 the listing ran to a break, 1 it stopped otherwise, 2 a fault in its text,
 3 a mistake on the command line, 4 the limit of instructions or turns was reached,
 5 no memory, no thread, or a file could not be opened, read or written.";
@@ -189,7 +191,8 @@ const COMMITS_NOTES: &str = "\
 Example: ruu commits examples/sum.s --limit 20
 
 The lines are explained in docs/REFERENCE.md. --ruu-size, --lsq-size, --bpred and --seed change the
-turns and no byte of them, and --limit how many lines there are at most.
+turns and no byte of them, and --limit how many lines there are at most. The last line of a run that
+stops says where.
 
 Exit status: 0 the listing ran to a break, 1 it stopped otherwise, 2 a fault in its text,
 3 a mistake on the command line, 4 the limit of instructions was reached,

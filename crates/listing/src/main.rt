@@ -27,7 +27,7 @@ Exit status: 0 the listing was written, 2 the file has none, 3 a mistake on the 
 ";
 
 /// The version, and on a line of its own the kit by which it is proved: that of `ruu`.
-const VERSION: &str = "ruu 0.1.0\nrattle-kit-13f logic dac8208d650f15bf\n";
+const VERSION: &str = "ruu 1.0.0\nrattle-kit-13f logic dac8208d650f15bf\n";
 
 // What the command line asks for.
 enum Request<'a> {
