@@ -1,20 +1,39 @@
 #!/usr/bin/env bash
-# Prints how many milliseconds of a processor the script `ruu` takes for help, the version and mistakes in a folder in which
-# nothing is built: the least of five of each.
+# Prints how many milliseconds `./ruu` takes for help, the version, mistakes, and for each word on a program that is built; behind
+# the latter, how many the program takes alone. Each is the least of twenty.
 set -eu
 cd "$(dirname "$0")/.."
-work=$(mktemp -d)
-trap 'rm -rf "$work"' EXIT
-mkdir -p "$work/docs" "$work/crates"
-cp ruu crates.txt "$work"
-cp -r docs/help "$work/docs"
-TIMEFORMAT='%U %S'
 
-for words in --help --version rnu 'run --helpp' 'run a.s --units 65' ''; do
-  for _ in 1 2 3 4 5; do
+# Sets `least`, in tenths of a millisecond.
+time_of() { # command
+    local began took
+    least=1000000
+    for _ in {1..20}; do
+        began=${EPOCHREALTIME/./}
+        "$@" < /dev/null > /dev/null 2>&1 || true
+        took=$(((${EPOCHREALTIME/./} - began) / 100))
+        [ $took -ge $least ] || least=$took
+    done
+}
+
+for words in --help --version rnu 'run nowhere.s' 'check --help'; do
     # shellcheck disable=SC2086
-    { time "$work/ruu" $words > "$work/out" 2> "$work/err" || true; } 2>> "$work/times"
-  done
-  awk -v words="$words" '{ took = 1000 * ($1 + $2) } NR == 1 || took < least { least = took } END { printf "ruu %-20s %5.0f ms\n", words, least }' "$work/times"
-  rm "$work/times"
+    time_of ./ruu $words
+    printf '%-36s %3d.%d ms\n' "ruu $words" $((least / 10)) $((least % 10))
 done
+while read -r program words; do
+    # shellcheck disable=SC2086
+    time_of ./ruu $words
+    all=$least
+    # shellcheck disable=SC2086
+    time_of "crates/$program/out/$program" ${words#listing }
+    printf '%-36s %3d.%d ms, the program %d.%d\n' "ruu $words" $((all / 10)) $((all % 10)) $((least / 10)) $((least % 10))
+done << 'PROGRAMS'
+run run examples/sum.s
+ruu run examples/sum.s --alone
+checker check examples/sum.s
+chart chart examples/sum.s
+commit_log commits examples/sum.s
+drive drive examples/sum.s
+listing listing examples/c/primes.elf
+PROGRAMS

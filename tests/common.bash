@@ -26,6 +26,12 @@ build() { # run or test, crate
   touch -d "@$began" "$file"
 }
 
+# Builds the library for C, which `rt ci` proves and does not build.
+build_step() {
+  [ -z "${BUILT:-}" ] || python3 tests/built.py ruu_step
+  (cd crates/ruu_step && rt lib < /dev/null > "$work/log" 2>&1) || { tail -n 40 "$work/log"; fail "the library cannot be built"; }
+}
+
 # The library that refuses, by the kit's own compiler.
 build_refuse() {
   local kit

@@ -5,8 +5,7 @@
 . "$(dirname "$0")/common.bash"
 command -v cc > /dev/null || { echo "no C compiler: the library was not built"; exit 0; }
 
-[ -z "${BUILT:-}" ] || python3 tests/built.py ruu_step
-(cd crates/ruu_step && rt lib < /dev/null > "$work/log" 2>&1) || { tail -n 40 "$work/log"; fail "the library cannot be built"; }
+build_step
 archive=crates/ruu_step/out/libruu_step.a
 cc -shared -o "$work/libruu.so" -Wl,--whole-archive "$archive" -Wl,--no-whole-archive || fail "no shared library of $archive"
 python3 tests/lockstep.py "$work/libruu.so" 60000 || fail "the model differs"

@@ -28,7 +28,7 @@ WRITTEN = {
     "docs/unit.svg": ["docs/picture.py"],
 }
 # how many lines a page may have
-MOST_LINES = {"README.md": 120, "docs/CONTRIBUTING.md": 120, "docs/DECISIONS.md": 350}
+MOST_LINES = {"README.md": 130, "docs/CONTRIBUTING.md": 120, "docs/DECISIONS.md": 350}
 found = []
 
 

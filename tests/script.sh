@@ -81,7 +81,7 @@ is_answered() { # text, words
   [ $status -eq 0 ] && cmp -s "$work/out" "docs/help/$1" && [ ! -s "$work/err" ] || fail "ruu ${*:2}: status $status, not the text $1"
 }
 
-for of in -h --help help '--unproved --help' 'help help' 'help prove' 'prove --help'; do
+for of in -h --help help '--unproved --help' 'help help' 'help prove' 'prove --help' 'package -h'; do
   # shellcheck disable=SC2086
   is_answered ruu.txt $of
 done
@@ -116,7 +116,7 @@ for of in '' foo 'runn examples/sum.s' 'help foo' 'help ../../README' --helpp --
 done
 is_mistaken "there is no command" ''
 is_mistaken "'prove' stands alone" prove ruu
-is_mistaken "'prove' stands alone" --unproved prove
+is_mistaken "'package' stands alone" --unproved package
 echo 'the words are named where there is no such word'
 
 # a file that cannot be read: all words tell it in one form
@@ -151,7 +151,7 @@ lacks() { # line, command
   [ $status -eq 70 ] && [ ! -s "$work/out" ] && [ "$(cat "$work/err")" = "$1" ] || fail "${*:2}: status $status"
 }
 no_rt="ruu: there is no rt on the path: the Rattle kit brings it, and its pages begin at what 'rt doc' prints"
-for of in "run $work/a.s" 'check -' "chart $work/a.s --foo" "--unproved run $work/a.s" prove; do
+for of in "run $work/a.s" 'check -' "chart $work/a.s --foo" "--unproved run $work/a.s" prove package; do
   # shellcheck disable=SC2086
   lacks "$no_rt" env PATH="$bare" "$fresh/ruu" $of
 done

@@ -1,7 +1,8 @@
-/* The in-order machine of ./ruu, one instruction a call: link crates/ruu_step/out/libruu_step.a.
- * docs/REFERENCE.md tells how it is built and what is promised of it. */
+/* The in-order machine of ./ruu, one instruction a call: link libruu_step.a, or load libruu_step.so.
+ * docs/REFERENCE.md tells how they are built and what is promised of them. */
 #ifndef RUU_H
 #define RUU_H
+#define RUU_VERSION "1.0.0"
 #include <stddef.h>
 #include <stdint.h>
 #ifdef __cplusplus
