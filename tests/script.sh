@@ -178,7 +178,12 @@ done
 mkdir -p out/rlib
 case $1 in
   lib) echo > out/rlib/stamp ;;
-  run) printf '#!/bin/sh\necho "ran $*"\n' > "out/$name" && chmod +x "out/$name" && exit 3 ;;
+  run)
+    printf '#!/bin/sh\necho "ran $*"\n' > "out/$name"
+    chmod +x "out/$name"
+    echo "rt: running out/$name; to give it other input, run that file yourself"
+    exit 3
+    ;;
 esac
 END
 chmod +x "$work/path/rt"
@@ -253,7 +258,7 @@ with_kit "$fresh/ruu" run a.s
 # where a program is no longer proved, the older one is not taken for it
 touch "$fresh/crates/ruu/src/main.rt"
 with_kit env UNPROVED=ruu "$fresh/ruu" run a.s --alone
-[ $status -eq 70 ] && [ ! -e "$fresh/crates/ruu/out/ruu" ] || fail "a program that is not proved: status $status"
+[ $status -eq 70 ] && [ ! -s "$work/out" ] || fail "a program that is not proved: status $status"
 with_kit "$fresh/ruu" run a.s
 with_kit "$fresh/ruu" run a.s --alone
 
