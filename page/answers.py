@@ -1,4 +1,5 @@
 """The answers of `ruu drive`, read by their forms. An answer of another form ends the program: nothing is guessed."""
+import functools
 import re
 import sys
 
@@ -30,6 +31,8 @@ ANSWERS = {
     "Half": form(r"Half pc {pc} station {station}(?: (?P<changes>.*))?"),
     "Ended": form(r"Ended {stop}"),
     "Mended": form(r"Mended station {station} squashed {count}"),
+    "Idle": form(r"Idle"),
+    "Renewed": form(r"Renewed"),
 }
 ROW = form(r"station {station}: tag {tag} state {state} value {value}(?: unit {unit})? index {index} half {half}"
            r" predicted {predicted} " + TEXT + r"; 1 (?P<first>[^;]*); 2 (?P<second>[^;]*)")
@@ -62,7 +65,9 @@ def fields(pattern, line):
 def answer(line):
     """What a command was answered: the first word of the answer, and its fields."""
     word = line.split(" ")[0]
-    told = fields(ANSWERS[word], line) or unknown(line)
+    told = fields(ANSWERS[word], line)
+    if told is None:
+        unknown(line)
     if "woke" in told:
         told["woke"] = [int(station) for station in (told["woke"] or "").split()]
     return word, told
@@ -76,22 +81,29 @@ def operand(text):
     return {"from": told["station"], "tag": told["tag"]} if told["station"] is not None else None
 
 
+@functools.cache
+def read_line(line):
+    """A line of `table`, which many tables share: the name of its kind, and its fields."""
+    if row := fields(ROW, line):
+        row["operands"] = [operand(row.pop("first")), operand(row.pop("second"))]
+        return "row", row
+    if made := fields(CREATOR, line):
+        return "creator", made
+    return "ring", fields(RING, line) or unknown(line)
+
+
 class Table:
     """The ring as `table` tells it: a row for each station in use, who creates which register, head, tail and next pc."""
 
     def __init__(self, lines):
         self.rows, self.creators, self.ring = {}, {}, None
-        for line in lines:
-            self.take(line)
-
-    def take(self, line):
-        if row := fields(ROW, line):
-            row["operands"] = [operand(row.pop("first")), operand(row.pop("second"))]
-            self.rows[row["station"]] = row
-        elif made := fields(CREATOR, line):
-            self.creators[made["register"]] = [made["station"], made["tag"]]
-        else:
-            self.ring = fields(RING, line) or unknown(line)
+        for kind, told in map(read_line, lines):
+            if kind == "row":
+                self.rows[told["station"]] = told
+            elif kind == "creator":
+                self.creators[told["register"]] = [told["station"], told["tag"]]
+            else:
+                self.ring = told
 
     def live(self):
         """The stations in use, the oldest first."""

@@ -6,12 +6,14 @@ import sys
 
 import session
 import words
+from words import mistaken
 from layout import page_text
 from listing import Listing, lines_of
 from sentences import Teller
-from steps import gathered
+from steps import SOUGHT, gathered
 
-MOST_STEPS = 400
+NOUNS = {"blocked": "blocked load", "misprediction": "misprediction", "stale": "stale result"}
+ANSWERED = {"blocked": "Blocked ", "misprediction": " MISS ", "stale": "Stale "}
 
 
 def refuse(text):
@@ -21,12 +23,13 @@ def refuse(text):
 
 
 def check_files(asked):
-    """Looks at both files, before anything is run."""
-    try:
-        with open(asked.listing, "rb") as listing:
-            listing.read(1)
-    except OSError as error:
-        refuse(f"{asked.listing}: {error.strerror}")
+    """Looks at all files, before anything is run."""
+    for name in (asked.listing, asked.script or asked.listing):
+        try:
+            with open(name, "rb") as file:
+                file.read(1)
+        except OSError as error:
+            refuse(f"{name}: {error.strerror}")
     folder = os.path.dirname(asked.out) or "."
     if os.path.isdir(asked.out):
         refuse(f"{asked.out}: the page cannot be written: Is a directory")
@@ -36,11 +39,12 @@ def check_files(asked):
         refuse(f"{asked.out}: the page cannot be written: Permission denied")
 
 
-def tell_steps(run, listing):
+def tell_steps(run, listing, asked):
     """Puts each step into words."""
     teller = Teller(run, listing)
     for at, step in enumerate(run.steps):
-        step["words"] = teller.tell(at)
+        if at >= asked.first:
+            step["words"] = teller.tell(at)
     if run.steps[-1]["kind"] != "end":
         run.steps[-1]["words"] += " The page ends here, and the run goes on."
 
@@ -50,17 +54,43 @@ def units_of(steps):
     return sorted({step["unit"] for step in steps if "unit" in step}, key=lambda name: (len(name), name))
 
 
+def gathered_of(program, asked, script):
+    """The steps of the run in the order that the words ask for, or nothing where no answer is what `--until` looks for."""
+    commands = session.shown(session.of_words(program, asked, script), asked.last)
+    if asked.until and not any(ANSWERED[asked.until] in exchange.answer for exchange in commands):
+        return None
+    return gathered(session.with_questions(program, asked, commands), asked)
+
+
+def sought(program, asked, script):
+    """The steps of a run that ends with what `--until` looks for: where no order is given, of the first seed that shows it."""
+    is_free = not (asked.has_seed or asked.is_alone or asked.script)
+    for seed in session.SEEDS if is_free else (asked.seed,):
+        asked.seed = seed
+        run = gathered_of(program, asked, script)
+        if run and run.steps[-1]["kind"] == SOUGHT[asked.until]:
+            return run
+    where = f"{session.SEEDS[-1]} seeds" if is_free else asked.order
+    print(f"ruu: no {NOUNS[asked.until]} in steps {asked.first} to {asked.last} of {where}", file=sys.stderr)
+    sys.exit(1)
+
+
 def shown_run(program, asked):
     """All that the page shows of the run that the words ask for."""
-    commands = session.shown(session.of_seed(program, asked), MOST_STEPS)
-    run = gathered(session.with_questions(program, asked, commands))
+    script = None
+    if asked.script:
+        with open(asked.script, encoding="utf-8", errors="replace") as file:
+            script = file.read()
+    run = (sought if asked.until else gathered_of)(program, asked, script)
+    if len(run.steps) <= asked.first:
+        mistaken(f"--from is past the end: the run has the steps 0 to {len(run.steps) - 1}")
     listing = Listing(lines_of(asked.listing))
-    tell_steps(run, listing)
+    tell_steps(run, listing, asked)
     return {
-        "file": os.path.basename(asked.listing), "about": listing.about, "seed": asked.seed,
+        "file": os.path.basename(asked.listing), "about": listing.about, "order": asked.order, "first": asked.first,
         "ring": asked.ring, "queue": asked.queue, "predictor": asked.predictor,
         "units": units_of(run.steps), "names": [listing.register_name(number) for number in range(34)],
-        "listing": listing.rows, "tenants": run.tenants, "steps": run.steps,
+        "listing": listing.rows, "tenants": run.tenants, "steps": run.steps[asked.first:],
     }
 
 
@@ -75,7 +105,8 @@ def main():
     except OSError as error:
         refuse(f"{asked.out}: the page cannot be written: {error.strerror}")
     try:
-        os.write(1, os.fsencode(f"{asked.out}: {len(run['steps'])} steps\n"))
+        found = f", {asked.order}" if asked.until else ""
+        os.write(1, os.fsencode(f"{asked.out}: {len(run['steps'])} steps{found}\n"))
     except OSError as error:
         refuse(f"standard output: {error.strerror}")
 

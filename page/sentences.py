@@ -141,7 +141,7 @@ class Teller:
         told = CHANGE.fullmatch(text)
         if told["address"]:
             size, digits = STORED[operation]
-            return f"the {size} at {{{int(told['address'], 16)}}} is `0x{told['value'][-digits:]}`"
+            return f"the {size} at {{{int(told['address'], 16)}}} is {{{int(told['value'][-digits:], 16)}}}"
         register = int(told["register"]) if told["register"] else PAIR[told["name"]]
         return f"`{self.listing.register_name(register)}` is {{{registers.get(register, 0)}}}"
 
@@ -172,3 +172,9 @@ class Teller:
         else:
             words += "nothing was younger."
         return words + f" Dispatch goes on at {self.place(step['next'])}."
+
+    def rest(self, _step, _before):
+        return "Nothing is in flight. The predictor has learnt from each branch that retired, and no register has a creator."
+
+    def renew(self, _step, _before):
+        return "The unit begins anew, with the first tags. What was committed stays, and the jobs that units held are forgotten."

@@ -1,11 +1,18 @@
-"""Sessions of `ruu drive`: the commands that a seed chooses, and the questions asked between them."""
+"""Sessions of `ruu drive`: the commands of a run, by a seed, a script or the order of one thread, and the questions asked between them."""
 import subprocess
 import sys
 
 ASKED = ("table", "report")
-MOST_COMMANDS = 4000
+# How many commands a seed may choose for each step that is shown: some change nothing.
+COMMANDS_A_STEP = 10
+MOST_COMMANDS = 1000000
+# Seeds that are tried until one shows what is looked for.
+SEEDS = range(1, 201)
 # First words of the answers that show in a page; another answer says that a command changed nothing.
-TELLING = {"Let", "Job", "Finished", "Stale", "Loaded", "Blocked", "Retired", "Half", "Ended", "Mended"}
+TELLING = {"Let", "Job", "Finished", "Stale", "Loaded", "Blocked", "Retired", "Half", "Ended", "Mended", "Idle", "Renewed"}
+# Commands of a script that only ask, and those that stand for several.
+ASKING = {"help", "list", "look", "info", "creator", "touched", "operand", "link", "station", "ring", "table", "queue", "report"}
+SEVERAL = {"step", "until"}
 
 
 class Exchange:
@@ -21,11 +28,17 @@ class Exchange:
 
     @property
     def is_telling(self):
-        return self.answer.split(" ")[0] in TELLING
+        told = self.answer.split(" ")[0]
+        # a refresh is idle too, where there is no load
+        return told in TELLING and (told != "Idle" or self.word == "rest")
+
+    @property
+    def word(self):
+        return self.command.split(" ")[0]
 
 
 def exchanges(transcript):
-    """The exchanges of a transcript in which each command stands behind `> `."""
+    """The exchanges of a transcript in which each command stands after `> `."""
     found = []
     for line in transcript.splitlines():
         if line.startswith("> "):
@@ -36,11 +49,15 @@ def exchanges(transcript):
 
 
 def driven(program, words, more, script):
-    """The transcript of a session. A listing with a fault, or without a file, ends the program."""
+    """The transcript of a session. A listing with a fault, a script that has a line which is no command, or a file that cannot be
+    read ends the program."""
     command = [program, "drive", *words.of_the_unit(), "--echo", *more, "--", words.listing]
-    done = subprocess.run(command, input=script, stdout=subprocess.PIPE, stderr=None, text=True, check=False)
+    done = subprocess.run(command, input=script, stdout=subprocess.PIPE, stderr=None, text=True, errors="replace", check=False)
     if done.returncode == 2:
         print(f"{words.listing}: {done.stdout.strip()}", file=sys.stderr)
+    if done.returncode == 1:
+        wrong = next(it.answer for it in exchanges(done.stdout) if it.answer.startswith("line "))
+        print(f"ruu: {words.script}: {wrong}", file=sys.stderr)
     if done.returncode != 0:
         sys.exit(done.returncode)
     return exchanges(done.stdout)
@@ -48,22 +65,92 @@ def driven(program, words, more, script):
 
 def of_seed(program, words):
     """The commands that the seed chooses, with their answers, up to the end of the run."""
-    found = driven(program, words, ["--seed", str(words.seed), "--steps", str(MOST_COMMANDS)], "")
+    count = min(MOST_COMMANDS, COMMANDS_A_STEP * (words.last + 1))
+    found = driven(program, words, ["--seed", str(words.seed), "--steps", str(count)], "")
     return [exchange for exchange in found if exchange.command not in ASKED]
 
 
+def command_of(line, jobs):
+    """The command that one line of the answer to `step` stands for, or none. `jobs` has who holds which job."""
+    told = line.split(" ")
+    if told[0] == "Job":
+        jobs["A"] = told[2:5:2]
+        return f"claim A {told[2]}"
+    if told[0] in ("Finished", "Stale"):
+        unit = next(unit for unit, job in jobs.items() if job == told[2:5:2])
+        del jobs[unit]
+        return f"finish {unit} {told[2]}"
+    return {"Let": "turn", "Mended": "recover", "Loaded": "refresh", "Retired": "commit", "Half": "commit", "Ended": "commit"}.get(told[0])
+
+
+def note_job(exchange, jobs):
+    """Notes who holds a job after a command that stands for itself."""
+    told = exchange.answer.split(" ")
+    unit = exchange.command.split(" ")[1] if exchange.word in ("claim", "finish") else None
+    if told[0] == "Job":
+        jobs[unit] = told[2:5:2]
+    elif told[0] in ("Finished", "Stale"):
+        del jobs[unit]
+    elif told[0] == "Renewed":
+        jobs.clear()
+
+
+def one_by_one(found):
+    """Commands with their answers, each of which stands for itself: `step` and `until` are taken apart."""
+    alone, jobs = [], {}
+    for exchange in found:
+        if exchange.word in SEVERAL:
+            for line in exchange.lines:
+                if command := command_of(line, jobs):
+                    alone.append(Exchange(command))
+                    alone[-1].lines.append(line)
+        else:
+            note_job(exchange, jobs)
+            alone.append(exchange)
+    return alone
+
+
+def of_script(program, words, script):
+    """The commands of a script with their answers, up to `quit`, and without those that only ask."""
+    found = one_by_one([exchange for exchange in driven(program, words, [], script) if exchange.command])
+    ends = [at for at, exchange in enumerate(found) if exchange.word == "quit"]
+    return [exchange for exchange in found[:ends[0] if ends else None] if exchange.word not in ASKING]
+
+
+def script_in(text):
+    """The script that a text is, or the lines after `> ` of a transcript, each in its line and without its comment."""
+    lines = text.splitlines()
+    if any(line.startswith("> ") for line in lines):
+        lines = [line[2:] if line.startswith("> ") else "" for line in lines]
+    return "".join(" ".join(plain(line.partition("#")[0].split())) + "\n" for line in lines)
+
+
+def plain(words):
+    """The words of a command, with the unit's name in capital letters."""
+    return [words[0], words[1].upper(), *words[2:]] if len(words) > 1 and words[0] in ("claim", "finish") else words
+
+
+def of_words(program, words, script):
+    """The commands of the run that is asked for, with their answers."""
+    if script is not None:
+        return of_script(program, words, script_in(script))
+    if words.is_alone:
+        return of_script(program, words, f"step {words.last + 1}\n")
+    return of_seed(program, words)
+
+
 def shown(commands, most):
-    """As many of the commands as show `most` steps."""
+    """As many of the commands as show `most` steps. A load may be told several times that it is held up, and that shows once."""
     count = 0
     for at, exchange in enumerate(commands):
-        count += exchange.is_telling
+        count += exchange.is_telling and not exchange.answer.startswith("Blocked")
         if count > most:
             return commands[:at]
     return commands
 
 
 def with_questions(program, words, commands):
-    """The commands once more, with all questions before the first one and behind each that told something."""
+    """The commands once more, with all questions before the first one and after each that told something."""
     lines = [*ASKED]
     for exchange in commands:
         lines.append(exchange.command)

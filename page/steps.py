@@ -4,8 +4,10 @@ from memory_queue import origin, queue_of
 from session import ASKED
 
 KINDS = {"Let": "let", "Job": "claim", "Finished": "finish", "Stale": "stale", "Loaded": "load", "Blocked": "blocked",
-         "Retired": "retire", "Half": "retire", "Ended": "end", "Mended": "recover"}
+         "Retired": "retire", "Half": "retire", "Ended": "end", "Mended": "recover", "Idle": "rest", "Renewed": "renew"}
 FINISHED = {"DONE": "finish", "ADDR": "finish", "MISS": "miss", "STOP": "stop"}
+# What `--until` looks for.
+SOUGHT = {"blocked": "blocked", "misprediction": "miss", "stale": "stale"}
 
 
 class Gathering:
@@ -40,7 +42,7 @@ class Gathering:
         self.steps.append({"kind": "start", "command": "", "answer": "", "number": 0, "passed": [], **self.state(told)})
 
     def take(self, number, exchange, told):
-        """A command that told something, with the answers to the questions behind it."""
+        """A command that told something, with the answers to the questions after it."""
         word, found = answer(exchange.answer)
         if word == "Blocked" and self.is_known(found, Table(told["table"])):
             self.passed.append([exchange.command, exchange.answer])
@@ -136,10 +138,20 @@ class Gathering:
         self.tenants[tenant]["mend"] = at
         return {"tenant": tenant, "station": found["station"]}
 
+    def rest(self, _at, _command, _found):
+        return {}
+
+    def renew(self, _at, _command, _found):
+        """The jobs that units held are forgotten."""
+        for job in self.jobs.values():
+            self.tenants[job["tenant"]]["stale"] = len(self.steps)
+        self.jobs = {}
+        return {}
+
 
 EVENTS = {"Let": Gathering.let, "Job": Gathering.claim, "Finished": Gathering.finish, "Stale": Gathering.stale,
           "Loaded": Gathering.load, "Blocked": Gathering.block, "Retired": Gathering.retire_whole, "Half": Gathering.retire_half,
-          "Ended": Gathering.end, "Mended": Gathering.recover}
+          "Ended": Gathering.end, "Mended": Gathering.recover, "Idle": Gathering.rest, "Renewed": Gathering.renew}
 
 
 def changes(text):
@@ -148,7 +160,7 @@ def changes(text):
 
 
 def sent(before, step):
-    """The operands that waited before the step and have their value behind it."""
+    """The operands that waited before the step and have their value after it."""
     found = []
     for station, now in step["stations"].items():
         was = before["stations"].get(station)
@@ -160,8 +172,8 @@ def sent(before, step):
     return found
 
 
-def gathered(session):
-    """The steps and tenants of a session with its questions."""
+def gathered(session, words):
+    """The steps and tenants of a session with its questions, up to the last step that is asked for."""
     session = iter(session)
 
     def ask():
@@ -170,8 +182,15 @@ def gathered(session):
     run = Gathering()
     run.start(ask())
     for number, exchange in enumerate(session, 1):
+        if len(run.steps) > words.last or is_sought(run, words):
+            break
         if exchange.is_telling:
             run.take(number, exchange, ask())
         else:
             run.passed.append([exchange.command, exchange.answer])
     return run
+
+
+def is_sought(run, words):
+    """Whether the last step is what `--until` looks for."""
+    return words.until is not None and len(run.steps) > max(1, words.first) and run.steps[-1]["kind"] == SOUGHT[words.until]

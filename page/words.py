@@ -3,9 +3,14 @@ import os
 import sys
 
 MOST = 2 ** 64 - 1
-NUMBERS = {"--seed": (0, MOST), "--lsq-size": (2, 32)}
-LISTED = {"--ruu-size": ("2", "4", "8", "16"), "--bpred": ("nottaken", "taken", "bimod")}
-STANDARD = {"--seed": "1", "--ruu-size": "8", "--bpred": "bimod"}
+NUMBERS = {"--seed": (0, MOST), "--lsq-size": (2, 32), "--from": (0, 100000), "--steps": (1, 10000)}
+LISTED = {"--ruu-size": ("2", "4", "8", "16", "32"), "--bpred": ("nottaken", "taken", "bimod"),
+          "--until": ("blocked", "misprediction", "stale")}
+FILES = {"--script"}
+FLAGS = {"--alone"}
+STANDARD = {"--ruu-size": "8", "--bpred": "bimod", "--from": "0", "--steps": "2000"}
+# Each says in which order the steps come.
+ORDERS = ("--seed", "--script", "--alone")
 
 
 class Words:
@@ -13,7 +18,13 @@ class Words:
 
     def __init__(self, files, options):
         self.listing, self.out = files
-        self.seed = int(options["--seed"])
+        self.seed = int(options.get("--seed", "1"))
+        self.has_seed = "--seed" in options
+        self.script = options.get("--script")
+        self.is_alone = "--alone" in options
+        self.first = int(options["--from"])
+        self.steps = int(options["--steps"])
+        self.until = options.get("--until")
         self.ring = int(options["--ruu-size"])
         self.queue = int(options.get("--lsq-size", min(8, self.ring)))
         self.predictor = options["--bpred"]
@@ -21,6 +32,16 @@ class Words:
     def of_the_unit(self):
         """The options that `ruu drive` shares."""
         return ["--ruu-size", str(self.ring), "--lsq-size", str(self.queue), "--bpred", self.predictor]
+
+    @property
+    def last(self):
+        """How many steps of the run are looked at."""
+        return self.first + self.steps - 1
+
+    @property
+    def order(self):
+        """The order of the steps in words."""
+        return f"script {os.path.basename(self.script)}" if self.script else "the order of chart" if self.is_alone else f"seed {self.seed}"
 
 
 def mistaken(text):
@@ -31,6 +52,8 @@ def mistaken(text):
 
 def checked(name, value):
     """The value of an option, if it has one of its values."""
+    if name in FILES:
+        return value
     if name in LISTED:
         if value not in LISTED[name]:
             mistaken(f"{name} takes {', '.join(LISTED[name][:-1])} or {LISTED[name][-1]}")
@@ -39,6 +62,18 @@ def checked(name, value):
     if not (value.isascii() and value.isdigit() and len(value) <= 20 and least <= int(value) <= most):
         mistaken(f"{name} takes a number from {least} to {most}")
     return value
+
+
+def value_of(name, is_joined, value, words):
+    """The value that an option has, joined or as the next word."""
+    if name in FLAGS:
+        if is_joined:
+            mistaken(f"{name} takes no value")
+        return ""
+    value = value if is_joined else next(words, None)
+    if value is None:
+        mistaken(f"{name} takes a value")
+    return checked(name, value)
 
 
 def split(words):
@@ -51,14 +86,11 @@ def split(words):
             files.append(word)
         else:
             name, is_joined, value = word.partition("=")
-            if name not in NUMBERS and name not in LISTED:
+            if name not in NUMBERS | LISTED and name not in FILES | FLAGS:
                 mistaken(f"there is no option {name}")
             if name in options:
                 mistaken(f"{name} is given twice")
-            value = value if is_joined else next(words, None)
-            if value is None:
-                mistaken(f"{name} takes a value")
-            options[name] = checked(name, value)
+            options[name] = value_of(name, is_joined, value, words)
     return files, options
 
 
@@ -71,8 +103,12 @@ def read(words):
         mistaken("the listing is read twice, and FILE cannot be -")
     if files[1] == "-":
         mistaken("OUT.html takes a file")
-    if os.path.exists(files[1]) and os.path.exists(files[0]) and os.path.samefile(*files):
-        mistaken("OUT.html names the file of the listing")
+    for name in (files[0], options.get("--script", files[0])):
+        if os.path.exists(files[1]) and os.path.exists(name) and os.path.samefile(files[1], name):
+            mistaken(f"OUT.html names the file of the {'listing' if name == files[0] else 'script'}")
+    orders = [name for name in ORDERS if name in options]
+    if len(orders) > 1:
+        mistaken(f"{orders[0]} and {orders[1]} are two orders of steps: one of them can be given")
     found = Words(files, {**STANDARD, **options})
     if found.queue > found.ring:
         mistaken("--lsq-size is at most --ruu-size")

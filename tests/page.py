@@ -1,9 +1,10 @@
-"""Checks the page of a run against `ruu drive`: page.py LISTING PAGE SEED OPTION.. for what is in the page, and with SEEN in place of
-`-` for what a browser showed of it: page.py LISTING PAGE SEEN SEED OPTION..
+"""Checks the page of a run against `ruu drive`: page.py LISTING PAGE SEEN ORDER OPTION.., where SEEN is what a browser showed of the
+page, or `-`, and ORDER is a seed, the file of a script, or `alone`. And page.py PART WHOLE: the steps of a page are those of a
+longer one.
 
-The commands of the seed are driven once more, and behind each that is a step of the page every station, operand, register and
-commit is asked for by commands of its own: `look`, `info`, `operand`, `creator`, `ring`, `report`. Nothing of the
-page's own program is used."""
+The steps come in the order of the seed, of the script or of one thread. They are driven once more, and after each every station,
+operand, register and commit is asked for by commands of its own: `look`, `info`, `operand`, `creator`, `ring`, `report`. Nothing
+of the page's own program is used."""
 import json
 import re
 import subprocess
@@ -199,14 +200,31 @@ def check_alone(text):
             wrong(f"it asks for something else: {found[0]}")
 
 
-def check_content(page, listing, options, seed):
+SHOWN = "Let Job Finished Stale Loaded Retired Half Ended Mended".split(" ")
+
+
+def check_order(page, listing, options, order):
+    """The order of the steps: the answers are those of the seed, of the script or of turns on one thread, each once."""
+    if order.isdigit():
+        answers = drive(listing, [*options, "--seed", order, "--steps", "20000"], "")
+    elif order == "alone":
+        answers = drive(listing, options, "step 10000\n")
+    else:
+        with open(order, encoding="utf-8") as file:
+            answers = drive(listing, options, file.read())
+    told = [line for _, lines in answers for line in lines if line.split(" ")[0] in SHOWN]
+    found = [step["answer"] for step in page["steps"][1:] if step["answer"].split(" ")[0] in SHOWN]
+    same("the answers in their order", found, told[:len(found)])
+    if page["steps"][-1]["kind"] == "end":
+        same("the number of answers", len(found), len(told))
+
+
+def check_content(page, listing, options, order):
     """All that is in the page, step by step."""
+    check_order(page, listing, options, order)
     steps = page["steps"]
-    commands = [command for command, _ in drive(listing, [*options, "--seed", seed, "--steps", "4000"], "")]
-    commands = commands[:-2]  # the last two ask for a table and a report
-    for step in steps[1:]:
-        same("a command", step["command"], commands[step["number"] - 1])
-    same("all commands", len(steps) - 1 + sum(len(step["passed"]) for step in steps), steps[-1]["number"])
+    commands = [command for step in steps[1:] for command in [*(it[0] for it in step["passed"]), step["command"]]]
+    same("the number of commands", len(commands), steps[-1]["number"])
     told = asked_again(listing, options, steps, commands, page["ring"])
     for at, (step, (answer, state)) in enumerate(zip(steps, told)):
         where = f"step {at}"
@@ -276,15 +294,31 @@ def check_seen(page, told, seen, listing):
             wrong(f"{where}: no words")
 
 
+def check_part(part, whole):
+    """A page that begins later, or ends earlier, has the steps of the whole run from its first one on."""
+    (part, _), (whole, _) = read_page(part), read_page(whole)
+    begin, count = part["first"], len(part["steps"])
+    goes_on = " The page ends here, and the run goes on."
+    for at, (one, other) in enumerate(zip(part["steps"], whole["steps"][begin:]), begin):
+        same(f"step {at}", {**one, "words": one["words"].replace(goes_on, "")}, other)
+    same("whether the run goes on", part["steps"][-1]["words"].endswith(goes_on), begin + count < len(whole["steps"]))
+    for at, (one, other) in enumerate(zip(part["tenants"], whole["tenants"])):
+        same(f"tenant {at}", one, {name: value for name, value in other.items() if name in one})
+    print(f"{count} steps from step {begin} on")
+
+
 def main():
-    listing, file, seen, seed, *options = sys.argv[1:]
+    if len(sys.argv) == 3:
+        return check_part(*sys.argv[1:])
+    listing, file, seen, order, *options = sys.argv[1:]
     page, rest = read_page(file)
     check_alone(rest)
-    told = check_content(page, listing, options, seed)
+    told = check_content(page, listing, options, order)
     if seen != "-":
         with open(seen, encoding="utf-8") as text:
             check_seen(page, told, json.load(text), listing)
     print(f"{listing}: {len(told)} steps", "in the page and in the browser" if seen != "-" else "in the page")
 
 
-main()
+if __name__ == "__main__" and sys.argv[1:]:
+    main()

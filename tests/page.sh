@@ -11,10 +11,12 @@ make_page() { # words
   status=$?
 }
 
-page() { # listing, seed, options
-  local listing=$1 seed=$2
+page() { # listing, order, options
+  local listing=$1 order=(--seed "$2")
+  [ "$2" != alone ] || order=(--alone)
+  [ ! -e "$2" ] || order=(--script "$2")
   shift 2
-  make_page "$listing" "$work/page.html" --seed "$seed" "$@"
+  make_page "$listing" "$work/page.html" "${order[@]}" "$@"
   [ $status -eq 0 ] || fail "no page of $listing"
 }
 
@@ -26,7 +28,7 @@ show() { # width
   printf '<!doctype html><body style="margin:0"><iframe src="stepped.html" style="width:%spx;height:800px;border:0"></iframe><pre id="told"></pre>
     <script>onmessage = event => { document.getElementById("told").textContent = event.data; };</script>' "$1" > "$work/frame.html"
   timeout 300 chromium --headless --no-sandbox --disable-gpu --enable-logging=stderr --virtual-time-budget=60000 \
-    --user-data-dir="$work/browser" --window-size=1400,900 --dump-dom "file://$work/frame.html" > "$work/dom" 2> "$work/console"
+    --user-data-dir="$work/browser" --window-size=1960,900 --dump-dom "file://$work/frame.html" > "$work/dom" 2> "$work/console"
   ! grep -a CONSOLE "$work/console" || fail "the browser's console says something at a width of $1"
   python3 - "$work/dom" "$work/seen" << 'END' || fail "the browser at a width of $1"
 import html, json, re, sys
@@ -40,15 +42,15 @@ END
 browser=false
 ! command -v chromium > /dev/null || browser=true
 
-checked() { # listing, seed, options
+checked() { # listing, order, options
   page "$@"
   python3 -B tests/page.py "$1" "$work/page.html" - "${@:2}" || fail "the page of $1"
   "$browser" || return 0
-  for width in 1280 500 360; do
+  for width in 1920 1280 1024 500 360; do
     show $width
     python3 -B tests/page.py "$1" "$work/page.html" "$work/seen" "${@:2}" > "$work/told" || { cat "$work/told"; fail "$1 at a width of $width"; }
   done
-  echo "$1: as shown at 1280, 500 and 360 pixels"
+  echo "$1: as shown at 1920 to 360 pixels"
 }
 
 checked examples/wrong_path.s 5 --ruu-size 8 --lsq-size 8 --bpred nottaken
@@ -56,6 +58,54 @@ checked examples/forwarding.s 3 --ruu-size 16 --lsq-size 4 --bpred bimod
 checked examples/drive/square.s 2 --ruu-size 4 --lsq-size 4 --bpred taken
 "$browser" || echo 'without Chromium the pages were left out that a browser shows'
 
+# scripts of `drive`: with several calls in one command, and with a rest
+checked examples/drive/relet.s examples/drive/relet.txt --ruu-size 4
+checked examples/double.s examples/drive/steps.txt --ruu-size 2 --bpred nottaken
+printf '%s\n' turn 'claim b 0  # by a unit in small letters' table 'finish B 0' commit rest '' 'claim A 7' 'turn 0x00400000' 'until 0x00400014' quit turn > "$work/script.txt"
+checked examples/sum.s "$work/script.txt" --ruu-size 8
+printf '%s\n' 'step 9' rest renew turn commit > "$work/script.txt"
+checked examples/double.s "$work/script.txt"
+# the order of the unit on one thread
+checked examples/wrong_path.s alone --ruu-size 32 --bpred nottaken
+
+# what a seed chose, as it was written, is a script
+$drive drive examples/sum.s --ruu-size 8 --seed 7 --steps 100 < /dev/null > "$work/told.txt"
+page examples/sum.s "$work/told.txt"
+python3 -B tests/page.py examples/sum.s "$work/page.html" - 7 --ruu-size 8 --lsq-size 8 --bpred bimod || fail 'a transcript is no script'
+
+# a part of the steps, and the steps up to an event
+whole=$work/whole.html
+part() { # options
+  make_page examples/wrong_path.s "$work/page.html" --bpred nottaken "$@"
+  [ $status -eq 0 ] || fail "no page with $*"
+  python3 -B tests/page.py "$work/page.html" "$whole" || fail "a page with $*"
+}
+page examples/wrong_path.s 5 --bpred nottaken
+mv "$work/page.html" "$whole"
+part --seed 5 --from 20 --steps 30
+part --seed 5 --from 170
+part --seed 5 --steps 1
+part --seed 5 --until misprediction
+grep -q ': 40 steps, seed 5$' "$work/out" || fail 'a page up to a misprediction has other steps'
+part --seed 5 --until misprediction --from 45
+up_to() { # kind, first words of the answer, listing
+  make_page "$3" "$work/page.html" --until "$1"
+  [ $status -eq 0 ] || fail "no page up to $1"
+  seed=$(sed -n 's/.*, seed //p' "$work/out")
+  python3 -B tests/page.py "$3" "$work/page.html" - "$seed" --ruu-size 8 --lsq-size 8 --bpred bimod || fail "the page up to $1"
+  python3 -B - "$work/page.html" "$2" << 'END' || fail "the page up to $1 ends otherwise"
+import re, sys
+sys.path.insert(0, "tests")
+sys.argv, (file, form) = [""], sys.argv[1:]
+import page
+answers = [step["answer"] for step in page.read_page(file)[0]["steps"]]
+sys.exit([bool(re.match(form, answer)) for answer in answers] != [False] * (len(answers) - 1) + [True])
+END
+}
+up_to blocked 'Blocked ' examples/drive/past_a_store.s
+up_to misprediction 'Finished .* MISS ' examples/wrong_path.s
+up_to stale 'Stale ' examples/wrong_path.s
+echo 'scripts, transcripts, the order of one thread, and parts of a run'
 # what goes wrong
 says() { # status, first line on standard error, words
   local wanted=$1 line=$2
@@ -67,11 +117,22 @@ says 3 'error: page takes two files: the listing, and the page that is written' 
 says 3 'error: page takes two files: the listing, and the page that is written' examples/sum.s a b
 says 3 'error: there is no option --seeds' examples/sum.s "$work/x.html" --seeds 3
 says 3 'error: --seed takes a number from 0 to 18446744073709551615' examples/sum.s "$work/x.html" --seed=18446744073709551616
-says 3 'error: --ruu-size takes 2, 4, 8 or 16' examples/sum.s "$work/x.html" --ruu-size 32
+says 3 'error: --ruu-size takes 2, 4, 8, 16 or 32' examples/sum.s "$work/x.html" --ruu-size 64
 says 3 'error: --lsq-size is at most --ruu-size' examples/sum.s "$work/x.html" --ruu-size 4 --lsq-size 8
 says 3 'error: --bpred takes nottaken, taken or bimod' examples/sum.s "$work/x.html" --bpred gshare
 says 3 'error: --seed is given twice' examples/sum.s "$work/x.html" --seed 1 --seed 2
 says 3 'error: --seed takes a value' examples/sum.s "$work/x.html" --seed
+says 3 'error: --alone takes no value' examples/sum.s "$work/x.html" --alone=1
+says 3 'error: --seed and --alone are two orders of steps: one of them can be given' examples/sum.s "$work/x.html" --alone --seed 3
+says 3 'error: --until takes blocked, misprediction or stale' examples/sum.s "$work/x.html" --until never
+says 3 'error: --from takes a number from 0 to 100000' examples/sum.s "$work/x.html" --from -1
+says 3 'error: --from is past the end: the run has the steps 0 to 12' examples/double.s "$work/x.html" --from 13
+says 1 'ruu: no stale result in steps 0 to 1999 of 200 seeds' examples/double.s "$work/x.html" --until stale
+says 1 'ruu: no blocked load in steps 0 to 1999 of seed 4' examples/double.s "$work/x.html" --until blocked --seed 4
+printf 'turn\nfly away\n' > "$work/script.txt"
+says 1 "ruu: $work/script.txt: line 2: unknown word; help lists the commands" examples/sum.s "$work/x.html" --script "$work/script.txt"
+says 3 'error: OUT.html names the file of the script' examples/sum.s "$work/script.txt" --script "$work/script.txt"
+says 5 'ruu: nowhere.txt: No such file or directory' examples/sum.s "$work/x.html" --script nowhere.txt
 says 3 'error: the listing is read twice, and FILE cannot be -' - "$work/x.html"
 says 3 'error: OUT.html takes a file' examples/sum.s -
 says 5 'ruu: nowhere.s: No such file or directory' nowhere.s "$work/x.html"

@@ -276,6 +276,30 @@ with_kit ruu check a.s
 [ $status -eq 0 ] && [ "$(cat "$work/out")" = 'ran check a.s' ] || fail "a link on the path: status $status"
 echo 'a line tells of each crate, and all programs are built at once'
 
+# a report for people: names of registers, and values with their sign
+printf '%s\n' 'stop break' 'count 12' 'pc 0x00400030' '$t0 = -2003195205 (0x8899aabb)' '$t1 = -2003195205 (0x8899aabb)' '$t2 = -30567 (0xffff8899)' \
+  '$t3 = 43707 (0x0000aabb)' '$t4 = -86' '$t5 = -2003238725 (0x889900bb)' '$t6 = 84281096 (0x05060708)' '$t7 = -1430585344 (0xaabb0000)' \
+  'memory 0 = -2003238725 (0x889900bb)' 'memory 4 = 84281096 (0x05060708)' 'memory 8 = -1430585344 (0xaabb0000)' > "$work/wanted"
+named() { # status, words
+  ./ruu "${@:2}" > "$work/out" 2> "$work/err"
+  status=$?
+  [ $status -eq "$1" ] || fail "ruu ${*:2}: status $status"
+}
+named 0 run examples/forwarding.s --names --alone
+cmp -s "$work/out" "$work/wanted" || fail 'another report for people'
+named 0 chart --names examples/forwarding.s
+head -n 14 "$work/out" | cmp -s - "$work/wanted" && tail -n +15 "$work/out" | cmp -s - <(start chart chart examples/forwarding.s | tail -n +15) || fail 'another chart for people'
+printf '%s\n' 'addiu $t0,$zero,-3' 'addiu $t1,$zero,200' 'mult $t0,$t1' 'lui $t2,0x7fff' 'add $t2,$t2,$t2' break > "$work/stops.s"
+named 1 run --alone --names "$work/stops.s"
+[ "$(tail -n +4 "$work/out" | tr '\n' ' ')" = '$t0 = -3 $t1 = 200 $t2 = 2147418112 (0x7fff0000) LO = -600 HI = -1 ' ] || fail 'a report for people of a run that stops'
+named 2 run --names tests/listings/fault.s --alone
+named 4 run --names examples/sum.s --alone --limit 3
+named 3 check --names examples/sum.s
+named 5 run --names nowhere.s
+./ruu run --alone --names examples/sum.s > /dev/full 2> "$work/err"
+[ $? -eq 5 ] && [ "$(cat "$work/err")" = 'ruu: write' ] || fail 'a report for people that cannot be written'
+echo 'a report for people has the names of registers'
+
 # on a terminal the fault of a listing is shown after the report, where the program that shows it is built
 if command -v script > /dev/null; then
   printf 'break\n\nadu $t0,$t1,$t2\n' > "$work/fault.s"

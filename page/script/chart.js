@@ -6,13 +6,14 @@ const chart = { column: 6, row: 16 };
 
 byId('legend').innerHTML = Object.entries(LOOKS).map(([look, [colour, word, state]]) =>
   `<span class="${colour}">${glyph(look)}${word} <code>${look === 'ready' ? '' : state}</code></span>`).join('') +
-  '<span><b class="to-retire">▶</b>retires next</span><span><b class="to-come">+</b>dispatched next</span>' +
   '<span>○ dispatched</span><span><b class="to-retire">▮</b>retired</span><span>✕ squashed</span>';
 
-const left = step => (step * chart.column).toFixed(1);
-const centre = step => ((step + .5) * chart.column).toFixed(1);
+const left = step => ((step - first) * chart.column).toFixed(1);
+const centre = step => ((step - first + .5) * chart.column).toFixed(1);
 const middleOf = at => (at + .5) * chart.row;
-const endOf = tenant => tenant.retire ?? tenant.squash ?? run.steps.length;
+const endOf = tenant => tenant.retire ?? tenant.squash ?? last + 1;
+// Rows by their tenants: those that left before the page begins have none.
+const rows = run.tenants.map((tenant, number) => number).filter(number => (run.tenants[number].stale ?? endOf(run.tenants[number])) >= first);
 
 // Each state of an instruction with the step at which it began.
 function phases(tenant) {
@@ -33,22 +34,22 @@ function rowHtml(tenant, at) {
   const begun = phases(tenant), parts = [];
   begun.forEach(([from, look], place) => {
     const to = place + 1 < begun.length ? begun[place + 1][0] : endOf(tenant);
-    parts.push(phaseHtml(place ? from : from + .5, to, look, at));
+    if (to > first) parts.push(phaseHtml(Math.max(first, place ? from : from + .5), to, look, at));
   });
-  parts.push(`<circle class="entry open" cx="${centre(tenant.let)}" cy="${middleOf(at)}" r="${chart.row * .2}"/>`);
-  if (tenant.reached === 'MISS') parts.push(crossHtml(tenant.finish, at, 'miss'));
+  if (tenant.let >= first) parts.push(`<circle class="entry open" cx="${centre(tenant.let)}" cy="${middleOf(at)}" r="${chart.row * .2}"/>`);
+  if (tenant.reached === 'MISS' && tenant.finish >= first) parts.push(crossHtml(tenant.finish, at, 'miss'));
   if (tenant.retire !== undefined) {
     parts.push(`<rect class="phase done" x="${left(tenant.retire)}" y="${middleOf(at) - chart.row * .42}" width="${Math.max(chart.column, 4)}" height="${chart.row * .84}"/>`);
   }
-  if (tenant.squash !== undefined) parts.push(crossHtml(tenant.squash, at, 'free'));
+  if (tenant.squash >= first) parts.push(crossHtml(tenant.squash, at, 'free'));
   if (tenant.stale !== undefined) {
-    parts.push(`<path class="old busy" d="M${centre(tenant.squash)},${middleOf(at)}H${centre(tenant.stale)}"/>`, crossHtml(tenant.stale, at, 'busy'));
+    parts.push(`<path class="old busy" d="M${centre(Math.max(first, tenant.squash ?? tenant.claim))},${middleOf(at)}H${centre(tenant.stale)}"/>`, crossHtml(tenant.stale, at, 'busy'));
   }
   return parts.join('');
 }
 
 const turnHtml = high => run.steps.map((step, at) => step.kind === 'miss' || step.kind === 'recover' ?
-  `<rect class="turn" x="${left(at)}" y="0" width="${chart.column}" height="${high}"/>` : '').join('');
+  `<rect class="turn" x="${left(first + at)}" y="0" width="${chart.column}" height="${high}"/>` : '').join('');
 
 // A row's life in words, for who cannot see the bars.
 function lifeOf(tenant) {
@@ -57,30 +58,30 @@ function lifeOf(tenant) {
   return parts.filter(([, step]) => step !== undefined).map(([what, step]) => `${what} ${step}`).join(', ');
 }
 
-function nameHtml(tenant, at) {
-  const life = lifeOf(tenant);
-  return `<li class="code" data-row="${at}" data-step="${tenant.let}" title="station ${tenant.station}, tag ${tenant.tag}: ${life}">` +
+function nameHtml(at) {
+  const tenant = run.tenants[at], life = lifeOf(tenant);
+  return `<li class="code" data-row="${at}" data-step="${Math.max(first, tenant.let)}" title="station ${tenant.station}, tag ${tenant.tag}: ${life}">` +
     `${at} ${safe(textOf(tenant))}<span class="unseen">: steps ${life}</span></li>`;
 }
 
 function axisHtml() {
-  const marks = run.steps.map((_, at) => at % 10 ? '' : `<b data-step="${at}" style="left:${centre(at)}px">${at}</b>`);
+  const marks = run.steps.map((_, at) => first + at).map(at => at % 10 ? '' : `<b data-step="${at}" style="left:${centre(at)}px">${at}</b>`);
   return marks.join('') + '<b class="now"></b>';
 }
 
-function barsHtml(tenants) {
-  const wide = run.steps.length * chart.column + 2, high = (tenants.length + .3) * chart.row;
+function barsHtml(numbers) {
+  const wide = run.steps.length * chart.column + 2, high = (numbers.length + .3) * chart.row;
   return `<svg class="bars" width="${wide}" height="${high}" aria-hidden="true">${turnHtml(high)}` +
-    `<rect class="column" y="0" width="${Math.max(chart.column, 4)}" height="${high}"/>${tenants.map(rowHtml).join('')}` +
+    `<rect class="column" y="0" width="${Math.max(chart.column, 4)}" height="${high}"/>${numbers.map((number, at) => rowHtml(run.tenants[number], at)).join('')}` +
     `<rect class="future" y="0" width="${wide}" height="${high}"/></svg>`;
 }
 
 // The rows from one on, with names and axis of their own.
 function sheetHtml(from, count) {
-  const tenants = run.tenants.slice(from, from + count);
+  const numbers = rows.slice(from, from + count);
   return '<div class="sheet"><div class="corner">instruction / step</div>' +
     `<div class="axis" style="min-width:${run.steps.length * chart.column}px">${axisHtml()}</div>` +
-    `<ol class="names">${tenants.map((tenant, at) => nameHtml(tenant, from + at)).join('')}</ol>${barsHtml(tenants)}</div>`;
+    `<ol class="names">${numbers.map(nameHtml).join('')}</ol>${barsHtml(numbers)}</div>`;
 }
 
 function placeChart() {
@@ -89,8 +90,8 @@ function placeChart() {
   chart.row = Math.round(rem * 1.15);
   chart.column = Math.max(view.onPaper ? 1.5 : isNarrow() ? 7 : 5, Math.min(26, room / run.steps.length));
   plot.style.setProperty('--row', chart.row + 'px');
-  const count = view.onPaper ? ROWS_ON_PAPER : Math.max(1, run.tenants.length), sheets = [];
-  for (let from = 0; from === 0 || from < run.tenants.length; from += count) sheets.push(sheetHtml(from, count));
+  const count = view.onPaper ? ROWS_ON_PAPER : Math.max(1, rows.length), sheets = [];
+  for (let from = 0; from === 0 || from < rows.length; from += count) sheets.push(sheetHtml(from, count));
   plot.innerHTML = sheets.join('');
 }
 
@@ -117,7 +118,8 @@ function drawNames(step, at) {
 function scrollChart(step, at) {
   const plot = byId('plot'), wide = plot.querySelector('.names').offsetWidth;
   const oldest = step.live.length ? step.stations[step.live[0]].tenant : run.tenants.filter(tenant => tenant.let <= at).length;
-  plot.scrollTop = Math.max(0, (oldest - 1) * chart.row);
+  const row = rows.findIndex(number => number >= oldest);
+  plot.scrollTop = Math.max(0, ((row < 0 ? rows.length : row) - 1) * chart.row);
   if (plot.scrollWidth > plot.clientWidth) plot.scrollLeft = centre(at) - (plot.clientWidth - wide) / 2;
 }
 
@@ -135,5 +137,5 @@ function drawChart(step, at) {
 function stepOfClick(event) {
   const name = event.target.closest('[data-step]'), bars = event.target.closest('.bars');
   if (name) return Number(name.dataset.step);
-  return bars ? Math.floor((event.clientX - bars.getBoundingClientRect().left) / chart.column) : -1;
+  return bars ? first + Math.floor((event.clientX - bars.getBoundingClientRect().left) / chart.column) : -1;
 }

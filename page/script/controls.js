@@ -6,8 +6,9 @@ const EDGES = { let: 'open', claim: 'busy', load: 'addr', finish: 'done', retire
 const PACE = 1200;
 const timers = { play: 0, address: 0 };
 
+byId('slider').min = first;
 byId('slider').max = last;
-byId('settings').textContent = `${run.ring} stations, queue of ${run.queue}, predictor ${run.predictor}, seed ${run.seed}`;
+byId('settings').textContent = `${run.ring} stations, queue of ${run.queue}, predictor ${run.predictor}, ${run.order}`;
 byId('about').hidden = !run.about;
 byId('about').lastChild.textContent = run.about;
 byId('jumps').innerHTML = JUMPS.map(([kind, what, key]) =>
@@ -17,7 +18,7 @@ document.querySelector('main').classList.toggle('wide', run.ring > 8);
 
 // The next step of a kind in one direction, or none.
 function find(kind, direction) {
-  for (let at = view.at + direction; at >= 0 && at <= last; at += direction) if (run.steps[at].kind === kind) return at;
+  for (let at = view.at + direction; at >= first && at <= last; at += direction) if (stepAt(at).kind === kind) return at;
   return -1;
 }
 
@@ -38,7 +39,7 @@ function drawTold(step, at) {
 }
 
 function drawControls(at) {
-  byId('first').disabled = byId('back').disabled = at === 0;
+  byId('first').disabled = byId('back').disabled = at === first;
   byId('on').disabled = at === last;
   for (const button of byId('jumps').children) button.disabled = find(button.dataset.kind, 1) < 0;
   clearTimeout(timers.address);
@@ -46,7 +47,7 @@ function drawControls(at) {
 }
 
 function draw() {
-  const step = run.steps[view.at], before = view.at ? run.steps[view.at - 1] : null;
+  const step = stepAt(view.at), before = view.at > first ? stepAt(view.at - 1) : null;
   drawTold(step, view.at);
   drawListing(step, before);
   drawRing(step, before);
@@ -60,15 +61,18 @@ function draw() {
 
 function layOut() {
   const classes = document.documentElement.classList;
-  classes.remove('broad', 'middle', 'narrow', 'paper');
+  classes.remove('broad', 'middle', 'slim', 'narrow', 'paper');
   classes.add(shape());
   placeCards();
   placeChart();
   draw();
 }
 
+// The step with a number, or the first or last where there is none.
+const within = to => Math.max(first, Math.min(last, to || first));
+
 function go(to) {
-  view.at = Math.max(0, Math.min(last, to || 0));
+  view.at = within(to);
   draw();
 }
 
@@ -78,7 +82,7 @@ function play(isOn) {
   const [sign, word] = isOn ? ['❚❚', 'Pause'] : ['▶', 'Play'];
   byId('play').innerHTML = `${sign} <span class="long">${word}</span>`;
   byId('play').setAttribute('aria-label', word);
-  if (isOn && view.at === last) go(0);
+  if (isOn && view.at === last) go(first);
 }
 
 function stopAndGo(to) {
@@ -92,8 +96,8 @@ function setTheme(isDark) {
 }
 
 byId('slider').oninput = event => stopAndGo(Number(event.target.value));
-byId('first').onclick = () => stopAndGo(0);
-byId('back').onclick = () => stopAndGo(Math.max(0, view.at - 1));
+byId('first').onclick = () => stopAndGo(first);
+byId('back').onclick = () => stopAndGo(within(view.at - 1));
 byId('on').onclick = () => stopAndGo(view.at + 1);
 byId('play').onclick = () => play(!timers.play);
 byId('theme').onclick = () => setTheme(!document.documentElement.classList.contains('dark'));
@@ -113,10 +117,10 @@ function target(event) {
   const isBox = event.target.id === 'lines';
   switch (event.key) {
     case 'ArrowRight': return view.at + 1;
-    case 'ArrowLeft': return Math.max(0, view.at - 1);
+    case 'ArrowLeft': return Math.max(first, view.at - 1);
     case 'PageDown': return isBox ? undefined : view.at + 10;
-    case 'PageUp': return isBox ? undefined : Math.max(0, view.at - 10);
-    case 'Home': return isBox ? undefined : 0;
+    case 'PageUp': return isBox ? undefined : Math.max(first, view.at - 10);
+    case 'Home': return isBox ? undefined : first;
     case 'End': return isBox ? undefined : last;
     default: return undefined;
   }
@@ -146,5 +150,5 @@ addEventListener('hashchange', () => go(parseInt(location.hash.slice(1), 10)));
 const wanted = new URLSearchParams(location.search).get('theme'), system = matchMedia('(prefers-color-scheme: dark)');
 setTheme(wanted ? wanted === 'dark' : system.matches);
 system.addEventListener('change', event => setTheme(event.matches));
-view.at = Math.max(0, Math.min(last, parseInt(location.hash.slice(1), 10) || 0));
+view.at = within(parseInt(location.hash.slice(1), 10));
 layOut();

@@ -3,28 +3,31 @@
 const toPage = place => isNarrow() ? [place[1], place[0]] : place;
 const written = place => toPage(place).map(Math.round).join(',');
 
-// Each card's ends along its row, its inner edge and its middle.
+// Each card's ends along its row, its edges and its middle.
 function boxes() {
-  const ring = byId('ring').getBoundingClientRect();
-  return cards.map((card, number) => {
+  const around = byId('ring').getBoundingClientRect();
+  return cards.map(card => {
     const box = card.getBoundingClientRect();
-    const [left, top] = [box.left - ring.left, box.top - ring.top];
+    const [left, top] = [box.left - around.left, box.top - around.top];
     const [begin, extent, near, depth] = isNarrow() ? [top, box.height, left, box.width] : [left, box.width, top, box.height];
-    return { begin, extent, inner: isFirstRow(number) ? near + depth : near, middle: [begin + extent / 2, near + depth / 2] };
+    return { begin, extent, near, far: near + depth, middle: [begin + extent / 2, near + depth / 2] };
   });
 }
 
-const port = (all, number, share) => [all[number].begin + all[number].extent * share, all[number].inner];
+// On which side of a card its curve to another begins: 1 is below. In a row that is the side of the row it faces.
+const sideTo = (number, other) => Math.sign(rowOf(other) - rowOf(number)) || (isForward(number) ? 1 : -1);
+
+const port = (all, number, share, side) => [all[number].begin + all[number].extent * share, side > 0 ? all[number].far : all[number].near];
 
 // A curve from a port to another, which leaves both at right angles, with its middle.
 function curve(all, from, fromShare, to, toShare) {
-  const begin = port(all, from, fromShare), end = port(all, to, toShare);
-  const band = Math.abs(all[run.ring - 1].inner - all[0].inner), span = Math.abs(begin[0] - end[0]);
-  const reach = isFirstRow(from) === isFirstRow(to) ? Math.min(band * .95, band * .4 + span * .12) : band / 2;
-  const inward = (place, number) => [place[0], place[1] + (isFirstRow(number) ? reach : -reach)];
-  const one = inward(begin, from), two = inward(end, to);
+  const sides = [sideTo(from, to), sideTo(to, from)];
+  const begin = port(all, from, fromShare, sides[0]), end = port(all, to, toShare, sides[1]);
+  const band = all[ring.columns].near - all[0].far, span = Math.abs(begin[0] - end[0]);
+  const reach = rowOf(from) === rowOf(to) ? Math.min(band * .95, band * .4 + span * .12) : Math.abs(end[1] - begin[1]) / 2;
+  const one = [begin[0], begin[1] + sides[0] * reach], two = [end[0], end[1] + sides[1] * reach];
   const middle = [0, 1].map(axis => (begin[axis] + 3 * one[axis] + 3 * two[axis] + end[axis]) / 8);
-  return { path: `M${written(begin)}C${written(one)} ${written(two)} ${written(end)}`, begin, end, middle, comesFrom: isFirstRow(to) ? 1 : -1 };
+  return { path: `M${written(begin)}C${written(one)} ${written(two)} ${written(end)}`, begin, end, middle, leaves: sides[0], comesFrom: sides[1] };
 }
 
 // An arrow's head at the end of a curve, against the inner edge of the card.
@@ -33,8 +36,8 @@ function headHtml(found) {
   return `<path class="head" d="M${written([along, across])}L${written([along - 6, back])}L${written([along + 6, back])}z"/>`;
 }
 
-function badgeHtml(place, text, isFirst) {
-  const wide = text.length > 1 ? 28 : 17, [x, y] = toPage([place[0], place[1] + (isNarrow() ? (isFirst ? wide / 2 : -wide / 2) : 0)]);
+function badgeHtml(place, text, side) {
+  const wide = text.length > 1 ? 28 : 17, [x, y] = toPage([place[0], place[1] + (isNarrow() ? side * wide / 2 : 0)]);
   return `<rect class="badge" x="${x - wide / 2}" y="${y - 8}" width="${wide}" height="16" rx="8"/>` +
     `<text class="port" x="${x}" y="${y + 4}">${text}</text>`;
 }
@@ -44,7 +47,7 @@ const data = link => `data-kind="${link.kind}" data-from="${link.from}" data-to=
 function waitHtml(all, link) {
   const found = curve(all, link.from, OPERAND_SHARES[link.operands[0]], link.to, .8);
   const text = link.operands.map(at => 'ab'[at]).join(' ');
-  return `<g class="wait" ${data(link)}><path class="curve" d="${found.path}"/>${headHtml(found)}${badgeHtml(found.begin, text, isFirstRow(link.from))}</g>`;
+  return `<g class="wait" ${data(link)}><path class="curve" d="${found.path}"/>${headHtml(found)}${badgeHtml(found.begin, text, found.leaves)}</g>`;
 }
 
 function carriedHtml(all, link) {
@@ -86,6 +89,13 @@ function drawLinks(step) {
   drawTrack(step, all);
 }
 
+// The way from a station to the next: straight, or along the left side where the last row goes back to the first.
+function wayTo(all, number, next) {
+  const aside = run.ring === 2 ? (number ? -60 : 60) : 0, ends = [all[number].middle, all[next].middle].map(place => [place[0] + aside, place[1]]);
+  if (next !== 0 || rowOf(number) < 2) return ends;
+  return [ends[0], [5, ends[0][1]], [5, ends[1][1]], ends[1]];
+}
+
 // The way around the ring, thick where instructions in flight follow each other.
 function drawTrack(step, all) {
   const follows = (one, next) => {
@@ -93,10 +103,9 @@ function drawTrack(step, all) {
     return at >= 0 && step.live[at + 1] === next;
   };
   byId('track').innerHTML = all.map((box, number) => {
-    const next = (number + 1) % run.ring, aside = run.ring === 2 ? (number ? -60 : 60) : 0;
-    const [one, two] = [box.middle, all[next].middle].map(place => toPage([place[0] + aside, place[1]]));
+    const next = (number + 1) % run.ring, way = wayTo(all, number, next).map(toPage), live = follows(number, next) ? 'live' : '';
+    const [one, two] = way.length > 2 ? way.slice(1, 3) : way, middle = [(one[0] + two[0]) / 2, (one[1] + two[1]) / 2];
     const turn = Math.atan2(two[1] - one[1], two[0] - one[0]) * 180 / Math.PI;
-    const middle = [(one[0] + two[0]) / 2, (one[1] + two[1]) / 2], live = follows(number, next) ? 'live' : '';
-    return `<path class="${live}" d="M${one}L${two}"/><path class="arrow ${live}" transform="translate(${middle}) rotate(${turn})" d="M-4,-7L5,0L-4,7"/>`;
+    return `<path class="${live}" d="M${way.join('L')}"/><path class="arrow ${live}" transform="translate(${middle}) rotate(${turn})" d="M-4,-7L5,0L-4,7"/>`;
   }).join('');
 }

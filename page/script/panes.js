@@ -45,7 +45,7 @@ function registerHtml(number, step, before) {
 function wordHtml(address, step, before) {
   const value = step.memory[address] || 0, isChanged = before && value !== (before.memory[address] || 0);
   return `<tr class="${isChanged ? 'changed' : ''}"><th scope="row" class="code">${shown(address)}</th>` +
-    `<td class="value code">${hexadecimal(value)}</td></tr>`;
+    `<td class="value code">${shown(value)}</td></tr>`;
 }
 
 function drawState(step, before) {

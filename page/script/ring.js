@@ -1,18 +1,25 @@
-// The ring of stations: a card for each, above from left to right and below back again.
-const half = run.ring / 2;
-const isFirstRow = number => number < half;
+// The ring of stations: a card for each, in an even number of rows, from left to right and back in turn.
+const LEAST_CARD = 7.4;
+const ring = { columns: run.ring / 2 };
+const rowOf = number => Math.floor(number / ring.columns);
+const isForward = number => rowOf(number) % 2 === 0;
 const cards = Array.from({ length: run.ring }, () => {
   const card = document.createElement('div');
   card.setAttribute('role', 'listitem');
   return byId('stations').appendChild(card);
 });
 
-// On a narrow screen the cards go down on the left and up on the right.
+// On a narrow screen the cards go down on the left and up on the right; else there are as many columns as have room for words.
 function placeCards() {
-  const grid = byId('stations').style;
-  grid.gridTemplateColumns = isNarrow() ? '' : `repeat(${half}, minmax(0, 1fr))`;
+  const grid = byId('stations').style, rem = parseFloat(getComputedStyle(document.documentElement).fontSize);
+  ring.columns = run.ring / 2;
+  while (!isNarrow() && ring.columns > 4 && byId('stations').clientWidth / ring.columns < LEAST_CARD * rem) ring.columns /= 2;
+  const rows = run.ring / ring.columns, bands = Array.from({ length: rows }, () => 'auto').join(' var(--band) ');
+  grid.gridTemplateColumns = isNarrow() ? '' : `repeat(${ring.columns}, minmax(0, 1fr))`;
+  grid.gridTemplateRows = isNarrow() ? '' : bands;
+  byId('ring').classList.toggle('folded', rows > 2);
   cards.forEach((card, number) => {
-    const along = isFirstRow(number) ? number + 1 : run.ring - number, across = isFirstRow(number) ? 1 : 3;
+    const place = number % ring.columns, along = isForward(number) ? place + 1 : ring.columns - place, across = 2 * rowOf(number) + 1;
     card.style.gridArea = isNarrow() ? `${along} / ${across}` : `${across} / ${along}`;
   });
 }
@@ -28,7 +35,7 @@ function resultOf(station, tenant) {
 
 function operandHtml(operand, at, isNew) {
   if (operand === null) return '';
-  const value = awaits(operand) ? `<span class="from">← station ${operand.from}</span>` :
+  const value = awaits(operand) ? `<span class="from">← <span class="long">station </span>${operand.from}</span>` :
     `<span>${shown(operand.value)}${isNew ? ' ◂ new' : ''}</span>`;
   return `<div class="operand code${isNew ? ' new' : ''}"><i>${'ab'[at]}</i>${value}</div>`;
 }
@@ -53,7 +60,8 @@ function cardFacts(number, step, before) {
 function flagsHtml(facts) {
   const head = facts.isHead ? '<span class="to-retire">▶ head</span>' : '';
   const tail = facts.isTail ? '<span class="to-come">+ tail</span>' : '';
-  return head + tail ? `<div class="flags">${head}${tail}</div>` : '';
+  const path = facts.isWrong ? '<span class="path">wrong path</span>' : '';
+  return `<div class="flags">${head}${tail}${path}</div>`;
 }
 
 function cardHtml(facts, sent) {
@@ -64,8 +72,7 @@ function cardHtml(facts, sent) {
     `<div class="top"><b>${number}</b><span>${glyph(look)} ${facts.leaves || wordOf(look)}</span>${tag}</div>` +
     (tenant ? `<code class="text">${safe(textOf(tenant))}</code>` : '') +
     (station ? station.operands.map((operand, at) => operandHtml(operand, at, isNew(at))).join('') : '') +
-    (station ? `<div class="operand code result">${safe(resultOf(station, tenant))}</div>` : '') +
-    (facts.isWrong ? '<div class="path">wrong path</div>' : '');
+    (station ? `<div class="operand code result">${safe(resultOf(station, tenant))}</div>` : '');
 }
 
 function cardLabel(facts) {
@@ -82,7 +89,7 @@ function cardLabel(facts) {
 function drawRing(step, before) {
   cards.forEach((card, number) => {
     const facts = cardFacts(number, step, before);
-    card.className = ['card', colourOf(facts.look), isFirstRow(number) ? 'first' : 'second', facts.leaves,
+    card.className = ['card', colourOf(facts.look), isForward(number) ? 'first' : 'second', facts.leaves,
       facts.isChanged ? 'changed' : '', facts.isWrong ? 'wrong' : ''].filter(name => name).join(' ');
     card.innerHTML = cardHtml(facts, step.sent || []);
     card.setAttribute('aria-label', cardLabel(facts));

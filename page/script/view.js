@@ -6,8 +6,10 @@ for (const step of run.steps) {
   for (const name of ['creators', 'queue', 'registers', 'memory', 'jobs']) step[name] = run.parts[step[name]];
   for (const at of Object.keys(step.stations)) step.stations[at] = run.parts[step.stations[at]];
 }
-const last = run.steps.length - 1;
-const view = { at: 0, hexadecimal: false, onPaper: false };
+// Steps have their numbers in the run: a page may begin later.
+const first = run.first, last = first + run.steps.length - 1;
+const stepAt = at => run.steps[at - first];
+const view = { at: first, hexadecimal: false, onPaper: false };
 
 const MARKED = { '&': '&amp;', '<': '&lt;', '>': '&gt;', '"': '&quot;' };
 const safe = text => String(text).replace(/[&<>"]/g, mark => MARKED[mark]);
@@ -67,6 +69,6 @@ function pill(number, station) {
     `${glyph(look)}${number}<span class="unseen"> ${wordOf(look)}</span></span>`;
 }
 
-const shape = () => view.onPaper ? 'paper' : innerWidth <= 720 ? 'narrow' : innerWidth <= 1050 ? 'middle' : 'broad';
+const shape = () => view.onPaper ? 'paper' : innerWidth < 600 ? 'narrow' : innerWidth < 860 ? 'slim' : innerWidth <= 1050 ? 'middle' : 'broad';
 const isNarrow = () => shape() === 'narrow';
 const isSame = (one, other) => JSON.stringify(one) === JSON.stringify(other);
