@@ -1,4 +1,1 @@
-pub mod Left
 pub mod StandsFor
-pub mod Moves
-pub mod Runs

@@ -1,29 +1,27 @@
--- The units that the model stands for.
-use Rattle.std.specs.Prelude.{◌≡◌, is_some}
-use Rattle.std.specs.List.{AllByRecursion}
-use Rattle.inorder.specs.Committed.{ahead, ahead_by, committed}
-use Rattle.inorder.specs.Moves.{IsReached}
-use Rattle.inorder.specs.Plain.{WasPlain}
-use Rattle.inorder.specs.Steps.{IsNoRetiredStop}
-use Rattle.inorder.specs.Tenants.{IsNotLive}
-use Rattle.inorder.specs.Unit.{Sizes, UpdateUnit, front_half, half_after}
+-- The units that the model stands for, and its transition.
+use Rattle.std.specs.Prelude.{◌≡◌, Result, Ok, Err}
+use Rattle.instructions.specs.declared.stop.Stop.{Stop}
+use Rattle.inorder.specs.Plain.{IsPlain}
+use Rattle.inorder.specs.Unit.{Sizes, UpdateUnit}
+use Rattle.own_model.specs.Settled.{Settled}
+use Rattle.own_model.specs.Transitions.{Goes, HasStopped, StandsForSome}
 use Rattle.in_order_issue.specs.declared.station.OneStation.{OneStation}
 
 -- One station: one tenant can be live
 abbrev pub one : Sizes
 one = record { ring = 1; queue = 1; first_tag = 1 }
 
--- In the unit U nobody is live and no stop has retired, and the model has what U has committed
-pub record ModelStandsFor (b : OneStation) (U : UpdateUnit) : Type 0 where
-  pub nobody : AllByRecursion IsNotLive U.tenants
-  pub goes_on : AllByRecursion IsNoRetiredStop U.tenants
-  pub state : b.state ≡ committed b.program.now U.tenants
-  pub low : ahead_by b.low b.state ≡ ahead b.program.now U.tenants
-  pub half : half_after (is_some b.low) ≡ front_half b.program.now U.tenants
+-- In the unit U all have left, and the model has what they leave
+abbrev pub ModelStandsFor : OneStation → UpdateUnit → Type 0
+ModelStandsFor b U = Settled b.program.now b.state U.tenants
 
 -- The model stands for some unit that allowed steps reach, none of which speculates
-pub record ModelStandsForSome (b : OneStation) : Type 0 where
-  pub unit : UpdateUnit
-  pub reached : IsReached b.program.now one unit
-  pub plain : WasPlain reached.history
-  pub stands : ModelStandsFor b unit
+abbrev pub ModelStandsForSome : OneStation → Type 0
+ModelStandsForSome b = StandsForSome IsPlain b.program.now one (ModelStandsFor b)
+
+-- A step goes on by allowed steps that do not speculate; or they lead to a stop, and nothing changes
+abbrev pub StepGoes : Result (Unit {0}) Stop → OneStation → OneStation → Type 0
+StepGoes (Ok u) b later =
+    Goes IsPlain b.program.now one (ModelStandsFor b) (ModelStandsFor later) × (later.program ≡ b.program)
+StepGoes (Err c) b later =
+    Goes IsPlain b.program.now one (ModelStandsFor b) (HasStopped b.program.now b.state.committed c) × (later ≡ b)

@@ -1,9 +1,9 @@
 //! Whole runs.
 ghost use Rattle.std.specs.Prelude.{IfOk};
-ghost use Rattle.in_order_issue.specs.Runs.{IsInOrderEnd};
+ghost use Rattle.own_model.specs.Runs.{IsInOrderEnd};
 
 use crate::station::OneStation;
-use inorder::{one_thread_unit_is_right, several_steps_lead_on};
+use inorder::one_thread_unit_is_right;
 use instructions::{End, Ending, Memory, Program};
 use std::alloc::Global;
 
@@ -13,12 +13,11 @@ pub fn run(alloc: Global, program: &Program, limit: u64) -> Result<End, Memory>
     ensures { IfOk result (IsInOrderEnd program.now limit) }
 {
     one_thread_unit_is_right();
-    several_steps_lead_on();
     let mut unit = OneStation::new(alloc, program)?;
-    while unit.state.count() < limit {
+    while unit.state.committed.count() < limit {
         if let Err(code) = unit.step() {
-            return Ok(unit.state.into_end(Ending::Stop(code)));
+            return Ok(unit.state.committed.into_end(Ending::Stop(code)));
         }
     }
-    Ok(unit.state.into_end(Ending::Limit))
+    Ok(unit.state.committed.into_end(Ending::Limit))
 }

@@ -1,5 +1,5 @@
 use Rattle.std.proofs.Common.{◌≡◌, ◌-◌, ◌*◌, ◌≤◌}
-use Rattle.in_order_issue.specs.Moves.{halves}
+use Rattle.own_model.specs.Runs.{halves}
 use Rattle.in_order_issue.specs.StandsFor.{ModelStandsForSome}
 use Rattle.in_order_issue.proofs.runs.run.Given as goal
 
@@ -8,8 +8,8 @@ invariant-loop-unit l =
     record {
       stands : ModelStandsForSome l.unit;
       program : l.unit.program.now ≡ l.program;
-      count : l.unit.state.count ≤ l.limit;
+      count : l.unit.state.committed.count ≤ l.limit;
     }
 
 abbrev pub decreases-loop-unit : goal.decreases-loop-unit
-decreases-loop-unit l = 2 * l.limit - halves l.unit
+decreases-loop-unit l = 2 * l.limit - halves l.unit.state

@@ -1,0 +1,9 @@
+pub mod Predicted
+pub mod Sequences
+pub mod Executing
+pub mod Retiring
+pub mod Sources
+pub mod Issuing
+pub mod Pairing
+pub mod Parting
+pub mod Runs
