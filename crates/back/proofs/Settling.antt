@@ -21,6 +21,7 @@ use Rattle.inorder.specs.OneHistory.{Adds}
 use Rattle.inorder.specs.Legal.{Allowed, May, applied, changed}
 use Rattle.inorder.specs.Memory.{load_value}
 use Rattle.inorder.specs.Replies.{Has, IsStale}
+use Rattle.inorder.specs.Speculation.{CanGuess}
 use Rattle.inorder.specs.Tenants.{Done, Live, Squashed, Tenant}
 use Rattle.inorder.specs.Unit.{Sizes, UpdateUnit, older, younger}
 use Rattle.inorder.proofs.Ends.{Acted, IsNotBacks, exact}
@@ -58,7 +59,7 @@ done_on P by Finish ys t ts v m e = let x = sym e ∙ m.fate in absurd (cc x)
 done_on P by LoadIt ys t ts v m e = let x = sym e ∙ m.fate in absurd (cc x)
 done_on P by (Retire n) ys t ts v m e = e
 done_on P by Squash ys t ts v m e = e
-done_on P by (Speculate (Guess w)) ys t ts v m e = let x = sym e ∙ m.fate in absurd (cc x)
+done_on P by (Speculate (Guess w)) ys t ts v m e = absurd (subst CanGuess e m.fate)
 done_on P by (Speculate Confirm) ys t ts v m e = let x = sym e ∙ m.fate in absurd (cc x)
 done_on P by (Speculate Flush) ys t ts v m e = e
 done_on P by Mend ys t ts v m e = let x = sym e ∙ m.fate in absurd (cc x)

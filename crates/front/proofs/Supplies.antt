@@ -41,7 +41,7 @@ links_made o pc pr nx made a b st Open na nh h = h.0
 links_made o pc pr nx made a b st (Busy x) na nh h = h.0
 links_made o pc pr nx made a b st (Addr x) na nh h = absurd (na x h.1)
 links_made o pc pr nx made a b st (Done x) na nh h = h.0.2
-links_made o pc pr nx made a b st (Guessed x) na nh h = absurd (na h.0.2.0 h.0.2.1)
+links_made o pc pr nx made a b st (Guessed x) na nh h = let no = h.0 in absurd (cc no)
 links_made o pc pr nx made a b st (Miss x) na nh h = h.0
 links_made o pc pr nx made a b st (Stopped x) na nh h = absurd (nh x h.1)
 

@@ -3,7 +3,7 @@ use Rattle.std.proofs.Common.{◌≡◌, ◌≢◌, ℕ, List, Option, Some, Non
 use Rattle.instructions.specs.Programs.{Program}
 use Rattle.instructions.specs.declared.op.Kind.{Kind}
 use Rattle.instructions.specs.declared.op.Kind.TheVariants.{Computes, Jumps, Links, Loads, Stores}
-use Rattle.inorder.specs.Fates.{DoneSays, FateSays, FatesFollow, FollowsFrom}
+use Rattle.inorder.specs.Fates.{DoneSays, FateSays, FatesFollow, FollowsFrom, WasClaimed}
 use Rattle.inorder.specs.Legal.{Taken, reached}
 use Rattle.inorder.specs.Tenants.{Addr, Busy, Done, Fate, Guessed, Miss, Open, Stopped, Tenant, kind_of, missing_of}
 use Rattle.inorder.specs.Unit.{Sizes, older, younger}
@@ -35,13 +35,13 @@ none_missing Jumps (Some a) None n = absurd (no_second Jumps (Some a) (λ e. abs
 none_missing Links (Some a) None n = absurd (no_second Links (Some a) (λ e. absurd (cc)) n)
 none_missing Loads (Some a) None n = absurd (no_second Loads (Some a) (λ e. absurd (cc)) n)
 
-claimed_needs : (P : Program) (t : Tenant) (f : Fate) → f ≢ Open → FateIs P t f →
+claimed_needs : (P : Program) (t : Tenant) (f : Fate) → WasClaimed f → FateIs P t f →
     Needs (kind_of P t) t.first.value t.second.value
-claimed_needs P t Open n h = absurd (n refl)
+claimed_needs P t Open n h = absurd n
 claimed_needs P t (Busy by) n h = h.2
 claimed_needs P t (Addr a) n h = h.2
 claimed_needs P t (Done v) n h = h.1
-claimed_needs P t (Guessed x) n h = h.1
+claimed_needs P t (Guessed x) n h = absurd n
 claimed_needs P t (Miss x) n h = h.2
 claimed_needs P t (Stopped c) n h = h.2
 

@@ -34,6 +34,7 @@ pub mod Serving
 pub mod Heads
 pub mod Makers
 pub mod OneCaller
+pub mod GoesOn
 -- What only the laws of this crate cite.
 mod Theorem
 -- Runs that the check computes.

@@ -16,6 +16,7 @@ use Rattle.inorder.specs.Callers.{IsHeld}
 use Rattle.inorder.specs.Legal.{Allowed, May, MayAct, applied, change_at, changed}
 use Rattle.inorder.specs.Replies.{IsOpen}
 use Rattle.inorder.specs.Steps.{CanRetire, finished, linked, mended_as, new_tenant}
+use Rattle.inorder.specs.Speculation.{CanGuess}
 use Rattle.inorder.specs.Tenants.{Addr, Busy, Done, Fate, Guessed, Linked, Live, Miss, Open, Operand, Retired, Squashed, Standing, Stopped, Tenant, computed, instr, kind_of, operand, with_operand}
 use Rattle.inorder.specs.Unit.{Sizes, UpdateUnit, at, older, replaced, younger}
 use Rattle.inorder.proofs.Basics.{split_at}
@@ -222,7 +223,7 @@ changed_goes P by p (Retire n) ys t ts m q =
 changed_goes P by p Squash ys t ts m q =
     refated by (On p Squash) t t.fate Squashed t.made t.next (λ e. m.live) (λ v e. e) (λ l f. absurd (cc)) (λ c n b. record { fate = b.fate; stays = inr refl })
 changed_goes P by p (Speculate (Guess v)) ys t ts m q =
-    refated by (On p (Speculate (Guess v))) t (Guessed v) t.standing (Some v) t.next (λ e. e) (guess_grows P ts t v m q).made (λ l f. absurd (cc)) (λ c n b. let f = b.fate in let was = m.fate in absurd (cc))
+    refated by (On p (Speculate (Guess v))) t (Guessed v) t.standing (Some v) t.next (λ e. e) (guess_grows P ts t v m q).made (λ l f. absurd (cc)) (λ c n b. absurd (subst CanGuess b.fate m.fate))
 changed_goes P by p (Speculate Confirm) ys t ts m q =
     refated by (On p (Speculate Confirm)) t (Done _) t.standing t.made t.next (λ e. e) (λ v e. e) (λ l f. absurd (cc)) (λ c n b. let f = b.fate in let was = m.fate in absurd (cc))
 changed_goes P by p (Speculate Flush) ys t ts m q =

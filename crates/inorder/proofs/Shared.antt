@@ -14,6 +14,7 @@ use Rattle.inorder.specs.declared.history.Step.{Step}
 use Rattle.inorder.specs.declared.history.Step.TheVariants.{Let, On, Renew}
 use Rattle.inorder.specs.History.{IsLegal, IsTheirAct, IsTheirs, MayAdd, entry, unit_of}
 use Rattle.inorder.specs.Legal.{Allowed, May, applied, changed}
+use Rattle.inorder.specs.Plain.{IsPlainAct}
 use Rattle.inorder.specs.Steps.{finished, mended_as}
 use Rattle.inorder.specs.Tenants.{Done, Guessed, Miss, Tenant, computed}
 use Rattle.inorder.specs.Unit.{Sizes, UpdateUnit, at, older, younger}
@@ -22,7 +23,7 @@ use Rattle.inorder.proofs.Grows.{all_grows}
 use Rattle.inorder.proofs.Kept.{parts}
 use Rattle.inorder.proofs.Positions.{all_at}
 
-abbrev IsNoGuess : Tenant → Type 0
+abbrev pub IsNoGuess : Tenant → Type 0
 IsNoGuess t = (v : ℕ) → t.fate ≢ Guessed v
 
 finish_guesses_not : (t : Tenant) (o : Outcome) → IsNoGuess (finished t o)
@@ -36,7 +37,18 @@ finish_guesses_not t (Address a) v e = cc e
 finish_guesses_not t (Stops c) v e = cc e
 finish_guesses_not t (Pair l h) v e = cc e
 
-act_guesses_not : (P : Program) (by : ℕ) (act : Act) (ys : List Tenant) (t : Tenant) (ts : List Tenant) → IsTheirAct by act → May P by act ys t ts → IsNoGuess t → IsNoGuess (changed P by act t ts)
+theirs_plain : (by : ℕ) (act : Act) → IsTheirAct by act → IsPlainAct act
+theirs_plain by (Link k) w = tt
+theirs_plain by (Deliver k) w = tt
+theirs_plain by Claim w = tt
+theirs_plain by Finish w = tt
+theirs_plain by Load w = tt
+theirs_plain by (Retire n) w = tt
+theirs_plain by Squash w = tt
+theirs_plain by Mend w = tt
+theirs_plain by (Speculate s) w = absurd w
+
+pub act_guesses_not : (P : Program) (by : ℕ) (act : Act) (ys : List Tenant) (t : Tenant) (ts : List Tenant) → IsPlainAct act → May P by act ys t ts → IsNoGuess t → IsNoGuess (changed P by act t ts)
 act_guesses_not P by (Link First) ys t ts w m n = n
 act_guesses_not P by (Link Second) ys t ts w m n = n
 act_guesses_not P by (Deliver First) ys t ts w m n = n
@@ -57,7 +69,7 @@ step_guesses_not P C U by (On p act) w a all =
     let t = a.tenant in
     let t' = changed P by act t (older us p) in
     subst (AllByRecursion IsNoGuess) (sym (parts P us by p act t a.is))
-    (all_grows IsNoGuess t t' (older us p) (younger us p) (act_guesses_not P by act (younger us p) t (older us p) w a.may) (subst (AllByRecursion IsNoGuess) (split_at us p t a.is) all))
+    (all_grows IsNoGuess t t' (older us p) (younger us p) (act_guesses_not P by act (younger us p) t (older us p) (theirs_plain by act w) a.may) (subst (AllByRecursion IsNoGuess) (split_at us p t a.is) all))
 step_guesses_not P C U by Renew w a all = all
 
 module _ (P : Program) (C : Sizes) where

@@ -44,7 +44,7 @@ FateBy k o pc predicted next made a b st (Addr q) = (made ≡ None) × (o ≡ Ad
 FateBy k o pc predicted next made a b st (Done v) = DoneBy o pc next made v k × Needs k a b
 FateBy k o pc predicted next made a b st (Miss x) = (made ≡ made_at_let k pc) × (o ≡ Next x) × Needs k a b
 FateBy k o pc predicted next made a b st (Guessed v) =
-    ((k ≡ Loads) × (made ≡ Some v) × ((q : ℕ) × (o ≡ Address q))) × Needs k a b
+    (k ≡ Loads) × (made ≡ Some v)
 FateBy k o pc predicted next made a b st (Stopped c) =
     (st ≢ Retired → made ≡ None) × (o ≡ Stops c) × Needs k a b
 

@@ -1,5 +1,5 @@
 -- What the fate of a tenant says of its outcome, of what it made and of where it goes on.
-use Rattle.std.specs.Prelude.{◌≡◌, ◌≢◌, ℕ, ◌<◌, List, length, Some, None}
+use Rattle.std.specs.Prelude.{◌≡◌, ⊤, ℕ, ◌<◌, List, length, Some, None}
 use Rattle.instructions.specs.Instruction.{pc_plus_4}
 use Rattle.instructions.specs.Programs.{Program, address}
 use Rattle.instructions.specs.declared.op.Kind.{Kind}
@@ -7,7 +7,7 @@ use Rattle.instructions.specs.declared.op.Kind.TheVariants.{Computes, Jumps, Lin
 use Rattle.instructions.specs.declared.stop.Outcome.TheVariants.{Address, Next, Stop as Stops, Value}
 use Rattle.instructions.specs.declared.stop.Stop.{Stop}
 use Rattle.inorder.specs.Legal.{AreAllowed, Taken, reached}
-use Rattle.inorder.specs.Tenants.{Addr, Done, Miss, Open, Operand, Stopped, Tenant, computed, computed_next, kind_of, missing}
+use Rattle.inorder.specs.Tenants.{Addr, Done, Fate, Guessed, Miss, Open, Operand, Stopped, Tenant, computed, computed_next, kind_of, missing}
 use Rattle.inorder.specs.Unit.{Sizes, at, older, value_of}
 
 -- A tenant of each kind that is done with v: its outcome, and what it made
@@ -18,6 +18,12 @@ DoneSays P t v Links = (computed P t ≡ Next v) × (t.made ≡ Some (pc_plus_4 
 DoneSays P t v Loads = ((a : ℕ) × (computed P t ≡ Address a)) × (t.made ≡ Some v)
 DoneSays P t v Stores = ⊥
 
+-- A tenant of this fate was claimed; one that has guessed need not be
+abbrev pub WasClaimed : Fate → Type 0
+WasClaimed Open = ⊥
+WasClaimed (Guessed v) = ⊥
+WasClaimed _ = ⊤
+
 -- What each fate says
 pub record FateSays (P : Program) (t : Tenant) : Type 0 where
   pub address : (a : ℕ) → t.fate ≡ Addr a → computed P t ≡ Address a
@@ -26,7 +32,7 @@ pub record FateSays (P : Program) (t : Tenant) : Type 0 where
   pub miss : (x : ℕ) → t.fate ≡ Miss x → computed P t ≡ Next x
   pub stop : (c : Stop) → t.fate ≡ Stopped c → computed P t ≡ Stops c
   -- one that was claimed had its needed sources, and each delivered value is what its creator made
-  pub claimed : t.fate ≢ Open → missing P t ≡ None
+  pub claimed : WasClaimed t.fate → missing P t ≡ None
 
 -- Each delivered value is what the source's creator has made
 abbrev pub HasItsValue : List Tenant → Operand → Type 0

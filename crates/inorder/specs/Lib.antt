@@ -25,4 +25,5 @@ pub mod Callers
 pub mod Answered
 pub mod Moves
 pub mod Plain
+pub mod Progress
 pub mod Still

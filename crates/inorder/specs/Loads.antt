@@ -16,7 +16,7 @@ use Rattle.inorder.specs.Committed.{committed}
 use Rattle.inorder.specs.Legal.{AreAllowed, Taken, reached}
 use Rattle.inorder.specs.Memory.{raw_at}
 use Rattle.inorder.specs.Steps.{MayLoad}
-use Rattle.inorder.specs.Tenants.{Addr, Done, Fate, Guessed, Live, Tenant, computed, instr, is_live_access, kind_of}
+use Rattle.inorder.specs.Tenants.{Addr, Done, Fate, Live, Tenant, computed, instr, is_live_access, kind_of}
 use Rattle.inorder.specs.Unit.{Sizes, at, older}
 use Rattle.lsq.specs.Bytes.{little_endian}
 use Rattle.lsq.specs.LastStores.{CannotGive}
@@ -47,11 +47,10 @@ access_entry op address content =
       content = content;
     }
 
--- The address, once it was computed; a load keeps it when it has guessed or is done
+-- The address, once it was computed; a load keeps it when it is done, and one that has guessed shows none
 abbrev pub address_by : Kind → Fate → Outcome → Option ℕ
 address_by k (Addr a) o = Some a
 address_by Loads (Done v) (Address a) = Some a
-address_by Loads (Guessed v) (Address a) = Some a
 address_by k f o = None
 
 -- The data of a store

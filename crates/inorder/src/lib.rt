@@ -8,6 +8,7 @@ mod guards;
 pub mod history;
 mod laws;
 mod machine;
+mod progress;
 mod ring;
 mod speculation;
 
@@ -27,6 +28,7 @@ pub use laws::{
     several_steps_lead_on, stations_follow, values_are_words, what_is_past_is_past,
 };
 pub use machine::{Ended, Machine, Stepped};
+pub use progress::{a_unit_is_never_stuck, acts_run_out};
 pub use ring::wrapped;
 pub use speculation::{
     a_done_load_is_sure, a_flush_restores, a_guess_does_not_retire,

@@ -21,6 +21,7 @@ use Rattle.inorder.specs.History.{entry, front, IsLegal, MayAdd, own, unit_of}
 use Rattle.inorder.specs.OneHistory.{Adds}
 use Rattle.inorder.specs.Legal.{Allowed, May, applied, changed}
 use Rattle.inorder.specs.Replies.{Has, JobFields, job_of, needed}
+use Rattle.inorder.specs.Speculation.{CanGuess}
 use Rattle.inorder.specs.Steps.{CanRetire, new_tenant}
 use Rattle.inorder.specs.Tenants.{Tenant, kind_of, missing_of, needs, operand_value}
 use Rattle.inorder.specs.Unit.{Sizes, UpdateUnit, at, older, younger}
@@ -79,7 +80,7 @@ held_by P by id Finish ys t ts n m h = absurd (n refl)
 held_by P by id Load ys t ts n m h = let f = m.fate in let g = h.fate in absurd (cc (sym f ∙ g))
 held_by P by id (Retire r) ys t ts n m h = absurd (subst (CanRetire (kind_of P t) t.second.value) h.fate m.can)
 held_by P by id Squash ys t ts n m h = record { fate = h.fate; stays = inr refl }
-held_by P by id (Speculate (Guess v)) ys t ts n m h = let f = m.fate in let g = h.fate in absurd (cc (sym f ∙ g))
+held_by P by id (Speculate (Guess v)) ys t ts n m h = absurd (subst CanGuess h.fate m.fate)
 held_by P by id (Speculate Confirm) ys t ts n m h = let f = m.fate in let g = h.fate in absurd (cc (sym f ∙ g))
 held_by P by id (Speculate Flush) ys t ts n m h = record { fate = h.fate; stays = inr refl }
 held_by P by id Mend ys t ts n m h = let f = m.fate in let g = h.fate in absurd (cc (sym f ∙ g))

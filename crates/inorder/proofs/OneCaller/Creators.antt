@@ -89,7 +89,7 @@ early_made o pc pr nx made a b st Open na nh h = λ e. let no : None ≡ Some (p
 early_made o pc pr nx made a b st (Busy x) na nh h = λ e. let no : None ≡ Some (pc_plus_4 pc) = sym e ∙ h.0 in absurd (cc)
 early_made o pc pr nx made a b st (Addr x) na nh h = absurd (na x h.1)
 early_made o pc pr nx made a b st (Done x) na nh h = λ e. let no : None ≡ Some (pc_plus_4 pc) = sym e ∙ h.0.2 in absurd (cc)
-early_made o pc pr nx made a b st (Guessed x) na nh h = absurd (na h.0.2.0 h.0.2.1)
+early_made o pc pr nx made a b st (Guessed x) na nh h = let no = h.0 in absurd (cc no)
 early_made o pc pr nx made a b st (Miss x) na nh h = λ e. let no : None ≡ Some (pc_plus_4 pc) = sym e ∙ h.0 in absurd (cc)
 early_made o pc pr nx made a b st (Stopped x) na nh h = absurd (nh x h.1)
 

@@ -1,5 +1,5 @@
 -- A load that is done though older stores have no address yet: it guesses the value that they cannot change, and is confirmed.
-use Rattle.std.proofs.Common.{◌≡◌, ℕ, List, [], ◌∷◌, ◌++◌, length, Some, refl}
+use Rattle.std.proofs.Common.{◌≡◌, ℕ, List, [], ◌∷◌, ◌++◌, length, None, Some, refl}
 use Rattle.std.specs.List.{AllByRecursion}
 use Rattle.instructions.specs.Operations.{loaded}
 use Rattle.instructions.specs.Programs.{Program}
@@ -13,7 +13,7 @@ use Rattle.inorder.specs.Moves.{Leads, with_tenants}
 use Rattle.inorder.specs.Speculation.{MayConfirm, MayGuess, guessed}
 use Rattle.inorder.specs.Steps.{IsNoRetiredStop}
 use Rattle.inorder.specs.Still.{AreStill}
-use Rattle.inorder.specs.Tenants.{Done, Tenant, computed, instr}
+use Rattle.inorder.specs.Tenants.{Done, Tenant, computed, instr, missing}
 use Rattle.inorder.specs.Unit.{Sizes, UpdateUnit}
 use Rattle.inorder.proofs.OneCaller.Execution.{ActRun, act_run}
 use Rattle.inorder.proofs.OneCaller.Middle.{allowed_middle, changed_middle}
@@ -24,9 +24,9 @@ abbrev pub pass_steps : List Tenant → ℕ → List Step
 pass_steps ts v = On (length ts) (Speculate Confirm) ∷ On (length ts) (Speculate (Guess v)) ∷ []
 
 pub passed_run : (P : Program) (C : Sizes) (by : ℕ) (U : UpdateUnit) (ys : List Tenant) (t : Tenant) (ts : List Tenant) → IsSound P (ys ++ t ∷ ts) → AreStill (ys ++ t ∷ ts) →
-    AllByRecursion IsNoRetiredStop (ys ++ t ∷ ts) → (v a bytes : ℕ) → MayGuess P t v → computed P t ≡ Address a → sure_raw_at P ts (instr P t) a ≡ Some bytes →
+    AllByRecursion IsNoRetiredStop (ys ++ t ∷ ts) → (v a bytes : ℕ) → MayGuess P t v → missing P t ≡ None → computed P t ≡ Address a → sure_raw_at P ts (instr P t) a ≡ Some bytes →
     v ≡ loaded (instr P t).op bytes → ActRun P C by U ys t (record t { fate = Done v; made = Some v }) ts (pass_steps ts v)
-passed_run P C by U ys t ts s h ns v a bytes m computes read right =
+passed_run P C by U ys t ts s h ns v a bytes m needs computes read right =
     act_run P C by U ys t u ts (pass_steps ts v) s h ns m.live (record { standing = refl; first = refl; second = refl; free = tt }) both
   where
     u : Tenant
@@ -37,7 +37,7 @@ passed_run P C by U ys t ts s h ns v a bytes m computes read right =
         (allowed_middle P C by U (Speculate (Guess v)) ys t ts m) (changed_middle P C by U (Speculate (Guess v)) ys t ts)
 
     may : MayConfirm P ts (guessed t v)
-    may = record { live = m.live; v = v; fate = refl; a = a; computes = computes; bytes = bytes; read = read; right = right }
+    may = record { live = m.live; v = v; fate = refl; needs = needs; a = a; computes = computes; bytes = bytes; read = read; right = right }
 
     confirm : Leads P C by (with_tenants U (ys ++ guessed t v ∷ ts)) (On (length ts) (Speculate Confirm) ∷ []) (with_tenants U (ys ++ u ∷ ts))
     confirm = leads_once P C by (with_tenants U (ys ++ guessed t v ∷ ts)) (with_tenants U (ys ++ u ∷ ts)) (On (length ts) (Speculate Confirm))

@@ -15,7 +15,8 @@ use Rattle.inorder.specs.declared.history.Supply.TheVariants.{From, Known}
 use Rattle.inorder.specs.Legal.{Allowed, AreAllowed, May, Taken, reached}
 use Rattle.inorder.specs.Memory.{raw_at, sure_raw_at}
 use Rattle.inorder.specs.Steps.{CanRetire, HasAddress, IsNoRetiredStop, MayLet, MaySupply}
-use Rattle.inorder.specs.Tenants.{Addr, Done, Fate, IsNotLive, Live, Miss, Retired, Squashed, Standing, Stopped, Tenant, computed, instr, is_live, is_live_access, kind_of, missing, operand}
+use Rattle.inorder.specs.Speculation.{CanGuess}
+use Rattle.inorder.specs.Tenants.{Addr, Done, Fate, IsNotLive, Live, Miss, Open, Retired, Squashed, Standing, Stopped, Tenant, computed, instr, is_live, is_live_access, kind_of, missing, operand}
 use Rattle.inorder.specs.Unit.{Sizes, UpdateUnit, at, creator, front_half, front_pc, how_many, is_old, next_station, older, recent, value_of, younger}
 use Rattle.inorder.proofs.Runs.Decided.{all, equal, has_address, has_left, if_some_is, if_true, is_address, is_apart, is_busy, is_false, is_guess, is_less, is_linked, is_miss, is_unlinked, links_not, loads, none_of}
 use Rattle.inorder.proofs.Runs.Decided.{some_is, some_of, stands_live, stays_open, stores_not, then}
@@ -84,6 +85,11 @@ can_retire k second (Stopped c) = Some tt
 can_retire Stores (Some n) (Addr a) = Some (refl, (n, refl))
 can_retire k second f = None
 
+abbrev pub can_guess : (f : Fate) → Option (CanGuess f)
+can_guess Open = Some tt
+can_guess (Addr a) = Some tt
+can_guess f = None
+
 -- An act
 
 abbrev pub may : (P : Program) (by : ℕ) (act : Act) (ys : List Tenant) (t : Tenant) (ts : List Tenant) → Option (May P by act ys t ts)
@@ -123,14 +129,15 @@ may P by (Speculate (Guess v)) ys t ts =
     then (is_less v (2 ^ 32)) (λ small.
     then (stands_live t.standing) (λ live.
     then (loads (kind_of P t)) (λ kind.
-    then (has_address t.fate) (λ a. Some (record { small = small; live = live; kind = kind; a = a.0; fate = a.1 })))))
+    then (can_guess t.fate) (λ fate. Some (record { small = small; live = live; kind = kind; fate = fate })))))
 may P by (Speculate Confirm) ys t ts =
     then (stands_live t.standing) (λ live.
     then (is_guess t.fate) (λ v.
+    then (none_of (missing P t)) (λ needs.
     then (is_address (computed P t)) (λ a.
     then (some_of (sure_raw_at P ts (instr P t) a.0)) (λ b.
     then (equal v.0 (loaded (instr P t).op b.0)) (λ right.
-    Some (record { live = live; v = v.0; fate = v.1; a = a.0; computes = a.1; bytes = b.0; read = b.1; right = right }))))))
+    Some (record { live = live; v = v.0; fate = v.1; needs = needs; a = a.0; computes = a.1; bytes = b.0; read = b.1; right = right })))))))
 may P by (Speculate Flush) ys t ts =
     then (stands_live t.standing) (λ live. then (none_live ys) (λ youngest. Some (record { live = live; youngest = youngest })))
 may P by Mend ys t ts =

@@ -1,5 +1,5 @@
 -- Speculation, as whole legal runs: a wrong guess is flushed and replayed, a load takes its value past a store of unknown
--- address, and all that is live is flushed where nothing is a miss.
+-- address, all that is live is flushed where nothing is a miss, and a value is guessed before its address.
 use Rattle.std.proofs.Common.{◌≡◌, List, [], ◌∷◌, replicate, refl}
 use Rattle.instructions.specs.Operations.{checked_address, computed_by, jump_target, loaded}
 use Rattle.instructions.specs.Programs.{Program, instr_at}
@@ -210,3 +210,52 @@ counts_committed : committed counts (reached counts four_stations went_on).tenan
     record { registers = 0 ∷ 2 ∷ replicate 32 0; memory = []; pc = 0x00400008; count = 2 }
 unfolding instr_at computed_by jump_target checked_address loaded
 counts_committed = refl
+
+-- A guess before the address
+
+-- .space 4 / addiu $1,$0,0 / lw $2,0($1) / addu $3,$2,$2 / break
+abbrev pub waits : Program
+waits =
+    program_with (instr Addiu 1 0 0 0 ∷ instr Lw 2 1 0 0 ∷ instr Addu 3 2 2 0 ∷ instr Break 0 0 0 0 ∷ [])
+    (replicate 4 0)
+
+-- The load guesses 0 while its base waits, and the sum is made of it
+abbrev pub foreseen : List Taken
+foreseen =
+    taken 2 (On 2 Finish) ∷
+    taken 2 (On 2 Claim) ∷
+    taken 2 (On 2 (Deliver Second)) ∷
+    taken 2 (On 2 (Deliver First)) ∷
+    taken 2 (On 1 (Speculate (Guess 0))) ∷
+    taken 0 (On 2 (Link Second)) ∷
+    taken 0 (On 2 (Link First)) ∷
+    taken 0 (Let 2 0x40000c From From) ∷
+    taken 0 (On 1 (Link First)) ∷
+    taken 0 (Let 1 0x400008 From (Known 0)) ∷
+    taken 0 (Let 0 0x400004 (Known 0) (Known 0)) ∷
+    []
+
+foreseen_allowed : AreAllowed waits four_stations foreseen
+unfolding instr_at computed_by jump_target checked_address loaded
+foreseen_allowed = given (are_allowed waits four_stations foreseen) refl
+
+-- The base is made and delivered: the guess is the word at the address, and all retire in order
+abbrev pub came_true : List Taken
+came_true =
+    taken 1 (On 2 (Retire 0)) ∷
+    taken 1 (On 1 (Retire 0)) ∷
+    taken 1 (On 0 (Retire 0)) ∷
+    taken 1 (On 1 (Speculate Confirm)) ∷
+    taken 2 (On 1 (Deliver First)) ∷
+    taken 2 (On 0 Finish) ∷
+    taken 2 (On 0 Claim) ∷
+    foreseen
+
+came_true_allowed : AreAllowed waits four_stations came_true
+unfolding instr_at computed_by jump_target checked_address loaded
+came_true_allowed = given (are_allowed waits four_stations came_true) refl
+
+waits_committed : committed waits (reached waits four_stations came_true).tenants ≡
+    record { registers = replicate 34 0; memory = replicate 4 0; pc = 0x0040000c; count = 3 }
+unfolding instr_at computed_by jump_target checked_address loaded
+waits_committed = refl

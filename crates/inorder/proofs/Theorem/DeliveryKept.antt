@@ -155,7 +155,7 @@ first_fate k o o' pc pr nx made w b st Open h = h
 first_fate k o o' pc pr nx made w b st (Busy by) h = absurd (no_first k b h.2)
 first_fate k o o' pc pr nx made w b st (Addr a) h = absurd (no_first k b h.2)
 first_fate k o o' pc pr nx made w b st (Done a) h = absurd (no_first k b h.1)
-first_fate k o o' pc pr nx made w b st (Guessed a) h = absurd (no_first k b h.1)
+first_fate k o o' pc pr nx made w b st (Guessed a) h = h
 first_fate k o o' pc pr nx made w b st (Miss a) h = absurd (no_first k b h.2)
 first_fate k o o' pc pr nx made w b st (Stopped a) h = absurd (no_first k b h.2)
 
@@ -179,7 +179,7 @@ second_others k o o' pc pr nx made a w st Open n h = h
 second_others k o o' pc pr nx made a w st (Busy by) n h = absurd (no_second k a n h.2)
 second_others k o o' pc pr nx made a w st (Addr q) n h = absurd (no_second k a n h.2)
 second_others k o o' pc pr nx made a w st (Done q) n h = absurd (no_second k a n h.1)
-second_others k o o' pc pr nx made a w st (Guessed q) n h = absurd (no_second k a n h.1)
+second_others k o o' pc pr nx made a w st (Guessed q) n h = h
 second_others k o o' pc pr nx made a w st (Miss q) n h = absurd (no_second k a n h.2)
 second_others k o o' pc pr nx made a w st (Stopped q) n h = absurd (no_second k a n h.2)
 

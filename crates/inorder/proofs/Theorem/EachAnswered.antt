@@ -110,7 +110,7 @@ stop_or_not t = go t.standing t.fate refl refl
     go Retired (Miss x) e g = goes_on (Miss x) g (λ c x. cc x)
     go Retired (Stopped c) e g = inl (record { code = c; standing = e; fate = g })
 
-find_stop : (ts : List Tenant) → StopAt ts ⊎ AllByRecursion IsNoRetiredStop ts
+pub find_stop : (ts : List Tenant) → StopAt ts ⊎ AllByRecursion IsNoRetiredStop ts
 find_stop [] = inr tt
 find_stop (t ∷ ts) = ⊎_elim
     (λ (s : StopAt ts). inl (record { p = s.p; tenant = s.tenant; is = at_more t ts s.p s.tenant s.is; stop = s.stop }))
