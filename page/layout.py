@@ -4,7 +4,7 @@ import json
 import os
 
 HERE = os.path.dirname(os.path.abspath(__file__))
-SCRIPTS = ("view", "listing", "ring", "links", "panes", "chart", "controls")
+SCRIPTS = ("view", "listing", "follow", "ring", "links", "panes", "chart", "controls")
 # Parts of a step that many steps share.
 SHARED = ("creators", "queue", "registers", "memory", "jobs")
 
@@ -30,14 +30,26 @@ def text_of(*path):
         return file.read()
 
 
+def filled(name, fields):
+    """A template with its fields."""
+    begin, *rest = text_of(name).split("{{")
+    return begin + "".join(fields[field] + text for field, text in (part.split("}}", 1) for part in rest))
+
+
 def page_text(run):
     """The whole page. No text of a run can end its script."""
     steps, parts = pooled(run["steps"])
-    fields = {
+    return filled("page.html", {
         "TITLE": html.escape(run["file"]),
         "STYLE": text_of("style.css"),
         "RUN": compact({**run, "steps": steps, "parts": parts}).replace("<", "\\u003c"),
         "SCRIPT": "\n".join(text_of("script", name + ".js") for name in SCRIPTS),
-    }
-    before, *rest = text_of("page.html").split("{{")
-    return before + "".join(fields[name] + behind for name, behind in (part.split("}}", 1) for part in rest))
+    })
+
+
+def pair_text(one, other):
+    """Two pages side by side, in one file."""
+    return filled("pair.html", {
+        "TITLE": html.escape(one["file"]), "ONE": html.escape(page_text(one)), "OTHER": html.escape(page_text(other)),
+        "FIRST": html.escape(one["order"]), "SECOND": html.escape(other["order"]),
+    })

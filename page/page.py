@@ -7,7 +7,7 @@ import sys
 import session
 import words
 from words import mistaken
-from layout import page_text
+from layout import page_text, pair_text
 from listing import Listing, lines_of
 from sentences import Teller
 from steps import SOUGHT, gathered
@@ -87,7 +87,7 @@ def shown_run(program, asked):
     listing = Listing(lines_of(asked.listing))
     tell_steps(run, listing, asked)
     return {
-        "file": os.path.basename(asked.listing), "about": listing.about, "order": asked.order, "first": asked.first,
+        "file": os.path.basename(asked.listing), "about": listing.about, "order": asked.order, "first": asked.first, "quiz": asked.is_quiz,
         "ring": asked.ring, "queue": asked.queue, "predictor": asked.predictor,
         "units": units_of(run.steps), "names": [listing.register_name(number) for number in range(34)],
         "listing": listing.rows, "tenants": run.tenants, "steps": run.steps[asked.first:],
@@ -99,14 +99,15 @@ def main():
     asked = words.read(rest)
     check_files(asked)
     run = shown_run(program, asked)
+    other = None if asked.beside is None else shown_run(program, asked.other())
     try:
         with open(asked.out, "w", encoding="utf-8", errors="replace") as out:
-            out.write(page_text(run))
+            out.write(page_text(run) if other is None else pair_text(run, other))
     except OSError as error:
         refuse(f"{asked.out}: the page cannot be written: {error.strerror}")
     try:
-        found = f", {asked.order}" if asked.until else ""
-        os.write(1, os.fsencode(f"{asked.out}: {len(run['steps'])} steps{found}\n"))
+        count = f"{len(run['steps'])} steps" + ("" if other is None else f" beside {len(other['steps'])}")
+        os.write(1, os.fsencode(f"{asked.out}: {count}" + (f", {asked.order}" if asked.until else "") + "\n"))
     except OSError as error:
         refuse(f"standard output: {error.strerror}")
 

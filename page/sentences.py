@@ -75,47 +75,46 @@ class Teller:
     def let(self, step, _before):
         now = step["stations"][step["station"]]
         rest = awaited(now)
-        words = f"Station {step['station']} takes {self.code(step['tenant'])} from line {self.line(step['tenant'])}."
+        words = f"{self.code(step['tenant'])} of line {self.line(step['tenant'])} is dispatched into station {step['station']}."
         if rest:
-            words += f" The instruction waits for {stations(rest)}."
+            words += f" It waits for {stations(rest)}."
         elif any(now["operands"]):
             words += " All its operands are there."
         if self.operation(step["tenant"]) in GUESSED:
-            words += f" The guess is that {self.place(now['predicted'])} comes next."
+            words += f" The prediction is that {self.place(now['predicted'])} comes next."
         return words
 
     def claim(self, step, _before):
         needed = step["stations"][step["station"]]["operands"]
         values = ["{%d}" % it["value"] for it in needed if it and "value" in it]
-        return (f"Unit {step['unit']} starts on station {step['station']}: {self.code(step['tenant'])}" +
-                (f" with {listed(values)}." if values else "."))
+        return (f"{self.code(step['tenant'])} in station {step['station']} is issued to unit {step['unit']}" +
+                (f", with {listed(values)}." if values else "."))
+
+    def writeback(self, step):
+        return f"Unit {step['unit']} finishes {self.code(step['tenant'])} in station {step['station']}"
 
     def finish(self, step, _before):
-        code, operation = self.code(step["tenant"]), self.operation(step["tenant"])
-        begin = f"Unit {step['unit']} is through with station {step['station']}: "
+        operation, begin = self.operation(step["tenant"]), self.writeback(step)
         if step["state"] == "ADDR":
-            return begin + (f"{code} will write at address {{{step['value']}}}, and not before it retires."
-                            if operation.startswith("s") else
-                            f"{code} reads at address {{{step['value']}}}. What stands there is still to be found.")
+            return begin + (f": it will write at address {{{step['value']}}}, and not before it retires." if operation.startswith("s") else
+                            f": it reads at address {{{step['value']}}}, and has no value yet.")
         if operation in JUMPS:
             link = " and makes the return address" if operation.endswith("al") or operation == "jalr" else ""
-            return begin + f"{code} goes to {self.place(step['value'])}, as foreseen{link}." + self.woken(step)
-        return begin + f"{code} makes {{{step['value']}}}." + self.woken(step)
+            return begin + f": it goes to {self.place(step['value'])}, as predicted{link}." + self.woken(step)
+        return begin + f": the result is {{{step['value']}}}." + self.woken(step)
 
     def miss(self, step, _before):
-        return (f"Unit {step['unit']} is through with station {step['station']}: {self.code(step['tenant'])} goes to "
-                f"{self.place(step['value'])}. The guess was wrong, and all that is younger is on a wrong path.")
+        return (f"{self.writeback(step)}: it goes to {self.place(step['value'])}. "
+                "The prediction was wrong, and all that is younger is on a wrong path.")
 
     def stop(self, step, _before):
-        code = self.code(step["tenant"])
-        begin = f"Unit {step['unit']} is through with station {step['station']}: {code} "
         if self.operation(step["tenant"]) == "break":
-            return begin + "ends the run as soon as it retires, if it ever does."
-        return begin + "is at fault. That counts only if the instruction retires."
+            return self.writeback(step) + ": it ends the run as soon as it retires, if it ever does."
+        return self.writeback(step) + ": it is at fault. That counts only if it retires."
 
     def stale(self, step, _before):
         job = self.run.tenants[step["tenant"]]
-        return (f"Unit {step['unit']} comes back with {self.code(step['tenant'])}, which had station {job['station']} "
+        return (f"Unit {step['unit']} finishes {self.code(step['tenant'])}, which had station {job['station']} "
                 f"under tag {job['tag']} and was squashed. The result is stale, and changes nothing.")
 
     def load(self, step, _before):
@@ -128,12 +127,12 @@ class Teller:
         store = step["stations"][step["store"]]
         data = store["operands"][1]
         if store["state"] in ("OPEN", "BUSY"):
-            why = "nobody knows yet where that one writes"
+            why = "its address is not known yet"
         elif data and "from" in data:
-            why = "nobody knows yet what that one writes"
+            why = "its data is not known yet"
         else:
-            why = "that one writes only some of the bytes, and has to reach memory first"
-        return (f"The load in station {step['station']}, {self.code(step['tenant'])}, is held up by the older store in "
+            why = "it writes only some of the bytes, and has to reach memory first"
+        return (f"The load in station {step['station']}, {self.code(step['tenant'])}, is blocked by the older store in "
                 f"station {step['store']}, {self.code(store['tenant'])}: {why}.")
 
     def change(self, text, operation, registers):
@@ -166,7 +165,7 @@ class Teller:
 
     def recover(self, step, _before):
         gone = step["squashed"]
-        words = f"Recovery behind station {step['station']}: "
+        words = f"Recovery after station {step['station']}: "
         if gone:
             words += f"{len(gone)} younger instruction{'s are' if len(gone) > 1 else ' is'} squashed, in {stations(gone)}."
         else:

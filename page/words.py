@@ -1,13 +1,14 @@
 """The words of `ruu page`: the two files and the options, or a mistake that is told with status 3."""
+import copy
 import os
 import sys
 
 MOST = 2 ** 64 - 1
-NUMBERS = {"--seed": (0, MOST), "--lsq-size": (2, 32), "--from": (0, 100000), "--steps": (1, 10000)}
+NUMBERS = {"--seed": (0, MOST), "--beside": (0, MOST), "--lsq-size": (2, 32), "--from": (0, 100000), "--steps": (1, 10000)}
 LISTED = {"--ruu-size": ("2", "4", "8", "16", "32"), "--bpred": ("nottaken", "taken", "bimod"),
           "--until": ("blocked", "misprediction", "stale")}
 FILES = {"--script"}
-FLAGS = {"--alone"}
+FLAGS = {"--alone", "--quiz"}
 STANDARD = {"--ruu-size": "8", "--bpred": "bimod", "--from": "0", "--steps": "2000"}
 # Each says in which order the steps come.
 ORDERS = ("--seed", "--script", "--alone")
@@ -22,6 +23,8 @@ class Words:
         self.has_seed = "--seed" in options
         self.script = options.get("--script")
         self.is_alone = "--alone" in options
+        self.is_quiz = "--quiz" in options
+        self.beside = int(options["--beside"]) if "--beside" in options else None
         self.first = int(options["--from"])
         self.steps = int(options["--steps"])
         self.until = options.get("--until")
@@ -32,6 +35,12 @@ class Words:
     def of_the_unit(self):
         """The options that `ruu drive` shares."""
         return ["--ruu-size", str(self.ring), "--lsq-size", str(self.queue), "--bpred", self.predictor]
+
+    def other(self):
+        """The words of the page beside this one: its order is another seed."""
+        other = copy.copy(self)
+        other.seed, other.script, other.is_alone = self.beside, None, False
+        return other
 
     @property
     def last(self):
@@ -109,6 +118,8 @@ def read(words):
     orders = [name for name in ORDERS if name in options]
     if len(orders) > 1:
         mistaken(f"{orders[0]} and {orders[1]} are two orders of steps: one of them can be given")
+    if "--beside" in options and "--until" in options:
+        mistaken("--until ends one run, and takes no --beside")
     found = Words(files, {**STANDARD, **options})
     if found.queue > found.ring:
         mistaken("--lsq-size is at most --ruu-size")

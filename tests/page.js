@@ -43,13 +43,61 @@
     }
   }
 
-  const steps = JSON.parse(text('#run')).steps;
+  // Texts that are cut or lie over each other. A pane may scroll up and down, the queue and the chart sideways too; a long name in
+  // the chart has all of it in its title. The bar of the steps lies over a page that is higher than the window.
+  const FRAMES = '.card, #units li, #queue li, td, th, button, #told, header, .pane';
+  const clips = element => ['auto', 'hidden', 'scroll', 'clip'].includes(getComputedStyle(element).overflowX);
+  function shownTexts() {
+    const walker = document.createTreeWalker(document.body, NodeFilter.SHOW_TEXT), found = [];
+    for (let node = walker.nextNode(); node; node = walker.nextNode()) {
+      const element = node.parentElement, range = document.createRange();
+      if (!node.data.trim() || !element.checkVisibility({ contentVisibilityAuto: true }) || element.closest('script, style, svg, select, dialog, .unseen, #steps')) continue;
+      range.selectNodeContents(node);
+      for (const box of range.getClientRects()) if (box.width > 1 && box.height > 1) found.push({ element, words: node.data.trim(), box });
+    }
+    return found;
+  }
+  function cutIn({ element, box }) {
+    for (let at = element; at && at !== document.body; at = at.parentElement) {
+      const frame = at.getBoundingClientRect(), isScrolled = at.matches('#plot, #queue');
+      if (at.matches('.names li') && at.title || isScrolled || element.closest('.axis')) return false;
+      const isWide = box.left < frame.left - 1 || box.right > frame.right + 1;
+      const isHigh = box.top < frame.top - 1 || box.bottom > frame.bottom + 1;
+      if (at.matches(FRAMES) && !element.closest('.flags') && (isWide || isHigh && !clips(at) && !at.querySelector('#lines'))) return at.id || at.className || at.tagName;
+      if (clips(at)) return isWide && at.id;
+    }
+    return false;
+  }
+  function clipped({ element, box }) {
+    let [left, top, right, bottom] = [box.left, box.top, box.right, box.bottom];
+    for (let at = element; at; at = at.parentElement) {
+      if (!clips(at) || at === document.body || at === document.documentElement) continue;
+      const frame = at.getBoundingClientRect();
+      [left, top, right, bottom] = [Math.max(left, frame.left), Math.max(top, frame.top), Math.min(right, frame.right), Math.min(bottom, frame.bottom)];
+    }
+    return [left, top, right, bottom];
+  }
+  function placed(where) {
+    const texts = shownTexts();
+    for (const it of texts) if (cutIn(it)) faults.push(`${where}: ${it.words.slice(0, 30)} is cut in ${cutIn(it)}`);
+    const boxes = texts.filter(it => !it.element.closest('.axis, .corner')).map(it => [it, clipped(it)]).filter(([, [left, top, right, bottom]]) => right - left > 2 && bottom - top > 2);
+    boxes.forEach(([one, a], at) => {
+      for (const [other, b] of boxes.slice(at + 1)) {
+        if (Math.min(a[2], b[2]) - Math.max(a[0], b[0]) > 2 && Math.min(a[3], b[3]) - Math.max(a[1], b[1]) > 4) {
+          faults.push(`${where}: ${one.words.slice(0, 30)} lies over ${other.words.slice(0, 30)}`);
+        }
+      }
+    });
+  }
+
+  const page = JSON.parse(text('#run')), steps = page.steps;
   const last = Number(count().split('/')[1]);
   const at = () => Number(count().split('/')[0]);
   press('Home');
   want('Home', at() === 0);
   for (let step = 0; step <= last; step++) {
     seen.push(look());
+    if (innerWidth >= 1024 && faults.length < 20) placed(`step ${step}`);
     if (/NaN|undefined|null/.test(document.querySelector('main').textContent + document.querySelector('#links').innerHTML)) faults.push(`step ${step}: no value`);
     press('ArrowRight');
   }
@@ -73,6 +121,75 @@
   press(' ');
   want('pause', text('#play').includes('Play'));
 
+  if (innerWidth >= 1280) {
+    const plot = document.getElementById('plot').getBoundingClientRect(), bar = document.getElementById('steps').getBoundingClientRect();
+    want('the chart is in sight', plot.bottom <= bar.top && plot.height > 100 || page.ring === 32);
+  }
+
+  // what is followed: by a click on a station, a line, a register, an entry of the queue or a row, and by keys
+  if (!page.quiz) {
+    const followed = () => Number(text('#followed').match(/^Followed: (\d+)/)?.[1] ?? -1);
+    const clickOn = it => it?.dispatchEvent(new MouseEvent('click', { bubbles: true }));
+    const middle = steps.findIndex(step => step.live.length > 1);
+    location.hash = '#' + middle;
+    dispatchEvent(new Event('hashchange'));
+    const holder = steps[middle].live[0], tenant = page.parts[steps[middle].stations[holder]].tenant;
+    clickOn(all('.card')[holder]);
+    want('a click on a station follows', followed() === tenant && all('.card')[holder].classList.contains('followed'));
+    want('what is followed is marked once', all('.card.followed').length === 1 && all('.names .followed').length === 1 && all('#lines .followed').length === 1);
+    clickOn(all('.card')[holder]);
+    want('a second click follows none', followed() === -1 && !all('.followed').length);
+    clickOn(all('.names li')[tenant]);
+    want('a click on a row follows', followed() === tenant);
+    press('Escape');
+    want('Escape follows none', followed() === -1);
+    clickOn(document.querySelector(`#lines [data-pc="${page.tenants[tenant].pc}"]`));
+    want('a click on a line follows', page.tenants[followed()]?.pc === page.tenants[tenant].pc);
+    press('Escape');
+    const made = all('#registers tr').find(row => row.querySelector('.pill'));
+    if (made) {
+      clickOn(made);
+      want('a click on a register follows', all('.card.followed .top b').map(it => it.textContent).join() === made.querySelector('.pill').textContent.match(/\d+/)[0]);
+      press('Escape');
+    }
+    const entry = document.querySelector('#queue [data-tenant]');
+    if (entry) {
+      clickOn(entry);
+      want('a click on the queue follows', followed() === Number(entry.dataset.tenant));
+      press('Escape');
+    }
+    press('f');
+    want('key f', followed() === steps[middle].tenant);
+    press('n', { shiftKey: true });
+    press('n');
+    want('key n', steps[at()].tenant === followed());
+    press('.');
+    press(',');
+    want('keys . and ,', followed() === steps[middle].tenant);
+    if (innerWidth >= 1024) placed('followed');
+    press('Escape');
+  }
+  press('?');
+  want('the keys are told', document.getElementById('keys').open && all('#keys dt').length > 9);
+  want('the keys are in sight', document.getElementById('keys').getBoundingClientRect().bottom <= innerHeight || innerWidth < 600);
+  press('?');
+  const pace = document.getElementById('pace');
+  press('+');
+  want('key +', Number(pace.value) === 600);
+  press('-');
+  want('key -', Number(pace.value) === 1200);
+  if (page.quiz) {
+    press('Home');
+    press('ArrowRight');
+    const isCovered = () => !document.getElementById('words').textContent.includes('dispatched') && !text('#command') &&
+      all('#plot text, #plot li, .bars').every(it => getComputedStyle(it).visibility === 'hidden');
+    want('sentence and chart are covered', isCovered());
+    press('q');
+    want('key q shows them', !isCovered() && text('#command'));
+    press('ArrowRight');
+    want('the next step is covered', isCovered());
+  }
+
   const slider = document.getElementById('slider');
   slider.value = Math.min(5, last);
   slider.dispatchEvent(new Event('input', { bubbles: true }));
@@ -86,7 +203,7 @@
   const spills = it => it.clientWidth < 90 || it.scrollWidth > it.clientWidth;
   want('no card too small for its words', !all('.card').some(spills));
   want('no sideways scroll', document.documentElement.scrollWidth <= innerWidth);
-  want('each control is reached by keys', all('button, input, summary').every(it => it.tabIndex >= 0));
+  want('each control is reached by keys', all('button, input, select, summary').every(it => it.tabIndex >= 0));
 
   const kinds = new Map(steps.map((step, number) => [step.kind, number]));
   const isDark = () => document.documentElement.classList.contains('dark');
@@ -95,6 +212,7 @@
       location.hash = '#' + number;
       dispatchEvent(new Event('hashchange'));
       readable(`${kind}, ${isDark() ? 'dark' : 'light'}`);
+      if (innerWidth >= 1024 && faults.length < 20) placed(`${kind}, ${isDark() ? 'dark' : 'light'}`);
     }
     document.getElementById('theme').click();
   }

@@ -1,7 +1,8 @@
 #!/usr/bin/env bash
 # Pages of runs: what is in the pages of three examples is what `ruu drive` tells by other questions, and no page asks for anything
-# from elsewhere. Where headless Chromium is, each page is stepped through in it by keys, at three widths: what stands there
-# is compared too, each text can be read, and the console says nothing. Mistakes have their words and their status.
+# from elsewhere. Where headless Chromium is, each page is stepped through in it by keys, at several widths: what stands there
+# is compared too, each text can be read, none is cut or lies over another, and the console says nothing. Mistakes have their words
+# and their status.
 . "$(dirname "$0")/common.bash"
 build run drive
 drive=crates/drive/out/drive
@@ -20,16 +21,23 @@ page() { # listing, order, options
   [ $status -eq 0 ] || fail "no page of $listing"
 }
 
-# What a browser showed of the page at a width, into the file `seen`. The console has to be silent.
+# What a browser makes of a page. The console has to be silent.
+browse() { # page
+  timeout 300 chromium --headless --no-sandbox --disable-gpu --enable-logging=stderr --virtual-time-budget=60000 \
+    --user-data-dir="$work/browser" --window-size=1960,1200 --dump-dom "file://$1" > "$work/dom" 2> "$work/console"
+  ! grep -a CONSOLE "$work/console" || fail "the browser's console says something"
+}
+
+# What a browser showed of the page at a width, into the file `seen`.
 show() { # width
-  local begin='<pre id="told">'
+  local height=800
+  [ "$1" -ne 1024 ] || height=768
+  [ "$1" -ne 1920 ] || height=1080
   cp "$work/page.html" "$work/stepped.html"
   { echo '<script>' && cat tests/page.js && echo '</script>'; } >> "$work/stepped.html"
-  printf '<!doctype html><body style="margin:0"><iframe src="stepped.html" style="width:%spx;height:800px;border:0"></iframe><pre id="told"></pre>
-    <script>onmessage = event => { document.getElementById("told").textContent = event.data; };</script>' "$1" > "$work/frame.html"
-  timeout 300 chromium --headless --no-sandbox --disable-gpu --enable-logging=stderr --virtual-time-budget=60000 \
-    --user-data-dir="$work/browser" --window-size=1960,900 --dump-dom "file://$work/frame.html" > "$work/dom" 2> "$work/console"
-  ! grep -a CONSOLE "$work/console" || fail "the browser's console says something at a width of $1"
+  printf '<!doctype html><body style="margin:0"><iframe src="stepped.html" style="width:%spx;height:%spx;border:0"></iframe><pre id="told"></pre>
+    <script>onmessage = event => { document.getElementById("told").textContent = event.data; };</script>' "$1" "$height" > "$work/frame.html"
+  browse "$work/frame.html"
   python3 - "$work/dom" "$work/seen" << 'END' || fail "the browser at a width of $1"
 import html, json, re, sys
 found = re.search(r'<pre id="told">(.*?)</pre>', open(sys.argv[1], encoding="utf-8").read(), re.S)
@@ -46,19 +54,21 @@ checked() { # listing, order, options
   page "$@"
   python3 -B tests/page.py "$1" "$work/page.html" - "${@:2}" || fail "the page of $1"
   "$browser" || return 0
-  for width in 1920 1280 1024 500 360; do
+  for width in $widths; do
     show $width
     python3 -B tests/page.py "$1" "$work/page.html" "$work/seen" "${@:2}" > "$work/told" || { cat "$work/told"; fail "$1 at a width of $width"; }
   done
-  echo "$1: as shown at 1920 to 360 pixels"
+  echo "$1: as shown at ${widths// /, } pixels"
 }
 
+widths='1920 1280 1024 500 360'
 checked examples/wrong_path.s 5 --ruu-size 8 --lsq-size 8 --bpred nottaken
 checked examples/forwarding.s 3 --ruu-size 16 --lsq-size 4 --bpred bimod
 checked examples/drive/square.s 2 --ruu-size 4 --lsq-size 4 --bpred taken
 "$browser" || echo 'without Chromium the pages were left out that a browser shows'
 
 # scripts of `drive`: with several calls in one command, and with a rest
+widths='1280 500'
 checked examples/drive/relet.s examples/drive/relet.txt --ruu-size 4
 checked examples/double.s examples/drive/steps.txt --ruu-size 2 --bpred nottaken
 printf '%s\n' turn 'claim b 0  # by a unit in small letters' table 'finish B 0' commit rest '' 'claim A 7' 'turn 0x00400000' 'until 0x00400014' quit turn > "$work/script.txt"
@@ -106,6 +116,46 @@ up_to blocked 'Blocked ' examples/drive/past_a_store.s
 up_to misprediction 'Finished .* MISS ' examples/wrong_path.s
 up_to stale 'Stale ' examples/wrong_path.s
 echo 'scripts, transcripts, the order of one thread, and parts of a run'
+# colours, a quiz, and two runs side by side: each is the page that it would be alone, and a key does the same in both
+python3 -B tests/colours.py || fail 'colours that are hard to tell apart'
+page examples/forwarding.s 3 --quiz
+! $browser || show 1280
+make_page examples/forwarding.s "$work/pair.html" --seed 3 --beside 7 --bpred taken
+[ "$(cat "$work/out")" = "$work/pair.html: 63 steps beside 61" ] || fail 'two runs are told otherwise'
+for seed in 3 7; do
+  page examples/forwarding.s $seed --bpred taken
+  mv "$work/page.html" "$work/$seed.html"
+done
+if $browser; then
+  cat >> "$work/pair.html" << 'END'
+<pre id="told"></pre><script>setTimeout(() => {
+  for (const key of ["ArrowRight", "ArrowRight", "r"]) document.body.dispatchEvent(new KeyboardEvent("keydown", { key, bubbles: true }));
+  document.getElementById("told").textContent = views().map(view => view.document.getElementById("count").textContent).join(", ");
+}, 3000);</script>
+END
+  browse "$work/pair.html"
+fi
+python3 -B - "$work/pair.html" "$work/3.html" "$work/7.html" "$browser" "$work/dom" << 'END' || fail 'two runs side by side'
+import html, re, sys
+sys.path.insert(0, "tests")
+(pair, *alone, has_browser, dom), sys.argv = sys.argv[1:], [""]
+import page
+text, pages = open(pair, encoding="utf-8").read(), [open(it, encoding="utf-8").read() for it in alone]
+page.check_alone(re.sub("http-equiv", "", html.unescape(text)).replace("srcdoc", ""))
+if [html.unescape(it) for it in re.findall(r'srcdoc="([^"]*)"', text)] != pages:
+    sys.exit("a page beside another is not the page alone")
+runs = [page.read_page(it)[0] for it in alone]
+ends = [[sorted(run["steps"][-1][part].items()) for part in ("registers", "memory")] for run in runs]
+if ends[0] != ends[1] or [it["answer"] for it in runs[0]["steps"]] == [it["answer"] for it in runs[1]["steps"]]:
+    sys.exit("two orders of steps have not the same end")
+if has_browser == "true":
+    retired = [next(at for at, step in enumerate(run["steps"]) if at > 2 and step["kind"] == "retire") for run in runs]
+    wanted = ", ".join(f"{at} / {len(run['steps']) - 1}" for at, run in zip(retired, runs))
+    if f'<pre id="told">{wanted}</pre>' not in open(dom, encoding="utf-8").read():
+        sys.exit(f"keys do not lead to the steps {wanted}")
+END
+echo 'the colours of the states, a quiz and two runs side by side'
+
 # what goes wrong
 says() { # status, first line on standard error, words
   local wanted=$1 line=$2
@@ -122,6 +172,7 @@ says 3 'error: --lsq-size is at most --ruu-size' examples/sum.s "$work/x.html" -
 says 3 'error: --bpred takes nottaken, taken or bimod' examples/sum.s "$work/x.html" --bpred gshare
 says 3 'error: --seed is given twice' examples/sum.s "$work/x.html" --seed 1 --seed 2
 says 3 'error: --seed takes a value' examples/sum.s "$work/x.html" --seed
+says 3 'error: --until ends one run, and takes no --beside' examples/sum.s "$work/x.html" --until stale --beside 3
 says 3 'error: --alone takes no value' examples/sum.s "$work/x.html" --alone=1
 says 3 'error: --seed and --alone are two orders of steps: one of them can be given' examples/sum.s "$work/x.html" --alone --seed 3
 says 3 'error: --until takes blocked, misprediction or stale' examples/sum.s "$work/x.html" --until never

@@ -60,7 +60,7 @@ function lifeOf(tenant) {
 
 function nameHtml(at) {
   const tenant = run.tenants[at], life = lifeOf(tenant);
-  return `<li class="code" data-row="${at}" data-step="${Math.max(first, tenant.let)}" title="station ${tenant.station}, tag ${tenant.tag}: ${life}">` +
+  return `<li class="code" data-row="${at}" title="station ${tenant.station}, tag ${tenant.tag}: ${life}">` +
     `${at} ${safe(textOf(tenant))}<span class="unseen">: steps ${life}</span></li>`;
 }
 
@@ -110,7 +110,7 @@ function drawNames(step, at) {
   const live = new Set(step.live.map(number => step.stations[number].tenant));
   for (const name of byId('plot').querySelectorAll('.names li')) {
     const row = Number(name.dataset.row), tenant = run.tenants[row];
-    name.className = 'code ' + (live.has(row) ? 'live' : tenant.squash <= at ? 'squashed' : tenant.retire <= at ? 'past' : '');
+    name.className = 'code' + kinOf(row) + ' ' + (live.has(row) ? 'live' : tenant.squash <= at ? 'squashed' : tenant.retire <= at ? 'past' : '');
   }
 }
 
@@ -133,9 +133,16 @@ function drawChart(step, at) {
   scrollChart(step, at);
 }
 
+// The instruction that a click on a name or on a bar means, or none.
+function rowOfClick(event) {
+  const name = event.target.closest('[data-row]'), bar = event.target.closest('.phase');
+  if (name) return Number(name.dataset.row);
+  return bar ? rows[Math.floor((event.clientY - bar.closest('.bars').getBoundingClientRect().top) / chart.row)] : -1;
+}
+
 // The step that a click into the chart means, or none.
 function stepOfClick(event) {
-  const name = event.target.closest('[data-step]'), bars = event.target.closest('.bars');
-  if (name) return Number(name.dataset.step);
+  const mark = event.target.closest('[data-step]'), bars = event.target.closest('.bars');
+  if (mark) return Number(mark.dataset.step);
   return bars ? first + Math.floor((event.clientX - bars.getBoundingClientRect().left) / chart.column) : -1;
 }

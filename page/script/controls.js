@@ -3,7 +3,13 @@ const JUMPS = [['miss', 'misprediction', 'm'], ['stale', 'stale result', 's'], [
   ['load', 'load', 'l'], ['retire', 'retirement', 'r']].filter(([kind]) => run.steps.some(step => step.kind === kind));
 const EDGES = { let: 'open', claim: 'busy', load: 'addr', finish: 'done', retire: 'done', end: 'done', stop: 'stop',
   miss: 'miss', recover: 'miss', stale: 'miss', blocked: 'miss' };
-const PACE = 1200;
+// Milliseconds between two steps, and how the page names that speed.
+const PACES = [[2400, '½'], [1200, '1'], [600, '2'], [300, '4'], [100, '12']];
+const KEYS = [['→ ←', 'a step on, a step back'], ['Page Down, Page Up', 'ten steps'], ['Home, End', 'first and last step'],
+  ['space', 'play, pause'], ['+ −', 'speed of Play'], ...JUMPS.map(([, what, key]) => [key, `next ${what}; with Shift the one before`]),
+  ['f', 'follow the instruction of this step'], [', .', 'follow the instruction before it, after it'],
+  ['n', 'next step of what is followed; with Shift the one before'], ['Esc', 'follow none'], ['h', 'hexadecimal'], ['d', 'dark'],
+  ...(run.quiz ? [['q', 'show what is covered']] : []), ['?', 'these keys']];
 const timers = { play: 0, address: 0 };
 
 byId('slider').min = first;
@@ -15,6 +21,10 @@ byId('jumps').innerHTML = JUMPS.map(([kind, what, key]) =>
   `<button data-kind="${kind}" aria-label="Next ${what}" title="Next ${what}: key ${key}, with Shift the one before">` +
   `<span aria-hidden="true">▶▶ <span class="long">${what}</span><span class="short">${kind}</span></span> <kbd aria-hidden="true">${key}</kbd></button>`).join('');
 document.querySelector('main').classList.toggle('wide', run.ring > 8);
+byId('pace').innerHTML = PACES.map(([pace, name]) => `<option value="${pace}"${name === '1' ? ' selected' : ''}>${name}×</option>`).join('');
+byId('keys').innerHTML = '<h2>Keys</h2><dl>' + KEYS.map(([key, what]) => `<dt>${key}</dt><dd>${what}</dd>`).join('') +
+  '</dl><p>A click on a station, line, register, queue entry, unit or row follows that instruction.</p>';
+byId('cover').hidden = !run.quiz;
 
 // The next step of a kind in one direction, or none.
 function find(kind, direction) {
@@ -28,10 +38,16 @@ function passedHtml(passed) {
   return `<details><summary>${count}</summary>` + passed.map(([command, answer]) => `<code>${safe(command)} → ${safe(answer)}</code>`).join('<br>') + '</details>';
 }
 
+// For a quiz sentence, command and chart are covered until a key shows them.
+function drawCover() {
+  document.documentElement.classList.toggle('covered', !view.isShown);
+  byId('cover').setAttribute('aria-pressed', view.isShown);
+}
+
 function drawTold(step, at) {
-  byId('told').className = EDGES[step.kind] || '';
-  byId('words').innerHTML = inHtml(step.words);
-  byId('command').innerHTML = step.command ? `<p title="${safe(step.answer)}"><code>${safe(step.command)}</code> ` +
+  byId('told').className = view.isShown ? EDGES[step.kind] || '' : '';
+  byId('words').innerHTML = view.isShown ? inHtml(step.words) : 'What did this step do, and why could it? <kbd>q</kbd> shows it.';
+  byId('command').innerHTML = step.command && view.isShown ? `<p title="${safe(step.answer)}"><code>${safe(step.command)}</code> ` +
     `<span aria-hidden="true">→</span> <code>${safe(step.answer)}</code></p>${passedHtml(step.passed)}` : '';
   byId('slider').value = at;
   byId('slider').setAttribute('aria-valuetext', `step ${at} of ${last}`);
@@ -43,12 +59,15 @@ function drawControls(at) {
   byId('on').disabled = at === last;
   for (const button of byId('jumps').children) button.disabled = find(button.dataset.kind, 1) < 0;
   clearTimeout(timers.address);
-  timers.address = setTimeout(() => history.replaceState(null, '', '#' + at), 400);
+  // a page beside another has no address of its own
+  if (location.protocol !== 'about:') timers.address = setTimeout(() => history.replaceState(null, '', '#' + at), 400);
 }
 
 function draw() {
   const step = stepAt(view.at), before = view.at > first ? stepAt(view.at - 1) : null;
+  drawCover();
   drawTold(step, view.at);
+  drawFollowed();
   drawListing(step, before);
   drawRing(step, before);
   drawUnits(step, before);
@@ -72,13 +91,14 @@ function layOut() {
 const within = to => Math.max(first, Math.min(last, to || first));
 
 function go(to) {
+  if (view.at !== within(to)) view.isShown = !run.quiz;
   view.at = within(to);
   draw();
 }
 
 function play(isOn) {
   clearInterval(timers.play);
-  timers.play = isOn ? setInterval(() => view.at < last ? go(view.at + 1) : play(false), PACE) : 0;
+  timers.play = isOn ? setInterval(() => view.at < last ? go(view.at + 1) : play(false), Number(byId('pace').value)) : 0;
   const [sign, word] = isOn ? ['❚❚', 'Pause'] : ['▶', 'Play'];
   byId('play').innerHTML = `${sign} <span class="long">${word}</span>`;
   byId('play').setAttribute('aria-label', word);
@@ -89,6 +109,44 @@ function stopAndGo(to) {
   play(false);
   if (to >= 0) go(to);
 }
+
+// A click on what shows an instruction follows it, and one on a step of the instruction that is followed leads there.
+function followClick(event) {
+  const place = event.target.closest('[data-tenant]'), step = event.target.closest('[data-step]');
+  if (step) stopAndGo(Number(step.dataset.step));
+  else if (place) follow(Number(place.dataset.tenant));
+}
+
+function uncover() {
+  view.isShown = !run.quiz || !view.isShown;
+  draw();
+}
+
+function showKeys(isOn) {
+  byId('keys').open = isOn;
+  byId('keys-button').setAttribute('aria-expanded', isOn);
+}
+
+function changePace(by) {
+  const pace = byId('pace');
+  pace.selectedIndex = Math.max(0, Math.min(PACES.length - 1, pace.selectedIndex + by));
+  pace.onchange();
+}
+
+// The next step of the instruction that is followed, or none.
+function nextOfFollowed(direction) {
+  const steps = view.followed < 0 ? [] : eventsOf(run.tenants[view.followed]).map(([, step]) => step);
+  return (direction > 0 ? steps.find(step => step > view.at) : steps.findLast(step => step < view.at)) ?? -1;
+}
+
+// What a key does that leads to no step of its own.
+const ACTIONS = {
+  ' ': () => play(!timers.play), '+': () => changePace(1), '-': () => changePace(-1), '?': () => showKeys(!byId('keys').open),
+  h: () => byId('base').click(), d: () => byId('theme').click(), q: uncover,
+  f: () => follow(stepAt(view.at).tenant ?? -1), n: event => stopAndGo(nextOfFollowed(event.shiftKey ? -1 : 1)),
+  ',': () => follow(rows[Math.max(0, rows.indexOf(view.followed) - 1)]), '.': () => follow(rows[rows.indexOf(view.followed) + 1] ?? view.followed),
+  Escape: () => { showKeys(false); follow(-1); },
+};
 
 function setTheme(isDark) {
   document.documentElement.classList.toggle('dark', isDark);
@@ -101,6 +159,9 @@ byId('back').onclick = () => stopAndGo(within(view.at - 1));
 byId('on').onclick = () => stopAndGo(view.at + 1);
 byId('play').onclick = () => play(!timers.play);
 byId('theme').onclick = () => setTheme(!document.documentElement.classList.contains('dark'));
+byId('pace').onchange = () => timers.play && play(true);
+byId('keys-button').onclick = () => showKeys(!byId('keys').open);
+byId('cover').onclick = () => uncover();
 byId('base').onclick = () => {
   view.hexadecimal = !view.hexadecimal;
   byId('base').setAttribute('aria-pressed', view.hexadecimal);
@@ -110,7 +171,16 @@ byId('jumps').onclick = event => {
   const button = event.target.closest('button');
   if (button) stopAndGo(find(button.dataset.kind, event.shiftKey ? -1 : 1));
 };
-byId('plot').onclick = event => stopAndGo(stepOfClick(event));
+byId('plot').onclick = event => {
+  const row = rowOfClick(event);
+  if (row >= 0) follow(row);
+  stopAndGo(stepOfClick(event));
+};
+byId('lines').onclick = event => {
+  const line = event.target.closest('[data-pc]');
+  if (line) followLine(Number(line.dataset.pc));
+};
+for (const id of ['stations', 'units', 'queue', 'registers', 'followed']) byId(id).onclick = followClick;
 
 // Where a key leads, or nothing. A box that scrolls keeps the keys by which it scrolls.
 function target(event) {
@@ -129,10 +199,10 @@ function target(event) {
 addEventListener('keydown', event => {
   if (event.ctrlKey || event.metaKey || event.altKey) return;
   const to = target(event), jump = JUMPS.find(([, , key]) => key === event.key.toLowerCase());
-  const isOnButton = ['BUTTON', 'SUMMARY'].includes(event.target.tagName);
+  const action = ACTIONS[event.key] || ACTIONS[event.key.toLowerCase()], isOnButton = ['BUTTON', 'SUMMARY', 'SELECT'].includes(event.target.tagName);
   if (to !== undefined) stopAndGo(to);
   else if (jump) stopAndGo(find(jump[0], event.shiftKey ? -1 : 1));
-  else if (event.key === ' ' && !isOnButton) play(!timers.play);
+  else if (action && !(isOnButton && event.key === ' ')) action(event);
   else return;
   event.preventDefault();
 });

@@ -43,17 +43,18 @@ function badgeHtml(place, text, side) {
 }
 
 const data = link => `data-kind="${link.kind}" data-from="${link.from}" data-to="${link.to}"`;
+const isOfFollowed = link => [link.from, link.to].includes(stationOfFollowed(stepAt(view.at))) ? ' followed' : '';
 
 function waitHtml(all, link) {
   const found = curve(all, link.from, OPERAND_SHARES[link.operands[0]], link.to, .8);
   const text = link.operands.map(at => 'ab'[at]).join(' ');
-  return `<g class="wait" ${data(link)}><path class="curve" d="${found.path}"/>${headHtml(found)}${badgeHtml(found.begin, text, found.leaves)}</g>`;
+  return `<g class="wait${isOfFollowed(link)}" ${data(link)}><path class="curve" d="${found.path}"/>${headHtml(found)}${badgeHtml(found.begin, text, found.leaves)}</g>`;
 }
 
 function carriedHtml(all, link) {
   const found = curve(all, link.from, .66, link.to, OPERAND_SHARES[link.operand || 0]);
   const [x, y] = toPage(found.middle);
-  return `<g class="${link.kind}" ${data(link)}><path class="curve" d="${found.path}"/>${headHtml(found)}` +
+  return `<g class="${link.kind}${isOfFollowed(link)}" ${data(link)}><path class="curve" d="${found.path}"/>${headHtml(found)}` +
     `<text class="carried" x="${x}" y="${y + 5}">${safe(link.text)}</text></g>`;
 }
 
@@ -75,7 +76,7 @@ function waits(step) {
 function carried(step) {
   const sent = (step.sent || []).filter((it, at, all) => all.findIndex(other => other.to === it.to && other.from === it.from) === at)
     .map(it => ({ kind: 'sent', from: it.from, to: it.to, operand: it.operand, text: shown(it.value) }));
-  if (step.kind === 'blocked') sent.push({ kind: 'blocked', from: step.station, to: step.store, text: 'held up' });
+  if (step.kind === 'blocked') sent.push({ kind: 'blocked', from: step.station, to: step.store, text: 'blocked' });
   if (step.kind === 'load' && Number.isInteger(step.origin)) {
     sent.push({ kind: 'forwarded', from: step.origin, to: step.station, text: shown(step.value) });
   }
@@ -86,6 +87,7 @@ function drawLinks(step) {
   const all = boxes();
   byId('links').innerHTML = waits(step).map(link => waitHtml(all, link)).join('') +
     carried(step).map(link => carriedHtml(all, link)).join('');
+  byId('links').setAttribute('class', stationOfFollowed(step) < 0 ? '' : 'aside');
   drawTrack(step, all);
 }
 

@@ -36,6 +36,7 @@ function drawListing(step, before) {
     const station = step.stations[number], item = items.get(run.tenants[station.tenant].pc);
     item.querySelector('.holders').innerHTML += pill(number, station);
     if (before && !isSame(before.stations[number], station)) item.classList.add('changed');
+    if (station.tenant === view.followed) item.classList.add('followed');
   }
   if (step.kind === 'end') return;
   markListing(step.pc, 'oldest', ['to-retire', '▶'], 'retires next');

@@ -8,7 +8,7 @@ function unitHtml(unit, step, before) {
   const isOld = job && !(now && now.tenant === job.tenant);
   const name = !job ? '' : isOld ? 'miss' : 'busy', isChanged = before && !isSame(before.jobs[unit], job);
   const what = !job ? 'idle' : isOld ? `old job of station ${job.station}, tag ${job.tag}` : `works for station ${job.station}`;
-  return `<li class="${name}${isChanged ? ' changed' : ''}"><b>${unit}</b> ${what}` +
+  return `<li class="${name}${isChanged ? ' changed' : ''}${job && job.tenant === view.followed ? ' followed' : ''}" data-tenant="${job ? job.tenant : -1}"><b>${unit}</b> ${what}` +
     (job ? `<code>${safe(textOf(run.tenants[job.tenant]))}</code>` : '') + '</li>';
 }
 
@@ -19,7 +19,7 @@ function drawUnits(step, before) {
 function queueHtml(entry, step) {
   const station = step.stations[entry.station], look = lookOf(station);
   const value = number => number === null ? '?' : shown(number);
-  return `<li class="${entry.kind} ${colourOf(look)}" title="station ${entry.station}: ${wordOf(look)}">` +
+  return `<li class="${entry.kind} ${colourOf(look)}${station.tenant === view.followed ? ' followed' : ''}" data-tenant="${station.tenant}" title="station ${entry.station}: ${wordOf(look)}">` +
     `<b>${entry.station}</b> ${glyph(look)} ${entry.kind}<br><span class="code"><span class="unseen">address </span>@ ${value(entry.address)}` +
     `<br><span class="unseen">data </span>= ${value(entry.data)}</span></li>`;
 }
@@ -38,7 +38,8 @@ function creatorHtml(made, step) {
 function registerHtml(number, step, before) {
   const value = step.registers[number] || 0, isChanged = before && value !== (before.registers[number] || 0);
   const isMoved = before && !isSame(step.creators[number], before.creators[number]);
-  return `<tr class="${isChanged ? 'changed' : ''}"><th scope="row" class="code">${run.names[number]}</th>` +
+  const creator = step.creators[number] ? createdBy(step.creators[number]) : -1;
+  return `<tr class="${isChanged ? 'changed' : ''}${creator >= 0 && creator === view.followed ? ' followed' : ''}" data-tenant="${creator}"><th scope="row" class="code">${run.names[number]}</th>` +
     `<td class="value code">${shown(value)}</td><td class="${isMoved ? 'changed' : ''}">${creatorHtml(step.creators[number], step)}</td></tr>`;
 }
 

@@ -53,7 +53,7 @@ function cardFacts(number, step, before) {
     isWrong: missed >= 0 && step.live.indexOf(number) > missed,
     leaves: station || !was ? '' : (step.squashed || []).includes(number) ? 'squashed' : 'retired',
     tenant: station ? run.tenants[station.tenant] : was ? run.tenants[was.tenant] : null,
-    isHead: step.head === number, isTail: step.tail === number,
+    isHead: step.head === number, isTail: step.tail === number, isFollowed: stationOfFollowed(step) === number,
   };
 }
 
@@ -90,8 +90,9 @@ function drawRing(step, before) {
   cards.forEach((card, number) => {
     const facts = cardFacts(number, step, before);
     card.className = ['card', colourOf(facts.look), isForward(number) ? 'first' : 'second', facts.leaves,
-      facts.isChanged ? 'changed' : '', facts.isWrong ? 'wrong' : ''].filter(name => name).join(' ');
+      facts.isChanged ? 'changed' : '', facts.isWrong ? 'wrong' : '', facts.isFollowed ? 'followed' : ''].filter(name => name).join(' ');
     card.innerHTML = cardHtml(facts, step.sent || []);
+    card.dataset.tenant = facts.tenant ? run.tenants.indexOf(facts.tenant) : -1;
     card.setAttribute('aria-label', cardLabel(facts));
   });
 }

@@ -9,7 +9,7 @@ for (const step of run.steps) {
 // Steps have their numbers in the run: a page may begin later.
 const first = run.first, last = first + run.steps.length - 1;
 const stepAt = at => run.steps[at - first];
-const view = { at: first, hexadecimal: false, onPaper: false };
+const view = { at: first, hexadecimal: false, onPaper: false, followed: -1, isShown: !run.quiz };
 
 const MARKED = { '&': '&amp;', '<': '&lt;', '>': '&gt;', '"': '&quot;' };
 const safe = text => String(text).replace(/[&<>"]/g, mark => MARKED[mark]);
