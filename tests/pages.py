@@ -18,7 +18,8 @@ import tempfile
 from clauses import crates, promises
 
 ROOT = os.getcwd()
-PAGES = ["README.md", "crates/README.md", *sorted(f"docs/{it}" for it in os.listdir("docs") if it.endswith(".md"))]
+PAGES = ["README.md", "crates/README.md", *sorted(f"docs/{it}" for it in os.listdir("docs") if it.endswith(".md")),
+         *sorted(glob.glob("examples/lessons/*.md"))]
 # what a command of a page may begin with, beside a file of the repository
 TOOLS = {"cd", "rm", "git", "grep", "time", "echo", "printf"}
 # what a script writes, by the words behind python3
