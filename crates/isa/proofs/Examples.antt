@@ -60,9 +60,9 @@ not_closed : offset_and_register (codes "4(") ≡ Err BadOperands
 unfolding offset_and_register parenthesized
 not_closed = refl
 
-something_behind : offset_and_register (codes "4($0) x") ≡ Err BadOperands
+something_after : offset_and_register (codes "4($0) x") ≡ Err BadOperands
 unfolding offset_and_register parenthesized
-something_behind = refl
+something_after = refl
 
 -- ---- listings
 
@@ -110,10 +110,10 @@ unfolding listing fault_in first_fault labels_of statement_of statement with_ope
     numbered memory
 left_operand_first = refl
 
-behind_the_text : listing (codes "j E\nE:")
+after_the_text : listing (codes "j E\nE:")
     ≡ Ok (record { code = record { op = J; target = 0; first = 0; second = 0; number = 0x00400004 } ∷ []; bytes = [] })
 unfolding listing fault_in first_fault labels_of statement_of statement with_operands operands instruction is_operation form_with filled fill table numbered memory resolved
-behind_the_text = refl
+after_the_text = refl
 
 label_of_a_directive : listing (codes "nop\nE: .word -2\nj E")
     ≡ Ok (record {

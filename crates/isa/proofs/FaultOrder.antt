@@ -21,21 +21,21 @@ use Rattle.isa.specs.Listing.{Lines, labels, read, table, numbered, memory, inst
 use Rattle.isa.specs.Listing.{first_fault, resolve, before_others, resolved, with_bytes, program_of, listing}
 use Rattle.isa.specs.Faults.{Fault, first_kind, statement_faults, are_too_long, line_faults, faults_if, faults_of_line, IsFaultless, IsFirstFault, is_unknown, unknown_label_line}
 use Rattle.isa.specs.Faults.{IsUnknownLabel, HasNoFault}
-use Rattle.isa.proofs.LabelTable.{stands_among}
-use Rattle.isa.proofs.Behind.{numbered_push, memory_push, names_are}
+use Rattle.isa.proofs.HeldLabels.{stands_among}
+use Rattle.isa.proofs.NextLine.{numbered_push, memory_push, names_are}
 use Rattle.isa.proofs.Whole.{listing_long}
 use Rattle.isa.proofs.FaultTable.{error_of, first_append, statement_fault}
 use Rattle.isa.proofs.LineKinds.{never_unknown}
 
 -- ---- a line
 
-behind_statement : (r : Result Line FaultKind) (n m : ℕ) (xs : List Fault) (long : Bool) → error_of r ≡ first_kind xs
+after_statement : (r : Result Line FaultKind) (n m : ℕ) (xs : List Fault) (long : Bool) → error_of r ≡ first_kind xs
     → ((l : Line) → r ≡ Ok l → long ≡ (nat_lt 16384 (n + length l.code) || nat_lt 65536 (m + length l.bytes)))
     → fault_of n m r ≡ first_kind (xs ++ (TooLong, long) ∷ [])
-behind_statement (Ok l) n m xs long e is =
+after_statement (Ok l) n m xs long e is =
     ap (λ (b : Bool). if b then Some TooLong else None) (sym (is l refl))
     ∙ ap (λ (k : Option FaultKind). option_or k (first_kind ((TooLong, long) ∷ []))) e ∙ sym (first_append xs ((TooLong, long) ∷ []))
-behind_statement (Err k) n m xs long e is =
+after_statement (Err k) n m xs long e is =
     ap (λ (k : Option FaultKind). option_or k (first_kind ((TooLong, long) ∷ []))) e ∙ sym (first_append xs ((TooLong, long) ∷ []))
 
 module _ (before : Lines) (line : List ℕ) where
@@ -56,7 +56,7 @@ module _ (before : Lines) (line : List ℕ) where
       | inl twice ↦ rw (plain, twice) refl
       | inr once ↦
           rw (plain, once)
-          (behind_statement (read line) (instruction_count before) (length (memory before)) (statement_faults (statement_of (before_comment line))) (are_too_long (before ++ line ∷ []))
+          (after_statement (read line) (instruction_count before) (length (memory before)) (statement_faults (statement_of (before_comment line))) (are_too_long (before ++ line ∷ []))
           (statement_fault (statement_of (before_comment line))) long_is)
     ]
   ]

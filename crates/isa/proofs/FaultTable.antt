@@ -55,10 +55,10 @@ unless true r q xs ys first second = first
 unless false r q xs ys first second = second
 
 -- a condition, and then another reading
-behind : {A : Type 0} (b : Bool) (k : FaultKind) (r : Result A FaultKind) (xs : List Fault) → error_of r ≡ first_kind xs
+after : {A : Type 0} (b : Bool) (k : FaultKind) (r : Result A FaultKind) (xs : List Fault) → error_of r ≡ first_kind xs
     → error_of (if b then Err k else r) ≡ first_kind ((k, b) ∷ xs)
-behind true k r xs e = refl
-behind false k r xs e = e
+after true k r xs e = refl
+after false k r xs e = e
 
 -- ---- one operand
 
@@ -168,7 +168,7 @@ words_fault (t ∷ ts) =
     (λ n is. goes_on (words ts) _ ∙ words_fault ts)
 
 data_words_fault : (parts : List (List ℕ)) → error_of (data_words parts) ≡ first_kind (words_faults parts)
-data_words_fault parts = behind (length parts == 0) BadOperands (words parts) (flat_map (number_faults 2147483648 4294967295) parts) (words_fault parts)
+data_words_fault parts = after (length parts == 0) BadOperands (words parts) (flat_map (number_faults 2147483648 4294967295) parts) (words_fault parts)
 
 -- ---- a statement
 

@@ -7,7 +7,7 @@ use Rattle.isa.specs.declared.listing.fault.FaultKind.{FaultKind}
 use Rattle.isa.specs.declared.listing.fault.FaultKind.TheVariants.{BadOperands, UnknownOp}
 use Rattle.isa.specs.Forms.{Form, slots, has_word, has_word_and_count}
 
--- the form among rows, behind rows that leave a fault
+-- the form among rows, after rows that leave a fault
 abbrev pub among : FaultKind → List ℕ → ℕ → List Form → Result Form FaultKind
 among fault word n [] = Err fault
 among fault word n (r ∷ rs) =
@@ -15,17 +15,17 @@ among fault word n (r ∷ rs) =
     else among fault word n rs
 
 module _ (word : List ℕ) (n : ℕ) where
-  behind_word : (rs : List Form) → among BadOperands word n rs ≡ ok_or (find (has_word_and_count word n) rs) BadOperands
-  behind_word [] = refl
-  behind_word (r ∷ rs) = elim (cases_Bool (has_word word r)) [
-    | inl has ↦ elim (cases_Bool (eqb (length (slots r.operands)) n)) [ inl same ↦ rw (has, same) refl | inr other ↦ rw (has, other) (behind_word rs) ]
-    | inr lacks ↦ rw lacks (behind_word rs)
+  after_word : (rs : List Form) → among BadOperands word n rs ≡ ok_or (find (has_word_and_count word n) rs) BadOperands
+  after_word [] = refl
+  after_word (r ∷ rs) = elim (cases_Bool (has_word word r)) [
+    | inl has ↦ elim (cases_Bool (eqb (length (slots r.operands)) n)) [ inl same ↦ rw (has, same) refl | inr other ↦ rw (has, other) (after_word rs) ]
+    | inr lacks ↦ rw lacks (after_word rs)
   ]
 
   pub among_all : (rs : List Form) → among UnknownOp word n rs
       ≡ (if list_any (has_word word) rs then ok_or (find (has_word_and_count word n) rs) BadOperands else Err UnknownOp)
   among_all [] = refl
   among_all (r ∷ rs) = elim (cases_Bool (has_word word r)) [
-    | inl has ↦ elim (cases_Bool (eqb (length (slots r.operands)) n)) [ inl same ↦ rw (has, same) refl | inr other ↦ rw (has, other) (behind_word rs) ]
+    | inl has ↦ elim (cases_Bool (eqb (length (slots r.operands)) n)) [ inl same ↦ rw (has, same) refl | inr other ↦ rw (has, other) (after_word rs) ]
     | inr lacks ↦ rw lacks (among_all rs)
   ]

@@ -81,11 +81,11 @@ Ends [] = ⊥
 Ends (x ∷ []) = is_blank x ≡ false
 Ends (x ∷ y ∷ ys) = Ends (y ∷ ys)
 
-pub ends_behind : (xs ys : List ℕ) → Ends ys → Ends (xs ++ ys)
-ends_behind [] ys h = h
-ends_behind (x ∷ []) [] h = absurd h
-ends_behind (x ∷ []) (y ∷ ys) h = h
-ends_behind (x ∷ z ∷ xs) ys h = ends_behind (z ∷ xs) ys h
+pub ends_after : (xs ys : List ℕ) → Ends ys → Ends (xs ++ ys)
+ends_after [] ys h = h
+ends_after (x ∷ []) [] h = absurd h
+ends_after (x ∷ []) (y ∷ ys) h = h
+ends_after (x ∷ z ∷ xs) ys h = ends_after (z ∷ xs) ys h
 
 last_is : (xs : List ℕ) → Ends xs → is_blank (get_or xs (length xs - 1) 0) ≡ false
 last_is [] h = absurd h
@@ -174,7 +174,7 @@ pub joined_ends : (p : List ℕ) (ps : List (List ℕ)) → IsPart p → ArePart
 joined_ends p [] h hs = part_ends p h
 joined_ends p (q ∷ qs) h hs =
     let rest : Ends (join_with_byte 44 (q ∷ qs)) = joined_ends q qs hs.0 hs.1 in
-    ends_behind p (44 ∷ join_with_byte 44 (q ∷ qs)) (ends_behind (44 ∷ []) (join_with_byte 44 (q ∷ qs)) rest)
+    ends_after p (44 ∷ join_with_byte 44 (q ∷ qs)) (ends_after (44 ∷ []) (join_with_byte 44 (q ∷ qs)) rest)
 
 pub some_length : (xs : List ℕ) → Starts xs → (length xs == 0) ≡ false
 some_length [] h = absurd h

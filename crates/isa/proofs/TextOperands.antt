@@ -155,12 +155,12 @@ pub offset_part : (naming : Naming) (n r : ℕ) → IsSignedHalf n → r < 32
     → IsPart (signed_text n ++ (codes "(" ++ (register_text naming r ++ codes ")")))
 offset_part naming n r half small = before (signed_text n) (signed_part n half)
   where
-    behind : Of inner (codes "(" ++ (register_text naming r ++ codes ")"))
-    behind = (refl, of_append inner (register_text naming r) (codes ")") (part_of (register_text naming r) (register_part naming r small)) (refl, tt))
+    after : Of inner (codes "(" ++ (register_text naming r ++ codes ")"))
+    after = (refl, of_append inner (register_text naming r) (codes ")") (part_of (register_text naming r) (register_part naming r small)) (refl, tt))
 
     before : (xs : List ℕ) → IsPart xs → IsPart (xs ++ (codes "(" ++ (register_text naming r ++ codes ")")))
     before [] h = absurd h
-    before (x ∷ xs) h = of_append inner (x ∷ xs) (codes "(" ++ (register_text naming r ++ codes ")")) h behind
+    before (x ∷ xs) h = of_append inner (x ∷ xs) (codes "(" ++ (register_text naming r ++ codes ")")) h after
 
 -- ---- any operand
 

@@ -18,7 +18,7 @@ use Rattle.isa.specs.Statement.{Parsed, bare, is_word, instruction, with_operand
 use Rattle.isa.specs.Listing.{read, labels}
 use Rattle.isa.specs.InstrText.{operand_text, with_operands_text, is_nop, text_of, said_of, ReadsAs, IsWritable, TextIsReadBack}
 use Rattle.isa.proofs.Statements.{instruction_ok, statement_is}
-use Rattle.isa.proofs.TextBytes.{Of, of_all, of_append, of_other, inner, inner_no_blank, IsPart, part_of, part_starts, part_ends, AreParts, Starts, Ends, ends_behind, joined_ends, some_length}
+use Rattle.isa.proofs.TextBytes.{Of, of_all, of_append, of_other, inner, inner_no_blank, IsPart, part_of, part_starts, part_ends, AreParts, Starts, Ends, ends_after, joined_ends, some_length}
 use Rattle.isa.proofs.TextBytes.{trim_end_whole, before_at, after_at, before_whole, after_whole, split_whole, operands_joined}
 use Rattle.isa.proofs.TextOperands.{filled_of, parts_are}
 
@@ -43,13 +43,13 @@ no_data op = refl
 
 -- ---- statements
 
-pub blank_behind : (word : List ℕ) (parts : List (List ℕ)) → IsPart word → AreParts parts
+pub blank_after : (word : List ℕ) (parts : List (List ℕ)) → IsPart word → AreParts parts
     → statement (with_operands_text word parts) ≡ with_operands word parts
 unfolding operands
-blank_behind word [] h hs =
+blank_after word [] h hs =
     statement_is word word [] (some_length word (part_starts word h)) (sym (before_whole inner is_blank inner_no_blank word (part_of word h)))
     (ap operands (sym (after_whole inner is_blank inner_no_blank word (part_of word h))))
-blank_behind word (p ∷ ps) h hs =
+blank_after word (p ∷ ps) h hs =
     let rest : List ℕ = join_with_byte 44 (p ∷ ps) in
     let inside = part_of word h in
     let cut : after_first is_blank (word ++ 32 ∷ rest) ≡ rest = after_at inner is_blank inner_no_blank word 32 rest inside refl in
@@ -93,7 +93,7 @@ with_operands_code word [] h hs = record { bytes = part_in_code word h; starts =
 with_operands_code word (p ∷ ps) h hs = record {
   bytes = of_append in_code word (32 ∷ join_with_byte 44 (p ∷ ps)) (part_in_code word h) (refl, joined_in_code p ps hs.0 hs.1);
   starts = starts word (part_starts word h);
-  ends = ends_behind word (32 ∷ join_with_byte 44 (p ∷ ps)) (ends_behind (32 ∷ []) (join_with_byte 44 (p ∷ ps)) (joined_ends p ps hs.0 hs.1));
+  ends = ends_after word (32 ∷ join_with_byte 44 (p ∷ ps)) (ends_after (32 ∷ []) (join_with_byte 44 (p ∷ ps)) (joined_ends p ps hs.0 hs.1));
 }
   where
     starts : (xs : List ℕ) → Starts xs → Starts (xs ++ 32 ∷ join_with_byte 44 (p ∷ ps))
@@ -167,7 +167,7 @@ module _ (naming : Naming) (i : Instr) (w : IsWritable i) where
 
   whole_statement : statement (with_operands_text (operation_word i.op) (map (λ s. operand_text naming s i) (slots_of i.op))) ≡ gives_code (said_of i)
   whole_statement =
-      blank_behind (operation_word i.op) (map (λ s. operand_text naming s i) (slots_of i.op)) (word_part i.op) (parts_are naming i (slots_of i.op) w.fits)
+      blank_after (operation_word i.op) (map (λ s. operand_text naming s i) (slots_of i.op)) (word_part i.op) (parts_are naming i (slots_of i.op) w.fits)
       ∙ instruction_ok (operation_word i.op) (map (λ s. operand_text naming s i) (slots_of i.op)) (no_space i.op) (no_data i.op) (said_of i) instruction_is
 
   whole_code : IsCode (with_operands_text (operation_word i.op) (map (λ s. operand_text naming s i) (slots_of i.op)))

@@ -1,4 +1,4 @@
--- The text of an instruction as it is written: its word, and each operand behind its separator.
+-- The text of an instruction as it is written: its word, and each operand after its separator.
 use Rattle.std.proofs.Common.{◌≡◌, ℕ, zero, suc, ◌+◌, ◌<◌, List, [], ◌∷◌, ◌++◌, length, get_or, take, map, sym, ap, append_assoc, append-nil, arith}
 use Rattle.std.specs.List.{join_with_byte}
 use Rattle.isa.specs.declared.listing.slot.Slot.{Slot}

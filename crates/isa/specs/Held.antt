@@ -6,8 +6,8 @@ use Rattle.isa.specs.declared.listing.line.Target.{Target}
 use Rattle.std.specs.Option.{option_map}
 use Rattle.isa.specs.Statement.{Parsed, Line}
 use Rattle.lexical.specs.Line.{lines_of, lines_left}
-use Rattle.isa.specs.Listing.{Lines, table, numbered, memory, first_fault}
-use Rattle.isa.specs.Late.{Mark, IsLateLine, pairs, double_line, or_other}
+use Rattle.isa.specs.Labels.{LabelMap, AreHeld}
+use Rattle.isa.specs.Listing.{Lines, table, numbered, memory, fault_in}
 
 -- the label that an instruction names
 abbrev pub name_of : Target → Option (List ℕ)
@@ -33,31 +33,24 @@ pub record IsAdded (read : Result Line FaultKind) (code : List Parsed) (old new 
   pub is : read ≡ Ok (record { code = code; bytes = bytes })
 
 -- the state after the lines that were read
-pub record IsRead (before : Lines) (labels : List (List ℕ × ℕ)) (code : List Instr)
-    (ts : List Target) (bytes : List ℕ) : Type 0 where
-  pub labels_are : labels ≡ table 0 before
+pub record IsRead (before : Lines) (labels : LabelMap) (code : List Instr) (ts : List Target)
+    (bytes : List ℕ) : Type 0 where
+  pub labels_are : AreHeld labels (table 0 before)
   pub length_is : length code ≡ length ts
   pub code_is : rows code ts ≡ numbered 1 before
   pub bytes_are : bytes ≡ memory before
 
--- the first line of a text was read: it has no fault but for a label that stands twice, and this is the state after it
-pub record IsReadLine (before : Lines) (text : List ℕ) (rest : Option (List ℕ)) (n : ℕ)
-    (old new : List Mark) (code : List Instr) (ts : List Target) (bytes : List ℕ) : Type 0 where
+-- the first line of a text was read: it has no fault, and this is the state after it
+pub record IsReadLine (before : Lines) (text : List ℕ) (rest : Option (List ℕ)) (labels : LabelMap)
+    (code : List Instr) (ts : List Target) (bytes : List ℕ) : Type 0 where
   pub line : List ℕ
   pub lines : lines_of text ≡ line ∷ lines_left rest
-  pub late : IsLateLine before line n old new None
-  pub read : IsRead (before ++ line ∷ []) (pairs new) code ts bytes
+  pub fault : fault_in before line ≡ None
+  pub read : IsRead (before ++ line ∷ []) labels code ts bytes
 
--- the first line of a text has this fault, or a label that stands twice
-pub record IsFaultLine (before : Lines) (text : List ℕ) (n : ℕ) (old new : List Mark)
-    (kind : FaultKind) : Type 0 where
+-- the first line of a text has this fault
+pub record IsFaultLine (before : Lines) (text : List ℕ) (kind : FaultKind) : Type 0 where
   pub line : List ℕ
   pub others : Lines
   pub lines : lines_of text ≡ line ∷ others
-  pub late : IsLateLine before line n old new (Some kind)
-
--- the state after all lines, where these have no fault but for a label that stands twice
-pub record LinesAreRead (ls : Lines) (held : List Mark) (code : List Instr) (ts : List Target)
-    (bytes : List ℕ) : Type 0 where
-  pub fault : or_other (double_line [] held) None ≡ first_fault ls
-  pub read : IsRead ls (pairs held) code ts bytes
+  pub fault : fault_in before line ≡ Some kind

@@ -32,7 +32,7 @@ abbrev pub name_or : ℕ → Option (List ℕ) → List ℕ
 name_or r None = decimal r
 name_or r (Some name) = name
 
--- a register behind its `$`
+-- a register after its `$`
 abbrev pub register_word : Naming → ℕ → List ℕ
 register_word Numbers r = decimal r
 register_word Names r = name_or r (slice_get names r)

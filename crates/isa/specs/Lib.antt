@@ -5,10 +5,7 @@ pub mod Forms
 pub mod Statement
 pub mod Listing
 pub mod Faults
-pub mod NameHash
-pub mod Buckets
-pub mod Late
+pub mod Labels
 pub mod Held
-pub mod Needed
 pub mod Report
 pub mod InstrText

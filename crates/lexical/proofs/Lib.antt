@@ -4,6 +4,5 @@ pub mod Runs
 pub mod Numbers
 pub mod Labels
 pub mod Lines
-pub mod LabelLines
 pub mod Operands
 pub mod Examples

@@ -1,10 +1,9 @@
 -- The labels of a line, and its statement. A line is any number of labels, each a name and a colon,
 -- and then at most one statement.
-use Rattle.std.specs.Prelude.{◌≡◌, ℕ, ◌==◌, List, [], ◌∷◌, Some, if◌then◌else◌}
+use Rattle.std.specs.Prelude.{ℕ, ◌==◌, List, [], ◌∷◌, if◌then◌else◌}
 use Rattle.std.specs.List.{slice_split, join_with_byte}
 use Rattle.lexical.specs.Blank.{trim}
 use Rattle.lexical.specs.Name.{is_name}
-use Rattle.lexical.specs.Line.{lines_of, plain_code}
 
 -- Of the parts between colons, the names at the front are labels; the last part is none.
 abbrev pub labels_in : List (List ℕ) → List (List ℕ)
@@ -26,12 +25,3 @@ labels_of code = labels_in (slice_split (λ b. b == 58) code)
 -- the statement of the code of a line
 unfoldable pub statement_of : List ℕ → List ℕ
 statement_of code = statement_in (slice_split (λ b. b == 58) code)
-
--- the first line of a text is a label and nothing else, and the other lines are the text after it
-pub record IsLabelLine (text name after : List ℕ) : Type 0 where
-  pub line : List ℕ
-  pub code : List ℕ
-  pub lines : lines_of text ≡ line ∷ lines_of after
-  pub code_is : plain_code line ≡ Some code
-  pub labels_are : labels_of code ≡ name ∷ []
-  pub statement_is : statement_of code ≡ []

@@ -2,7 +2,7 @@
 
 ghost use Rattle.std.specs.Prelude.{◌≡◌, ◌∷◌, ◌<◌, [], length, IfSome, IfNone};
 ghost use Rattle.lexical.specs.Blank.{trim};
-ghost use Rattle.lexical.specs.Label.{labels_of, statement_of, IsLabelLine};
+ghost use Rattle.lexical.specs.Label.{labels_of, statement_of};
 
 use crate::blank::trim;
 use crate::cuts::cut;
@@ -19,28 +19,8 @@ fn label_without_blanks(code: &[u8]) -> Option<(&[u8], &[u8])>
         return None;
     }
     let (front, rest) = code.split_at(end);
-    let (_, behind) = rest.split_at(1);
-    Some((front, behind))
-}
-
-/// The label of a first line that is a name, a colon and a line feed, without blanks, and the text after it. `None` says
-/// nothing: a line may have a label that is written otherwise.
-pub fn label_line(text: &[u8]) -> Option<(&[u8], &[u8])>
-    ensures line { IfSome result (λ p. IsLabelLine text.now p.0.now p.1.now) }
-    ensures shorter { IfSome result (λ p. length p.1.now < length text.now) }
-{
-    let end = end_of_name(text)?;
-    if end == 0 || text[end] != b':' || text[0].is_ascii_digit() {
-        return None;
-    }
-    let feed = end + 1;
-    if feed >= text.len() || text[feed] != b'\n' {
-        return None;
-    }
-    let (label, _) = text.split_at(end);
-    let (_, rest) = text.split_at(feed);
-    let (_, behind) = rest.split_at(1);
-    Some((label, behind))
+    let (_, after) = rest.split_at(1);
+    Some((front, after))
 }
 
 // The label at the front of a line, also with blanks round it, and the text after its colon.

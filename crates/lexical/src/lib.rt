@@ -11,7 +11,7 @@ mod operand;
 
 pub use blank::{cut_word, is_blank, trim};
 pub use cuts::cut;
-pub use label::{label_line, next_label};
+pub use label::next_label;
 pub use line::{before_comment, next_code, next_line};
 pub use name::{is_name, is_plain, is_plain_text};
 pub use number::{begins_number, decimal_in, first_is, number_in};

@@ -1,5 +1,4 @@
 //! Faults as they are named, and registers that no listing names.
-mod crowded;
 mod written;
 
 use instructions::{Half, Reg};

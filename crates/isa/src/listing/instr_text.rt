@@ -189,7 +189,7 @@ impl fmt::Display for InstrText {
     }
 }
 
-/// The text of each instruction that a listing can write is read back as that instruction, also behind blanks: a law,
+/// The text of each instruction that a listing can write is read back as that instruction, also after blanks: a law,
 /// whose function does nothing.
 pub fn text_is_read_back()
     ensures { TextIsReadBack }

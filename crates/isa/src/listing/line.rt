@@ -1,18 +1,16 @@
 //! One line after the lines before it.
-ghost use Rattle.std.specs.Prelude.{◌≡◌, ◌≢◌, ◌+◌, ◌≤◌, ◌%◌, ◌∷◌, ◌++◌, [], ◌<◌, None, Some, ℕ, List, length, map, OnOk, IfOk, IfErr, IfSome};
+ghost use Rattle.std.specs.Prelude.{◌≡◌, ◌≢◌, ◌+◌, ◌≤◌, ◌%◌, ◌∷◌, ◌++◌, [], ◌<◌, None, Some, ℕ, List, length, OnOk, IfOk, IfErr, IfSome};
 ghost use Rattle.std.specs.Option.{option_map};
 ghost use Rattle.lexical.specs.Line.{plain_code};
-ghost use Rattle.isa.specs.Listing.{Lines};
-ghost use Rattle.isa.specs.Late.{IsLateLine, mark, pairs};
+ghost use Rattle.isa.specs.Listing.{Lines, fault_in};
 ghost use Rattle.isa.specs.Held.{IsRead, IsReadLine, IsFaultLine};
 
 use super::fault::FaultKind;
 use super::instruction::Draft;
-use super::labels::add_labels;
+use super::labels::{Labels, add_labels};
 use super::statement::statement;
-use super::table::Entry;
 use instructions::{Instr, Program};
-use lexical::{label_line, next_code};
+use lexical::next_code;
 
 /// The target of an instruction, which is to be resolved: its label, if it has one, and the number of its line.
 #[derive(Clone, Copy)]
@@ -51,7 +49,7 @@ fn add_instruction<'a>(
 // Reads the labels and the statement of the code of one line. There is no code where a byte may not stand before a
 // comment.
 fn read_line<'a>(
-    labels: &mut Vec<Entry<'a>>,
+    labels: &mut Labels<'a>,
     code: &mut Vec<Instr>,
     targets: &mut Vec<Target<'a>>,
     memory: &mut Vec<u8>,
@@ -66,21 +64,17 @@ fn read_line<'a>(
         → length memory.new.items % 4 ≡ 0) }
     ensures ok { OnOk result ((before : Lines) (line : List ℕ)
         → option_map (λ t. t.now) source.entry ≡ plain_code line → length before + 1 ≡ number
-        → IsRead before (pairs (map mark labels.old.items)) code.old.items targets.old.items
-        memory.old.items
-        → IsLateLine before line number (map mark labels.old.items) (map mark labels.new.items) None
-        × IsRead (before ++ line ∷ []) (pairs (map mark labels.new.items)) code.new.items
+        → IsRead before labels.old code.old.items targets.old.items memory.old.items
+        → (fault_in before line ≡ None) × IsRead (before ++ line ∷ []) labels.new code.new.items
         targets.new.items memory.new.items) }
     ensures fault { IfErr result (λ e. e ≢ FaultKind.Memory → (before : Lines) (line : List ℕ)
         → option_map (λ t. t.now) source.entry ≡ plain_code line
-        → IsRead before (pairs (map mark labels.old.items)) code.old.items targets.old.items
-        memory.old.items
-        → IsLateLine before line number (map mark labels.old.items) (map mark labels.new.items)
-        (Some e)) }
+        → IsRead before labels.old code.old.items targets.old.items memory.old.items
+        → fault_in before line ≡ Some e) }
 {
     let text = source.ok_or(FaultKind::NotAscii)?;
     let index = code.len();
-    let rest = add_labels(labels, text, Program::START + 4 * index as u32, number)?;
+    let rest = add_labels(labels, text, Program::START + 4 * index as u32)?;
     let mut draft = Draft::new();
     let found = statement(memory, &mut draft, rest)?;
     if memory.len() > Program::MOST_BYTES {
@@ -94,7 +88,7 @@ fn read_line<'a>(
 
 /// Reads the first line of a text. The result is the text after its line feed, if it has one.
 pub fn read_first_line<'a>(
-    labels: &mut Vec<Entry<'a>>,
+    labels: &mut Labels<'a>,
     code: &mut Vec<Instr>,
     targets: &mut Vec<Target<'a>>,
     memory: &mut Vec<u8>,
@@ -110,25 +104,13 @@ pub fn read_first_line<'a>(
     ensures shorter { IfOk result (λ rest. IfSome rest
         (λ r. length r.now < length text.entry.now)) }
     ensures ok { IfOk result (λ rest. (before : Lines) → length before + 1 ≡ number
-        → IsRead before (pairs (map mark labels.old.items)) code.old.items targets.old.items
-        memory.old.items
-        → IsReadLine before text.entry.now (option_map (λ r. r.now) rest) number
-        (map mark labels.old.items) (map mark labels.new.items) code.new.items
-        targets.new.items memory.new.items) }
+        → IsRead before labels.old code.old.items targets.old.items memory.old.items
+        → IsReadLine before text.entry.now (option_map (λ r. r.now) rest) labels.new
+        code.new.items targets.new.items memory.new.items) }
     ensures fault { IfErr result (λ e. e ≢ FaultKind.Memory → (before : Lines)
-        → IsRead before (pairs (map mark labels.old.items)) code.old.items targets.old.items
-        memory.old.items
-        → IsFaultLine before text.entry.now number (map mark labels.old.items)
-        (map mark labels.new.items) e) }
+        → IsRead before labels.old code.old.items targets.old.items memory.old.items
+        → IsFaultLine before text.entry.now e) }
 {
-    if let Some((name, after)) = label_line(text) {
-        labels.push(Entry {
-            name,
-            address: Program::START + 4 * code.len() as u32,
-            line: number,
-        })?;
-        return Ok(Some(after));
-    }
     let (source, after) = next_code(text);
     read_line(labels, code, targets, memory, source, number)?;
     Ok(after)

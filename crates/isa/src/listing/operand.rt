@@ -8,7 +8,7 @@ use super::register::register;
 use instructions::Reg;
 use lexical::{begins_number, is_name, number_in, parenthesized};
 
-/// A number modulo 2^32: at most `below` behind a minus, and at most `above` without one.
+/// A number modulo 2^32: at most `below` after a minus, and at most `above` without one.
 #[tactic(auto, unfolding(crate::specs::Operands::number))]
 pub fn number(text: &[u8], below: u32, above: u32) -> Result<u32, FaultKind>
     ensures { Reads (λ n. n) result (number below above text.now) }

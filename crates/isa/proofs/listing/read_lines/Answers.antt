@@ -1,24 +1,25 @@
-use Rattle.std.proofs.Common.{◌≢◌, ◌+◌, ◌≤◌, ℕ, List, Option, Bor, ◌∙◌, ap, refl, length, map, arith}
+use Rattle.std.proofs.Common.{◌≢◌, ◌+◌, ◌≤◌, List, Option, Bor, ℕ, ◌∙◌, ap, refl, length, arith}
 use Rattle.std.specs.Option.{option_map}
 use Rattle.lexical.specs.Line.{lines_left}
 use Rattle.lexical.proofs.Splits.{size_step}
 use Rattle.isa.specs.declared.listing.fault.FaultKind.TheVariants.{Memory}
 use Rattle.isa.specs.Listing.{Lines}
-use Rattle.isa.specs.Late.{mark}
-use Rattle.isa.proofs.Whole.{so_far_more, so_far_fault, so_far_done, so_far_start}
+use Rattle.isa.proofs.Whole.{so_far_more, so_far_fault, so_far_done, so_far_start, no_bytes_yet}
 use Rattle.isa.proofs.listing.read_lines.Goals as goal
 
 abbrev left_of : Option (Bor (List ℕ)) → Lines
 left_of rest = lines_left (option_map (λ t. t.now) rest)
 
 pub loop-rest-init : goal.loop-rest-init
-loop-rest-init c = record {
-  small_code = omega (arith, ap length c.requires.no_code);
-  small_memory = omega (arith, ap length c.requires.no_memory);
-  aligned = rw c.requires.no_memory refl;
-  size = omega arith;
-  lines = so_far_start _ _ _ _ _ (ap (map mark) c.requires.no_labels) c.requires.no_code c.requires.no_targets c.requires.no_memory;
-}
+loop-rest-init c =
+    let none = no_bytes_yet _ _ _ _ c.requires.nothing in
+    record {
+      small_code = omega (arith, none.0);
+      small_memory = omega (arith, none.1);
+      aligned = rw none.1 refl;
+      size = omega arith;
+      lines = so_far_start _ _ _ _ _ c.requires.nothing;
+    }
 
 pub loop-rest-preserved : goal.loop-rest-preserved
 loop-rest-preserved c = record {
@@ -37,7 +38,7 @@ pub returns-in-Err-clause-fault : goal.returns-in-Err-clause-fault
 returns-in-Err-clause-fault c = λ apart.
     let kind_apart : c.in-Err.kind ≢ Memory = λ e. apart (c.fault_at.ensures.kind ∙ e) in
     rw (c.fault_at.ensures.line kind_apart, c.from.ensures, c.fault_at.ensures.kind)
-    (so_far_fault _ _ _ _ c.loop-rest.number _ _ c.loop-rest.invariant.lines _ c.in-Some.text.now c.in-Err.kind
+    (so_far_fault _ _ _ _ c.loop-rest.number _ _ c.loop-rest.invariant.lines c.in-Some.text.now c.in-Err.kind
     (ap left_of c.in-Some.is) (c.in-Err.ensures.fault kind_apart))
 
 pub returns-clause-ok : goal.returns-clause-ok

@@ -1,8 +1,7 @@
-use Rattle.std.proofs.Common.{◌≡◌, ◌+◌, ◌≤◌, ◌%◌, length, map}
+use Rattle.std.proofs.Common.{◌≡◌, ◌+◌, ◌≤◌, ◌%◌, length}
 use Rattle.std.specs.Option.{option_map}
 use Rattle.lexical.specs.Line.{lines_of, lines_left}
 use Rattle.lexical.proofs.Splits.{size_left}
-use Rattle.isa.specs.Late.{mark}
 use Rattle.isa.proofs.Whole.{LinesSoFar}
 use Rattle.isa.proofs.listing.read_lines.Given as goal
 
@@ -13,8 +12,7 @@ invariant-loop-rest l = record {
   aligned : length l.memory.items % 4 ≡ 0;
   size : l.number + size_left (option_map (λ t. t.now) l.rest) ≤ length l.bytes + 1;
   lines :
-      LinesSoFar (map mark l.labels.items) l.code.items l.targets.items l.memory.items l.number (lines_left (option_map (λ t. t.now) l.rest))
-      (lines_of l.bytes);
+      LinesSoFar l.labels l.code.items l.targets.items l.memory.items l.number (lines_left (option_map (λ t. t.now) l.rest)) (lines_of l.bytes);
 }
 
 abbrev pub decreases-loop-rest : goal.decreases-loop-rest

@@ -5,7 +5,7 @@ use Rattle.std.proofs.lemmas.Result.{err_from_is_err_and}
 use Rattle.isa.specs.Statement.{statement}
 use Rattle.lexical.proofs.Lines.{code_given, code_none}
 use Rattle.isa.proofs.Slots.{kind_is}
-use Rattle.isa.proofs.Behind.{fault_not_plain, fault_statement, fault_long_memory, fault_long_code, reads_none, reads_some}
+use Rattle.isa.proofs.NextLine.{fault_not_plain, fault_double, fault_statement, fault_long_memory, fault_long_code, reads_none, reads_some}
 use Rattle.isa.proofs.listing.line.read_line.Goals as goal
 
 abbrev text_of : Option (Bor (List ℕ)) → Option (List ℕ)
@@ -25,30 +25,38 @@ returns-in_err-text-clause-fault c =
     let told = c.in_err-text.ensures in
     rw (p.1, p.2) (λ _ before line given is.
     rw (kind_is c.args.source _ _ told.value told.ok_part)
-    (fault_not_plain before line _ _ _ _ _ _ is refl (code_none line (sym given ∙ ap text_of told.ok_part))))
+    (fault_not_plain before line _ _ _ _ _ is refl (code_none line (sym given ∙ ap text_of told.ok_part))))
+
+pub returns-in_err-rest-clause-fault : goal.returns-in_err-rest-clause-fault
+returns-in_err-rest-clause-fault c =
+    let p = err_from_is_err_and c.from_residual-in_err-rest.result c.from_residual-in_err-rest.ensures.1 in
+    rw (p.1, p.2) (λ apart before line given is.
+    let code = code_given line _ (sym given ∙ ap text_of c.in_ok-text.ensures.ok_part) in
+    let twice = c.in_err-rest.ensures.double apart in
+    rw twice.0 (fault_double before _ _ _ _ _ _ is code.0 code.1 twice.1))
 
 pub returns-in_err-found-clause-fault : goal.returns-in_err-found-clause-fault
 returns-in_err-found-clause-fault c =
     let p = err_from_is_err_and c.from_residual-in_err-found.result c.from_residual-in_err-found.ensures.1 in
     rw (p.1, p.2) (λ apart before line given is.
     let code = code_given line _ (sym given ∙ ap text_of c.in_ok-text.ensures.ok_part) in
-    fault_statement before _ _ _ _ _ _ _ is code.0 code.1 _
-    (omega (arith, c.len-index.ensures)) _ c.in_ok-rest.ensures.added _
+    fault_statement before _ _ _ _ _ _ is code.0 code.1 _
+    (omega (arith, c.len-index.ensures)) c.add_labels.new.labels c.in_ok-rest.ensures.added _
     (ap statement (sym c.in_ok-rest.ensures.ok) ∙ c.in_err-found.ensures.fault apart))
 
 pub returns-then-len-gt-MOST_BYTES-clause-fault : goal.returns-then-len-gt-MOST_BYTES-clause-fault
 returns-then-len-gt-MOST_BYTES-clause-fault c = λ _ before line given is.
     let code = code_given line _ (sym given ∙ ap text_of c.in_ok-text.ensures.ok_part) in
     let added = rw c.in_ok-rest.ensures.ok at c.in_ok-found.ensures.ok in
-    fault_long_memory before _ _ _ _ _ _ _ is code.0 code.1 _
-    (omega (arith, c.len-index.ensures)) _ c.in_ok-rest.ensures.added _ _ added (omega arith)
+    fault_long_memory before _ _ _ _ _ _ is code.0 code.1 _
+    (omega (arith, c.len-index.ensures)) c.add_labels.new.labels c.in_ok-rest.ensures.added _ _ added (omega arith)
 
 pub returns-then-not-found-clause-ok : goal.returns-then-not-found-clause-ok
 returns-then-not-found-clause-ok c = λ before line given n is.
     let code = code_given line _ (sym given ∙ ap text_of c.in_ok-text.ensures.ok_part) in
     let added = rw (c.in_ok-rest.ensures.ok, c.if-not-found.true) at c.in_ok-found.ensures.ok in
-    reads_none before _ _ _ _ _ _ _ is code.0 code.1 _
-    (omega (arith, c.len-index.ensures)) _ c.in_ok-rest.ensures.added _ added (omega arith) (omega arith)
+    reads_none before _ _ _ _ _ _ is code.0 code.1 _
+    (omega (arith, c.len-index.ensures)) c.add_labels.new.labels c.in_ok-rest.ensures.added _ added (omega arith) (omega arith)
 
 pub returns-clause-fault : goal.returns-clause-fault
 returns-clause-fault c = err_more c.add_instruction.result _ _ c.add_instruction.ensures.fault (λ e told apart before line given is.
@@ -56,8 +64,8 @@ returns-clause-fault c = err_more c.add_instruction.result _ _ c.add_instruction
     let added = rw (c.in_ok-rest.ensures.ok, c.if-not-found.false) at c.in_ok-found.ensures.ok in
     let full = told apart in
     rw full.0
-    (fault_long_code before _ _ _ _ _ _ _ is code.0 code.1 _
-    (omega (arith, c.len-index.ensures)) _ c.in_ok-rest.ensures.added _ _ added (omega (arith, full.1))))
+    (fault_long_code before _ _ _ _ _ _ is code.0 code.1 _
+    (omega (arith, c.len-index.ensures)) c.add_labels.new.labels c.in_ok-rest.ensures.added _ _ added (omega (arith, full.1))))
 
 pub returns-clause-ok : goal.returns-clause-ok
 returns-clause-ok c =
@@ -66,5 +74,5 @@ returns-clause-ok c =
     let code = code_given line _ (sym given ∙ ap text_of c.in_ok-text.ensures.ok_part) in
     let added = rw (c.in_ok-rest.ensures.ok, c.if-not-found.false) at c.in_ok-found.ensures.ok in
     rw (pushed, noted)
-    (reads_some before _ _ _ _ _ _ _ is code.0 code.1 _
-    (omega (arith, c.len-index.ensures)) _ c.in_ok-rest.ensures.added _ _ _ (sym n) added (omega (arith, room, c.len-index.ensures)) (omega arith)))
+    (reads_some before _ _ _ _ _ _ is code.0 code.1 _
+    (omega (arith, c.len-index.ensures)) c.add_labels.new.labels c.in_ok-rest.ensures.added _ _ _ (sym n) added (omega (arith, room, c.len-index.ensures)) (omega arith)))
