@@ -2,9 +2,10 @@
 # Compiles and runs the tests of tests/unproved, which need no proof, in a copy of the repository in which they are a crate.
 # They are named as Rust, which they nearly are: `rt ci` takes no Rattle file that no check reads.
 . "$(dirname "$0")/common.bash"
-uses='instructions isa lsq counted_io inorder one_thread in_order_issue bench ruu_words encoding command_line command pool'
+uses='instructions isa lsq counted_io inorder one_thread in_order_issue bench ruu_words encoding station snapshots front back pool
+  command_line on_threads command'
 tar cf - HANDLES crates/*/src crates/*/specs crates/*/proofs | tar xf - -C "$work"
-{ cat crates.txt; echo "unproved: $uses"; } > "$work/crates.txt"
+{ cat crates.txt; echo "unproved tests_may=Threads+Wait:" $uses; } > "$work/crates.txt"
 
 crate=$work/crates/unproved from=$PWD/tests/unproved
 while read -r file; do

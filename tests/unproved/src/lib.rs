@@ -28,4 +28,6 @@ mod programs;
 #[cfg(test)]
 mod reports;
 #[cfg(test)]
+mod threads;
+#[cfg(test)]
 mod turns;
