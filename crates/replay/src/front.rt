@@ -56,7 +56,7 @@ impl<'a> Unit<'a> {
     }
 
     /// Where the path goes on.
-    pub(crate) fn front(&self) -> Front
+    pub fn front(&self) -> Front
         ensures { result ≡ front_of self.now.program.now (shown self.now.tenants.items) }
     {
         let mut front = Front {

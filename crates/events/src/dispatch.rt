@@ -1,0 +1,96 @@
+//! Dispatch.
+ghost use Rattle.std.specs.Prelude.{◌<◌, ◌^◌, IfSome, IsTrue, length};
+ghost use Rattle.replay.specs.Lets.{IsFit};
+
+use crate::judge::Judge;
+use crate::why::Why;
+use instructions::{Program, pc_plus_4};
+use replay::{Deed, Fate, Front, NoLet};
+use std::alloc::AllocError;
+
+// No memory holds as many tenants.
+const MOST: usize = 1 << 61;
+
+// The number of the instruction at an address.
+fn index_at(program: &Program, pc: u32) -> Option<usize>
+    ensures { IfSome result (λ index. index < length program.now.code) }
+{
+    let offset = pc.wrapping_sub(Program::START);
+    let index = (offset / 4) as usize;
+    if offset % 4 == 0 && index < program.len() {
+        Some(index)
+    } else {
+        None
+    }
+}
+
+impl<'a> Judge<'a> {
+    // A known misprediction after which nothing is in flight is mended, where the log goes on at its real next pc. Where
+    // the log does not say at which pc it goes on, it goes on there.
+    fn mend_towards(&mut self, pc: Option<u32>) {
+        let Some(youngest) = self.youngest() else {
+            return;
+        };
+        let front = self.unit.front().pc;
+        match self.unit.tenant(youngest).map(|t| t.fate) {
+            Some(Fate::Miss(next)) if pc.is_none() || (pc == Some(next) && front != next) => {
+                self.act_unsaid(youngest, Deed::Mend);
+            }
+            _ => {}
+        }
+    }
+
+    // The predicted next pc of the next instruction: the only one there is, what the log says, or a guess.
+    fn predicted(&self, front: Front, index: usize, next: Option<u32>, guess: Option<u32>) -> u32
+        requires { index < length self.now.unit.program.now.code }
+    {
+        match next {
+            Some(next) => next,
+            None => match self
+                .unit
+                .program
+                .instr(index)
+                .fixed_next(front.half, front.pc)
+            {
+                Some(fixed) => fixed,
+                None => guess.unwrap_or(pc_plus_4(front.pc)),
+            },
+        }
+    }
+
+    // There is a station, and numbers have their bits: no memory holds as many tenants.
+    fn is_fit(&self) -> bool
+        ensures { IsTrue result → IsFit self.now.unit }
+    {
+        0 < self.unit.ring && self.unit.tenants.len() < MOST && self.unit.first_tag < MOST as u64
+    }
+
+    /// The next instruction of the path enters a station.
+    pub(crate) fn dispatch(
+        &mut self,
+        pc: Option<u32>,
+        next: Option<u32>,
+        guess: Option<u32>,
+    ) -> Result<Result<(), Why>, AllocError> {
+        self.mend_towards(pc);
+        let front = self.unit.front();
+        if pc.is_some_and(|pc| pc != front.pc) {
+            return Ok(Err(Why::Let(NoLet::OtherPc(front.pc))));
+        }
+        let Some(index) = index_at(self.unit.program, front.pc) else {
+            return Ok(Err(Why::NoInstruction(front.pc)));
+        };
+        if !self.is_fit() {
+            return Err(AllocError);
+        }
+        let who = self.unit.tenants.len();
+        let predicted = self.predicted(front, index, next, guess);
+        match self.unit.enter(index, predicted)? {
+            Err(reason) => Ok(Err(Why::Let(reason))),
+            Ok(_) => {
+                self.link(who);
+                Ok(Ok(()))
+            }
+        }
+    }
+}

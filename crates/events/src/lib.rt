@@ -1,0 +1,20 @@
+//! Events that a log tells of an out-of-order unit: their text, and a verdict on each.
+#![tactic(auto)]
+
+mod dispatch;
+mod event;
+mod execution;
+mod grammar;
+mod judge;
+mod leaving;
+mod stated;
+mod unread;
+mod wakeup;
+mod why;
+mod words;
+
+pub use event::{Event, Issue};
+pub use grammar::event_in;
+pub use judge::Judge;
+pub use unread::Unread;
+pub use why::Why;

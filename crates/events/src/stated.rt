@@ -1,0 +1,53 @@
+//! What an event says of producers and values.
+use crate::judge::Judge;
+use crate::why::Why;
+use instructions::Kind;
+use replay::{Fate, Tenant};
+
+// What the execution of a tenant has ended with: its result, next pc or address.
+pub(crate) fn outcome_value(tenant: &Tenant) -> Option<u32> {
+    match tenant.fate {
+        Fate::Done(v) | Fate::Miss(v) | Fate::Addr(v) => Some(v),
+        _ => None,
+    }
+}
+
+// A value that is said is the one that there is.
+pub(crate) fn is_value(who: usize, is: Option<u32>, said: Option<u32>) -> Result<(), Why> {
+    match (said, is) {
+        (None, _) => Ok(()),
+        (Some(_), None) => Err(Why::NoValue(who)),
+        (Some(said), Some(is)) if said == is => Ok(()),
+        (Some(_), Some(is)) => Err(Why::OtherValue(who, is)),
+    }
+}
+
+impl<'a> Judge<'a> {
+    // What a tenant leaves as it retires: the data of a store, or what it has made.
+    pub(crate) fn left_value(&self, tenant: &Tenant) -> Option<u32> {
+        match self.unit.kind(tenant) {
+            Kind::Stores => tenant.second.value,
+            _ => tenant.made,
+        }
+    }
+
+    // The outcome of the tenant at a position is what is said.
+    pub(crate) fn has_outcome(&self, who: usize, said: Option<u32>) -> Result<(), Why> {
+        match self.unit.tenant(who) {
+            Some(tenant) => is_value(who, outcome_value(&tenant), said),
+            None => Err(Why::NotLet(who)),
+        }
+    }
+
+    /// One of its sources comes from this producer.
+    pub(crate) fn comes_from(&self, who: usize, producer: usize) -> Result<(), Why> {
+        let Some(tenant) = self.unit.tenant(who) else {
+            return Err(Why::NotLet(who));
+        };
+        let (first, second) = (tenant.first.creator, tenant.second.creator);
+        if first == Some(producer) || second == Some(producer) {
+            return Ok(());
+        }
+        Err(Why::OtherProducer(who, first, second))
+    }
+}

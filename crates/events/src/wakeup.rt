@@ -1,0 +1,52 @@
+//! What no event says: links and deliveries, each as soon as it is due.
+use crate::judge::{Judge, is_live};
+use inorder::history::Source;
+use replay::{Deed, Operand, Tenant, Way};
+
+fn operand(tenant: &Tenant, k: Source) -> Operand {
+    match k {
+        Source::First => tenant.first,
+        Source::Second => tenant.second,
+    }
+}
+
+// Source k of a tenant waits for what a producer has made.
+fn waits_for(tenant: Option<Tenant>, k: Source, producer: usize) -> bool {
+    let Some(tenant) = tenant else {
+        return false;
+    };
+    let source = operand(&tenant, k);
+    source.creator == Some(producer) && source.value.is_none() && is_live(Some(tenant))
+}
+
+impl<'a> Judge<'a> {
+    /// The sources of a new tenant that wait are linked.
+    pub(crate) fn link(&mut self, who: usize) {
+        self.link_source(who, Source::First);
+        self.link_source(who, Source::Second);
+    }
+
+    fn link_source(&mut self, who: usize, k: Source) {
+        let Some(tenant) = self.unit.tenant(who) else {
+            return;
+        };
+        match operand(&tenant, k).way {
+            Way::Unlinked => self.act_unsaid(who, Deed::Link(k)),
+            _ => {}
+        }
+    }
+
+    /// The value of a tenant is delivered to each source that waits for it.
+    pub(crate) fn broadcast(&mut self, who: usize) {
+        for q in who..self.unit.tenants.len() {
+            self.deliver_source(q, Source::First, who);
+            self.deliver_source(q, Source::Second, who);
+        }
+    }
+
+    fn deliver_source(&mut self, who: usize, k: Source, producer: usize) {
+        if waits_for(self.unit.tenant(who), k, producer) {
+            self.act_unsaid(who, Deed::Deliver(k));
+        }
+    }
+}
