@@ -120,6 +120,8 @@ echo 'scripts, transcripts, the order of one thread, and parts of a run'
 python3 -B tests/colours.py || fail 'colours that are hard to tell apart'
 page examples/forwarding.s 3 --quiz
 ! $browser || show 1280
+page examples/wrong_path.s 5 --bpred nottaken --from 40 --steps 30
+! $browser || show 1280
 make_page examples/forwarding.s "$work/pair.html" --seed 3 --beside 7 --bpred taken
 [ "$(cat "$work/out")" = "$work/pair.html: 63 steps beside 61" ] || fail 'two runs are told otherwise'
 for seed in 3 7; do
