@@ -180,7 +180,7 @@ def check_places(page):
             wrong(page, f"no place for {text[:60]}")
             continue
         for span, names in re.findall(r"`([^`]+)`(?: \(((?:`[^`]+`(?:, )?)+)\))?", places[1]):
-            at = next((it for it in (f"crates/{span}", f"crates/{span}.antt", span) if os.path.exists(it)), None)
+            at = next((it for it in sorted((f"crates/{span}", f"crates/{span}.antt", span), key=os.path.isdir) if os.path.exists(it)), None)
             count += 1
             if at is None:
                 wrong(page, f"no file {span}")
