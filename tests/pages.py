@@ -26,10 +26,11 @@ TOOLS = {"cd", "rm", "git", "grep", "time", "echo", "printf"}
 WRITTEN = {
     "crates/README.md": ["tests/map.py"],
     "docs/CLAUSES.md": ["tests/clauses.py", "--page"],
+    "docs/TRUSTED.md": ["tests/trusted.py"],
     "docs/unit.svg": ["docs/picture.py"],
 }
 # how many lines a page may have
-MOST_LINES = {"README.md": 130, "docs/CONTRIBUTING.md": 120, "docs/DECISIONS.md": 350}
+MOST_LINES = {"README.md": 110, "docs/CONTRIBUTING.md": 120, "docs/DECISIONS.md": 350}
 found = []
 
 
