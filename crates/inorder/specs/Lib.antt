@@ -26,4 +26,5 @@ pub mod Answered
 pub mod Moves
 pub mod Plain
 pub mod Progress
+pub mod Climbing
 pub mod Still

@@ -28,7 +28,7 @@ pub use laws::{
     several_steps_lead_on, stations_follow, values_are_words, what_is_past_is_past,
 };
 pub use machine::{Ended, Machine, Stepped};
-pub use progress::{a_unit_is_never_stuck, acts_run_out};
+pub use progress::{a_unit_is_never_stuck, acts_run_out, lets_run_out};
 pub use ring::wrapped;
 pub use speculation::{
     a_done_load_is_sure, a_flush_restores, a_guess_does_not_retire,

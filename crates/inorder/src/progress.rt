@@ -4,6 +4,7 @@ ghost use Rattle.instructions.specs.Programs.{Program};
 ghost use Rattle.inorder.specs.Unit.{Sizes};
 ghost use Rattle.inorder.specs.Legal.{Taken, reached};
 ghost use Rattle.inorder.specs.Progress.{ActsRunOut, MovesWork, NeverStuck};
+ghost use Rattle.inorder.specs.Climbing.{LetsRunOut};
 
 /// A unit that legal steps reach has ended where the in-order machine ends, or a step is possible that
 /// is no guess, no flush and no renewal; but where the oldest live tenant has guessed wrong, flushes
@@ -19,4 +20,10 @@ pub fn acts_run_out()
     ensures moves { (p : Program) (c : Sizes) (history : List Taken) (by : ℕ) →
         MovesWork p c (reached p c history) by }
     ensures ends { (p : Program) (c : Sizes) (history : List Taken) → ActsRunOut p c history }
+{}
+
+/// Where nobody retires and nobody is flushed, and nobody is let while a miss is live, fewer than ten to
+/// the power of the ring size are let.
+pub fn lets_run_out()
+    ensures { (p : Program) (c : Sizes) (more history : List Taken) → LetsRunOut p c more history }
 {}

@@ -53,7 +53,7 @@ fixed_small i half pc h w = go (is_first_half i.op half)
 
 -- Nobody is live
 
-off : (st : Standing) → st ≢ Live → stands_live st ≡ false
+pub off : (st : Standing) → st ≢ Live → stands_live st ≡ false
 off Live n = absurd (n refl)
 off Retired n = refl
 off Squashed n = refl

@@ -38,7 +38,7 @@ less_fate Live f f' k e h = omega (arith, h)
 less_fate Retired f f' k e h = absurd (cc e)
 less_fate Squashed f f' k e h = absurd (cc e)
 
-some_work : (f : Fate) → 0 < fate_work f
+pub some_work : (f : Fate) → 0 < fate_work f
 some_work Open = omega arith
 some_work (Busy by) = omega arith
 some_work (Addr a) = omega arith
@@ -66,7 +66,7 @@ linked_work : (in_time : Bool) (v : Option ℕ) → source_work (Linked in_time)
 linked_work in_time None = omega arith
 linked_work in_time (Some v) = omega arith
 
-act_works : (P : Program) (by : ℕ) (act : Act) (ys : List Tenant) (t : Tenant) (ts : List Tenant) →
+pub act_works : (P : Program) (by : ℕ) (act : Act) (ys : List Tenant) (t : Tenant) (ts : List Tenant) →
     May P by act ys t ts → tenant_work (changed P by act t ts) < tenant_work t
 act_works P by (Link First) ys t ts m =
     let two : source_work t.first.way t.first.value ≡ 2 = ap (λ w. source_work w t.first.value) m.way in
