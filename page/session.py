@@ -18,9 +18,9 @@ SEVERAL = {"step", "until"}
 class Exchange:
     """One command and the lines of its answer."""
 
-    def __init__(self, command):
+    def __init__(self, command, *lines):
         self.command = command
-        self.lines = []
+        self.lines = [*lines]
 
     @property
     def answer(self):
@@ -97,24 +97,24 @@ def note_job(exchange, jobs):
 
 def one_by_one(found):
     """Commands with their answers, each of which stands for itself: `step` and `until` are taken apart."""
-    alone, jobs = [], {}
+    jobs = {}
     for exchange in found:
         if exchange.word in SEVERAL:
             for line in exchange.lines:
                 if command := command_of(line, jobs):
-                    alone.append(Exchange(command))
-                    alone[-1].lines.append(line)
+                    yield Exchange(command, line)
         else:
             note_job(exchange, jobs)
-            alone.append(exchange)
-    return alone
+            yield exchange
 
 
 def of_script(program, words, script):
     """The commands of a script with their answers, up to `quit`, and without those that only ask."""
-    found = one_by_one([exchange for exchange in driven(program, words, [], script) if exchange.command])
-    ends = [at for at, exchange in enumerate(found) if exchange.word == "quit"]
-    return [exchange for exchange in found[:ends[0] if ends else None] if exchange.word not in ASKING]
+    for exchange in one_by_one(it for it in driven(program, words, [], script) if it.command):
+        if exchange.word == "quit":
+            return
+        if exchange.word not in ASKING:
+            yield exchange
 
 
 def script_in(text):
@@ -141,12 +141,13 @@ def of_words(program, words, script):
 
 def shown(commands, most):
     """As many of the commands as show `most` steps. A load may be told several times that it is held up, and that shows once."""
-    count = 0
-    for at, exchange in enumerate(commands):
+    count, found = 0, []
+    for exchange in commands:
         count += exchange.is_telling and not exchange.answer.startswith("Blocked")
         if count > most:
-            return commands[:at]
-    return commands
+            break
+        found.append(exchange)
+    return found
 
 
 def with_questions(program, words, commands):

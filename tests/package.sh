@@ -59,6 +59,7 @@ rows="
 run examples/double.s
 run examples/sum.s --alone --seed 3
 run examples/rows/sum_overflows.s
+run examples/sum.s --alone --names
 check examples/sum.s --all
 chart examples/sum.s --seed 3
 commits examples/sum.s
