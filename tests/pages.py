@@ -5,7 +5,7 @@ only the words and `retires` have to be right: the other numbers are those of on
 that later commands of the page read. A block `sh` has commands that prove or build: they are not run, and only what they
 name has to be there. So has each file that a page links to or names in code, and each place in it: those of DECISIONS and
 KIT, the rows of ROWS, and the calls of PROMISES with their clauses. Pages that a script writes are compared with what it writes,
-and no page is longer or wider than its limits.
+and no page is longer or wider than its limits. `python3 tests/pages.py renew PAGE ..` writes what commands write into these pages.
 """
 import glob
 import os
@@ -66,17 +66,23 @@ def told(line):
     return re.sub(r"(?<!retires) \d+", " N", line) if line.startswith("tally ") else line
 
 
-def run(page, room, command, wanted):
+def given_by(room, command):
+    """The lines that a command writes."""
     went = subprocess.run(["bash", "-c", command], cwd=room, capture_output=True, text=True, errors="replace", timeout=60, stdin=subprocess.DEVNULL)
     # what a command prints behind the program comes behind its standard error
     lines = went.stdout.splitlines()
     last = [lines.pop()] if "; echo " in command and lines else []
-    given = [*lines, *went.stderr.splitlines(), *last]
+    return [*lines, *went.stderr.splitlines(), *last]
+
+
+def run(page, room, command, wanted):
+    given = given_by(room, command)
     if [*map(told, given)] != [*map(told, wanted)]:
         wrong(page, f"$ {command}\n  the page has:\n    " + "\n    ".join(wanted) + "\n  it writes:\n    " + "\n    ".join(given))
 
 
-def console(page, room, lines):
+def commands_of(page, lines):
+    """The commands of a block, each with the lines that the page has after it."""
     commands = []
     for line in lines:
         if line.startswith("$ "):
@@ -85,9 +91,45 @@ def console(page, room, lines):
             commands[-1][1].append(line)
         else:
             wrong(page, f"no command writes {line!r}")
+    return commands
+
+
+def console(page, room, lines):
+    commands = commands_of(page, lines)
     for command, wanted in commands:
         run(page, room, command, wanted)
     return len(commands)
+
+
+def store(room, head, lines):
+    """Writes the file that a block is, if it is one."""
+    for name in (it[5:] for it in head if it.startswith("file=")):
+        with open(f"{room}/{name}", "w", encoding="utf-8") as it:
+            it.write("\n".join(lines) + "\n")
+
+
+def renewed(page, room, head, lines):
+    """The lines of a block with what its commands write; where that is what the page has, the page stays."""
+    store(room, head, lines)
+    if head[:1] != ["console"]:
+        return lines
+    found = []
+    for command, wanted in commands_of(page, lines):
+        given = given_by(room, command)
+        found += [f"$ {command}", *(wanted if [*map(told, given)] == [*map(told, wanted)] else given)]
+    return found
+
+
+def renew(page):
+    """Writes a page anew, with what its commands write."""
+    with open(page, encoding="utf-8") as it:
+        text = it.read()
+    with tempfile.TemporaryDirectory() as room:
+        place(room)
+        text = re.sub(r"^```(.*)\n((?:.*\n)*?)```$", lambda it: "\n".join(
+            [f"```{it[1]}", *renewed(page, room, it[1].split(), it[2].splitlines()), "```"]), text, flags=re.M)
+    with open(page, "w", encoding="utf-8") as it:
+        it.write(text)
 
 
 def subcommands():
@@ -329,16 +371,17 @@ def check_edits():
 
 
 def main():
+    if sys.argv[1:2] == ["renew"]:
+        for page in sys.argv[2:]:
+            renew(page)
+        return 0
     known, names, ran, looked = subcommands(), crates(), 0, 0
     for page in PAGES:
         with tempfile.TemporaryDirectory() as room:
             place(room)
             for head, lines in blocks(page):
-                name = [it[5:] for it in head if it.startswith("file=")]
-                if name:
-                    with open(f"{room}/{name[0]}", "w", encoding="utf-8") as it:
-                        it.write("\n".join(lines) + "\n")
-                elif head[:1] == ["console"]:
+                store(room, head, lines)
+                if head[:1] == ["console"]:
                     ran += console(page, room, lines)
                 elif head[:1] == ["sh"]:
                     looked += check_commands(page, lines, known)
