@@ -10,6 +10,7 @@ use Rattle.instructions.specs.declared.stop.Outcome.{Outcome}
 use Rattle.instructions.specs.declared.stop.Outcome.TheVariants.{Address, Next, Pair, Stop as Stops, Value}
 use Rattle.instructions.specs.declared.stop.Stop.{Stop}
 use Rattle.instructions.specs.declared.stop.Stop.TheVariants.{BadPc}
+use Rattle.inorder.specs.declared.history.Step.{Step}
 use Rattle.inorder.specs.declared.history.Step.TheVariants.{Let}
 use Rattle.inorder.specs.declared.history.Supply.TheVariants.{Known}
 use Rattle.inorder.specs.Committed.{committed}
@@ -93,7 +94,7 @@ pub memory_is : (P : Program) (a : ArchitecturalState) (ts : List Tenant) → Se
 memory_is P a ts s = ap (λ x. length x.memory) s.state ∙ length_memory P ts
 
 -- there is no instruction to go on with
-pub nothing_stops : (P : Program) (C : Sizes) (U : UpdateUnit) (s : State) → s ≡ committed P U.tenants → instr_at P s.pc ≡ None → MovesTo IsPlain P C U (HasStopped P s BadPc)
+pub nothing_stops : {IsOne : Step → Type 0} → (P : Program) (C : Sizes) (U : UpdateUnit) (s : State) → s ≡ committed P U.tenants → instr_at P s.pc ≡ None → MovesTo IsOne P C U (HasStopped P s BadPc)
 nothing_stops P C U s is none = record { unit = U; reaches = stays U; stands = record { state = is; stops = Nowhere refl (ap (λ x. instr_at P x.pc) (sym is) ∙ none) } }
 
 -- the instruction that is next has an index

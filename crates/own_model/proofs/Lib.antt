@@ -7,3 +7,4 @@ pub mod Issuing
 pub mod Pairing
 pub mod Parting
 pub mod Runs
+pub mod Turning

@@ -30,7 +30,7 @@ use Rattle.own_model.proofs.Executing.{executed, hit_stays, miss_squashes, next_
 use Rattle.own_model.proofs.Issuing.{enters, found, left_oldest, next_small, no_access_lives, nobody_lives, oldest_reaches, oldest_settles, oldest_stops, pc_is, source_is}
 use Rattle.own_model.proofs.Predicted.{computed_fits}
 use Rattle.own_model.proofs.Retiring.{gone_as, leads_out, leaves, squashed_settles}
-use Rattle.own_model.proofs.Sequences.{once, sound_after, then_on}
+use Rattle.own_model.proofs.Sequences.{loosened, once, sound_after, then_on}
 use Rattle.own_model.proofs.Sources.{source_after}
 
 -- Both are let
@@ -99,11 +99,11 @@ module _ (P : Program) (C : Sizes) (ring : 1 < C.ring) (queue : 1 < C.queue) (U 
   comes = (λ z. outcome_of (n.1.is z) (sym half_is z) pc x y (length P.bytes)) ∙ second.outcome
 
   -- then the second is executed, as the model does it
-  pub two_fly : {IsOne : Step → Type 0} → ((X Y : UpdateUnit) → Reaches IsPlain P C X Y → Reaches IsOne P C X Y) → (since : Tenant → Tenant) →
+  pub two_fly : {IsOne : Step → Type 0} → ((s : Step) → IsPlain s → IsOne s) → (since : Tenant → Tenant) →
       ((W : UpdateUnit) (t : Tenant) → MayClaim P t → instr P t ≡ j → computed P t ≡ o → Reaches IsOne P C (with_let W t) (with_let W (since t))) →
       MovesTo IsOne P C U (TwoFly P C a i pc j o since)
-  two_fly are since runs = record {
+  two_fly weaker since runs = record {
     unit = two_in_flight a P C U i k.0 pc j n.0 o since;
-    reaches = then_on (are U (with_let V fresh) lets) (runs V fresh (record { live = refl; fate = refl; needs = refl }) n.1.is comes);
+    reaches = then_on (loosened weaker lets) (runs V fresh (record { live = refl; fate = refl; needs = refl }) n.1.is comes);
     stands = record { below = U; settled = s; second = second; k = k.0; oldest_at = k.1; n = n.0; second_at = n.1; is = refl };
   }

@@ -1,7 +1,7 @@
 -- A run of a model is in order: what a unit that steps reach has committed is in order, and a model has that of the units it stands for.
-use Rattle.std.proofs.Common.{◌≡◌, ℕ, ◌<◌, ◌≤◌, true, false, Bool, List, [], ◌∷◌, ◌++◌, Option, Some, None, refl, sym, ap, ◌∙◌, subst, arith}
+use Rattle.std.proofs.Common.{◌≡◌, ℕ, ◌<◌, ◌≤◌, true, false, Bool, List, [], ◌∷◌, ◌++◌, length, Option, Some, None, refl, sym, ap, ◌∙◌, subst, arith}
 use Rattle.std.specs.List.{AllByRecursion}
-use Rattle.instructions.specs.Instruction.{is_first_half, kind, pc_plus_4}
+use Rattle.instructions.specs.Instruction.{is_first_half, kind, pc_plus_4, second_of, width}
 use Rattle.instructions.specs.Programs.{Program}
 use Rattle.instructions.specs.declared.instr.Instr.{Instr}
 use Rattle.instructions.specs.declared.op.Kind.{Kind}
@@ -20,9 +20,10 @@ use Rattle.inorder.specs.Moves.{IsReached, MayRun, MayTake, run_on}
 use Rattle.inorder.specs.Runs.{after, end_state, stop, stop_of, then_stop}
 use Rattle.inorder.specs.Theorem.{IsInOrder, IsRight}
 use Rattle.inorder.specs.Unit.{Sizes, UpdateUnit, empty_unit}
+use Rattle.inorder.proofs.Basics.{length_put}
 use Rattle.inorder.proofs.OneCaller.Sequences.{allowed_of, reach_on, taken}
 use Rattle.own_model.specs.Runs.{EndsAfter, IsInOrderEnd, IsOneFurther, held}
-use Rattle.own_model.specs.State.{IsNoStop, accessed, advanced_by, half_in, left}
+use Rattle.own_model.specs.State.{IsNoStop, accessed, advanced, advanced_by, half_in, left, value_in}
 use Rattle.own_model.specs.declared.state.ArchitecturalState.{ArchitecturalState}
 use Rattle.own_model.proofs.Retiring.{none_waits}
 use Rattle.own_model.specs.Transitions.{ByStop, Goes, HasStopped, Nowhere, StandsForSome, StopsWith}
@@ -94,28 +95,43 @@ module _ {IsOne : Step → Type 0} {P : Program} {C : Sizes} (right : (history :
       let stops = ap (λ (x : State). stop P x.count) u.stands.state ∙ stop_is right u.unit u.reached c u.stands.stops in
       ended right u.unit u.reached limit e (ByCode c) s u.stands.state is (stops, below)
 
--- An instruction that goes on, goes on by one
-few : (low : Option ℕ) → held low ≤ 1
+-- What an instruction leaves
+
+-- each that goes on leaves registers and a memory of the same size
+left_shows : (a : ArchitecturalState) (i : Instr) (Shows : ArchitecturalState → Type 0) → ((memory : List ℕ) (v x : ℕ) → length memory ≡ length a.committed.memory → Shows (advanced a i (half_in a) memory v x)) →
+    (o : Outcome) → IsNoStop o → Shows (left a i o)
+left_shows a i Shows each o goes = by o goes
+  where
+    accesses : (k : Kind) (at : ℕ) → Shows (accessed k a i (half_in a) (pc_plus_4 a.committed.pc) at)
+    accesses Stores at = each _ _ _ (length_put a.committed.memory at (width i.op) (value_in a (second_of i)))
+    accesses Loads at = each _ _ _ refl
+    accesses Computes at = each _ _ _ refl
+    accesses Jumps at = each _ _ _ refl
+    accesses Links at = each _ _ _ refl
+
+    by : (o : Outcome) → IsNoStop o → Shows (left a i o)
+    by (Value v) goes = each _ _ _ refl
+    by (Next x) goes = each _ _ _ refl
+    by (Address at) goes = accesses (kind i.op) at
+    by (Pair low high) goes = each _ _ _ refl
+    by (Stops c) goes = absurd (goes c refl)
+
+pub few : {A : Type 0} → (low : Option A) → held low ≤ 1
 few None = omega arith
 few (Some w) = omega arith
 
+-- it goes on by one instruction at most
 pub further : (a : ArchitecturalState) (i : Instr) (o : Outcome) → IsNoStop o → IsOneFurther a (left a i o)
-further a i o goes = by o goes
+further a i = left_shows a i (IsOneFurther a) (λ memory v x same. by memory v x (is_first_half i.op (half_in a)) refl)
   where
-    advances : (memory : List ℕ) (v x : ℕ) (first : Bool) → is_first_half i.op (half_in a) ≡ first → IsOneFurther a (advanced_by first a i (half_in a) memory v x)
-    advances memory v x true f = let none : held a.low ≡ 0 = ap held (none_waits a.low i.op f) in record { count = omega arith; halves = omega (arith, none) }
-    advances memory v x false f = let one : held a.low ≤ 1 = few a.low in record { count = omega arith; halves = omega (arith, one) }
+    by : (memory : List ℕ) (v x : ℕ) (first : Bool) → is_first_half i.op (half_in a) ≡ first → IsOneFurther a (advanced_by first a i (half_in a) memory v x)
+    by memory v x true f = let none : held a.low ≡ 0 = ap held (none_waits a.low i.op f) in record { count = omega arith; halves = omega (arith, none) }
+    by memory v x false f = let one : held a.low ≤ 1 = few a.low in record { count = omega arith; halves = omega (arith, one) }
 
-    accesses : (k : Kind) (at : ℕ) → IsOneFurther a (accessed k a i (half_in a) (pc_plus_4 a.committed.pc) at)
-    accesses Stores at = advances _ _ _ _ refl
-    accesses Loads at = advances _ _ _ _ refl
-    accesses Computes at = advances _ _ _ _ refl
-    accesses Jumps at = advances _ _ _ _ refl
-    accesses Links at = advances _ _ _ _ refl
-
-    by : (o : Outcome) → IsNoStop o → IsOneFurther a (left a i o)
-    by (Value v) goes = advances _ _ _ _ refl
-    by (Next x) goes = advances _ _ _ _ refl
-    by (Address at) goes = accesses (kind i.op) at
-    by (Pair low high) goes = advances _ _ _ _ refl
-    by (Stops c) goes = absurd (goes c refl)
+-- memory keeps its size
+pub same_size : (a : ArchitecturalState) (i : Instr) (o : Outcome) → IsNoStop o → length (left a i o).committed.memory ≡ length a.committed.memory
+same_size a i = left_shows a i (λ z. length z.committed.memory ≡ length a.committed.memory) (λ memory v x same. by memory v x same (is_first_half i.op (half_in a)))
+  where
+    by : (memory : List ℕ) (v x : ℕ) → length memory ≡ length a.committed.memory → (first : Bool) → length (advanced_by first a i (half_in a) memory v x).committed.memory ≡ length a.committed.memory
+    by memory v x same true = refl
+    by memory v x same false = same

@@ -15,7 +15,7 @@ use Rattle.inorder.specs.Unit.{Sizes, UpdateUnit}
 use Rattle.inorder.proofs.OneCaller.Middle.{allowed_middle, changed_middle}
 use Rattle.inorder.proofs.OneCaller.Sequences.{all_more, all_weaker, leads_more, leads_nowhere, leads_once, sound_on}
 use Rattle.inorder.proofs.Sound.{IsSound}
-use Rattle.own_model.specs.Transitions.{IsAny, MovesTo, Reaches}
+use Rattle.own_model.specs.Transitions.{MovesTo, Reaches}
 
 module _ {IsOne : Step → Type 0} {P : Program} {C : Sizes} where
   -- no step
@@ -49,12 +49,12 @@ module _ {IsOne : Step → Type 0} {P : Program} {C : Sizes} where
 pub sound_after : {IsOne : Step → Type 0} {P : Program} {C : Sizes} {U V : UpdateUnit} → Reaches IsOne P C U V → IsSound P U.tenants → IsSound P V.tenants
 sound_after {IsOne} {P} {C} {U} r sound = subst (λ X. IsSound P X.tenants) r.leads.is (sound_on P C 0 U r.steps r.leads.may sound)
 
--- steps without speculation are steps
-pub any_of : {P : Program} {C : Sizes} {U V : UpdateUnit} → Reaches IsPlain P C U V → Reaches IsAny P C U V
-any_of r = record { steps = r.steps; are = all_weaker IsPlain IsAny (λ s p. tt) r.steps r.are; leads = r.leads }
+-- steps without speculation, where steps of another form may be taken too
+pub loosened : {IsOne : Step → Type 0} {P : Program} {C : Sizes} {U V : UpdateUnit} → ((s : Step) → IsPlain s → IsOne s) → Reaches IsPlain P C U V → Reaches IsOne P C U V
+loosened {IsOne} weaker r = record { steps = r.steps; are = all_weaker IsPlain IsOne weaker r.steps r.are; leads = r.leads }
 
-pub any_moves : {P : Program} {C : Sizes} {U : UpdateUnit} {Later : UpdateUnit → Type 0} → MovesTo IsPlain P C U Later → MovesTo IsAny P C U Later
-any_moves m = record { unit = m.unit; reaches = any_of m.reaches; stands = m.stands }
+pub loosened_moves : {IsOne : Step → Type 0} {P : Program} {C : Sizes} {U : UpdateUnit} {Later : UpdateUnit → Type 0} → ((s : Step) → IsPlain s → IsOne s) → MovesTo IsPlain P C U Later → MovesTo IsOne P C U Later
+loosened_moves weaker m = record { unit = m.unit; reaches = loosened weaker m.reaches; stands = m.stands }
 
 -- a tenant that may be claimed is claimed and finished
 pub runs_on : (P : Program) (C : Sizes) (W : UpdateUnit) (ys : List Tenant) (t : Tenant) (ts : List Tenant) → MayClaim P t →

@@ -1,7 +1,7 @@
 -- Tenants in flight, as a relation names them: each by the step's own constructor, on the unit in which it was let.
-use Rattle.std.specs.Prelude.{◌≡◌, ◌^◌, ◌<◌, IfSome, ℕ, length, Some}
-use Rattle.instructions.specs.Instruction.{destination, first_of, fixed_next, is_first_half, second_of}
-use Rattle.instructions.specs.Operations.{outcome_of}
+use Rattle.std.specs.Prelude.{◌≡◌, ◌^◌, ◌<◌, IfSome, ℕ, length, Option, Some, None}
+use Rattle.instructions.specs.Instruction.{destination, first_of, fixed_next, is_first_half, second_of, width}
+use Rattle.instructions.specs.Operations.{AddressIsInside, outcome_of}
 use Rattle.instructions.specs.Programs.{Program, instr_at}
 use Rattle.instructions.specs.declared.instr.Instr.{Instr}
 use Rattle.instructions.specs.declared.op.Half.{Half}
@@ -48,6 +48,7 @@ pub record IsSecond (P : Program) (a : ArchitecturalState) (i : Instr) (pc : ℕ
 pub record IsSecondOf (P : Program) (a : ArchitecturalState) (s : Second) : Type 0 where
   pub oldest : Instr
   pub is : IsSecond P a oldest s.pc s.instr s.outcome
+  pub inside : AddressIsInside s.outcome (width s.instr.op) (length P.bytes)
 
 -- The unit with i and then j let, i with the next pc `pc`, j with what it computes; j is by now as `since` has it
 abbrev pub with_oldest : ArchitecturalState → Program → Sizes → UpdateUnit → Instr → (k pc : ℕ) → UpdateUnit
@@ -72,3 +73,13 @@ pub record TwoFly (P : Program) (C : Sizes) (a : ArchitecturalState) (i : Instr)
   pub n : ℕ
   pub second_at : IsAt P pc n j
   pub is : U ≡ two_in_flight a P C below i k pc j n o since
+
+-- A model that has one more in flight, or none, stands for these units: with none all have left
+abbrev pub StandsBy : {X : Type 0} → (X → UpdateUnit → Type 0) → Option X → Program → ArchitecturalState → UpdateUnit → Type 0
+StandsBy Flies None P a U = Settled P a U.tenants
+StandsBy Flies (Some x) P a U = Flies x U
+
+-- The state of such a model after a turn: the oldest has retired, and what comes of the other
+abbrev pub after_turn : {X : Type 0} → (X → ArchitecturalState → ArchitecturalState) → Option X → ArchitecturalState → ArchitecturalState
+after_turn rest None a = a
+after_turn rest (Some x) a = rest x a

@@ -18,7 +18,7 @@ pub record IsInOrderEnd (P : Program) (limit : ℕ) (e : End) : Type 0 where
   pub ends : EndsAfter P limit e.n e.outcome
 
 -- One where something is there
-abbrev pub held : Option ℕ → ℕ
+abbrev pub held : {A : Type 0} → Option A → ℕ
 held None = 0
 held (Some v) = 1
 
@@ -29,4 +29,9 @@ halves a = 2 * a.committed.count + held a.low
 -- The state goes on, by at most one instruction
 pub record IsOneFurther (a later : ArchitecturalState) : Type 0 where
   pub count : later.committed.count ≤ a.committed.count + 1
+  pub halves : halves a < halves later
+
+-- The state goes on, by at most one instruction and as many more
+pub record IsFurther (more : ℕ) (a later : ArchitecturalState) : Type 0 where
+  pub count : later.committed.count ≤ a.committed.count + 1 + more
   pub halves : halves a < halves later
