@@ -1,8 +1,9 @@
 #!/usr/bin/env bash
 # The log of `./ruu commits`: of the examples, and of a hundred random listings with every operation, it says what the report
 # of the run says; it has the same bytes for every ring, queue, predictor and seed; with a limit it is cut behind so many
-# lines; the simulator of examples/lockstep writes the same log, and with its mistake differs at one line. Then what goes
-# wrong: devices, files and want of memory. And 100,000 instructions are logged in the memory of 100.
+# lines; the simulator of examples/lockstep writes the same log, and with its mistake differs at one line; a real MIPS in qemu
+# has the same registers. Then what goes wrong: scripts, devices, files and want of memory. And 100,000 instructions are logged
+# in the memory of 100.
 . "$(dirname "$0")/common.bash"
 build_refuse
 build run ruu
@@ -65,8 +66,27 @@ done
 log examples/c/primes.s
 python3 examples/lockstep/simulator.py examples/c/primes.elf > "$work/simulated"
 python3 examples/lockstep/first_difference.py "$work/out" "$work/simulated" > "$work/told" && fail 'the mistake does not show'
-[ "$(head -n 1 "$work/told")" = 'line 1503' ] || fail 'the mistake shows at another line'
+[ "$(sed -n 4p "$work/told")" = 'line 1503' ] && [ "$(wc -l < "$work/told")" -eq 6 ] || fail 'the mistake shows at another line'
 echo "the simulator's first difference is line 1503 of its log"
+
+# a real MIPS beside, where there is qemu-mipsel
+for name in primes numbers sorting; do
+  python3 examples/lockstep/qemu.py examples/c/$name.elf > "$work/told" 2>&1 || { cat "$work/told"; fail "$name: qemu-mipsel does something else"; }
+done
+grep -qxE '[0-9]+ instructions agree with qemu-mipsel|skipped: no qemu' "$work/told" || fail "qemu.py says $(cat "$work/told")"
+cat "$work/told"
+
+# no script ends in a traceback
+for script in first_difference lockstep simulator qemu; do
+  python3 examples/lockstep/$script.py 2> "$work/err" > "$work/told"
+  [ $? -eq 1 ] && grep -q "^usage: $script.py " "$work/err" || fail "$script.py without words: $(cat "$work/err")"
+done
+python3 examples/lockstep/simulator.py "$work/nowhere" 2> "$work/err"
+[ $? -eq 1 ] && [ "$(cat "$work/err")" = "simulator.py: $work/nowhere: No such file or directory" ] || fail "simulator.py of no file: $(cat "$work/err")"
+python3 examples/lockstep/simulator.py examples/c/primes.c 2> "$work/err"
+[ $? -eq 1 ] && grep -q 'no little endian ELF32 file' "$work/err" || fail "simulator.py of no ELF file: $(cat "$work/err")"
+python3 examples/lockstep/simulator.py examples/c/primes.elf 2> "$work/err" | head -n 1 > "$work/told"
+[ "${PIPESTATUS[0]}" -eq 5 ] && [ ! -s "$work/err" ] || fail "simulator.py without a reader: $(cat "$work/err")"
 
 # what goes wrong
 says() { # name, status, standard error

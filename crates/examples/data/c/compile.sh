@@ -1,8 +1,9 @@
 #!/usr/bin/env bash
-# Compiles a program to an executable: ./compile.sh [-o NAME.elf] FILE.. makes one of all its files, in C (.c) or assembly (.s,
-# and .S behind the preprocessor), which may be anywhere; without -o it stands beside the first file, with its name. With no
-# file the programs of this folder are compiled, one after the other. Files in assembly alone that have a label `_start` or
-# `__start` begin there; others begin in start.S, which calls `main`.
+# Compiles a program to an executable: ./compile.sh [-o NAME.elf] [FLAG..] FILE.. makes one of all its files, in C (.c) or
+# assembly (.s, and .S behind the preprocessor), which may be anywhere; without -o it stands beside the first file, with its name.
+# With no file the programs of this folder are compiled, one after the other. Files in assembly alone that have a label `_start`
+# or `__start` begin there; others begin in start.S, which calls `main`. The flags -O*, -D*, -I*, -U*, -W*, -std=* and -g are passed
+# on to the compiler, after those below.
 # It needs Debian's cross compiler: apt-get install gcc-mipsel-linux-gnu. Another one is named by CC=..
 set -eu
 here=$(dirname "$(readlink -f "${BASH_SOURCE[0]}")")
@@ -47,10 +48,17 @@ begin() { # files
 }
 
 to=
-if [ "${1:-}" = -o ]; then
-  to=${2:?a name behind -o}
-  shift 2
-fi
+while [ $# -gt 0 ]; do
+  case $1 in
+    -o) to=${2:?a name behind -o} && shift ;;
+    -[DIU]) flags+=("$1" "${2:?a name behind $1}") && shift ;;
+    -Wl,* | -Wa,* | -Wp,*) echo "compile.sh: $1: no flag that is passed on" >&2; exit 1 ;;
+    -O* | -D* | -I* | -U* | -W* | -std=* | -g*) flags+=("$1") ;;
+    -*) echo "compile.sh: $1: no flag that is passed on" >&2; exit 1 ;;
+    *) break ;;
+  esac
+  shift
+done
 if [ $# -eq 0 ]; then
   for file in "$here"/*.c; do
     link "${file%.c}.elf" "$file"

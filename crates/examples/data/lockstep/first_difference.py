@@ -1,9 +1,11 @@
 #!/usr/bin/env python3
-"""The first line in which two logs of commits differ: first_difference.py OURS THEIRS. The texts of instructions are passed
-over, so that a simulator need not write them."""
+"""The first line in which two logs of commits differ, after three lines in which they agree: first_difference.py OURS THEIRS.
+The texts of instructions are passed over, so that a simulator need not write them."""
+import collections
 import itertools
 import re
-import sys
+
+from ending import run
 
 TEXT = re.compile(r"(core   0: 3 0x\w{8} \(\S{10}\)) *(?:[a-z]+(?: \S+)?)??(?: +((?:x\d+|lo|hi|mem) +0x.*))?")
 
@@ -14,16 +16,18 @@ def bare(line):
     return " ".join(filter(None, found.groups())) if found else line
 
 
-def main():
-    with open(sys.argv[1], encoding="ascii") as ours, open(sys.argv[2], encoding="ascii") as theirs:
+def main(words):
+    before = collections.deque(maxlen=3)
+    with open(words[0], encoding="ascii") as ours, open(words[1], encoding="ascii") as theirs:
         for number, pair in enumerate(itertools.zip_longest(ours, theirs), 1):
             one, other = ((line or "nothing").rstrip("\n") for line in pair)
             if bare(one) != bare(other):
-                print(f"line {number}\n  {one}\n  {other}")
+                print(*(f"  {line}" for line in before), f"line {number}", f"  {one}", f"  {other}", sep="\n")
                 return 1
+            before.append(one)
     print("no difference")
     return 0
 
 
 if __name__ == "__main__":
-    sys.exit(main())
+    run(main, "OURS THEIRS")

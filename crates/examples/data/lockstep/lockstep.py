@@ -3,8 +3,8 @@
 
 lockstep.py LIBRARY FILE.elf     LIBRARY is a shared one, as tests/lockstep.sh makes it of libruu_step.a"""
 import ctypes
-import sys
 
+from ending import run
 from simulator import START, Simulator, Stop, load
 
 WORDS, STOPS = ctypes.POINTER(ctypes.c_uint32), ["break", "overflow", "unaligned", "range", "badpc"]
@@ -43,9 +43,9 @@ def differences(simulator, reference):
         yield f"byte 0x{at:08x}", simulator.memory[at], reference.memory[at]
 
 
-def main():
-    text, memory = load(sys.argv[2])
-    simulator, reference, count = Simulator(text, memory, "--right" in sys.argv), Reference(sys.argv[1], text, memory), 0
+def main(words):
+    text, memory = load(words[1])
+    simulator, reference, count = Simulator(text, memory, "--right" in words), Reference(words[0], text, memory), 0
     while True:
         pc = reference.pc.value
         ours, theirs = step(simulator), reference.step()
@@ -61,4 +61,4 @@ def main():
 
 
 if __name__ == "__main__":
-    sys.exit(main())
+    run(main, "LIBRARY FILE.elf")

@@ -7,7 +7,8 @@ simulator.py --right FILE.elf   the same without the mistake
 
 lockstep.py runs it beside the library."""
 import struct
-import sys
+
+from ending import run
 
 START, MASK, LO, HI = 0x400000, 0xFFFFFFFF, 32, 33
 WIDTHS = {32: 1, 33: 2, 35: 4, 36: 1, 37: 2, 40: 1, 41: 2, 43: 4}
@@ -25,6 +26,8 @@ def load(file):
     """The words of the text and the bytes of data memory of an ELF file."""
     with open(file, "rb") as it:
         data = it.read()
+    if data[:6] != b"\x7fELF\1\1" or len(data) < 52:
+        raise ValueError(f"{file}: no little endian ELF32 file")
     at, count = struct.unpack_from("<I", data, 28)[0], struct.unpack_from("<H", data, 44)[0]
     text, memory = [], bytearray(65536)
     for k in range(count):
@@ -142,8 +145,8 @@ def told(change):
     return " ".join(parts)
 
 
-def main():
-    simulator = Simulator(*load(sys.argv[-1]), is_right="--right" in sys.argv)
+def main(words):
+    simulator = Simulator(*load(words[-1]), is_right="--right" in words)
     try:
         while True:
             pc = simulator.pc
@@ -152,7 +155,8 @@ def main():
             print(f"core   0: 3 0x{pc:08x} (0x{word:08x}) {told(change)}".rstrip())
     except Stop as stop:
         print(f"core   0: 3 0x{simulator.pc:08x} stop {stop}")
+    return 0
 
 
 if __name__ == "__main__":
-    main()
+    run(main, "FILE.elf")
