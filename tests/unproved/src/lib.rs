@@ -10,6 +10,8 @@ mod choices;
 #[cfg(test)]
 mod command_lines;
 #[cfg(test)]
+mod examples;
+#[cfg(test)]
 mod layouts;
 #[cfg(test)]
 mod lines;
@@ -19,6 +21,8 @@ mod listings;
 mod loads;
 #[cfg(test)]
 mod making;
+#[cfg(test)]
+mod models;
 #[cfg(test)]
 mod one_station;
 #[cfg(test)]
@@ -31,3 +35,5 @@ mod reports;
 mod threads;
 #[cfg(test)]
 mod turns;
+#[cfg(test)]
+mod two_stations;
