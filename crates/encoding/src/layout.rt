@@ -1,6 +1,7 @@
 //! The layout of each operation in its word.
-ghost use Rattle.std.specs.Prelude.{◌≡◌, ◌<◌, ◌&&◌, ◌==◌};
+ghost use Rattle.std.specs.Prelude.{◌≡◌, ◌<◌, ◌&&◌, ◌==◌, IfSome, Some};
 ghost use Rattle.std.specs.List.{find};
+ghost use Rattle.instructions.specs.Instruction.{operations};
 ghost use Rattle.encoding.specs.Layouts.{layout as layout_by, operation_of as operation, has_layout};
 
 use crate::fields;
@@ -138,10 +139,99 @@ fn find_in(operations: &[Op], opcode: u32, select: u32) -> Option<Op>
     None
 }
 
-/// The operation with the opcode and the selecting field of a word.
+// The operation with opcode 0 and a function, where there is one.
+fn by_function(function: u32) -> Option<Op>
+    ensures { IfSome result (λ op. find (has_layout 0 function) operations ≡ Some op) }
+{
+    Some(match function {
+        0 => Op::Sll,
+        2 => Op::Srl,
+        3 => Op::Sra,
+        4 => Op::Sllv,
+        6 => Op::Srlv,
+        7 => Op::Srav,
+        8 => Op::Jr,
+        9 => Op::Jalr,
+        13 => Op::Break,
+        16 => Op::Mfhi,
+        17 => Op::Mthi,
+        18 => Op::Mflo,
+        19 => Op::Mtlo,
+        24 => Op::Mult,
+        25 => Op::Multu,
+        26 => Op::Div,
+        27 => Op::Divu,
+        32 => Op::Add,
+        33 => Op::Addu,
+        34 => Op::Sub,
+        35 => Op::Subu,
+        36 => Op::And,
+        37 => Op::Or,
+        38 => Op::Xor,
+        39 => Op::Nor,
+        42 => Op::Slt,
+        43 => Op::Sltu,
+        _ => return None,
+    })
+}
+
+// The operation with opcode 1 and a field rt, where there is one.
+fn by_register(rt: u32) -> Option<Op>
+    ensures { IfSome result (λ op. find (has_layout 1 rt) operations ≡ Some op) }
+{
+    Some(match rt {
+        0 => Op::Bltz,
+        1 => Op::Bgez,
+        _ => return None,
+    })
+}
+
+// The operation with an opcode above 1, where there is one.
+fn by_opcode(opcode: u32) -> Option<Op>
+    ensures large { IfSome result (λ op. 1 < opcode) }
+    ensures some { IfSome result (λ op. find (has_layout opcode 0) operations ≡ Some op) }
+{
+    Some(match opcode {
+        2 => Op::J,
+        3 => Op::Jal,
+        4 => Op::Beq,
+        5 => Op::Bne,
+        6 => Op::Blez,
+        7 => Op::Bgtz,
+        8 => Op::Addi,
+        9 => Op::Addiu,
+        10 => Op::Slti,
+        11 => Op::Sltiu,
+        12 => Op::Andi,
+        13 => Op::Ori,
+        14 => Op::Xori,
+        15 => Op::Lui,
+        32 => Op::Lb,
+        33 => Op::Lh,
+        35 => Op::Lw,
+        36 => Op::Lbu,
+        37 => Op::Lhu,
+        40 => Op::Sb,
+        41 => Op::Sh,
+        43 => Op::Sw,
+        _ => return None,
+    })
+}
+
+/// The operation with the opcode and the selecting field of a word. The table is searched only where neither names one.
 #[tactic(auto, unfolding(crate::specs::Layouts::operation_of))]
 pub fn operation_of(word: u32) -> Option<Op>
     ensures { result ≡ operation word }
 {
-    find_in(Op::all(), fields::opcode(word), fields::select(word))
+    let opcode = fields::opcode(word);
+    let select = fields::select(word);
+    let found = match opcode {
+        0 => by_function(select),
+        1 => by_register(select),
+        _ => by_opcode(opcode),
+    };
+    match found {
+        Some(op) => Some(op),
+        None => find_in(Op::all(), opcode, select),
+    }
 }
