@@ -122,6 +122,10 @@
   press(' ');
   want('pause', text('#play').includes('Play'));
 
+  document.documentElement.scrollTop = 100000;
+  const end = document.getElementById('steps').getBoundingClientRect();
+  want('the bar of the steps stays in sight', Math.abs(end.bottom - innerHeight) < 2 && document.querySelector('main').getBoundingClientRect().bottom < end.top + 2);
+  document.documentElement.scrollTop = 0;
   if (innerWidth >= 1280) {
     const plot = document.getElementById('plot').getBoundingClientRect(), bar = document.getElementById('steps').getBoundingClientRect();
     want('the chart is in sight', plot.bottom <= bar.top && plot.height > 100 || page.ring === 32);
