@@ -22,7 +22,7 @@ WOKE = r"(?: woke(?P<woke>(?: \d+)+))?"
 
 ANSWERS = {
     "Let": form(r"Let station {station} tag {tag} pc {pc} " + TEXT + HALF),
-    "Job": form(r"Job station {station} tag {tag} index {index} half {half} pc {pc} predicted {predicted} a {a} b {b} " + TEXT),
+    "Job": form(r"Job station {station} tag {tag} index {index} half {half} pc {pc} predicted {predicted} a {a}(?: b {b})? " + TEXT),
     "Finished": form(r"Finished station {station} tag {tag} {state} value {value}" + WOKE),
     "Stale": form(r"Stale station {station} tag {tag}"),
     "Loaded": form(r"Loaded station {station} tag {tag} value {value}" + WOKE),
@@ -36,6 +36,7 @@ ANSWERS = {
 }
 ROW = form(r"station {station}: tag {tag} state {state} value {value}(?: unit {unit})? index {index} half {half}"
            r" predicted {predicted} " + TEXT + r"; 1 (?P<first>[^;]*); 2 (?P<second>[^;]*)")
+ACCESS = form(r"station {station}: tag {tag} state {state} " + TEXT + r"; address (?P<address>[^;]*); data (?P<data>[^;]*)")
 CREATOR = form(r"creator {register}: Made station {station} tag {tag}")
 RING = form(r"ring: head (?P<head>\d+|none) tail {tail} next {next} free {free}")
 OPERAND = form(r"VAL value {value}|WAIT for station {station} tag {tag}|NONE")

@@ -1,33 +1,29 @@
-"""The load/store queue: the loads and stores in flight with what was told of them, and where a load got its value."""
-SIZES = {"lb": 1, "lbu": 1, "sb": 1, "lh": 2, "lhu": 2, "sh": 2, "lw": 4, "sw": 4}
+"""The load/store queue as `queue` tells it: the loads and stores in flight, the oldest first."""
+from answers import ACCESS, fields, unknown
+
+SIZES = {"b": 1, "h": 2, "w": 4}
 
 
-def value_of(operand):
-    return operand.get("value") if operand else None
+def value_of(text):
+    """An address or data; one that nobody has told yet is none."""
+    return int(text, 16) if text.startswith("0x") else None
 
 
-def row_of(row, tenant):
-    """A row of the queue; an address or data that nobody has told yet is none."""
-    operation = tenant["text"].split(" ")[0]
-    is_store = operation.startswith("s")
-    made = row["value"] if row["state"] == "DONE" else None
-    return {"station": row["station"], "kind": "store" if is_store else "load", "size": SIZES[operation],
-            "address": tenant.get("address"), "data": value_of(row["operands"][1]) if is_store else made}
+def source_of(text):
+    """Where a load would have its value from: the station of a store, or `memory`; none of what is told or held up."""
+    return int(text.split(" ")[2]) if text.startswith("from station ") else "memory" if text == "from memory" else None
 
 
-def queue_of(table, tenants, tenant_of):
-    """The queue, the oldest first."""
-    live = [(table.rows[station], tenants[tenant_of[station]]) for station in table.live()]
-    return [row_of(row, tenant) for row, tenant in live if tenant["text"].split(" ")[0] in SIZES]
+class Queue:
+    """The rows, and of each load that can be answered where it would have its value from."""
 
+    def __init__(self, lines):
+        self.rows, self.sources = [], {}
+        for line in lines:
+            self.take(fields(ACCESS, line) or unknown(line))
 
-def overlap(one, other):
-    return one["address"] < other["address"] + other["size"] and other["address"] < one["address"] + one["size"]
-
-
-def origin(station, queue):
-    """Where the load at this station, which is answered now, has its value from: the station of the youngest older store that
-    overlaps it, or `memory`. A load is answered only where all older stores have their addresses, and that one has all its bytes."""
-    at = [row["station"] for row in queue].index(station)
-    stores = (row["station"] for row in reversed(queue[:at]) if row["kind"] == "store" and overlap(row, queue[at]))
-    return next(stores, "memory")
+    def take(self, told):
+        operation = told["text"].split(" ")[0]
+        self.rows.append({"station": told["station"], "kind": "store" if operation[0] == "s" else "load", "size": SIZES[operation[1]],
+                          "address": value_of(told["address"]), "data": value_of(told["data"])})
+        self.sources[told["station"]] = source_of(told["data"])

@@ -2,7 +2,7 @@
 import subprocess
 import sys
 
-ASKED = ("table", "report")
+ASKED = ("table", "queue", "report")
 # How many commands a seed may choose for each step that is shown: some change nothing.
 COMMANDS_A_STEP = 10
 MOST_COMMANDS = 1000000

@@ -1,6 +1,6 @@
 """The steps of a run: one object for each command that told something, gathered from the answers of `ruu drive` alone."""
 from answers import Report, Table, answer
-from memory_queue import origin, queue_of
+from memory_queue import Queue
 from session import ASKED
 
 KINDS = {"Let": "let", "Job": "claim", "Finished": "finish", "Stale": "stale", "Loaded": "load", "Blocked": "blocked",
@@ -21,14 +21,16 @@ class Gathering:
         self.passed = []
         self.blocked = set()
         self.changes = []
+        self.queue = None
 
     def state(self, told):
         """What the questions told, as a step that is still without its event."""
         table, report = Table(told["table"]), Report(told["report"])
+        self.queue = Queue(told["queue"])
         return {
             "stations": {station: self.station(row) for station, row in table.rows.items()},
             "live": table.live(), "head": table.ring["head"], "tail": table.ring["tail"], "next": table.ring["next"],
-            "creators": table.creators, "queue": queue_of(table, self.tenants, self.tenant_of),
+            "creators": table.creators, "queue": self.queue.rows,
             "count": report.count, "pc": report.pc, "registers": report.registers, "memory": report.memory,
             "jobs": {unit: dict(job) for unit, job in self.jobs.items()},
         }
@@ -83,7 +85,7 @@ class Gathering:
         unit, tenant = command.split()[1], self.tenant_of[found["station"]]
         self.jobs[unit] = {"station": found["station"], "tag": found["tag"], "tenant": tenant}
         self.tenants[tenant]["claim"] = at
-        return {"tenant": tenant, "station": found["station"], "unit": unit, "values": [found["a"], found["b"]]}
+        return {"tenant": tenant, "station": found["station"], "unit": unit, "values": [it for it in (found["a"], found["b"]) if it is not None]}
 
     def finish(self, at, command, found):
         unit = command.split()[1]
@@ -104,7 +106,7 @@ class Gathering:
         tenant = self.tenant_of[found["station"]]
         self.tenants[tenant]["load"] = at
         return {"tenant": tenant, "station": found["station"], "value": found["value"], "woke": found["woke"],
-                "origin": origin(found["station"], self.steps[-1]["queue"])}
+                "origin": self.queue.sources[found["station"]]}
 
     def block(self, _at, _command, found):
         return {"tenant": self.tenant_of[found["station"]], "station": found["station"], "store": found["store"]}

@@ -113,6 +113,8 @@ for name in double wrong_path forwarding fibonacci; do
     drive "$work/none" "examples/$name.s" --ruu-size 8 --seed $seed --steps 20000
     [ $status -eq 0 ] || fail "$name, seed $seed: status $status"
     cp "$work/out" "$work/seeded.$seed"
+    drive "$work/none" "examples/$name.s" --ruu-size 8 --seed $seed --steps 20000
+    is_told "$name, seed $seed once more" "$work/seeded.$seed" 0 ''
     sed '1,/^> report$/d' "$work/out" | cmp -s - "examples/$name.report" || fail "$name, seed $seed: another report"
     sed -n 's/^> //p' "$work/seeded.$seed" > "$work/script"
     drive "$work/script" "examples/$name.s" --ruu-size 8 --echo
