@@ -1,19 +1,17 @@
 -- A step of the unit: from each unit that the model stands for the next instruction is let, executed and retires.
-use Rattle.std.proofs.Common.{◌≡◌, None, Ok, Err, refl, sym, ap, ◌∙◌, subst, lit<}
-use Rattle.std.specs.Prelude.{OnOk, Result}
+use Rattle.std.proofs.Common.{◌≡◌, None, Ok, Err, refl, sym, ap, subst, lit<}
+use Rattle.std.specs.Prelude.{Result}
 use Rattle.instructions.specs.Programs.{instr_at}
 use Rattle.instructions.specs.declared.instr.Instr.{Instr}
 use Rattle.instructions.specs.declared.stop.Outcome.{Outcome}
 use Rattle.instructions.specs.declared.stop.Stop.{Stop}
 use Rattle.instructions.specs.declared.stop.Stop.TheVariants.{BadPc}
 use Rattle.inorder.specs.Plain.{IsPlain}
-use Rattle.own_model.specs.Runs.{IsOneFurther}
 use Rattle.own_model.specs.Settled.{Settled}
 use Rattle.own_model.specs.State.{Commits, Executes}
-use Rattle.own_model.specs.Transitions.{HasStopped, MovesTo}
+use Rattle.own_model.specs.Transitions.{MovesTo}
 use Rattle.own_model.specs.declared.state.ArchitecturalState.{ArchitecturalState}
 use Rattle.own_model.proofs.Issuing.{issue_moves, issue_stops, nothing_stops}
-use Rattle.own_model.proofs.Runs.{further}
 use Rattle.in_order_issue.specs.StandsFor.{StepGoes, one}
 use Rattle.in_order_issue.specs.declared.station.OneStation.{OneStation}
 

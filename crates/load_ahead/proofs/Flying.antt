@@ -1,5 +1,5 @@
 -- A load reads ahead and guesses; when the oldest has retired it is confirmed and retires, or is squashed or flushed.
-use Rattle.std.proofs.Common.{◌≡◌, ℕ, ◌+◌, ◌^◌, ◌<◌, ◌≤◌, ◌&&◌, true, false, Bool, cond, eqb, [], ◌∷◌, length, Some, refl, sym, ap, ◌∙◌, subst, eqb-true, lit<}
+use Rattle.std.proofs.Common.{◌≡◌, ◌+◌, ◌^◌, ◌<◌, ◌≤◌, ◌&&◌, true, false, Bool, cond, eqb, [], ◌∷◌, length, refl, sym, ap, ◌∙◌, subst, eqb-true, lit<}
 use Rattle.std.specs.Prelude.{slice_index}
 use Rattle.instructions.specs.Instruction.{kind, pc_plus_4, width}
 use Rattle.instructions.specs.Programs.{Program, instr_of}

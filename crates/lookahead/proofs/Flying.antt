@@ -1,5 +1,5 @@
 -- To look ahead, and a turn with two in flight: the oldest retires, and the one after it retires too, or is squashed.
-use Rattle.std.proofs.Common.{◌≡◌, ℕ, true, false, Bool, cond, eqb, [], ◌∷◌, refl, sym, ap, ◌∙◌, subst, eqb-true, lit<}
+use Rattle.std.proofs.Common.{◌≡◌, ℕ, true, false, Bool, cond, eqb, [], refl, sym, subst, eqb-true, lit<}
 use Rattle.instructions.specs.Programs.{Program}
 use Rattle.instructions.specs.declared.instr.Instr.{Instr}
 use Rattle.instructions.specs.declared.stop.Outcome.{Outcome}

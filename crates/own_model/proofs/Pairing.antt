@@ -1,36 +1,29 @@
 -- A second tenant is let after the oldest, and executed before it.
-use Rattle.std.proofs.Common.{◌≡◌, ℕ, suc, ◌<◌, ◌≤◌, ◌&&◌, not, true, false, Bool, cond, eqb, List, [], ◌∷◌, ◌++◌, length, Some, refl, sym, ap, ◌∙◌, subst, arith, eq-eqb, eqb-true}
+use Rattle.std.proofs.Common.{◌≡◌, ℕ, suc, ◌<◌, true, false, Bool, cond, length, Some, refl, sym, ap, ◌∙◌, subst, arith}
 use Rattle.std.specs.Prelude.{IfSome}
-use Rattle.instructions.specs.Instruction.{destination, first_of, fixed_next, is_access, is_first_half, kind, second_of}
+use Rattle.instructions.specs.Instruction.{destination, first_of, fixed_next, is_access, is_first_half, second_of}
 use Rattle.instructions.specs.Operations.{outcome_of}
-use Rattle.instructions.specs.Programs.{Program, instr_of}
+use Rattle.instructions.specs.Programs.{Program}
 use Rattle.instructions.specs.declared.instr.Instr.{Instr}
 use Rattle.instructions.specs.declared.stop.Outcome.{Outcome}
-use Rattle.instructions.specs.declared.stop.Outcome.TheVariants.{Stop as Stops}
-use Rattle.instructions.specs.declared.stop.Stop.{Stop}
 use Rattle.inorder.specs.declared.history.Step.{Step}
 use Rattle.inorder.specs.declared.history.Step.TheVariants.{Let}
 use Rattle.inorder.specs.declared.history.Supply.TheVariants.{Known}
-use Rattle.inorder.specs.Committed.{ahead, commits_by, committed, with_tenant}
-use Rattle.inorder.specs.Moves.{IsReached, with_let, with_tenants}
+use Rattle.inorder.specs.Moves.{IsReached, with_let}
 use Rattle.inorder.specs.Plain.{IsPlain}
 use Rattle.inorder.specs.Steps.{MayClaim, MayLet}
-use Rattle.inorder.specs.Tenants.{Live, Tenant, computed, instr, is_first, kind_of}
-use Rattle.inorder.specs.Unit.{Sizes, UpdateUnit, creator, front_half, front_pc, half_after, value_of}
-use Rattle.inorder.proofs.OneCaller.Middle.{sound_from}
-use Rattle.inorder.proofs.OneCaller.Recovery.{gone}
+use Rattle.inorder.specs.Tenants.{Tenant, computed, instr, kind_of}
+use Rattle.inorder.specs.Unit.{Sizes, UpdateUnit, creator, front_half, half_after, value_of}
 use Rattle.inorder.proofs.OneCaller.Sequences.{sound_of}
 use Rattle.inorder.proofs.Sound.{IsSound}
-use Rattle.own_model.specs.Flight.{IsSecond, TwoFly, let_in, let_known, second_goes, second_half, two_in_flight, with_oldest}
+use Rattle.own_model.specs.Flight.{IsSecond, TwoFly, let_in, second_goes, second_half, two_in_flight, with_oldest}
 use Rattle.own_model.specs.Settled.{Settled}
-use Rattle.own_model.specs.State.{Executes, IsAt, IsNoStop, half_in, left, left_at, loaded_at, value_in}
-use Rattle.own_model.specs.Transitions.{HasStopped, MovesTo, Reaches}
+use Rattle.own_model.specs.State.{IsAt, half_in, value_in}
+use Rattle.own_model.specs.Transitions.{MovesTo, Reaches}
 use Rattle.own_model.specs.declared.state.ArchitecturalState.{ArchitecturalState}
-use Rattle.own_model.proofs.Executing.{executed, hit_stays, miss_squashes, next_as, stay}
-use Rattle.own_model.proofs.Issuing.{enters, found, left_oldest, next_small, no_access_lives, nobody_lives, oldest_reaches, oldest_settles, oldest_stops, pc_is, source_is}
+use Rattle.own_model.proofs.Issuing.{enters, found, next_small, no_access_lives, nobody_lives, source_is}
 use Rattle.own_model.proofs.Predicted.{computed_fits}
-use Rattle.own_model.proofs.Retiring.{gone_as, leads_out, leaves, squashed_settles}
-use Rattle.own_model.proofs.Sequences.{loosened, once, sound_after, then_on}
+use Rattle.own_model.proofs.Sequences.{loosened, once, then_on}
 use Rattle.own_model.proofs.Sources.{source_after}
 
 -- Both are let

@@ -1,7 +1,7 @@
 -- The law that the run calls is cited here: the one-thread unit is right.
 use Rattle.std.proofs.Common.{◌≡◌, sym, ap, ◌∙◌, subst, arith}
 use Rattle.instructions.specs.declared.end.Ending.TheVariants.{Stop as ByCode}
-use Rattle.own_model.proofs.Runs.{at_limit, at_stop, goes_on, stands_as, starts}
+use Rattle.own_model.proofs.Runs.{at_stop, goes_on, starts}
 use Rattle.inorder.specs.Plain.{IsPlain}
 use Rattle.own_model.specs.Runs.{IsInOrderEnd}
 use Rattle.own_model.specs.Transitions.{StandsForSome}

@@ -1,5 +1,5 @@
 -- The law that the run calls is cited here: the one-thread unit is right.
-use Rattle.std.proofs.Common.{◌≡◌, ℕ, ◌+◌, ◌<◌, ◌≤◌, refl, sym, ap, ◌∙◌, subst, arith}
+use Rattle.std.proofs.Common.{◌≡◌, ℕ, sym, ap, ◌∙◌, subst, arith}
 use Rattle.instructions.specs.declared.end.Ending.TheVariants.{Stop as ByCode}
 use Rattle.inorder.specs.Unit.{empty_unit}
 use Rattle.own_model.proofs.Runs.{at_stop, goes_on, starts}

@@ -1,4 +1,4 @@
-use Rattle.std.proofs.Common.{rules, ◌≡◌, ◌<◌, ◌≤◌, ◌^◌, ◌+◌, length, sym, ap, ◌∙◌, subst, arith}
+use Rattle.std.proofs.Common.{rules, ◌≡◌, ◌≤◌, ◌+◌, length, subst, arith}
 use Rattle.instructions.specs.Instruction.{kind, width}
 use Rattle.instructions.specs.Operations.{AddressIsInside}
 use Rattle.instructions.specs.declared.op.Kind.TheVariants.{Loads}

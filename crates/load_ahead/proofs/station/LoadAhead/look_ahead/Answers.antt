@@ -1,4 +1,4 @@
-use Rattle.std.proofs.Common.{◌≡◌, ◌+◌, ◌<◌, not, ap, ◌∙◌, arith}
+use Rattle.std.proofs.Common.{◌+◌, ◌<◌, not, ap, ◌∙◌, arith}
 use Rattle.load_ahead.proofs.Turning.{looks_on, memory_is}
 use Rattle.load_ahead.proofs.station.LoadAhead.look_ahead.Goals as goal
 

@@ -1,4 +1,4 @@
-use Rattle.std.proofs.Common.{◌≡◌, ◌+◌, ◌<◌, not, ap, ◌∙◌, arith}
+use Rattle.std.proofs.Common.{◌+◌, ◌<◌, not, ap, ◌∙◌, arith}
 use Rattle.lookahead.proofs.Turning.{looks_on}
 use Rattle.lookahead.proofs.station.Lookahead.look_ahead.Goals as goal
 

@@ -1,4 +1,4 @@
-use Rattle.std.proofs.Common.{◌≡◌, ◌<◌, ◌^◌, Ok, Err, Some, sym, ap, ◌∙◌, subst, arith}
+use Rattle.std.proofs.Common.{Ok, Err, sym, ap, ◌∙◌, subst, arith}
 use Rattle.instructions.specs.Instruction.{width}
 use Rattle.instructions.specs.Operations.{AddressIsInside}
 use Rattle.instructions.specs.Programs.{instr_at}
