@@ -126,7 +126,7 @@ unread 'issue 0\n' 1 'issue is a dispatch in some books and the begin of executi
 unread 'let\nbegin 4294967296\n' 2 'a number is wanted'
 printf 'issue\nissue 0\n' > "$work/log"
 judged --issue dispatch "$listing" "$work/log"
-is_status 4 'issue as dispatch takes a pc'
+is_status 1 'issue as dispatch, at a pc where the path does not go on'
 printf 'let\r\n  issue\t0   # a comment\r\nend 0 = 3' > "$work/log"
 judged --issue=execute "$listing" - < "$work/log"
 is_status 0 'issue as execute, by a pipe'
@@ -139,6 +139,7 @@ is_status 0 'a comment of 10 MB'
 : > "$work/log"
 judged "$listing" "$work/log"
 is_status 0 'an empty log'
+[ "$(tail -n +2 "$work/out")" = $'limit\ncount 0\npc 0x00400000' ] || fail 'an empty log: another report than that of the start'
 echo 'lines that are not read are named'
 
 # files and options

@@ -79,7 +79,7 @@ fn judge(rt: &HostRuntime, asked: &Asked<'_>) -> ExitCode {
     match read_listing(rt.alloc(), &mut Counted::new(listing)) {
         Ok(Ok(program)) => judge_log(rt, asked, &program),
         Ok(Err(line)) => {
-            let _ = println!(rt; "{line}");
+            let _ = print!(rt; "{line}");
             ExitCode::from(NO_LISTING)
         }
         Err(fault) => refuse(rt, word_of(fault)),

@@ -52,14 +52,22 @@ fn counts_of(unit: &Unit<'_>) -> Counts {
     counts
 }
 
+// The stop that has retired, which is that of the machine's next instruction; or the limit, where none has.
+fn ending_of(machine: &mut Machine<'_>, counts: Counts) -> Ending {
+    if !counts.stopped {
+        return Ending::Limit;
+    }
+    match machine.run(counts.whole.saturating_add(1)) {
+        Ended::Stopped(stop) => Ending::Stop(stop),
+        Ended::Limit => Ending::Limit,
+    }
+}
+
 // The in-order machine after as many instructions, and a retired stop if there is one.
 fn end_of(alloc: Global, unit: &Unit<'_>, counts: Counts) -> Result<End, Fault> {
     let mut machine = Machine::new(alloc, unit.program)?;
     let _ = machine.run(counts.whole);
-    let ending = match (counts.stopped, machine.run(counts.whole.saturating_add(1))) {
-        (true, Ended::Stopped(stop)) => Ending::Stop(stop),
-        _ => Ending::Limit,
-    };
+    let ending = ending_of(&mut machine, counts);
     let memory = machine.memory().to_vec(alloc)?;
     Ok(End {
         n: machine.count(),
