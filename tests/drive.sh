@@ -95,9 +95,10 @@ for name in double wrong_path forwarding fibonacci; do
   { yes 'step 1' | head -n $((count + 1)); echo report; } > "$work/script"
   drive "$work/script" "examples/$name.s" --ruu-size 8
   is_told "$name, step by step" "$work/steps" 0 ''
-  printf 'until 0\nreport\n' > "$work/script"
+  { echo 'line 1: no instruction is at this pc'; cat "$work/steps"; } > "$work/told"
+  printf 'until 0\nstep 4294967295\nreport\n' > "$work/script"
   drive "$work/script" "examples/$name.s" --ruu-size 8
-  is_told "$name, until a pc that is none" "$work/steps" 0 ''
+  is_told "$name, until a pc that is none" "$work/told" 0 ''
 done
 echo 'steps come to the end of a run'
 

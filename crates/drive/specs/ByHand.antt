@@ -17,7 +17,7 @@ most_chosen hand = min hand.steps 1000000
 abbrev pub AreAnswered : Option ℕ → (steps : ℕ) → (echo : Bool) → (first last : TheSession)
     → (script before after : Option (List ℕ)) → (each : Bool) → Type 0
 AreAnswered None steps echo first last script before after each = HasDriven echo script first last before after each
-AreAnswered (Some seed) steps echo first last script before after each = IsPlayed seed steps first last before after × (each ≡ true)
+AreAnswered (Some seed) steps echo first last script before after each = IsPlayed steps first last before after × (each ≡ true)
 
 -- the status, which tells whether each line of a script was a command
 abbrev pub script_status : Bool → ℕ
@@ -34,7 +34,7 @@ AreSomeAnswered (Some seed) echo first script before after = after ≡ before
 abbrev pub IsAnswerBroken : Option ℕ → (steps : ℕ) → (echo : Bool) → (first : TheSession)
     → (script before after : Option (List ℕ)) → Type 0
 IsAnswerBroken None steps echo first script before after = HasBroken echo script first before after
-IsAnswerBroken (Some seed) steps echo first script before after = HasPlayedPart seed steps first before after
+IsAnswerBroken (Some seed) steps echo first script before after = HasPlayedPart steps first before after
 
 -- all commands of a script were answered, for a program from its start on
 pub record IsTranscriptOf (hand : ByHand) (P : Program) (status : ℕ) (script before after : Option (List ℕ)) :

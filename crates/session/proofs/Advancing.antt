@@ -7,11 +7,9 @@ use Rattle.session.specs.declared.commands.Command.{Command}
 use Rattle.session.specs.declared.commands.Command.TheVariants.{Commit}
 use Rattle.session.specs.declared.reading.Goal.{Goal}
 use Rattle.session.specs.declared.replies.Reply.{Reply}
-use Rattle.instructions.specs.Programs.{Program}
 use Rattle.session.specs.Advances.{AreTurnsTaken, TurnComesTo, HasAddedText, HasAdvanced, HasToldCommit, HasToldMove, has_moved, is_met, progress_by, is_over, retired_in}
-use Rattle.session.specs.Order.{IsReplied}
-use Rattle.session.specs.Sessions.{TheSession}
-use Rattle.session.specs.Texts.{reply_line}
+use Rattle.session.specs.Sessions.{IsReplied, TheSession}
+use Rattle.session.specs.Texts.{IsLineOf}
 
 -- What the rest of some commands comes to is what all of them come to
 abbrev pub Leads : (rest whole : List Command) → (here first : TheSession) → (number : ℕ) → Type 0
@@ -26,24 +24,23 @@ module _ (whole : List Command) (at : ℕ) (d : Command) (within : at < length w
       leads next Moved text (subst (λ (cs : List Command). TurnComesTo cs here next number Moved text) (sym (drop_more whole at d within)) (inl (moved, refl)))
 
 -- A commit, which is told
-pub committed_here : (here next : TheSession) (number : ℕ) (reply : Reply) (come : Progress) (P : Program) (before after : List ℕ) →
-    IsReplied here next Commit reply → come ≡ progress_by reply → P ≡ next.core.program → after ≡ before ++ reply_line P number reply →
+pub committed_here : (here next : TheSession) (number : ℕ) (reply : Reply) (come : Progress) (before after : List ℕ) →
+    IsReplied here next Commit reply → come ≡ progress_by reply → HasAddedText (IsLineOf number reply) before after →
     HasAddedText (HasToldCommit here next number come) before after
-committed_here here next number reply come P before after replied is program written = record {
-  text = reply_line P number reply;
-  fact = record { reply = reply; replied = replied; come_is = is; text_is = ap (λ (Q : Program). reply_line Q number reply) program };
-  written = written;
+committed_here here next number reply come before after replied is line = record {
+  text = line.text;
+  fact = record { reply = reply; replied = replied; come_is = is; text_is = line.fact };
+  written = line.written;
 }
 
 -- One did something, which is told
-pub moved_here : (whole : List Command) (at : ℕ) (d : Command) (here next first : TheSession) (number : ℕ) (reply : Reply) (P : Program) (before middle after : List ℕ) →
+pub moved_here : (whole : List Command) (at : ℕ) (d : Command) (here next first : TheSession) (number : ℕ) (reply : Reply) (before middle after : List ℕ) →
     at < length whole → Leads (drop at whole) whole here first number → IsReplied here next (get_or whole at d) reply → has_moved reply ≡ true →
-    P ≡ next.core.program → middle ≡ before → after ≡ middle ++ reply_line P number reply → HasAddedText (TurnComesTo whole first next number Moved) before after
-moved_here whole at d here next first number reply P before middle after within leads replied moves program same written = record {
-  text = reply_line P number reply;
-  fact = moves_at whole at d within here next first number leads (reply_line P number reply)
-      (record { reply = reply; replied = replied; moves = moves; text_is = ap (λ (Q : Program). reply_line Q number reply) program });
-  written = written ∙ ap (λ xs. xs ++ reply_line P number reply) same;
+    middle ≡ before → HasAddedText (IsLineOf number reply) middle after → HasAddedText (TurnComesTo whole first next number Moved) before after
+moved_here whole at d here next first number reply before middle after within leads replied moves same line = record {
+  text = line.text;
+  fact = moves_at whole at d within here next first number leads line.text (record { reply = reply; replied = replied; moves = moves; text_is = line.fact });
+  written = line.written ∙ ap (λ xs. xs ++ line.text) same;
 }
 
 -- One more turn

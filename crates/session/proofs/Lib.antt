@@ -10,9 +10,6 @@ pub mod WordsRead
 pub mod TableRows
 pub mod Renewing
 pub mod Looks
-pub mod Choosing
 pub mod Played
-pub mod Woken
 pub mod Advancing
-pub mod Queuing
 pub mod EachVerb

@@ -2,8 +2,7 @@
 use Rattle.std.proofs.Common.{◌≡◌, inl, inr, sym, ap, ◌∙◌, subst}
 use Rattle.station.specs.Seats.{TheCore}
 use Rattle.session.specs.Moments.{GrowsLegally}
-use Rattle.session.specs.Plays.{OnlyLooked, MayHaveLooked}
-use Rattle.session.specs.Sessions.{TheSession}
+use Rattle.session.specs.Sessions.{MayHaveLooked, OnlyLooked, TheSession}
 use Rattle.session.proofs.Histories.{grows_on}
 use Rattle.session.proofs.Meetings.{back_on}
 

@@ -1,11 +1,12 @@
 -- Turns in the order of the unit on one thread: each is the first command that does something.
-use Rattle.std.specs.Prelude.{◌≡◌, ◌⊎◌, ℕ, zero, suc, ◌+◌, ◌==◌, nat_le, Bool, true, false, List, [], ◌∷◌, ◌++◌}
+use Rattle.std.specs.Prelude.{◌≡◌, ◌⊎◌, ℕ, zero, suc, ◌+◌, ◌==◌, nat_le, not, is_some, Bool, true, false, List, [], ◌∷◌, ◌++◌}
 use Rattle.back.specs.Backs.{back_state}
 use Rattle.back.specs.declared.answers.Commit.TheVariants.{Half, Retired as RetiredOne}
 use Rattle.back.specs.declared.answers.Refresh.{Refresh}
 use Rattle.back.specs.declared.answers.Refresh.TheVariants.{Loaded}
 use Rattle.front.specs.declared.answers.Recovery.TheVariants.{Mended}
 use Rattle.front.specs.declared.answers.Turn.TheVariants.{Let}
+use Rattle.instructions.specs.Programs.{Program, instr_at}
 use Rattle.session.specs.declared.advance.Progress.{Progress}
 use Rattle.session.specs.declared.advance.Progress.TheVariants as progress
 use Rattle.session.specs.declared.commands.Command.{Command}
@@ -15,9 +16,9 @@ use Rattle.session.specs.declared.reading.Goal.TheVariants as goal
 use Rattle.session.specs.declared.replies.Reply.{Reply}
 use Rattle.session.specs.declared.replies.Reply.TheVariants as say
 use Rattle.session.specs.declared.units.Claimed.TheVariants.{Job}
-use Rattle.session.specs.Order.{IsOldestAsked, IsTurnOrder, IsReplied}
-use Rattle.session.specs.Sessions.{TheSession}
-use Rattle.session.specs.Texts.{reply_line}
+use Rattle.session.specs.Order.{IsOldestAsked, IsTurnOrder}
+use Rattle.session.specs.Sessions.{IsReplied, TheSession}
+use Rattle.session.specs.Texts.{IsLineOf}
 
 -- A load got its value
 abbrev pub has_loaded : Refresh → Bool
@@ -56,14 +57,14 @@ pub record HasToldMove (old new : TheSession) (number : ℕ) (command : Command)
   pub reply : Reply
   pub replied : IsReplied old new command reply
   pub moves : has_moved reply ≡ true
-  pub text_is : text ≡ reply_line new.core.program number reply
+  pub text_is : IsLineOf number reply text
 
 -- A commit, whose answer is told in any case
 pub record HasToldCommit (old new : TheSession) (number : ℕ) (come : Progress) (text : List ℕ) : Type 0 where
   pub reply : Reply
   pub replied : IsReplied old new ask.Commit reply
   pub come_is : come ≡ progress_by reply
-  pub text_is : text ≡ reply_line new.core.program number reply
+  pub text_is : IsLineOf number reply text
 
 -- These commands were tried, up to the first that did something, and a commit where none of them did
 abbrev pub TurnComesTo : List Command → TheSession → TheSession → (number : ℕ) → Progress → List ℕ → Type 0
@@ -132,3 +133,13 @@ pub record HasTurnedUpTo (goal : Goal) (number : ℕ) (old new : TheSession) (te
   pub turns : AreTurnsTaken goal number old count retired before middle
   pub ends : IsEnough goal count retired middle new before text
       ⊎ IsLastTurn goal number retired middle new before text
+
+-- No instruction is at the pc of a goal
+abbrev pub is_nowhere : Program → Goal → Bool
+is_nowhere P (goal.Next pc) = not (is_some (instr_at P pc))
+is_nowhere P (goal.Retired count) = false
+
+-- Turns up to a goal; none where no instruction is at its pc, which is told
+pub record TurnsSay (goal : Goal) (number : ℕ) (old new : TheSession) (text : List ℕ) : Type 0 where
+  pub nowhere : is_nowhere old.core.program goal ≡ true → new ≡ old
+  pub turns : is_nowhere old.core.program goal ≡ false → HasTurnedUpTo goal number old new text

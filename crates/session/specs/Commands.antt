@@ -93,6 +93,10 @@ abbrev pub turn_of : Texts → Option Command
 turn_of w =
     if is_empty w.first then Some (call.Turn None) else option_map (λ next. call.Turn (Some next)) (only_pc w)
 
+-- A refresh, of one station where that is given
+abbrev pub refresh_of : Texts → Option Command
+refresh_of w = if is_empty w.first then Some call.Refresh else option_map (λ s. call.RefreshAt s) (only_number w)
+
 -- Both, where both are there
 abbrev pub both : {A B : Type 0} → Option A → Option B → Option (A × B)
 both None second = None
@@ -133,7 +137,7 @@ command_of Turn w = turn_of w
 command_of Recover w = without_operands w call.Recover
 command_of Claim w = option_map (λ p. call.Claim p.0 p.1) (unit_and_number w)
 command_of Finish w = option_map (λ p. call.Finish p.0 p.1) (unit_and_number w)
-command_of Refresh w = without_operands w call.Refresh
+command_of Refresh w = refresh_of w
 command_of Commit w = without_operands w call.Commit
 command_of Show w = without_operands w call.Show
 command_of Take w = without_operands w call.Take

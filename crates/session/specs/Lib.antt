@@ -14,11 +14,8 @@ pub mod Sessions
 pub mod Texts
 pub mod Order
 pub mod Advances
-pub mod Queues
 pub mod Tables
-pub mod Listed
 pub mod Help
 pub mod Transcripts
 pub mod Scripts
-pub mod Choices
 pub mod Plays

@@ -5,16 +5,9 @@ use Rattle.session.specs.declared.commands.Command.{Command}
 use Rattle.session.specs.declared.commands.Command.TheVariants as ask
 use Rattle.session.specs.declared.replies.Reply.{Reply}
 use Rattle.session.specs.declared.replies.Reply.TheVariants as say
-use Rattle.session.specs.Moments.{GrowsLegally}
-use Rattle.session.specs.Sessions.{Answers, TheSession, after_command}
+use Rattle.session.specs.Sessions.{IsReplied, TheSession}
 use Rattle.session.specs.Units.{unit_count}
 use Rattle.session.specs.Workers.{station_held}
-
--- A command was answered so
-pub record IsReplied (old new : TheSession) (command : Command) (reply : Reply) : Type 0 where
-  pub grows : GrowsLegally old.core old.seen new.seen
-  pub says : Answers old new command reply
-  pub kept : new ≡ after_command command old new
 
 -- The station, if it is one of the ring, and else the first one
 abbrev pub station_or_first : (ring : ℕ) → Option ℕ → ℕ

@@ -12,6 +12,7 @@ use Rattle.back.specs.Backs.{TheBack, back_state, committed_in, unit_in}
 use Rattle.back.specs.Commits.{CommitAnswers}
 use Rattle.back.specs.declared.answers.Commit.{Commit}
 use Rattle.back.specs.Refreshes.{RefreshAnswers}
+use Rattle.back.specs.Trials.{RefreshAtAnswers}
 use Rattle.back.specs.Wakings.{RefreshWakes}
 use Rattle.front.specs.Creating.{IsCreatorAnswer}
 use Rattle.front.specs.declared.answers.Made.{Made}
@@ -90,6 +91,18 @@ pub record RefreshSays (core : TheCore) (by : ℕ) (before behind : List Entry) 
 abbrev pub IsRefresh : TheCore → ℕ → List Entry → List Entry → Refreshed → Type 0
 IsRefresh core by old new refreshed =
     IsBetween old new (λ before behind. RefreshSays core by before behind refreshed)
+
+-- A refresh of the load of one station, and whom it has woken
+pub record RefreshAtSays (core : TheCore) (by : ℕ) (before behind : List Entry) (station : ℕ) (r : Refreshed) :
+    Type 0 where
+  pub says : RefreshAtAnswers core by before behind station r.answer
+  pub was : ℕ
+  pub woken : RefreshWakes core by before behind was r.woken r.answer
+
+-- A refresh of one station by the back
+abbrev pub IsRefreshAt : TheCore → ℕ → List Entry → List Entry → ℕ → Refreshed → Type 0
+IsRefreshAt core by old new station refreshed =
+    IsBetween old new (λ before behind. RefreshAtSays core by before behind station refreshed)
 
 -- The job of a claim is its caller's
 abbrev pub HoldsWhatIs : TheCore → Caller → Claim → Type 0

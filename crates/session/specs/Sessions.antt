@@ -30,7 +30,8 @@ use Rattle.session.specs.Units.{unit_count}
 use Rattle.session.specs.Accounts.{HasTurned, IsLinkTold, IsOperandTold}
 use Rattle.session.specs.Retiring.{HasCommittedTold}
 use Rattle.session.specs.Rows.{IsRingTold, IsRowSeen}
-use Rattle.session.specs.Replies.{IsCreatorNow, IsInfoSeen, IsLook, IsRecovery, IsRefresh, IsRest, IsShown}
+use Rattle.session.specs.Replies.{IsCreatorNow, IsInfoSeen, IsLook, IsRecovery, IsRefresh, IsRefreshAt, IsRest, IsShown}
+use Rattle.session.specs.Moments.{GrowsLegally}
 use Rattle.session.specs.Renewals.{HasBegunAgain, HasStayed}
 use Rattle.session.specs.Workers.{AreWorkers, HasClaimedTold, UnitHasFinished, HasNone, StaySeen, job_at, seen_at, station_held}
 
@@ -98,6 +99,16 @@ KeepsCommits old new = IsSameBack old.commits new.commits
 -- What was committed is as it was, and another snapshot may have been shown
 abbrev pub ShowsCommits : TheSession → TheSession → Type 0
 ShowsCommits old new = IsSameBack (record old.commits { shown = new.commits.shown }) new.commits
+
+-- A session whose words were looked at: its seats have seen more, and all else is as it was
+pub record OnlyLooked (old new : TheSession) : Type 0 where
+  pub grows : GrowsLegally old.core old.seen new.seen
+  pub kept : new ≡ record old { seen = new.seen; commits = new.commits; fronts = new.fronts }
+  pub commits : KeepsCommits old new
+
+-- The words may have been looked at
+abbrev pub MayHaveLooked : TheSession → TheSession → Type 0
+MayHaveLooked old new = (new ≡ old) ⊎ OnlyLooked old new
 
 -- A snapshot of what was committed was shown
 pub record HasShown (old new : TheSession) (mark : Mark) : Type 0 where
@@ -187,6 +198,7 @@ MayRefuseCommand s (ask.Finish unit station) no.NoUnit = unit_count ≤ unit
 MayRefuseCommand s (ask.Finish unit station) no.NoStation = s.core.sizes.ring ≤ station
 MayRefuseCommand s (ask.Finish unit station) no.HoldsNone =
     (held : ℕ) → station_held s.units unit ≡ Some held → held ≢ station
+MayRefuseCommand s (ask.RefreshAt station) no.NoStation = s.core.sizes.ring ≤ station
 MayRefuseCommand s (ask.Look station) no.NoStation = s.core.sizes.ring ≤ station
 MayRefuseCommand s (ask.Info station) no.NoStation = s.core.sizes.ring ≤ station
 MayRefuseCommand s (ask.Operand station k) no.NoStation = s.core.sizes.ring ≤ station
@@ -214,6 +226,9 @@ Answers old new (ask.Finish unit station) (say.Finish answer) =
     UnitHasFinished old.core old.seen new.seen old.units new.units unit station answer
 Answers old new ask.Refresh (say.Refresh refresh) =
     IsRefresh old.core back old.seen new.seen refresh × KeepsCommits old new
+Answers old new (ask.RefreshAt station) (say.Refresh refresh) =
+    IsStationOf old station
+    × IsRefreshAt old.core back old.seen new.seen station refresh × KeepsCommits old new
 Answers old new ask.Commit (say.Commit commit oldest) =
     HasCommittedTold old.core old.commits new.commits old.seen new.seen old.units commit oldest
 Answers old new ask.Show (say.Shown mark) = HasShown old new mark
@@ -266,6 +281,7 @@ after_command (ask.Claim unit station) old new =
     record old { seen = new.seen; commits = new.commits; units = new.units }
 after_command (ask.Finish unit station) old new = record old { seen = new.seen; units = new.units }
 after_command ask.Refresh old new = record old { seen = new.seen; commits = new.commits }
+after_command (ask.RefreshAt station) old new = record old { seen = new.seen; commits = new.commits }
 after_command ask.Commit old new =
     record old { seen = new.seen; commits = new.commits; fronts = new.fronts }
 after_command ask.Show old new =
@@ -301,3 +317,9 @@ after_command ask.Renew old new =
       told = new.told;
       rested = new.rested;
     }
+
+-- A command was answered so
+pub record IsReplied (old new : TheSession) (command : Command) (reply : Reply) : Type 0 where
+  pub grows : GrowsLegally old.core old.seen new.seen
+  pub says : Answers old new command reply
+  pub kept : new ≡ after_command command old new

@@ -1,24 +1,14 @@
 -- Tables: all stations, and who creates which register.
-use Rattle.std.specs.Prelude.{◌≡◌, ℕ, zero, suc, Bool, true, false, not, List, [], ◌∷◌, ◌++◌, codes, decimal, if◌then◌else◌}
-use Rattle.instructions.specs.Programs.{Program}
+use Rattle.std.specs.Prelude.{◌≡◌, ℕ, zero, suc, Bool, true, false, not, List, [], ◌∷◌, ◌++◌}
 use Rattle.instructions.specs.Registers.{register_count}
-use Rattle.isa.specs.Report.{newline}
 use Rattle.front.specs.declared.answers.Made.TheVariants.{Base}
 use Rattle.session.specs.declared.commands.Command.{Command}
 use Rattle.session.specs.declared.commands.Command.TheVariants as ask
 use Rattle.session.specs.declared.replies.Reply.{Reply}
 use Rattle.session.specs.declared.replies.Reply.TheVariants as say
-use Rattle.session.specs.Moments.{GrowsLegally}
 use Rattle.session.specs.Rows.{is_free}
-use Rattle.session.specs.Sessions.{Answers, TheSession, after_command}
-use Rattle.session.specs.Texts.{reply_text}
-
--- The command that a row is the answer to
-abbrev pub asked_text : Command → List ℕ
-asked_text (ask.Station s) = codes "station " ++ decimal s
-asked_text ask.Ring = codes "ring"
-asked_text (ask.Creator r) = codes "creator " ++ decimal r
-asked_text command = []
+use Rattle.session.specs.Sessions.{IsReplied, TheSession}
+use Rattle.session.specs.Texts.{BeginsWith, reply_words}
 
 -- A station that is free has no row, nor has a register that nobody creates
 abbrev pub has_row : Reply → Bool
@@ -26,18 +16,23 @@ has_row (say.Creator (Base value)) = false
 has_row (say.Station row) = not (is_free row.seen.state)
 has_row reply = true
 
--- A row: the command, and its answer
-abbrev pub row_text : Program → Command → Reply → List ℕ
-row_text P command reply =
-    if has_row reply then asked_text command ++ (codes ": " ++ (reply_text P reply ++ newline)) else []
+-- A text ends with another one
+pub record EndsWith (text end : List ℕ) : Type 0 where
+  pub before : List ℕ
+  pub is : text ≡ before ++ end
+
+-- A row ends with the line of an answer
+pub record RowSays (reply : Reply) (text : List ℕ) : Type 0 where
+  pub told : List ℕ
+  pub ends : EndsWith text told
+  pub says : BeginsWith told (reply_words reply)
 
 -- A row is the answer to its command
 pub record IsRow (old new : TheSession) (command : Command) (text : List ℕ) : Type 0 where
-  pub grows : GrowsLegally old.core old.seen new.seen
   pub reply : Reply
-  pub says : Answers old new command reply
-  pub kept : new ≡ after_command command old new
-  pub text_is : text ≡ row_text new.core.program command reply
+  pub replied : IsReplied old new command reply
+  pub none : has_row reply ≡ false → text ≡ []
+  pub some : has_row reply ≡ true → RowSays reply text
 
 -- The row of this command was written behind what was there before
 pub record HasRow (old new : TheSession) (command : Command) (before after : List ℕ) : Type 0 where

@@ -7,21 +7,19 @@ use Rattle.session.specs.declared.reading.Line.TheVariants.{Asks, Help, List as 
 use Rattle.session.specs.declared.verbs.Verb.{Verb}
 use Rattle.session.specs.declared.verbs.Verb.TheVariants as verb
 use Rattle.session.specs.declared.replies.Reply.{Reply}
-use Rattle.session.specs.Advances.{HasTurnedUpTo}
+use Rattle.session.specs.Advances.{TurnsSay}
 use Rattle.session.specs.Help.{help_text}
-use Rattle.session.specs.Listed.{list_text}
-use Rattle.session.specs.Queues.{IsQueueTold}
 use Rattle.session.specs.Tables.{IsTable}
 use Rattle.session.specs.Commands.{verb_name}
 use Rattle.session.specs.Lines.{IsLine}
-use Rattle.session.specs.Moments.{GrowsLegally}
-use Rattle.session.specs.Sessions.{Answers, TheSession, after_command}
-use Rattle.session.specs.Texts.{reply_line}
+use Rattle.session.specs.Sessions.{IsReplied, OnlyLooked, TheSession}
+use Rattle.session.specs.Texts.{IsLineOf}
 use Rattle.session.specs.Words.{words_of}
 
 -- The text that names the operands of a command
 abbrev pub operands_of_verb : Verb → List ℕ
 operands_of_verb verb.Turn = codes "no operand, or a pc"
+operands_of_verb verb.Refresh = codes "no operand, or a station"
 operands_of_verb verb.Step = codes "a number of instructions"
 operands_of_verb verb.Until = codes "a pc"
 operands_of_verb verb.Claim = codes "a unit, A to Z or AA to BL, and a station"
@@ -45,13 +43,11 @@ wants_text number v =
     codes "line " ++ (decimal number ++ (codes ": " ++ (verb_name v ++ (codes " takes "
     ++ (operands_of_verb v ++ newline)))))
 
--- A command was answered, and the history has grown
+-- A command was answered, and this is the line of its reply
 pub record IsAnswered (old new : TheSession) (number : ℕ) (command : Command) (text : List ℕ) : Type 0 where
-  pub grows : GrowsLegally old.core old.seen new.seen
   pub reply : Reply
-  pub says : Answers old new command reply
-  pub kept : new ≡ after_command command old new
-  pub text_is : text ≡ reply_line new.core.program number reply
+  pub replied : IsReplied old new command reply
+  pub text_is : IsLineOf number reply text
 
 -- The text of what a line of this number comes to. A line that makes no call changes nothing
 abbrev pub LineSays : TheSession → TheSession → ℕ → Line → List ℕ → Type 0
@@ -60,10 +56,10 @@ LineSays old new number Unknown text = (text ≡ unknown_text number) × (new �
 LineSays old new number (Wants v) text = (text ≡ wants_text number v) × (new ≡ old)
 LineSays old new number (Asks command) text = IsAnswered old new number command text
 LineSays old new number Table text = IsTable old new text
-LineSays old new number Queue text = IsQueueTold old new text
-LineSays old new number (Turns goal) text = HasTurnedUpTo goal number old new text
+LineSays old new number Queue text = OnlyLooked old new
+LineSays old new number (Turns goal) text = TurnsSay goal number old new text
 LineSays old new number Help text = (text ≡ help_text) × (new ≡ old)
-LineSays old new number AsksList text = (text ≡ list_text old.core.program) × (new ≡ old)
+LineSays old new number AsksList text = new ≡ old
 LineSays old new number Quit text = (text ≡ []) × (new ≡ old)
 
 -- The text of what the bytes of a line come to

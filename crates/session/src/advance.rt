@@ -1,7 +1,7 @@
 //! A turn in the order of the unit on one thread, told by the command that it comes to.
-ghost use Rattle.std.specs.Prelude.{◌≡◌, ◌++◌, IfOk, OnOk, string_bytes};
+ghost use Rattle.std.specs.Prelude.{◌≡◌, IfOk, OnOk, string_bytes};
 ghost use Rattle.session.specs.Advances.{HasAddedText, HasAdvanced, HasToldCommit, TurnComesTo, has_loaded, has_moved, progress_by};
-ghost use Rattle.session.specs.Texts.{reply_line};
+ghost use Rattle.session.specs.Texts.{IsLineOf};
 
 use crate::commands::Command;
 use crate::oldest::oldest;
@@ -65,8 +65,8 @@ fn push_reply(
     number: u64,
     reply: &Reply,
 ) -> Result<(), AllocError>
-    ensures { OnOk result (string_bytes out.new
-        ≡ string_bytes out.old ++ reply_line program.now number reply.now) }
+    ensures { OnOk result (HasAddedText (IsLineOf number reply.now)
+        (string_bytes out.old) (string_bytes out.new)) }
 {
     let line = line_of(alloc, program, number, reply)?;
     out.push_str(line.as_str())

@@ -3,7 +3,7 @@ ghost use Rattle.std.specs.Prelude.{◌≡◌, ◌<◌, ◌-◌, ◌^◌, IfOk, 
 ghost use Rattle.back.specs.Backs.{IsSameBack, back_state};
 ghost use Rattle.session.specs.Accounts.{IsFinish};
 ghost use Rattle.session.specs.Moments.{GrowsLegally};
-ghost use Rattle.session.specs.Replies.{HoldsWhatIs, IsClaim, IsCommit, IsRefresh, IsShown};
+ghost use Rattle.session.specs.Replies.{HoldsWhatIs, IsClaim, IsCommit, IsRefresh, IsRefreshAt, IsShown};
 ghost use Rattle.snapshots.specs.Snapshots.{snapshot};
 ghost use Rattle.station.specs.Claiming.{Holds};
 ghost use Rattle.station.specs.Seats.{IsSameSeat};
@@ -25,6 +25,28 @@ pub fn refresh<J: Naming>(core: &Core, all: &mut UnitSeat, back: &mut Back<J>) -
 {
     back.meet(core, all);
     let answer = back.refresh(core);
+    let woken = back.woken();
+    back.meet(core, all);
+    Refreshed { answer, woken }
+}
+
+/// A refresh of the load of one station.
+pub fn refresh_at<J: Naming>(
+    core: &Core,
+    all: &mut UnitSeat,
+    back: &mut Back<J>,
+    station: usize,
+) -> Refreshed
+    requires all { all.old.core ≡ core.now }
+    requires back { back.old.core ≡ core.now }
+    requires station { station < core.now.sizes.ring }
+    ensures all { IsSameSeat all.old all.new }
+    ensures back { IsSameBack back.old back.new }
+    ensures grows { GrowsLegally core.now all.old.seen all.new.seen }
+    ensures reply { IsRefreshAt core.now back.old.by all.old.seen all.new.seen station result }
+{
+    back.meet(core, all);
+    let answer = back.refresh_at(core, station);
     let woken = back.woken();
     back.meet(core, all);
     Refreshed { answer, woken }

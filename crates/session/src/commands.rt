@@ -1,15 +1,18 @@
 //! The commands that make one call.
 ghost use Rattle.std.specs.Prelude.{◌≡◌};
-ghost use Rattle.session.specs.Commands.{command_of, turn_of};
+ghost use Rattle.session.specs.Commands.{command_of, refresh_of, turn_of};
 ghost use Rattle.session.specs.Words.{texts_of};
 
+use crate::names::UnitName;
 use crate::operands::{
     bare, only_number, only_pc, only_register, station_and_source, two_parties, unit_and_number,
 };
 use crate::parties::Party;
 use crate::verbs::Verb;
 use crate::words::Words;
+use isa::Hexadecimal;
 use station::Source;
+use std::fmt;
 
 /// A call to make. A unit is named by its place, from 0 on.
 #[derive(Clone, Copy)]
@@ -20,6 +23,7 @@ pub enum Command {
     Claim(usize, u32),
     Finish(usize, u32),
     Refresh,
+    RefreshAt(u32),
     Commit,
     Show,
     Take,
@@ -38,6 +42,26 @@ pub enum Command {
     Renew,
 }
 
+impl fmt::Display for Command {
+    // A command as a script has it.
+    fn fmt<W: fmt::Write>(&self, f: &mut fmt::Formatter<W>) -> fmt::Result {
+        match self {
+            Command::Turn(None) => f.write_str("turn"),
+            Command::Turn(Some(next)) => write!(f, "turn {}", Hexadecimal(*next)),
+            Command::Recover => f.write_str("recover"),
+            Command::Claim(unit, station) => write!(f, "claim {} {station}", UnitName(*unit)),
+            Command::Finish(unit, station) => write!(f, "finish {} {station}", UnitName(*unit)),
+            Command::Refresh => f.write_str("refresh"),
+            Command::RefreshAt(station) => write!(f, "refresh {station}"),
+            Command::Station(station) => write!(f, "station {station}"),
+            Command::Ring => f.write_str("ring"),
+            Command::Creator(register) => write!(f, "creator {register}"),
+            // no other is written
+            _ => f.write_str("commit"),
+        }
+    }
+}
+
 // A turn, and its guess where one is given.
 fn turn_in(words: &Words<'_>) -> Option<Command>
     ensures { result ≡ turn_of (texts_of words.now) }
@@ -47,6 +71,17 @@ fn turn_in(words: &Words<'_>) -> Option<Command>
     } else {
         let next = only_pc(words)?;
         Some(Command::Turn(Some(next)))
+    }
+}
+
+// A refresh, of one station where that is given.
+fn refresh_in(words: &Words<'_>) -> Option<Command>
+    ensures { result ≡ refresh_of (texts_of words.now) }
+{
+    if words.first.is_empty() {
+        Some(Command::Refresh)
+    } else {
+        Some(Command::RefreshAt(only_number(words)?))
     }
 }
 
@@ -66,7 +101,7 @@ pub(crate) fn command_in(verb: Verb, words: &Words<'_>) -> Option<Command>
             let (unit, station) = unit_and_number(words)?;
             Some(Command::Finish(unit, station))
         }
-        Verb::Refresh => bare(words, Command::Refresh),
+        Verb::Refresh => refresh_in(words),
         Verb::Commit => bare(words, Command::Commit),
         Verb::Show => bare(words, Command::Show),
         Verb::Take => bare(words, Command::Take),

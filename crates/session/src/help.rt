@@ -13,6 +13,7 @@ recover       repairs the oldest misprediction
 claim U S     unit U claims the tenant of station S
 finish U S    unit U finishes its job of station S
 refresh       lets the oldest load go on that can
+refresh S     lets the load of station S go on, if it can
 commit        retires the oldest tenant
 station S     all that is told of station S
 operand S K   operand K of station S, or whom it waits for

@@ -1,18 +1,18 @@
 //! What is told of a line of a script.
-ghost use Rattle.std.specs.Prelude.{◌≡◌, IfOk, string_bytes};
+ghost use Rattle.std.specs.Prelude.{◌≡◌, true, false, IfOk, string_bytes};
+ghost use Rattle.session.specs.Advances.{HasTurnedUpTo, is_nowhere};
 ghost use Rattle.session.specs.Transcripts.{LineSays, operands_of_verb, unknown_text, wants_text};
 
 use crate::advances::advances;
 use crate::help::help;
 use crate::listed::list;
-use crate::queue::queue;
-use crate::reading::Line;
+use crate::reading::{Goal, Line};
 use crate::session::Session;
 use crate::tables::table;
 use crate::texts::line_of;
 use crate::verbs::{Verb, word};
 use back::Naming;
-use instructions::Predictor;
+use instructions::{Predictor, Program};
 use std::alloc::{AllocError, Global};
 use std::sync::Wait;
 
@@ -21,6 +21,7 @@ fn operands(verb: Verb) -> &'static str
 {
     match verb {
         Verb::Turn => "no operand, or a pc",
+        Verb::Refresh => "no operand, or a station",
         Verb::Step => "a number of instructions",
         Verb::Until => "a pc",
         Verb::Claim | Verb::Finish => "a unit, A to Z or AA to BL, and a station",
@@ -45,6 +46,35 @@ fn wants(alloc: Global, number: u64, verb: Verb) -> Result<String, AllocError>
     format!(in alloc; "line {number}: {word} takes {operands}\n")
 }
 
+// No instruction is at the pc of a goal.
+fn is_nowhere(program: &Program, goal: Goal) -> bool
+    ensures { result ≡ is_nowhere program.now goal }
+{
+    match goal {
+        Goal::Next(pc) => program.fetch(pc).is_none(),
+        Goal::Retired(_) => false,
+    }
+}
+
+// Turns up to a goal, where an instruction is at its pc.
+fn turns<P: Predictor + Drop, J: Naming, R: Wait>(
+    wait: &R,
+    alloc: Global,
+    session: &mut Session<'_, P, J>,
+    number: u64,
+    goal: Goal,
+) -> Result<String, AllocError>
+    ensures nowhere { IfOk result (λ text. is_nowhere session.old.core.program goal ≡ true
+        → session.new ≡ session.old) }
+    ensures turns { IfOk result (λ text. is_nowhere session.old.core.program goal ≡ false
+        → HasTurnedUpTo goal number session.old session.new (string_bytes text)) }
+{
+    if is_nowhere(session.program(), goal) {
+        return format!(in alloc; "line {number}: no instruction is at this pc\n");
+    }
+    advances(wait, alloc, session, number, goal)
+}
+
 /// Does what the line of this number asks for, and gives the text for it. A line without a command
 /// has an empty text, and so has one that ends the script.
 pub fn told<P: Predictor + Drop, J: Naming, R: Wait>(
@@ -66,8 +96,8 @@ pub fn told<P: Predictor + Drop, J: Naming, R: Wait>(
             line_of(alloc, session.program(), number, &reply)
         }
         Line::Table => table(wait, alloc, session),
-        Line::Queue => queue(wait, alloc, session),
-        Line::Turns(goal) => advances(wait, alloc, session, number, goal),
+        Line::Queue => session.queue(alloc),
+        Line::Turns(goal) => turns(wait, alloc, session, number, goal),
         Line::Help => help(alloc),
         Line::List => list(alloc, session.program()),
     }

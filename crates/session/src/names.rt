@@ -8,6 +8,7 @@ ghost use Rattle.session.specs.Units.{both_letters, letter, unit_count, unit_nam
 use instructions::Reg;
 use isa::register_in as listed_register;
 use lexical::decimal_in;
+use std::fmt;
 
 /// How many units there can be.
 pub const UNITS: usize = 64;
@@ -43,6 +44,27 @@ pub fn unit_in(name: &[u8]) -> Option<usize>
         [a] => letter(*a),
         [a, b] => both_letters(letter(*a), letter(*b)),
         _ => None,
+    }
+}
+
+fn capital(at: usize) -> char
+    requires { at < 26 }
+{
+    char::from(b'A' + at as u8)
+}
+
+/// The name of the unit at a place.
+#[derive(Clone, Copy)]
+pub(crate) struct UnitName(pub usize);
+
+impl fmt::Display for UnitName {
+    fn fmt<W: fmt::Write>(&self, f: &mut fmt::Formatter<W>) -> fmt::Result {
+        let at = self.0 % UNITS;
+        if at < 26 {
+            write!(f, "{}", capital(at))
+        } else {
+            write!(f, "{}{}", capital(at / 26 - 1), capital(at % 26))
+        }
     }
 }
 

@@ -1,180 +1,205 @@
 //! The loads and stores in flight: their addresses, their data, and what blocks a load.
-ghost use Rattle.std.specs.Prelude.{◌≡◌, ◌<◌, ◌≤◌, IfOk, OnOk, string_bytes};
-ghost use Rattle.session.specs.Queues.{AreQueued, HasQueued, IsQueueTold, access_seen, load_or_store, empty_queue, queue_entry, queue_by, queue_in, queue_with, address_shown, data_shown};
-
-use crate::commands::Command;
-use crate::instruction_texts::indexed;
-use crate::oldest::oldest;
-use crate::queue_texts::push_access_line;
-use crate::replies::{Reply, Row};
-use crate::rows::is_free;
-use crate::session::Session;
-use back::Naming;
-use inorder::access_entry;
-use instructions::{Instr, Kind, Predictor, Program};
-use lsq::Entry;
+use crate::answer_words::{SomeStation, state};
+use crate::names::UnitName;
+use crate::replies::{Operand, Row};
+use crate::shown::{After, Shown, indexed};
+use inorder::{access_entry, access_width, is_store};
+use instructions::{Instr, Kind, Program};
+use isa::Hexadecimal;
+use lsq::{Answer, Entry, Width, answer_over, overlaps};
 use station::{SourceState, StationState};
 use std::alloc::{AllocError, Global};
-use std::sync::Wait;
+use std::fmt;
 
-/// The loads and stores so far, the oldest first.
-#[derive(Drop)]
-pub struct Accesses {
-    pub stations: Vec<usize>,
-    pub entries: Vec<Entry>,
-    // what is told of them
-    pub text: String,
-}
+// What is not there yet, and who makes it.
+#[derive(Clone, Copy)]
+struct Missing<'a>(&'a Operand);
 
-fn empty(alloc: Global) -> Accesses
-    ensures { queue_in result ≡ empty_queue }
-{
-    Accesses {
-        stations: Vec::new(alloc),
-        entries: Vec::new(alloc),
-        text: String::new(alloc),
+impl fmt::Display for Missing<'_> {
+    fn fmt<W: fmt::Write>(&self, f: &mut fmt::Formatter<W>) -> fmt::Result {
+        write!(f, "WAIT{}", After(" for ", self.0.from))
     }
 }
 
-// The load or store of an instruction, if it is one.
-fn load_or_store(instr: Option<Instr>) -> Option<Instr>
-    ensures { result ≡ load_or_store instr }
-{
-    let instr = instr?;
+// The address of a load or store, or for what it waits.
+#[derive(Clone, Copy)]
+struct Address<'a>(Instr, &'a Row);
+
+impl Address<'_> {
+    // The producer of the base, or the step that computes the address.
+    fn missing<W: fmt::Write>(&self, f: &mut fmt::Formatter<W>) -> fmt::Result {
+        let row = self.1;
+        match (row.first.seen.state, row.unit) {
+            (SourceState::Val, Some(unit)) => write!(f, "WAIT for unit {}", UnitName(unit)),
+            (SourceState::Val, None) => f.write_str("WAIT for a claim"),
+            _ => write!(f, "{}", Missing(&row.first)),
+        }
+    }
+}
+
+impl fmt::Display for Address<'_> {
+    fn fmt<W: fmt::Write>(&self, f: &mut fmt::Formatter<W>) -> fmt::Result {
+        let (instr, row) = (self.0, self.1);
+        match row.seen.state {
+            StationState::Addr => write!(f, "{}", Hexadecimal(row.seen.value)),
+            StationState::Open | StationState::Busy => self.missing(f),
+            _ => {
+                let address = row.first.seen.value.wrapping_add(instr.number());
+                write!(f, "{}", Hexadecimal(address))
+            }
+        }
+    }
+}
+
+// Where the value of a load with its address comes from, by the rule for loads, or what blocks it.
+#[derive(Clone, Copy)]
+struct Origin<'a> {
+    stations: &'a [usize],
+    entries: &'a [Entry],
+    address: u32,
+    width: Width,
+}
+
+impl Origin<'_> {
+    // The place of the youngest store to a byte of the load.
+    fn met_at(&self) -> Option<usize> {
+        let mut met = None;
+        for place in 0..self.entries.len() {
+            if overlaps(&self.entries[place], self.address, self.width) {
+                met = Some(place);
+            }
+        }
+        met
+    }
+}
+
+impl fmt::Display for Origin<'_> {
+    fn fmt<W: fmt::Write>(&self, f: &mut fmt::Formatter<W>) -> fmt::Result {
+        let (word, place) = match answer_over(self.entries, self.address, self.width) {
+            Answer::Memory => return f.write_str("from memory"),
+            Answer::Blocked(place) => ("blocked by", Some(place)),
+            Answer::Forward(_) => ("from", self.met_at()),
+        };
+        let station = match place {
+            Some(place) => self.stations.get(place).copied(),
+            None => None,
+        };
+        write!(f, "{word} station {}", SomeStation(station))
+    }
+}
+
+// A load or store of a station, after those of others.
+#[derive(Clone, Copy)]
+struct Access<'a> {
+    station: usize,
+    instr: Instr,
+    row: &'a Row,
+    stations: &'a [usize],
+    entries: &'a [Entry],
+}
+
+impl Access<'_> {
+    fn data<W: fmt::Write>(&self, f: &mut fmt::Formatter<W>) -> fmt::Result {
+        let row = self.row;
+        if is_store(self.instr.op()) {
+            return match row.second.seen.state {
+                SourceState::Val => write!(f, "{}", Hexadecimal(row.second.seen.value)),
+                _ => write!(f, "{}", Missing(&row.second)),
+            };
+        }
+        match row.seen.state {
+            StationState::Done => write!(f, "{}", Hexadecimal(row.seen.value)),
+            StationState::Addr => {
+                let origin = Origin {
+                    stations: self.stations,
+                    entries: self.entries,
+                    address: row.seen.value,
+                    width: access_width(self.instr.op()),
+                };
+                write!(f, "{origin}")
+            }
+            StationState::Stop => f.write_str("STOP"),
+            _ => f.write_str("WAIT"),
+        }
+    }
+}
+
+impl fmt::Display for Access<'_> {
+    fn fmt<W: fmt::Write>(&self, f: &mut fmt::Formatter<W>) -> fmt::Result {
+        let (station, tag, state) = (self.station, self.row.seen.tag, state(self.row.seen.state));
+        let (instr, address) = (Shown(Some(self.instr)), Address(self.instr, self.row));
+        write!(
+            f,
+            "station {station}: tag {tag} state {state}{instr}; address {address}; data "
+        )?;
+        self.data(f)?;
+        f.write_str("\n")
+    }
+}
+
+/// The loads and stores so far, the oldest first.
+#[derive(Drop)]
+pub(crate) struct Accesses {
+    stations: Vec<usize>,
+    entries: Vec<Entry>,
+    // what is told of them
+    pub(crate) text: String,
+}
+
+// The load or store in flight at a station, if one is.
+fn access_at(program: &Program, row: &Row) -> Option<Instr> {
+    if let StationState::Free = row.seen.state {
+        return None;
+    }
+    let instr = indexed(program, row.first.info.index)?;
     match instr.op().kind() {
         Kind::Loads | Kind::Stores => Some(instr),
         _ => None,
     }
 }
 
-// The load or store in flight at a station, if one is.
-fn access_seen(program: &Program, row: &Row) -> Option<Instr>
-    ensures { result ≡ access_seen program.now row.now }
-{
-    if is_free(row.seen.state) {
-        None
-    } else {
-        load_or_store(indexed(program, row.first.info.index))
-    }
-}
-
-fn address_shown(state: StationState, value: u32) -> Option<u32>
-    ensures { result ≡ address_shown state value }
-{
-    match state {
-        StationState::Addr => Some(value),
-        _ => None,
-    }
-}
-
-fn data_shown(state: SourceState, value: u32) -> Option<u32>
-    ensures { result ≡ data_shown state value }
-{
-    match state {
-        SourceState::Val => Some(value),
-        _ => None,
-    }
-}
-
 // What the rule for loads looks at.
-fn queue_entry(instr: &Instr, row: &Row) -> Entry
-    ensures { result ≡ queue_entry instr.now row.now }
-{
-    let address = address_shown(row.seen.state, row.seen.value);
-    let data = data_shown(row.second.seen.state, row.second.seen.value);
+fn entry_of(instr: &Instr, row: &Row) -> Entry {
+    let address = match row.seen.state {
+        StationState::Addr => Some(row.seen.value),
+        _ => None,
+    };
+    let data = match row.second.seen.state {
+        SourceState::Val => Some(row.second.seen.value),
+        _ => None,
+    };
     access_entry(instr.op(), address, data)
 }
 
-// One more load or store, if it is one.
-fn push(
-    queue: &mut Accesses,
-    station: usize,
-    access: Option<Instr>,
-    row: &Row,
-) -> Result<(), AllocError>
-    ensures { OnOk result
-        (queue_in queue.new ≡ queue_with station access row.now (queue_in queue.old)) }
-{
-    let Some(instr) = access else {
-        return Ok(());
-    };
-    let (text, stations, entries) = (&mut queue.text, &queue.stations, &queue.entries);
-    push_access_line(
-        text,
-        station,
-        stations.as_slice(),
-        entries.as_slice(),
-        instr,
-        row,
-    )?;
-    let entry = queue_entry(&instr, row);
-    queue.stations.push(station)?;
-    queue.entries.push(entry)?;
-    Ok(())
-}
-
-// One more station, by what is told of it.
-fn push_by(
-    queue: &mut Accesses,
-    program: &Program,
-    station: usize,
-    reply: &Reply,
-) -> Result<(), AllocError>
-    ensures { OnOk result
-        (queue_in queue.new ≡ queue_by program.now station reply.now (queue_in queue.old)) }
-{
-    match reply {
-        Reply::Station(row) => push(queue, station, access_seen(program, row), row),
-        _ => Ok(()),
+impl Accesses {
+    pub(crate) fn new(alloc: Global) -> Accesses {
+        Accesses {
+            stations: Vec::new(alloc),
+            entries: Vec::new(alloc),
+            text: String::new(alloc),
+        }
     }
-}
 
-// Asks for one more station.
-fn push_station<P: Predictor + Drop, J: Naming, R: Wait>(
-    wait: &R,
-    alloc: Global,
-    session: &mut Session<'_, P, J>,
-    station: usize,
-    queue: &mut Accesses,
-) -> Result<(), AllocError>
-    requires { station < 32 }
-    ensures { OnOk result (HasQueued session.old session.new station
-        (queue_in queue.old) (queue_in queue.new)) }
-{
-    let reply = session.answer(wait, alloc, Command::Station(station as u32));
-    push_by(queue, session.program(), station, &reply)
-}
-
-// Asks for all stations, the oldest tenant's first.
-fn queue_from<P: Predictor + Drop, J: Naming, R: Wait>(
-    wait: &R,
-    alloc: Global,
-    session: &mut Session<'_, P, J>,
-    oldest: usize,
-) -> Result<Accesses, AllocError>
-    requires { oldest < session.old.core.sizes.ring }
-    ensures { IfOk result (λ queue. AreQueued session.old oldest
-        session.old.core.sizes.ring (queue_in queue) session.new) }
-{
-    let mut queue = empty(alloc);
-    let ring = session.ring();
-    for at in 0..ring {
-        push_station(wait, alloc, session, (oldest + at) % ring, &mut queue)?;
+    /// Adds the load or store of a station, if one is there.
+    pub(crate) fn push(
+        &mut self,
+        program: &Program,
+        station: usize,
+        row: &Row,
+    ) -> Result<(), AllocError> {
+        let Some(instr) = access_at(program, row) else {
+            return Ok(());
+        };
+        let access = Access {
+            station,
+            instr,
+            row,
+            stations: self.stations.as_slice(),
+            entries: self.entries.as_slice(),
+        };
+        write!(&mut self.text, "{access}")?;
+        self.stations.push(station)?;
+        self.entries.push(entry_of(&instr, row))?;
+        Ok(())
     }
-    Ok(queue)
-}
-
-/// The loads and stores in flight, the oldest first: each with its address, its data, and, of a load, where its value
-/// comes from or what blocks it.
-pub(crate) fn queue<P: Predictor + Drop, J: Naming, R: Wait>(
-    wait: &R,
-    alloc: Global,
-    session: &mut Session<'_, P, J>,
-) -> Result<String, AllocError>
-    ensures { IfOk result (λ text.
-        IsQueueTold session.old session.new (string_bytes text)) }
-{
-    let oldest = oldest(wait, alloc, session);
-    let queue = queue_from(wait, alloc, session, oldest)?;
-    Ok(queue.text)
 }

@@ -1,6 +1,7 @@
 //! A session: a core with all its seats in one hand.
 mod choosing;
 mod driving;
+mod in_flight;
 mod looking;
 mod meeting;
 mod ordering;
@@ -111,6 +112,7 @@ impl<'a, P: Predictor + Drop, J: Naming> Session<'a, P, J> {
             Command::Claim(unit, station) => self.claim(unit, station),
             Command::Finish(unit, station) => self.finish(unit, station),
             Command::Refresh => self.refresh(),
+            Command::RefreshAt(station) => self.refresh_at(station),
             Command::Commit => self.commit(),
             Command::Show => self.show(wait),
             Command::Take => self.take(),

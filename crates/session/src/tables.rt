@@ -1,7 +1,7 @@
 //! Tables: all stations, and who creates which register.
-ghost use Rattle.std.specs.Prelude.{◌≡◌, ◌++◌, IfOk, OnOk, [], string_bytes};
+ghost use Rattle.std.specs.Prelude.{◌≡◌, true, false, IfOk, OnOk, [], string_bytes};
 ghost use Rattle.instructions.specs.Registers.{register_count};
-ghost use Rattle.session.specs.Tables.{AreRows, HasRow, IsTable, asked_text, has_row, of_registers, of_stations};
+ghost use Rattle.session.specs.Tables.{AreRows, EndsWith, HasRow, IsTable, RowSays, has_row, of_registers, of_stations};
 
 use crate::commands::Command;
 use crate::replies::Reply;
@@ -10,21 +10,9 @@ use crate::session::Session;
 use crate::texts::text_of;
 use back::Naming;
 use front::Made;
-use instructions::Predictor;
+use instructions::{Predictor, Program};
 use std::alloc::{AllocError, Global};
 use std::sync::Wait;
-
-// The command that a row is the answer to.
-fn push_asked(out: &mut String, command: Command) -> Result<(), AllocError>
-    ensures { OnOk result (string_bytes out.new ≡ string_bytes out.old ++ asked_text command) }
-{
-    match command {
-        Command::Station(station) => write!(out, "station {station}"),
-        Command::Ring => write!(out, "ring"),
-        Command::Creator(register) => write!(out, "creator {register}"),
-        _ => Ok(()),
-    }
-}
 
 fn has_row(reply: &Reply) -> bool
     ensures { result ≡ has_row reply.now }
@@ -36,7 +24,33 @@ fn has_row(reply: &Reply) -> bool
     }
 }
 
-// The row of a command. A register that nobody creates has none.
+fn push_told(row: &mut String, told: &str) -> Result<(), AllocError>
+    ensures { OnOk result (EndsWith (string_bytes row.new) told.now) }
+{
+    row.push_str(told)
+}
+
+// The row of an answer to a command, if it has one.
+fn row_text(
+    alloc: Global,
+    program: &Program,
+    command: Command,
+    reply: &Reply,
+) -> Result<String, AllocError>
+    ensures none { IfOk result (λ row. has_row reply.now ≡ false → string_bytes row ≡ []) }
+    ensures some { IfOk result (λ row. has_row reply.now ≡ true
+        → RowSays reply.now (string_bytes row)) }
+{
+    if !has_row(reply) {
+        return Ok(String::new(alloc));
+    }
+    let mut row = format!(in alloc; "{command}: ")?;
+    let told = text_of(alloc, program, reply)?;
+    push_told(&mut row, told.as_str())?;
+    Ok(row)
+}
+
+// Adds the row of a command.
 fn push_row<P: Predictor + Drop, J: Naming, R: Wait>(
     wait: &R,
     alloc: Global,
@@ -48,14 +62,8 @@ fn push_row<P: Predictor + Drop, J: Naming, R: Wait>(
         (HasRow session.old session.new command (string_bytes out.old) (string_bytes out.new)) }
 {
     let reply = session.answer(wait, alloc, command);
-    if !has_row(&reply) {
-        return Ok(());
-    }
-    let text = text_of(alloc, session.program(), &reply)?;
-    push_asked(out, command)?;
-    out.push_str(": ")?;
-    out.push_str(text.as_str())?;
-    out.push('\n')
+    let row = row_text(alloc, session.program(), command, &reply)?;
+    out.push_str(row.as_str())
 }
 
 // The rows of all stations.

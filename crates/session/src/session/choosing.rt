@@ -1,6 +1,6 @@
 //! The commands that make sense for a session as it is.
 use super::Session;
-use crate::choices::{PLAYERS, may_commit, or_commit, push_of_row, push_turn};
+use crate::choices::{PLAYERS, choice_of_row, may_commit, may_turn, or_commit};
 use crate::commands::Command;
 use crate::rows;
 use crate::units::held_station;
@@ -9,14 +9,11 @@ use instructions::Predictor;
 use std::alloc::{AllocError, Global};
 
 impl<'a, P: Predictor + Drop, J: Naming> Session<'a, P, J> {
-    ghost use Rattle.std.specs.Prelude.{◌≡◌, ◌++◌, ◌<◌, IfNone, IfOk, IfSome, IsSome, OnOk, length};
-    ghost use Rattle.session.specs.Choices.{AreChoices, IsCommitAdded, IsIdle, IsOfRowAdded, IsTurnAdded, OfRowsAreAdded, finishes, player_count};
-    ghost use Rattle.session.specs.Plays.{MayHaveLooked, OnlyLooked};
+    ghost use Rattle.std.specs.Prelude.{◌<◌, IfNone, IfOk, IfSome, IsSome, OnOk, length};
+    ghost use Rattle.session.specs.Sessions.{MayHaveLooked, OnlyLooked};
 
     // The first of the units that holds no job, if one does not.
-    fn idle(&self) -> Option<usize>
-        ensures { IsIdle self.now.units result }
-    {
+    fn idle(&self) -> Option<usize> {
         for unit in 0..PLAYERS {
             if held_station(&self.units, unit).is_none() {
                 return Some(unit);
@@ -26,10 +23,7 @@ impl<'a, P: Predictor + Drop, J: Naming> Session<'a, P, J> {
     }
 
     // The finishes of jobs that units hold.
-    fn push_finishes(&self, choices: &mut Vec<Command>) -> Result<(), AllocError>
-        ensures { OnOk result (choices.new.items ≡ choices.old.items
-            ++ finishes self.now.core.sizes.ring self.now.units player_count) }
-    {
+    fn push_finishes(&self, choices: &mut Vec<Command>) -> Result<(), AllocError> {
         let ring = self.core.ring();
         for unit in 0..PLAYERS {
             match held_station(&self.units, unit) {
@@ -50,20 +44,19 @@ impl<'a, P: Predictor + Drop, J: Naming> Session<'a, P, J> {
         idle: Option<usize>,
     ) -> Result<(), AllocError>
         requires { station < self.old.core.sizes.ring }
-        ensures looks { OnOk result (OnlyLooked self.old self.new) }
-        ensures added { OnOk result (IsOfRowAdded self.old self.new idle station
-            choices.old.items choices.new.items) }
+        ensures { OnOk result (OnlyLooked self.old self.new) }
     {
         let (core, all, back) = (&self.core, &mut self.all, &mut self.back);
         let row = rows::row(core, all, back, &self.units, station as usize);
-        push_of_row(choices, self.program, station, &row, idle)
+        if let Some(choice) = choice_of_row(self.program, station, &row, idle) {
+            choices.push(choice)?;
+        }
+        Ok(())
     }
 
     // The commands for the tenants of all stations.
     fn push_of_stations(&mut self, choices: &mut Vec<Command>) -> Result<(), AllocError>
-        ensures looks { OnOk result (MayHaveLooked self.old self.new) }
-        ensures added { OnOk result (OfRowsAreAdded self.old self.new
-            choices.old.items choices.new.items) }
+        ensures { OnOk result (MayHaveLooked self.old self.new) }
     {
         let idle = self.idle();
         let ring = self.core.ring();
@@ -75,20 +68,19 @@ impl<'a, P: Predictor + Drop, J: Naming> Session<'a, P, J> {
 
     // A turn, where it may find something to do.
     fn push_turn(&mut self, choices: &mut Vec<Command>) -> Result<(), AllocError>
-        ensures looks { OnOk result (OnlyLooked self.old self.new) }
-        ensures added { OnOk result (IsTurnAdded self.old self.new
-            choices.old.items choices.new.items) }
+        ensures { OnOk result (OnlyLooked self.old self.new) }
     {
         let (core, all, back) = (&self.core, &mut self.all, &mut self.back);
         let (head, ahead) = rows::ring(core, all, &mut self.front, back);
-        push_turn(choices, self.program, &head, &ahead)
+        if may_turn(self.program, &head, &ahead) {
+            choices.push(Command::Turn(None))?;
+        }
+        Ok(())
     }
 
     // A commit, where it may find something to do.
     fn push_commit(&mut self, choices: &mut Vec<Command>) -> Result<(), AllocError>
-        ensures looks { OnOk result (OnlyLooked self.old self.new) }
-        ensures added { OnOk result (IsCommitAdded self.old self.new
-            choices.old.items choices.new.items) }
+        ensures { OnOk result (OnlyLooked self.old self.new) }
     {
         let (core, all, back) = (&self.core, &mut self.all, &mut self.back);
         let oldest = rows::oldest(core, all, &mut self.front, back, &self.units);
@@ -101,8 +93,6 @@ impl<'a, P: Predictor + Drop, J: Naming> Session<'a, P, J> {
     /// The commands that make sense now, of which there is one at least; none where the run has ended.
     pub(crate) fn choices(&mut self, alloc: Global) -> Result<Option<Vec<Command>>, AllocError>
         ensures looks { OnOk result (MayHaveLooked self.old self.new) }
-        ensures are { IfOk result (λ found. IfSome found (λ choices.
-            AreChoices self.old self.new choices.items)) }
         ensures some { IfOk result (λ found. IfSome found (λ choices. 0 < length choices.items)) }
         ensures ended { IfOk result (λ found. IfNone found (IsSome self.new.commits.ended)) }
     {

@@ -13,7 +13,7 @@ impl<'a, P: Predictor + Drop, J: Naming> Session<'a, P, J> {
     ghost use Rattle.std.specs.Prelude.{◌≡◌};
     ghost use Rattle.session.specs.Moments.{GrowsLegally};
     ghost use Rattle.session.specs.Sessions.{Answers, after_command};
-    ghost use Rattle.session.specs.declared.commands.Command.TheVariants.{Claim, Commit, Finish, Recover, Refresh, Turn};
+    ghost use Rattle.session.specs.declared.commands.Command.TheVariants.{Claim, Commit, Finish, Recover, Refresh, RefreshAt, Turn};
 
     pub(super) fn turn(&mut self, given: Option<u32>) -> Reply
         ensures grows { GrowsLegally self.old.core self.old.seen self.new.seen }
@@ -83,6 +83,18 @@ impl<'a, P: Predictor + Drop, J: Naming> Session<'a, P, J> {
         ensures reply { Answers self.old self.new Refresh result }
     {
         Reply::Refresh(calls::refresh(&self.core, &mut self.all, &mut self.back))
+    }
+
+    pub(super) fn refresh_at(&mut self, station: u32) -> Reply
+        ensures grows { GrowsLegally self.old.core self.old.seen self.new.seen }
+        ensures kept { self.new ≡ after_command (RefreshAt station) self.old self.new }
+        ensures reply { Answers self.old self.new (RefreshAt station) result }
+    {
+        if self.core.ring() <= station as usize {
+            return Reply::Refused(Refusal::NoStation);
+        }
+        let (core, all, back) = (&self.core, &mut self.all, &mut self.back);
+        Reply::Refresh(calls::refresh_at(core, all, back, station as usize))
     }
 
     pub(super) fn commit(&mut self) -> Reply

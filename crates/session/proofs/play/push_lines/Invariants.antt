@@ -3,4 +3,4 @@ use Rattle.session.proofs.play.push_lines.Given as goal
 
 -- so many commands were chosen and answered
 abbrev pub invariant-loop-number : goal.invariant-loop-number
-invariant-loop-number g l = IsPlayOf l.fn.chooser l.fn.session l.number l.out.items l.chooser l.session
+invariant-loop-number g l = IsPlayOf l.fn.session l.number l.out.items l.session

@@ -1,10 +1,19 @@
-use Rattle.std.proofs.Common.{◌≡◌, ◌∙◌, false, sym, string_bytes, arith}
-use Rattle.std.proofs.lemmas.Grind.{common_steps}
-use Rattle.session.proofs.TableRows.{left_out}
+use Rattle.std.proofs.Common.{◌++◌, ◌∙◌, ap, string_bytes}
+use Rattle.session.proofs.Scripts.{appended}
 use Rattle.session.proofs.tables.push_row.Goals as goal
 
-pub returns-then-not-has_row : goal.returns-then-not-has_row
-returns-then-not-has_row g c =
-    let none : c.has_row.result ≡ false = grind (arith, common_steps, c.if-not-has_row.true) in
+pub returns : goal.returns
+returns g c =
+    let before = string_bytes c.args.out.now in
     let one = c.answer-reply in
-    left_out c.args.session.now one.new.self c.args.command one.result (string_bytes c.args.out.now) one.ensures.grows one.ensures.reply one.ensures.kept (sym c.has_row.ensures ∙ none)
+    appended c.push_str.result before (string_bytes c.push_str.new.self) c.as_str.result.now c.push_str.ensures.bytes
+    (λ is. record {
+      text = string_bytes c.in_ok-row.row;
+      row = record {
+        reply = one.result;
+        replied = record { grows = one.ensures.grows; says = one.ensures.reply; kept = one.ensures.kept };
+        none = c.in_ok-row.ensures.none;
+        some = c.in_ok-row.ensures.some;
+      };
+      written = is ∙ ap (λ xs. before ++ xs) c.as_str.ensures.value;
+    })
