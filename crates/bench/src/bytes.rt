@@ -11,7 +11,6 @@ use answers::{Status, read_listing};
 use counted_io::{Counted, Fault, write_whole};
 use instructions::{Config, Memory, Predictor, Program};
 use isa::report_text;
-use one_thread::Order;
 use std::alloc::Global;
 use std::io::{Read, Write};
 
@@ -53,7 +52,7 @@ fn answer<P: Predictor + Drop>(
 {
     match found {
         Ok(program) => {
-            let end = run(alloc, &program, config, predictor, Order::by_seed(None))?;
+            let end = run(alloc, &program, config, predictor)?;
             let text = report_text(alloc, &end)?;
             Ok((Status::of(end.outcome), text))
         },

@@ -213,16 +213,16 @@ module _ (P : Program) (C : Sizes) (U V : UpdateUnit) (k : SoFar) (n : Named P U
           )
 
   happened : (answer : Turn) → Does P C U V answer → AllByRecursion (Happened P U.tenants V.tenants) (events k answer (window P V.tenants))
-  happened Recovered d =
+  happened (Recovered age) d =
       let f = recovers P C U V d in
-      together P U.tenants V.tenants k Recovered [] each (all_of (take (length (window P V.tenants)) k.rows) (fewer_left P C U V k n f)) (some_left f) tt
+      together P U.tenants V.tenants k (Recovered age) [] each (all_of (take (length (window P V.tenants)) k.rows) (fewer_left P C U V k n f)) (some_left f) tt
   happened Let d =
       let o = lets P C U V d in
       let stay : map position_of k.rows ++ length U.tenants ∷ [] ≡ live_positions V.tenants =
       ap (λ l. l ++ length U.tenants ∷ []) n.positions ∙ sym o.positions in
       together P U.tenants V.tenants k Let (length U.tenants ∷ []) each stay tt (one_came d)
-  happened Ran d = together P U.tenants V.tenants k Ran [] each (all_of k.rows (n.positions ∙ sym (runs P C U V d).positions)) tt tt
-  happened Loaded d = together P U.tenants V.tenants k Loaded [] each (all_of k.rows (n.positions ∙ sym (loads P C U V d).positions)) tt tt
+  happened (Ran age) d = together P U.tenants V.tenants k (Ran age) [] each (all_of k.rows (n.positions ∙ sym (runs P C U V d).positions)) tt tt
+  happened (Loaded age) d = together P U.tenants V.tenants k (Loaded age) [] each (all_of k.rows (n.positions ∙ sym (loads P C U V d).positions)) tt tt
   happened Halved d =
       let o = retires P C U V d.retires in
       together P U.tenants V.tenants k Halved [] each (all_of (staying Halved (length (window P V.tenants)) k.rows) (one_less P C U V k n o)) (one_left o) tt

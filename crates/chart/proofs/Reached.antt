@@ -15,10 +15,10 @@ module _ (P : Program) (C : Sizes) (U V : UpdateUnit) (r : IsReached P C U) wher
   by_steps steps l = reach_on P C 0 U steps V r l
 
   by_turn : (answer : Turn) → Does P C U V answer → IsReached P C V
-  by_turn Recovered d = by_steps _ d.leads
+  by_turn (Recovered age) d = by_steps _ d.leads
   by_turn Let d = by_steps _ d.leads
-  by_turn Ran d = by_steps _ d.leads
-  by_turn Loaded d = by_steps _ d.leads
+  by_turn (Ran age) d = by_steps _ d.leads
+  by_turn (Loaded age) d = by_steps _ d.leads
   by_turn Halved d = by_steps _ d.retires.leads
   by_turn Retired d = by_steps _ d.leads
   by_turn (Over c) (Before stopped same) = subst (IsReached P C) (sym same) r

@@ -118,14 +118,14 @@ module _ (P : Program) (C : Sizes) (U V : UpdateUnit) where
         ap (λ b. counted b k.retirements) (le-ltb (length (window P V.tenants)) (length k.rows) all) ∙ e ∙ ap (λ X. how_many is_retired X.tenants) (sym same)
 
     counts : (answer : Turn) → Does P C U V answer → (next_kept k answer (window P V.tenants)).retirements ≡ how_many is_retired V.tenants
-    counts Recovered d = e ∙ sym (none_more (On (length d.ts) Mend ∷ d.squashes) (tt, all_weaker IsSquash IsNoRetire squash_quiet d.squashes d.are) d.leads)
+    counts (Recovered age) d = e ∙ sym (none_more (On (length d.ts) Mend ∷ d.squashes) (tt, all_weaker IsSquash IsNoRetire squash_quiet d.squashes d.are) d.leads)
     counts Let d =
         let steps : List Step = LetStep d.index d.predicted d.first d.second ∷ [] in
         e ∙ sym (none_more (d.links ++ steps) (all_more IsNoRetire d.links steps (all_weaker IsLink IsNoRetire link_quiet d.links d.are) (tt, tt)) d.leads)
-    counts Ran d =
+    counts (Ran age) d =
         let steps : List Step = On (length d.ts) Finish ∷ On (length d.ts) Claim ∷ [] in
         e ∙ sym (none_more (d.delivers ++ steps) (all_more IsNoRetire d.delivers steps (all_weaker IsDeliver IsNoRetire deliver_quiet d.delivers d.are) (tt, (tt, tt))) d.leads)
-    counts Loaded d =
+    counts (Loaded age) d =
         let steps : List Step = On (length d.ts) Load ∷ [] in
         e ∙ sym (none_more (d.delivers ++ steps) (all_more IsNoRetire d.delivers steps (all_weaker IsDeliver IsNoRetire deliver_quiet d.delivers d.are) (tt, tt)) d.leads)
     counts Halved d = counts_one d.retires

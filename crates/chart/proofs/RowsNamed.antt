@@ -162,10 +162,10 @@ module _ (P : Program) (C : Sizes) (U V : UpdateUnit) (k : SoFar) (n : Named P U
       ∙ take-append_seam (live_positions V.tenants) f.gone
 
   next : (answer : Turn) → Does P C U V answer → length V.tenants < 2 ^ 64 → Named P V.tenants (next_kept k answer (window P V.tenants))
-  next Recovered d small = let f = recovers P C U V d in plain_next Recovered f.count refl (fewer_left f)
+  next (Recovered age) d small = let f = recovers P C U V d in plain_next (Recovered age) f.count refl (fewer_left f)
   next Let d small = let_next (lets P C U V d) small
-  next Ran d small = let s = runs P C U V d in plain_next Ran s.count refl (n.positions ∙ sym s.positions)
-  next Loaded d small = let s = loads P C U V d in plain_next Loaded s.count refl (n.positions ∙ sym s.positions)
+  next (Ran age) d small = let s = runs P C U V d in plain_next (Ran age) s.count refl (n.positions ∙ sym s.positions)
+  next (Loaded age) d small = let s = loads P C U V d in plain_next (Loaded age) s.count refl (n.positions ∙ sym s.positions)
   next Halved d small = let o = retires P C U V d.retires in plain_next Halved o.count refl (one_less o)
   next Retired d small = let o = retires P C U V d in plain_next Retired o.count refl (one_less o)
   next (Over c) (Before stopped same) small = plain_next (Over c) (ap (λ X. length X.tenants) same) refl (as_before same)

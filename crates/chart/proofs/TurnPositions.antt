@@ -43,13 +43,13 @@ link_is_quiet (On p (Speculate s)) h = absurd h
 link_is_quiet (On p Mend) h = absurd h
 
 module _ (P : Program) (C : Sizes) (U V : UpdateUnit) where
-  pub runs : Runs P C U V → Stay U.tenants V.tenants
+  pub runs : {age : ℕ} → Runs P C age U V → Stay U.tenants V.tenants
   runs r =
       let steps : List Step = On (length r.ts) Finish ∷ On (length r.ts) Claim ∷ [] in
       let quiet = all_more IsQuiet r.delivers steps (all_weaker IsDeliver IsQuiet deliver_is_quiet r.delivers r.are) (tt, (tt, tt)) in
       subst (λ W. Stay U.tenants W.tenants) r.leads.is (quiet_run P C 0 U (r.delivers ++ steps) quiet r.leads.may)
 
-  pub loads : LoadsOne P C U V → Stay U.tenants V.tenants
+  pub loads : {age : ℕ} → LoadsOne P C age U V → Stay U.tenants V.tenants
   loads r =
       let steps : List Step = On (length r.ts) Load ∷ [] in
       let quiet = all_more IsQuiet r.delivers steps (all_weaker IsDeliver IsQuiet deliver_is_quiet r.delivers r.are) (tt, tt) in
@@ -67,7 +67,7 @@ module _ (P : Program) (C : Sizes) (U V : UpdateUnit) where
   pub retires : Retires P C U V → OneLess U.tenants V.tenants
   retires r = subst (λ W. OneLess U.tenants W.tenants) r.leads.is (retire_once P C 0 U (length r.ts) 0 r.leads.may.1)
 
-  pub recovers : Recovers P C U V → Fewer U.tenants V.tenants
+  pub recovers : {age : ℕ} → Recovers P C age U V → Fewer U.tenants V.tenants
   recovers r =
       let fewer = squash_run P C 0 U r.squashes r.are r.leads.may.0 in
       let mended = quiet_after P C 0 U (On (length r.ts) Mend ∷ []) r.squashes (tt, tt) r.leads.may in
@@ -81,10 +81,10 @@ module _ (P : Program) (C : Sizes) (U V : UpdateUnit) where
 
   -- nobody is ever forgotten
   pub grows : (answer : Turn) → Does P C U V answer → length U.tenants ≤ length V.tenants
-  grows Recovered d = let n = (recovers d).count in omega (arith, n)
+  grows (Recovered age) d = let n = (recovers d).count in omega (arith, n)
   grows Let d = let n = (lets d).count in omega (arith, n)
-  grows Ran d = let n = (runs d).count in omega (arith, n)
-  grows Loaded d = let n = (loads d).count in omega (arith, n)
+  grows (Ran age) d = let n = (runs d).count in omega (arith, n)
+  grows (Loaded age) d = let n = (loads d).count in omega (arith, n)
   grows Halved d = let n = (retires d.retires).count in omega (arith, n)
   grows Retired d = let n = (retires d).count in omega (arith, n)
   grows (Over c) (Before stopped same) = let n = ap (λ W. length W.tenants) same in omega (arith, n)

@@ -17,12 +17,12 @@ use Rattle.one_thread.proofs.Ends.{ends_over, ends_same}
 use Rattle.instructions.specs.Programs.{Program}
 use Rattle.inorder.specs.Unit.{Sizes, UpdateUnit}
 use Rattle.inorder.specs.Moves.{IsReached}
-use Rattle.one_thread.specs.declared.order.Order.{Order}
+use Rattle.one_thread.specs.Possible.{Possible, possible}
 use Rattle.one_thread.specs.declared.pipeline.Pipeline.{Pipeline}
 use Rattle.one_thread.specs.declared.station.Station.{Station}
-use Rattle.one_thread.specs.Ordered.{DoesIn, IsTurnIn, TurnedIn}
+use Rattle.one_thread.specs.Choices.{IsTurnBy, Picks, TurnedBy, step_made}
 use Rattle.one_thread.specs.StandsFor.{StandsFor, StandsForSome, sizes}
-use Rattle.one_thread.specs.Turns.{BenchFields, Falls, Moves, SizesStay, Trains}
+use Rattle.one_thread.specs.Turns.{BenchFields, Does, Falls, Moves, SizesStay, Trains}
 use Rattle.one_thread.specs.Window.{window}
 use Rattle.chart.specs.declared.telling.Format.{Format}
 use Rattle.chart.specs.Events.{events}
@@ -57,10 +57,10 @@ same_text f P k ts answer W U kept shows =
 
 -- a turn behind which the count was below the limit does not pass it
 count_next : (limit : ℕ) (b later : Pipeline) (answer : Turn) → b.committed.count < limit → Falls answer b later → later.committed.count ≤ limit
-count_next limit b later Recovered less falls = let same = ap (λ e. e.count) falls.0 in omega (arith, less, same)
+count_next limit b later (Recovered age) less falls = let same = ap (λ e. e.count) falls.0 in omega (arith, less, same)
 count_next limit b later Let less falls = let same = ap (λ e. e.count) falls.0 in omega (arith, less, same)
-count_next limit b later Ran less falls = let same = ap (λ e. e.count) falls.0 in omega (arith, less, same)
-count_next limit b later Loaded less falls = let same = ap (λ e. e.count) falls.0 in omega (arith, less, same)
+count_next limit b later (Ran age) less falls = let same = ap (λ e. e.count) falls.0 in omega (arith, less, same)
+count_next limit b later (Loaded age) less falls = let same = ap (λ e. e.count) falls.0 in omega (arith, less, same)
 count_next limit b later Halved less falls = let same = ap (λ e. e.count) falls.0 in omega (arith, less, same)
 count_next limit b later Retired less falls = omega (arith, less, falls)
 count_next limit b later (Over c) less falls = let same = ap (λ e. e.count) falls in omega (arith, less, same)
@@ -69,47 +69,51 @@ count_next limit b later (Over c) less falls = let same = ap (λ e. e.count) fal
 at_limit : (limit : ℕ) (b : Pipeline) → limit ≤ b.committed.count → run_from b limit ≡ (ByLimit, b.committed)
 at_limit limit b reached = let none : limit - b.committed.count ≡ 0 = omega (arith, reached) in ap (λ n. end_from b.program.now n b.committed) none
 
+-- a turn from the unit U to the unit V is made of legal steps, and its step is the one that the chooser picks
+abbrev DoesBy : {Q : Type 0} (Chooses : Q → List Possible → ℕ → Q → Type 0) → Program → Sizes → UpdateUnit → UpdateUnit → Turn → (old new : Q) → Type 0
+DoesBy Chooses P C U V answer old new = (does : Does P C U V answer) × Picks Chooses (possible P C U) (step_made P C U V answer does) old new
+
 -- A run that is told, by its predictor and its chooser, from these on
-module _ {S Q : Type 0} (Predicts : S → ℕ → Instr → ℕ → S → Type 0) (Learns : S → ℕ → ℕ → S → Type 0) (Chooses : Q → ℕ → ℕ → Q → Type 0)
+module _ {S Q : Type 0} (Predicts : S → ℕ → Instr → ℕ → S → Type 0) (Learns : S → ℕ → ℕ → S → Type 0) (Chooses : Q → List Possible → ℕ → Q → Type 0)
     (f : Format) (P : Program) (C : Sizes) (limit : ℕ) (first : Guides S Q) (start : Option (List ℕ)) where
   -- One turn more
 
   -- the turn that was made, behind those that were told
-  record HasPassed (b later : BenchFields S) (o o' : Order Q) (ts : List Passed) (answer : Turn) : Type 0 where
+  record HasPassed (b later : BenchFields S) (o o' : Q) (ts : List Passed) (answer : Turn) : Type 0 where
     pub unit : UpdateUnit
     pub reached : IsReached P C unit
     pub stands : StandsFor later.pipeline unit
-    pub does : DoesIn Chooses P C (unit_behind ts) unit answer o o'
+    pub does : DoesBy Chooses P C (unit_behind ts) unit answer o o'
     pub trains : Trains Predicts Learns P (unit_behind ts) unit answer b.predictor later.predictor
     pub shows : later.pipeline.window ≡ window P unit.tenants
 
-  has_passed : (b later : BenchFields S) (o o' : Order Q) (ts : List Passed) (answer : Turn) → b.pipeline.program.now ≡ P →
+  has_passed : (b later : BenchFields S) (o o' : Q) (ts : List Passed) (answer : Turn) → b.pipeline.program.now ≡ P →
       sizes b.pipeline ≡ C → later.pipeline.program.now ≡ P → IsReached P C (unit_behind ts) → StandsFor b.pipeline (unit_behind ts) →
-      IsTurnIn Predicts Learns Chooses b o answer later o' → HasPassed b later o o' ts answer
+      IsTurnBy Predicts Learns Chooses b o answer later o' → HasPassed b later o o' ts answer
   has_passed b later o o' ts answer program size same r s turned = go (turned (unit_behind ts) before s)
     where
       before : IsReached b.pipeline.program.now (sizes b.pipeline) (unit_behind ts)
       before = subst (λ X. IsReached X (sizes b.pipeline) (unit_behind ts)) (sym program) (subst (λ D. IsReached P D (unit_behind ts)) (sym size) r)
 
-      go : TurnedIn Predicts Learns Chooses b (unit_behind ts) o answer later o' → HasPassed b later o o' ts answer
+      go : TurnedBy Predicts Learns Chooses b (unit_behind ts) o answer later o' → HasPassed b later o o' ts answer
       go m =
-          let does : DoesIn Chooses b.pipeline.program.now (sizes b.pipeline) (unit_behind ts) m.made.unit answer o o' = (m.made.does, m.asked) in
+          let does : DoesBy Chooses b.pipeline.program.now (sizes b.pipeline) (unit_behind ts) m.made.unit answer o o' = (m.made.does, m.picks) in
           record {
             unit = m.made.unit;
             reached = subst (λ D. IsReached P D m.made.unit) size (subst (λ X. IsReached X (sizes b.pipeline) m.made.unit) program m.made.reached);
             stands = m.made.stands;
-            does = subst (λ D. DoesIn Chooses P D (unit_behind ts) m.made.unit answer o o') size
-                (subst (λ X. DoesIn Chooses X (sizes b.pipeline) (unit_behind ts) m.made.unit answer o o') program does);
+            does = subst (λ D. DoesBy Chooses P D (unit_behind ts) m.made.unit answer o o') size
+                (subst (λ X. DoesBy Chooses X (sizes b.pipeline) (unit_behind ts) m.made.unit answer o o') program does);
             trains = subst (λ X. Trains Predicts Learns X (unit_behind ts) m.made.unit answer b.predictor later.predictor) program m.made.trains;
             shows = m.made.stands.window ∙ ap (λ X. window X m.made.unit.tenants) same;
           }
 
   -- the count by the fields is that behind the turns
-  count_is : (b : BenchFields S) (o : Order Q) (k : SoFar) (now : Option (List ℕ)) →
+  count_is : (b : BenchFields S) (o : Q) (k : SoFar) (now : Option (List ℕ)) →
       (s : Stood Predicts Learns Chooses f P C limit b o k first start now) → b.pipeline.committed.count ≡ count_behind P s.turns
   count_is b o k now s = ap (λ e. e.count) (s.stands.committed ∙ ap (λ X. committed X (unit_behind s.turns).tenants) s.program)
 
-  is_due : (b : BenchFields S) (o : Order Q) (k : SoFar) (now : Option (List ℕ)) →
+  is_due : (b : BenchFields S) (o : Q) (k : SoFar) (now : Option (List ℕ)) →
       (g : GoesOn Predicts Learns Chooses f P C limit b o k first start now) → b.pipeline.committed.count < limit → IsDue P limit g.stood.turns
   is_due b o k now g less = record {
     going = g.going;
@@ -117,13 +121,13 @@ module _ {S Q : Type 0} (Predicts : S → ℕ → Instr → ℕ → S → Type 0
   }
 
   -- the bench behind a turn, and what the turn answered
-  record StoodNext (later : BenchFields S) (o' : Order Q) (k' : SoFar) (answer : Turn) (new : Option (List ℕ)) : Type 0 where
+  record StoodNext (later : BenchFields S) (o' : Q) (k' : SoFar) (answer : Turn) (new : Option (List ℕ)) : Type 0 where
     pub stood : Stood Predicts Learns Chooses f P C limit later o' k' first start new
     pub over : (c : Stop) → answer ≡ Over c → LastIsOver stood.turns c
     pub going : ((c : Stop) → answer ≡ Over c → ⊥) → (c : Stop) → LastIsOver stood.turns c → ⊥
 
-  stood_next : (b later : BenchFields S) (o o' : Order Q) (k k' : SoFar) (answer : Turn) (now new : Option (List ℕ)) →
-      IsTurnIn Predicts Learns Chooses b o answer later o' → SizesStay b.pipeline later.pipeline →
+  stood_next : (b later : BenchFields S) (o o' : Q) (k k' : SoFar) (answer : Turn) (now new : Option (List ℕ)) →
+      IsTurnBy Predicts Learns Chooses b o answer later o' → SizesStay b.pipeline later.pipeline →
       k' ≡ next_kept k answer later.pipeline.window →
       Appends now new (turn_text f (raised k.turns) (events k answer later.pipeline.window)) → b.pipeline.committed.count < limit →
       GoesOn Predicts Learns Chooses f P C limit b o k first start now → StoodNext later o' k' answer new
@@ -156,8 +160,8 @@ module _ {S Q : Type 0} (Predicts : S → ℕ → Instr → ℕ → S → Type 0
           }
 
   -- the run goes on behind a turn that does not end it
-  pub goes_next : (b later : BenchFields S) (o o' : Order Q) (k k' : SoFar) (answer : Turn) (now new : Option (List ℕ)) →
-      IsTurnIn Predicts Learns Chooses b o answer later o' → SizesStay b.pipeline later.pipeline →
+  pub goes_next : (b later : BenchFields S) (o o' : Q) (k k' : SoFar) (answer : Turn) (now new : Option (List ℕ)) →
+      IsTurnBy Predicts Learns Chooses b o answer later o' → SizesStay b.pipeline later.pipeline →
       k' ≡ next_kept k answer later.pipeline.window →
       Appends now new (turn_text f (raised k.turns) (events k answer later.pipeline.window)) → b.pipeline.committed.count < limit →
       ((c : Stop) → answer ≡ Over c → ⊥) → Falls answer b.pipeline later.pipeline →
@@ -167,8 +171,8 @@ module _ {S Q : Type 0} (Predicts : S → ℕ → Instr → ℕ → S → Type 0
       record { stood = n.stood; going = n.going more; within = count_next limit b.pipeline later.pipeline answer less falls }
 
   -- and it is through behind one that ends it
-  pub through_next : (b later : BenchFields S) (o o' : Order Q) (k k' : SoFar) (answer : Turn) (now new : Option (List ℕ)) →
-      IsTurnIn Predicts Learns Chooses b o answer later o' → SizesStay b.pipeline later.pipeline →
+  pub through_next : (b later : BenchFields S) (o o' : Q) (k k' : SoFar) (answer : Turn) (now new : Option (List ℕ)) →
+      IsTurnBy Predicts Learns Chooses b o answer later o' → SizesStay b.pipeline later.pipeline →
       k' ≡ next_kept k answer later.pipeline.window →
       Appends now new (turn_text f (raised k.turns) (events k answer later.pipeline.window)) → b.pipeline.committed.count < limit →
       (c : Stop) → answer ≡ Over c → run_from later.pipeline limit ≡ (ByStop c, later.pipeline.committed) →
@@ -178,7 +182,7 @@ module _ {S Q : Type 0} (Predicts : S → ℕ → Instr → ℕ → S → Type 0
       record { stood = n.stood; over = subst (NoTurnIsDue P limit n.stood.turns) (sym (ap (λ e. e.0) ends)) (n.over c is) }
 
   -- as it is where the limit is reached
-  pub through_limit : (b : BenchFields S) (o : Order Q) (k : SoFar) (now : Option (List ℕ)) → limit ≤ b.pipeline.committed.count →
+  pub through_limit : (b : BenchFields S) (o : Q) (k : SoFar) (now : Option (List ℕ)) → limit ≤ b.pipeline.committed.count →
       GoesOn Predicts Learns Chooses f P C limit b o k first start now → IsThrough Predicts Learns Chooses f P C limit b o k first start now
   through_limit b o k now reached g =
       let full : b.pipeline.committed.count ≡ limit = omega (arith, reached, g.within) in
@@ -188,8 +192,8 @@ module _ {S Q : Type 0} (Predicts : S → ℕ → Instr → ℕ → S → Type 0
       }
 
   -- a turn that was due and told in part, or not at all
-  pub stood_part : (b later : BenchFields S) (o o' : Order Q) (k : SoFar) (answer : Turn) (now new : Option (List ℕ)) (n : ℕ) →
-      IsTurnIn Predicts Learns Chooses b o answer later o' → SizesStay b.pipeline later.pipeline →
+  pub stood_part : (b later : BenchFields S) (o o' : Q) (k : SoFar) (answer : Turn) (now new : Option (List ℕ)) (n : ℕ) →
+      IsTurnBy Predicts Learns Chooses b o answer later o' → SizesStay b.pipeline later.pipeline →
       n ≤ length (turn_text f (raised k.turns) (events k answer later.pipeline.window)) →
       Appends now new (take n (turn_text f (raised k.turns) (events k answer later.pipeline.window))) → b.pipeline.committed.count < limit →
       GoesOn Predicts Learns Chooses f P C limit b o k first start now → IsBegun Predicts Learns Chooses f P C limit first start new

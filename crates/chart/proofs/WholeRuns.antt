@@ -14,7 +14,7 @@ use Rattle.inorder.specs.Committed.{committed}
 use Rattle.inorder.specs.Runs.{end_state}
 use Rattle.inorder.specs.Unit.{Sizes, empty_unit}
 use Rattle.one_thread.specs.Changes.{run_from}
-use Rattle.one_thread.specs.declared.order.Order.{Order}
+use Rattle.one_thread.specs.Possible.{Possible}
 use Rattle.one_thread.specs.declared.pipeline.Pipeline.{Pipeline}
 use Rattle.one_thread.specs.StandsFor.{StandsFor, sizes}
 use Rattle.one_thread.specs.Turns.{BenchFields}
@@ -38,11 +38,11 @@ sizes_are b c r q t =
     ∙ ap (λ n. record (sizes b) { ring = c.ring; queue = n }) q
     ∙ ap (λ n. record (sizes b) { ring = c.ring; queue = c.queue; first_tag = n }) t
 
-module _ {S Q : Type 0} (Predicts : S → ℕ → Instr → ℕ → S → Type 0) (Learns : S → ℕ → ℕ → S → Type 0) (Chooses : Q → ℕ → ℕ → Q → Type 0)
+module _ {S Q : Type 0} (Predicts : S → ℕ → Instr → ℕ → S → Type 0) (Learns : S → ℕ → ℕ → S → Type 0) (Chooses : Q → List Possible → ℕ → Q → Type 0)
     (f : Format) (P : Program) (C : Sizes) (first : Guides S Q) (start : Option (List ℕ)) where
   -- The first lines
 
-  goes_first : (limit : ℕ) (b : BenchFields S) (o : Order Q) (k : SoFar) (now : Option (List ℕ)) →
+  goes_first : (limit : ℕ) (b : BenchFields S) (o : Q) (k : SoFar) (now : Option (List ℕ)) →
       b.pipeline.program.now ≡ P → sizes b.pipeline ≡ C → StandsFor b.pipeline empty_unit → k ≡ start_kept → b.predictor ≡ first.predictor →
       o ≡ first.order → Appends start now (first_text f) → GoesOn Predicts Learns Chooses f P C limit b o k first start now
   goes_first limit b o k now program size fresh none untold unasked says = record {
@@ -84,7 +84,7 @@ module _ {S Q : Type 0} (Predicts : S → ℕ → Instr → ℕ → S → Type 0
   none_due limit ts (ByStop c) over d = d.going c over
   none_due limit ts ByLimit full d = let below = d.below in omega (arith, full, below)
 
-  pub last_part : (limit : ℕ) (b : BenchFields S) (o : Order Q) (k : SoFar) (now new : Option (List ℕ)) (n : ℕ) →
+  pub last_part : (limit : ℕ) (b : BenchFields S) (o : Q) (k : SoFar) (now new : Option (List ℕ)) (n : ℕ) →
       n ≤ length (last_text f k) → Appends now new (take n (last_text f k)) → IsThrough Predicts Learns Chooses f P C limit b o k first start now →
       IsBegun Predicts Learns Chooses f P C limit first start new
   last_part limit b o k now new n inside says t =
@@ -107,7 +107,7 @@ module _ {S Q : Type 0} (Predicts : S → ℕ → Instr → ℕ → S → Type 0
 
   -- All was told
 
-  pub all_told : (b : BenchFields S) (o : Order Q) (k : SoFar) (now new : Option (List ℕ)) (end : End) (limit : ℕ) →
+  pub all_told : (b : BenchFields S) (o : Q) (k : SoFar) (now new : Option (List ℕ)) (end : End) (limit : ℕ) →
       IsThrough Predicts Learns Chooses f P C limit b o k first start now → Appends now new (last_text f k) →
       (run_from b.pipeline limit).1 ≡ b.pipeline.committed → end_state end ≡ run_from b.pipeline limit →
       IsTold Predicts Learns Chooses f P C limit first (end_state end) start new
@@ -124,8 +124,8 @@ module _ {S Q : Type 0} (Predicts : S → ℕ → Instr → ℕ → S → Type 0
   }
 
 -- by the settings of a configuration
-pub goes_start : {S Q : Type 0} (Predicts : S → ℕ → Instr → ℕ → S → Type 0) (Learns : S → ℕ → ℕ → S → Type 0) (Chooses : Q → ℕ → ℕ → Q → Type 0)
-    (f : Format) (P : Program) (c : Settings) (first : Guides S Q) (start : Option (List ℕ)) (limit : ℕ) (b : BenchFields S) (o : Order Q) (k : SoFar)
+pub goes_start : {S Q : Type 0} (Predicts : S → ℕ → Instr → ℕ → S → Type 0) (Learns : S → ℕ → ℕ → S → Type 0) (Chooses : Q → List Possible → ℕ → Q → Type 0)
+    (f : Format) (P : Program) (c : Settings) (first : Guides S Q) (start : Option (List ℕ)) (limit : ℕ) (b : BenchFields S) (o : Q) (k : SoFar)
     (now : Option (List ℕ)) → b.pipeline.program.now ≡ P → b.pipeline.ring ≡ c.ring → b.pipeline.queue ≡ c.queue → b.pipeline.first_tag ≡ c.first_tag →
     StandsFor b.pipeline empty_unit → k ≡ start_kept → b.predictor ≡ first.predictor → o ≡ first.order →
     Appends start now (first_text f) → GoesOn Predicts Learns Chooses f P (sizes_by c) limit b o k first start now

@@ -13,7 +13,7 @@ use Rattle.chart.specs.Watched.{IsTold, IsBegun as IsPartOf, guides, sizes_by}
 use Rattle.command_line.specs.Predictors.{IsChosen, LearnsAs, PredictsAs}
 use Rattle.command_line.specs.declared.chosen.Chosen.{Chosen}
 use Rattle.command_line.specs.declared.request.Charted.{Charted}
-use Rattle.one_thread.specs.Seeds.{ChoosesNext, order_by}
+use Rattle.one_thread.specs.Seeds.{ChoosesBy, order_by}
 use Rattle.command_line.specs.Exits.{IsOfWriting, fault_refusal}
 use Rattle.command_line.specs.declared.exit.Refusal.{Refusal}
 use Rattle.command_line.specs.declared.exit.Refusal.TheVariants.{Memory, Trace, Write}
@@ -34,7 +34,7 @@ pub record HasToldWhole (f : Format) (asked : Charted) (P : Program) (before aft
   pub first : Chosen
   pub chosen : IsChosen asked.run.predictor first
   pub told :
-      IsTold PredictsAs LearnsAs ChoosesNext f P (sizes_by asked.run.config) asked.run.config.limit (guides first (order_by asked.run.seed))
+      IsTold PredictsAs LearnsAs ChoosesBy f P (sizes_by asked.run.config) asked.run.config.limit (guides first (order_by asked.run.seed))
       (end_of P asked.run.config.limit) before after
 
 -- A beginning was told of the run that is asked for: of turns that are due within its limit
@@ -42,7 +42,7 @@ pub record HasBegun (f : Format) (asked : Charted) (P : Program) (before after :
   pub first : Chosen
   pub chosen : IsChosen asked.run.predictor first
   pub begun :
-      IsPartOf PredictsAs LearnsAs ChoosesNext f P (sizes_by asked.run.config) asked.run.config.limit (guides first (order_by asked.run.seed))
+      IsPartOf PredictsAs LearnsAs ChoosesBy f P (sizes_by asked.run.config) asked.run.config.limit (guides first (order_by asked.run.seed))
       before after
 
 -- The run was logged where a log is wanted, and nothing was written where none is

@@ -57,7 +57,7 @@ all_seen turn W i (r ∷ rs) = seen_in turn r (slice_get W i) ∷ all_seen turn 
 
 -- A turn that recovers: the oldest miss was mended
 abbrev pub is_recovery : Turn → Bool
-is_recovery Recovered = true
+is_recovery (Recovered age) = true
 is_recovery _ = false
 
 -- A turn that retires the oldest tenant: the turn says so, and there is one tenant less

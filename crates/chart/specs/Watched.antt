@@ -16,8 +16,8 @@ use Rattle.one_thread.specs.declared.bench.Turn.{Turn}
 use Rattle.one_thread.specs.declared.bench.Turn.TheVariants.{Over}
 use Rattle.one_thread.specs.Changes.{run_from}
 use Rattle.one_thread.specs.StandsFor.{StandsFor, sizes}
-use Rattle.one_thread.specs.declared.order.Order.{Order}
-use Rattle.one_thread.specs.Ordered.{AsksFor}
+use Rattle.one_thread.specs.Choices.{Picks, step_made}
+use Rattle.one_thread.specs.Possible.{Possible, possible}
 use Rattle.one_thread.specs.Turns.{BenchFields, Does, Trains}
 use Rattle.one_thread.specs.Window.{window}
 use Rattle.inorder.specs.Moves.{IsReached}
@@ -99,29 +99,29 @@ module _ {S : Type 0} (Predicts : S → ℕ → Instr → ℕ → S → Type 0) 
       × Trains Predicts Learns P (unit_behind ts) t.unit t.answer before last
 
 -- The order of turns, by what a chooser says of being asked
-module _ {Q : Type 0} (Chooses : Q → ℕ → ℕ → Q → Type 0) where
-  -- The order was this one before these turns, and is that one behind them: each turn does what it asks for
-  abbrev pub AreOrdered : (P : Program) (C : Sizes) (first : Order Q) (ts : List Passed) → AreTurns P C ts →
-      (last : Order Q) → Type 0
+module _ {Q : Type 0} (Chooses : Q → List Possible → ℕ → Q → Type 0) where
+  -- The chooser was this one before these turns, and is that one after them: each turn makes the step that it picks
+  abbrev pub AreOrdered : (P : Program) (C : Sizes) (first : Q) (ts : List Passed) → AreTurns P C ts →
+      (last : Q) → Type 0
   AreOrdered P C first [] are last = last ≡ first
   AreOrdered P C first (t ∷ ts) are last =
-      (before : Order Q) × AreOrdered P C first ts are.0 before
-      × AsksFor Chooses P C (unit_behind ts) t.unit t.answer are.1 before last
+      (before : Q) × AreOrdered P C first ts are.0 before
+      × Picks Chooses (possible P C (unit_behind ts)) (step_made P C (unit_behind ts) t.unit t.answer are.1) before last
 
--- A predictor and an order of turns
+-- A predictor and a chooser
 pub record Guides (S Q : Type 0) : Type 0 where
   pub predictor : S
-  pub order : Order Q
+  pub order : Q
 
--- A predictor and an order by their parts
-abbrev pub guides : {S Q : Type 0} → S → Order Q → Guides S Q
+-- A predictor and a chooser by their parts
+abbrev pub guides : {S Q : Type 0} → S → Q → Guides S Q
 guides predictor order = record { predictor = predictor; order = order }
 
 -- Runs that are told, by what their predictor and their chooser say of being asked
 module _ {S Q : Type 0} (Predicts : S → ℕ → Instr → ℕ → S → Type 0) (Learns : S → ℕ → ℕ → S → Type 0)
-    (Chooses : Q → ℕ → ℕ → Q → Type 0) where
+    (Chooses : Q → List Possible → ℕ → Q → Type 0) where
   -- The bench stands for the unit behind some turns, and these were told
-  pub record Stood (f : Format) (P : Program) (C : Sizes) (limit : ℕ) (b : BenchFields S) (order : Order Q)
+  pub record Stood (f : Format) (P : Program) (C : Sizes) (limit : ℕ) (b : BenchFields S) (order : Q)
       (k : SoFar) (first : Guides S Q) (start now : Option (List ℕ)) : Type 0 where
     pub program : b.pipeline.program.now ≡ P
     pub sizes : sizes b.pipeline ≡ C
@@ -136,14 +136,14 @@ module _ {S Q : Type 0} (Predicts : S → ℕ → Instr → ℕ → S → Type 0
     pub says : Appends start now (told f P turns)
 
   -- The bench stood so, its unit has not ended, and its count is no more than the limit
-  pub record GoesOn (f : Format) (P : Program) (C : Sizes) (limit : ℕ) (b : BenchFields S) (order : Order Q)
+  pub record GoesOn (f : Format) (P : Program) (C : Sizes) (limit : ℕ) (b : BenchFields S) (order : Q)
       (k : SoFar) (first : Guides S Q) (start now : Option (List ℕ)) : Type 0 where
     pub stood : Stood f P C limit b order k first start now
     pub going : (code : Stop) → LastIsOver stood.turns code → ⊥
     pub within : b.pipeline.committed.count ≤ limit
 
   -- The bench stood so, and all turns of its run were told
-  pub record IsThrough (f : Format) (P : Program) (C : Sizes) (limit : ℕ) (b : BenchFields S) (order : Order Q)
+  pub record IsThrough (f : Format) (P : Program) (C : Sizes) (limit : ℕ) (b : BenchFields S) (order : Q)
       (k : SoFar) (first : Guides S Q) (start now : Option (List ℕ)) : Type 0 where
     pub stood : Stood f P C limit b order k first start now
     pub over : NoTurnIsDue P limit stood.turns (run_from b.pipeline limit).0

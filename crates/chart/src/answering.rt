@@ -15,7 +15,6 @@ use command_line::{Charted, Exit, Line, Refusal, choose, refused};
 use counted_io::{Counted, write_whole};
 use instructions::{End, Memory, Program};
 use isa::report_text;
-use one_thread::Order;
 use std::alloc::Global;
 use std::io::{Read, Write};
 
@@ -147,11 +146,10 @@ fn told<W: Write, L: Write>(
     Ok(Status::of(end.outcome))
 }
 
-// Runs a program in the order of the seed.
+// Runs a program: in any order of turns it ends so.
 fn ran(alloc: Global, asked: &Charted<'_>, program: &Program) -> Result<End, Memory>
     ensures { IfOk result (λ end. end_state end ≡ end_of program.now asked.now.run.config.limit) }
 {
     let predictor = choose(asked.run.predictor);
-    let order = Order::by_seed(asked.run.seed);
-    run(alloc, program, &asked.run.config, predictor, order)
+    run(alloc, program, &asked.run.config, predictor)
 }

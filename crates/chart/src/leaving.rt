@@ -63,7 +63,7 @@ pub(crate) fn leave(
     ensures events { OnOk result (events.new.items
         ≡ events.old.items ++ left_events answer live retirements rows.old.items) }
 {
-    if let Turn::Recovered = answer {
+    if let Turn::Recovered(_) = answer {
         push_squashes(events, rows.as_slice(), live)?;
         rows.truncate(live);
         return Ok(());

@@ -9,7 +9,7 @@ use crate::telling::Format;
 use crate::watching::{tell_first, tell_last, tell_turns};
 use counted_io::{Counted, Fault};
 use instructions::{Config, End, Predictor, Program};
-use one_thread::{Bench, Chooser, Order};
+use one_thread::{Bench, Chooser};
 use std::alloc::Global;
 use std::io::Write;
 
@@ -20,7 +20,7 @@ pub fn watch<P: Predictor + Drop, C: Chooser + Drop, W: Write>(
     program: &Program,
     config: &Config,
     predictor: P,
-    order: Order<C>,
+    order: C,
     format: Format,
     writer: &mut Counted<W>,
 ) -> Result<End, Fault>

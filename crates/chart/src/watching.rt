@@ -16,7 +16,7 @@ use crate::drawing::push_live;
 use crate::telling::{Format, push_events, push_first, push_turn};
 use counted_io::{Counted, Fault, write_whole};
 use instructions::Predictor;
-use one_thread::{Bench, Chooser, Order, Station, Turn};
+use one_thread::{Bench, Chooser, Station, Turn};
 use std::alloc::{AllocError, Global};
 use std::io::Write;
 
@@ -197,7 +197,7 @@ pub(crate) fn tell_last<W: Write>(
 pub(crate) fn tell_turns<P: Predictor + Drop, C: Chooser + Drop, W: Write>(
     alloc: Global,
     bench: &mut Bench<'_, P>,
-    order: &mut Order<C>,
+    order: &mut C,
     books: &mut Books,
     format: Format,
     limit: u64,
@@ -228,7 +228,7 @@ pub(crate) fn tell_turns<P: Predictor + Drop, C: Chooser + Drop, W: Write>(
         (known_by W.contents writer.new)) }
 {
     'turns: while bench.count() < limit {
-        let answer = bench.turn_in(order);
+        let answer = bench.turn_by(order);
         tell_turn(alloc, bench, books, format, answer, writer)?;
         if let Turn::Over(_) = answer {
             return Ok(());

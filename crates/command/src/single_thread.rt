@@ -3,7 +3,7 @@ ghost use Rattle.std.specs.Prelude.{◌≡◌, ◌-◌, ◌^◌, ◌<◌, IfOk, 
 ghost use Rattle.answers.specs.Answer.{most_taken};
 ghost use Rattle.counted_io.specs.Counted.{failures_of};
 ghost use Rattle.counted_io.specs.Replies.{HasReplied};
-ghost use Rattle.one_thread.specs.Seeds.{order_by};
+ghost use Rattle.inorder.specs.Runs.{end_of, end_state};
 ghost use Rattle.command_line.specs.Exits.{IsOfOneThread};
 ghost use Rattle.command_line.specs.Predictors.{IsChosen};
 ghost use Rattle.command_line.specs.declared.exit.Line.TheVariants.{Nothing};
@@ -13,13 +13,13 @@ ghost use Rattle.on_threads.specs.Unanswered.{IsUnansweredBy};
 
 use crate::{Asked, Line, Refusal, Went};
 use answers::{Status, read_listing};
-use bench::run;
+use bench::{run, run_by};
 use command_line::{Chosen, choose};
 use counted_io::{Counted, write_whole};
-use instructions::{Memory, Program};
+use instructions::{End, Memory, Program};
 use isa::report_text;
 use on_threads::written;
-use one_thread::{Order, Seeded};
+use one_thread::Seeded;
 use std::alloc::Global;
 use std::io::{Read, Write};
 
@@ -43,33 +43,47 @@ pub(crate) fn answered<R: Read, W: Write>(
         reader.old reader.new writer.old writer.new (IsSomeAnswerTo asked.now)) }
 {
     let predictor = choose(asked.predictor);
-    let order = Order::by_seed(asked.seed);
     let (went, text) = match read_listing(alloc, reader)? {
-        Ok(program) => report(alloc, asked, &program, predictor, order)?,
+        Ok(program) => report(alloc, asked, &program, predictor)?,
         Err(line) => (written(Status::TextFault, Line::Nothing, None), line),
     };
     write_whole(writer, text.as_str().as_bytes())?;
     Ok(went)
 }
 
-// Runs a program on the one-thread unit with the predictor and in the order that are asked for: what is told of the run,
-// and its report.
+// Runs a program on the one-thread unit, by the choices of the seed where there is one.
+fn ended(
+    alloc: Global,
+    asked: &Asked<'_>,
+    program: &Program,
+    predictor: Chosen,
+) -> Result<End, Memory>
+    ensures { IfOk result (λ end. end_state end ≡ end_of program.now asked.now.config.limit) }
+{
+    match asked.seed {
+        None => run(alloc, program, &asked.config, predictor),
+        Some(seed) => {
+            let mut chooser = Seeded::new(seed);
+            run_by(alloc, program, &asked.config, predictor, &mut chooser)
+        }
+    }
+}
+
+// Runs a program on the one-thread unit with the predictor that is asked for: the reply of the run, and its report.
 fn report(
     alloc: Global,
     asked: &Asked<'_>,
     program: &Program,
     predictor: Chosen,
-    order: Order<Seeded>,
 ) -> Result<(Went, String), Memory>
     requires alone { asked.now.alone ≡ true }
     requires predictor { IsChosen asked.now.predictor predictor }
-    requires order { order ≡ order_by asked.now.seed }
     ensures ok { IfOk result (λ answer.
         IsReport asked.now program.now (string_bytes answer.1) answer.0) }
     ensures line { IfOk result (λ answer. answer.0.line ≡ Nothing) }
     ensures ran { IfOk result (λ answer. answer.0.ran ≡ None) }
 {
-    let end = run(alloc, program, &asked.config, predictor, order)?;
+    let end = ended(alloc, asked, program, predictor)?;
     let text = report_text(alloc, &end)?;
     let status = Status::of(end.outcome);
     Ok((written(status, Line::Nothing, None), text))

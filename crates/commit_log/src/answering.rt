@@ -14,11 +14,10 @@ use answers::{Status, read_listing};
 use command_line::{Exit, Line, Refusal, Watched, choose, refused};
 use counted_io::{Counted, write_whole};
 use instructions::Program;
-use one_thread::Order;
 use std::alloc::Global;
 use std::io::{Read, Write};
 
-/// Reads the listing, runs it on the one-thread unit in the order of the seed, and writes a line for each instruction that
+/// Reads the listing, runs it on the one-thread unit, and writes a line for each instruction that
 /// it commits, before the next one does. For a listing with a fault its line is written, and nothing else. There is no
 /// reader where the file did not open. A failed read or write is not tried again.
 pub fn log_commits<R: Read + Drop, W: Write>(
@@ -120,7 +119,6 @@ fn log_program<W: Write>(
         (known_by W.contents writer.old) (known_by W.contents writer.new)) }
 {
     let predictor = choose(asked.predictor);
-    let order = Order::by_seed(asked.seed);
-    let ending = log_run(alloc, program, &asked.config, predictor, order, writer)?;
+    let ending = log_run(alloc, program, &asked.config, predictor, writer)?;
     Ok(Status::of(ending))
 }

@@ -14,7 +14,7 @@ use crate::retiring::next_commit;
 use command_line::Refusal;
 use counted_io::{Counted, write_whole};
 use instructions::{Config, End, Ending, Predictor, Program};
-use one_thread::{Bench, Chooser, Order, Station};
+use one_thread::{Bench, Station};
 use std::alloc::{AllocError, Global};
 use std::io::Write;
 
@@ -63,11 +63,10 @@ fn log_commit<W: Write>(
     write_line(line, writer)
 }
 
-// Turns in an order until the unit has ended, or its count has reached a limit, and writes the line of each commit.
-fn log_each_commit<P: Predictor + Drop, C: Chooser + Drop, W: Write>(
+// Turns until the unit has ended, or its count has reached a limit, and writes the line of each commit.
+fn log_each_commit<P: Predictor + Drop, W: Write>(
     alloc: Global,
     bench: &mut Bench<'_, P>,
-    order: &mut Order<C>,
     registers: &mut [u32; 34],
     limit: u64,
     writer: &mut Counted<W>,
@@ -86,7 +85,7 @@ fn log_each_commit<P: Predictor + Drop, C: Chooser + Drop, W: Write>(
     ensures write { IfErr result (λ refusal.
         failures_of writer.new ≡ failures_of writer.old + failed_writes refusal) }
 {
-    'commits: while let Some(station) = next_commit(bench, order, registers, limit) {
+    'commits: while let Some(station) = next_commit(bench, registers, limit) {
         log_commit(alloc, &station, registers, writer)?;
     }
     Ok(())
@@ -113,11 +112,10 @@ fn log_stop<W: Write>(alloc: Global, end: &End, writer: &mut Counted<W>) -> Resu
     }
 }
 
-// Runs a unit that starts up to a limit and in an order, and writes the log of its run.
-fn log_to_end<P: Predictor + Drop, C: Chooser + Drop, W: Write>(
+// Runs a unit that starts up to a limit, and writes the log of its run.
+fn log_to_end<P: Predictor + Drop, W: Write>(
     alloc: Global,
     bench: Bench<'_, P>,
-    order: Order<C>,
     limit: u64,
     writer: &mut Counted<W>,
 ) -> Result<Ending, Refusal>
@@ -134,22 +132,20 @@ fn log_to_end<P: Predictor + Drop, C: Chooser + Drop, W: Write>(
         failures_of writer.new ≡ failures_of writer.old + failed_writes refusal) }
 {
     let mut bench = bench;
-    let mut order = order;
     let mut registers = [0; 34];
-    log_each_commit(alloc, &mut bench, &mut order, &mut registers, limit, writer)?;
+    log_each_commit(alloc, &mut bench, &mut registers, limit, writer)?;
     let end = bench.run(limit);
     log_stop(alloc, &end, writer)?;
     Ok(end.outcome)
 }
 
-/// Runs a program on the one-thread unit, up to the limit of the configuration and in an order, and writes the log of its
-/// commits while it runs. Kept beside the unit are the registers alone.
-pub(crate) fn log_run<P: Predictor + Drop, C: Chooser + Drop, W: Write>(
+/// Runs a program on the one-thread unit, up to the limit of the configuration, and writes the log of its commits while
+/// it runs. Kept beside the unit are the registers alone.
+pub(crate) fn log_run<P: Predictor + Drop, W: Write>(
     alloc: Global,
     program: &Program,
     config: &Config,
     predictor: P,
-    order: Order<C>,
     writer: &mut Counted<W>,
 ) -> Result<Ending, Refusal>
     requires { failures_of writer.old < 2 ^ 64 - 1 }
@@ -165,5 +161,5 @@ pub(crate) fn log_run<P: Predictor + Drop, C: Chooser + Drop, W: Write>(
 {
     let bench = Bench::new(alloc, program, config, predictor)?;
     let limit = u64::from(config.limit());
-    log_to_end(alloc, bench, order, limit, writer)
+    log_to_end(alloc, bench, limit, writer)
 }

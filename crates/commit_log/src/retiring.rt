@@ -5,7 +5,7 @@ ghost use Rattle.one_thread.specs.Changes.{registers_of};
 ghost use Rattle.commit_log.specs.Retirements.{HasCommittedNext, HasOnlyItsEnd, registers_after};
 
 use instructions::{Predictor, Reg};
-use one_thread::{Bench, Chooser, Order, Station, Turn};
+use one_thread::{Bench, Station, Turn};
 
 // Writes a register; a write to register 0 is dropped.
 fn write(registers: &mut [u32; 34], r: Reg, value: u32)
@@ -26,12 +26,11 @@ fn retire(registers: &mut [u32; 34], station: &Option<Station>)
     }
 }
 
-/// Turns in an order until an instruction commits. The result is its station, for a multiplication or division that of the
+/// Turns until an instruction commits. The result is its station, for a multiplication or division that of the
 /// second half; none where the unit has ended, or its count has reached the limit. The registers are kept as the
 /// retirements write them.
-pub(crate) fn next_commit<P: Predictor + Drop, C: Chooser + Drop>(
+pub(crate) fn next_commit<P: Predictor + Drop>(
     bench: &mut Bench<'_, P>,
-    order: &mut Order<C>,
     registers: &mut [u32; 34],
     limit: u64,
 ) -> Option<Station>
@@ -45,7 +44,7 @@ pub(crate) fn next_commit<P: Predictor + Drop, C: Chooser + Drop>(
 {
     'turns: while bench.count() < limit {
         let oldest = bench.tenant(0);
-        let turn = bench.turn_in(order);
+        let turn = bench.turn();
         match turn {
             Turn::Over(_) => return None,
             Turn::Retired => {

@@ -12,9 +12,9 @@ use Rattle.one_thread.specs.declared.bench.Turn.TheVariants.{Over}
 use Rattle.one_thread.specs.declared.pipeline.Pipeline.{Pipeline}
 use Rattle.one_thread.specs.declared.possible.Step.{Step}
 use Rattle.one_thread.specs.Choices.{IsTurnBy, Nothing, OneOf}
-use Rattle.one_thread.specs.Possible.{possible, steps_of}
+use Rattle.one_thread.specs.Possible.{Possible, possible, steps_of}
 use Rattle.one_thread.specs.StandsFor.{HasStopped, OverIs, StandsForSome, sizes}
-use Rattle.one_thread.specs.Steps.{ArePossible, IsFirstStep, Makes, named}
+use Rattle.one_thread.specs.Steps.{ArePossible, IsFirstStep, Makes, named, names}
 use Rattle.one_thread.specs.Turns.{Before, BenchFields, Moves}
 use Rattle.one_thread.proofs.FirstSteps.{nobody_first}
 use Rattle.one_thread.proofs.Leaving.{nowhere_turn}
@@ -43,7 +43,7 @@ second_empty (x ∷ xs) ys e = absurd (cc e)
 pub none_possible : (b : Pipeline) → ArePossible b [] → IsFirstStep b None
 none_possible b p = grind (arith, common_steps, first_empty, second_empty, given_none)
 
-module _ {S Q : Type 0} (Predicts : S → ℕ → Instr → ℕ → S → Type 0) (Learns : S → ℕ → ℕ → S → Type 0) (Chooses : Q → ℕ → ℕ → Q → Type 0) where
+module _ {S Q : Type 0} (Predicts : S → ℕ → Instr → ℕ → S → Type 0) (Learns : S → ℕ → ℕ → S → Type 0) (Chooses : Q → List Possible → ℕ → Q → Type 0) where
   -- The unit has ended before
   pub before_by : (b : BenchFields S) (q : Q) (c : Stop) → b.pipeline.over ≡ Some c → IsTurnBy Predicts Learns Chooses b q (Over c) b q
   before_by b q c e U r s =
@@ -73,7 +73,7 @@ module _ {S Q : Type 0} (Predicts : S → ℕ → Instr → ℕ → S → Type 0
 
   -- One of them was chosen
   pub chosen_by : (b later : BenchFields S) (q r : Q) (steps : List Step) (step : Step) (choice : ℕ) (turn : Turn) → b.pipeline.over ≡ None →
-      ArePossible b.pipeline steps → Chooses q (length steps) choice r → 0 < length steps → slice_get steps (choice % length steps) ≡ Some step →
+      ArePossible b.pipeline steps → Chooses q (names steps) choice r → 0 < length steps → slice_get steps (choice % length steps) ≡ Some step →
       Makes Predicts Learns b step turn later → IsTurnBy Predicts Learns Chooses b q turn later r
   chosen_by b later q r steps step choice turn none p chosen some at makes U ru s =
       let m = makes U ru s in
@@ -81,7 +81,7 @@ module _ {S Q : Type 0} (Predicts : S → ℕ → Instr → ℕ → S → Type 0
       let long : length steps ≡ length (possible b.pipeline.program.now (sizes b.pipeline) U) = sym (length-map steps named) ∙ ap length all in
       record {
         made = m.made;
-        picks = OneOf choice (subst (λ n. Chooses q n choice r) long chosen) (subst (λ n. 0 < n) long some)
+        picks = OneOf choice (subst (λ xs. Chooses q xs choice r) all chosen) (subst (λ n. 0 < n) long some)
             (m.is ∙ ap (option_map named) (sym at) ∙ sym (slice_get-map named steps (choice % length steps)) ∙ ap (λ l. slice_get l (choice % length steps)) all
             ∙ ap (λ n. slice_get (possible b.pipeline.program.now (sizes b.pipeline) U) (choice % n)) long);
       }

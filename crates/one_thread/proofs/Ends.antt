@@ -59,10 +59,10 @@ end_halts P k s c e = ap (end_after (end_from P k) s) e
 -- where the run goes on from later, it ends as from b
 pub ends_same : (limit : ℕ) (b later : Pipeline) (answer : Turn) → StandsForSome b → Moves b answer later → SizesStay b later → b.committed.count < limit → ((c : Stop) → answer ≡ Over c → ⊥) →
     Falls answer b later → end_from b.program.now (limit - later.committed.count) later.committed ≡ end_from b.program.now (limit - b.committed.count) b.committed
-ends_same limit b later Recovered h l e q n f = ap (λ s. end_from b.program.now (limit - s.count) s) f.0
+ends_same limit b later (Recovered age) h l e q n f = ap (λ s. end_from b.program.now (limit - s.count) s) f.0
 ends_same limit b later Let h l e q n f = ap (λ s. end_from b.program.now (limit - s.count) s) f.0
-ends_same limit b later Ran h l e q n f = ap (λ s. end_from b.program.now (limit - s.count) s) f.0
-ends_same limit b later Loaded h l e q n f = ap (λ s. end_from b.program.now (limit - s.count) s) f.0
+ends_same limit b later (Ran age) h l e q n f = ap (λ s. end_from b.program.now (limit - s.count) s) f.0
+ends_same limit b later (Loaded age) h l e q n f = ap (λ s. end_from b.program.now (limit - s.count) s) f.0
 ends_same limit b later Halved h l e q n f = ap (λ s. end_from b.program.now (limit - s.count) s) f.0
 ends_same limit b later (Over c) h l e q n f = absurd (n c refl)
 ends_same limit b later Retired h l e q n f =

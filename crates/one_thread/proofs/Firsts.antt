@@ -248,18 +248,18 @@ module _ (P : Program) (C : Sizes) (U : UpdateUnit) where
 
   -- a turn that makes the first step that is possible is the first
   pub first_made : (V : UpdateUnit) (answer : Turn) (does : Does P C U V answer) → step_made P C U V answer does ≡ slice_get (possible P C U) 0 → IsFirst P C U V answer does
-  first_made V Recovered does e = tt
+  first_made V (Recovered age) does e = tt
   first_made V Let does e = (going ToLet does.goes_on e).miss (omega arith)
-  first_made V Ran does e =
-      let f = going (ToRun (how_many is_live does.ts)) does.goes_on e in
+  first_made V (Ran age) does e =
+      let f = going (ToRun (how_many is_live does.ts)) does.goes_on (ap (λ n. Some (ToRun n)) does.aged ∙ e) in
       let whole = subst (λ l. slice_get (each_that (can_be_claimed P) ToRun l) 0 ≡ Some (ToRun (how_many is_live does.ts))) does.stands (f.run refl) in
       record {
         no_miss = f.miss (omega arith);
         no_let = f.lets (omega arith);
         oldest = no_claim P does.ts (older_fail (can_be_claimed P) ToRun live_claim (λ m n q. cc q) does.ys does.tenant does.ts whole);
       }
-  first_made V Loaded does e =
-      let f = going (ToLoad (how_many is_live does.ts)) does.goes_on e in
+  first_made V (Loaded age) does e =
+      let f = going (ToLoad (how_many is_live does.ts)) does.goes_on (ap (λ n. Some (ToLoad n)) does.aged ∙ e) in
       let whole = subst (λ l. slice_get (each_that (can_be_loaded P) ToLoad l) 0 ≡ Some (ToLoad (how_many is_live does.ts))) does.stands (f.load refl) in
       record {
         no_miss = f.miss (omega arith);

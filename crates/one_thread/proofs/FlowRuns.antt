@@ -96,7 +96,7 @@ module _ (b : Pipeline) (f : Future) (es : List Entry) (next : Fetched) (predict
       let set : slice_set fields.window at ran ≡ b.window ++ ran ∷ behind = set_middle b.window behind last ran in
       let later = ran_with leavers behind in
       let runs = ran_as fields later at last o h.goes_on (ready leavers behind) there (sym set ∙ ap (λ x. slice_set fields.window at (station_after last x)) h.comes) refl in
-      unit_next fields later Ran unit (moves_as fields later (Some (ToRun at)) Ran runs) (same_rest fields later later.window refl) unit.leavers
+      unit_next fields later (Ran at) unit (moves_as fields later (Some (ToRun at)) (Ran at) runs) (same_rest fields later later.window refl) unit.leavers
 
   ran_is : StandsForSome ran_fields
   ran_is = ran_behind let_fields.leavers [] let_unit
@@ -143,7 +143,7 @@ module _ (b : Pipeline) (f : Future) (es : List Entry) (next : Fetched) (predict
       } in
       let before = ran_with leavers behind in
       let later = entered_with leavers (record last { stage = Done; next = x }) in
-      unit_next before later Recovered (ran_behind leavers behind unit) (moves_as before later (Some (ToRecover to.i)) Recovered (recovered_turn before later h.goes_on to refl))
+      unit_next before later (Recovered to.i) (ran_behind leavers behind unit) (moves_as before later (Some (ToRecover to.i)) (Recovered to.i) (recovered_turn before later h.goes_on to refl))
       (same_rest before later later.window refl) unit.leavers
 
   -- where it is a miss, what was let behind it is squashed
@@ -171,7 +171,7 @@ module _ (b : Pipeline) (f : Future) (es : List Entry) (next : Fetched) (predict
       let turned : further_on ran Done (Some v) ≡ y = ap (λ x. further_on (station_after last x) Done (Some v)) e in
       let sets : middle.window ≡ slice_set ran_fields.window (length W) (further_on ran Done (Some v)) = sym (ap (slice_set (W ++ ran ∷ []) (length W)) turned ∙ set_middle W [] ran y) in
       let loads = loaded_as ran_fields middle (length W) ran v h.goes_on answered (get_end W [] ran) sets refl in
-      unit_next ran_fields middle Loaded ran_is (moves_as ran_fields middle (Some (ToLoad (length W))) Loaded loads) (same_rest ran_fields middle middle.window refl) ran_is.leavers
+      unit_next ran_fields middle (Loaded (length W)) ran_is (moves_as ran_fields middle (Some (ToLoad (length W))) (Loaded (length W)) loads) (same_rest ran_fields middle middle.window refl) ran_is.leavers
 
   entered : (x : Outcome) → outcome ≡ x → StandsForSome (entered_fields (completed_by last x (load_of es b.committed.memory next.instr.op x)))
   entered (Value v) e = as_ran (station_after last (Value v)) (sym (ap (station_after last) e))

@@ -4,7 +4,7 @@ pub mod Scan
 pub mod Settled
 pub mod Sources
 pub mod Futures
-pub mod Fetched
+pub mod Fetching
 pub mod Slots
 pub mod Accesses
 pub mod Entries
@@ -42,7 +42,6 @@ pub mod PossibleSteps
 pub mod PossibleUnit
 pub mod MadeSteps
 pub mod ChosenTurns
-pub mod OrderedTurns
 pub mod BenchTurns
 pub mod Ends
 pub mod Stores

@@ -3,6 +3,7 @@ use Rattle.std.proofs.lemmas.Grind.{common_steps}
 use Rattle.std.proofs.Common.{◌≡◌, ◌⊎◌, ℕ, zero, suc, ◌<◌, Bool, cond, List, [], ◌∷◌, ◌++◌, length, take, Option, Some, None, refl, sym, ap, ◌∙◌, subst, arith, ⊎_elim}
 use Rattle.std.specs.Prelude.{slice_get}
 use Rattle.std.specs.List.{AllByRecursion}
+use Rattle.instructions.specs.declared.stop.Stop.{Stop}
 use Rattle.one_thread.specs.declared.dispatch.Fetched.{Fetched}
 use Rattle.one_thread.specs.declared.pipeline.Pipeline.{Pipeline}
 use Rattle.one_thread.specs.declared.possible.Step.{Step}
@@ -14,7 +15,7 @@ use Rattle.one_thread.specs.Givers.{FirstGives, gives}
 use Rattle.one_thread.specs.Loads.{load_in}
 use Rattle.one_thread.specs.Notes.{settled_at}
 use Rattle.one_thread.specs.Stages.{FirstMiss}
-use Rattle.one_thread.specs.Steps.{ArePossible, Permits, given_step, given_steps, load_at, loads_of, next_let, recovery, retirement_of, run_at, runs_of}
+use Rattle.one_thread.specs.Steps.{AreNextSteps, ArePossible, MayMake, Permits, given_step, given_steps, load_at, loads_of, next_let, recovery, retirement_of, run_at, runs_of}
 use Rattle.one_thread.specs.Window.{operands_in}
 
 -- Each of a list
@@ -123,3 +124,19 @@ all_permitted b steps h = subst (AllByRecursion Q) (sym h.list) (four (recovery 
     four : (fs bs cs ds es : List Step) → AllByRecursion Q fs → AllByRecursion Q bs → AllByRecursion Q cs → AllByRecursion Q ds → AllByRecursion Q es →
         AllByRecursion Q (fs ++ bs ++ cs ++ ds ++ es)
     four fs bs cs ds es a b c d e = grind (arith, common_steps, all_both)
+
+-- Where the unit goes on, they are those that may be made
+
+none_ended : (o : Option Stop) (c : Stop) → o ≡ None → o ≡ Some c → (xs : List Step) → xs ≡ []
+none_ended o c n e xs = grind (arith, common_steps)
+
+all_may : (b : Pipeline) → b.over ≡ None → (steps : List Step) → AllByRecursion (Permits b) steps → AllByRecursion (MayMake b) steps
+all_may b none [] h = tt
+all_may b none (s ∷ steps) h = ((none, h.0), all_may b none steps h.1)
+
+pub next_all : (b : Pipeline) (steps : List Step) → b.over ≡ None → ArePossible b steps → AreNextSteps b steps
+next_all b steps none h = record {
+  all = λ o. h;
+  ended = λ c e. none_ended b.over c none e steps;
+  can = all_may b none steps (all_permitted b steps h);
+}

@@ -108,8 +108,8 @@ load_steps ts = On (length ts) Load ∷ []
 
 pub loaded_as : (b later : Pipeline) (i : ℕ) (w : Station) (value : ℕ) → b.over ≡ None → gives (load_in (registers_of b) b.committed.memory) b.window i ≡ Some value →
     slice_get b.window i ≡ Some w → later.window ≡ slice_set b.window i (answered_as w value) → later ≡ record b { window = later.window } →
-    MovesAs b (Some (ToLoad i)) Loaded later
-loaded_as b later i w value none here is new rest U r s = subst (MovedAs b U (Some (ToLoad i)) Loaded) (sym rest) (go (found_in P b.window U.tenants i w s.window is))
+    MovesAs b (Some (ToLoad i)) (Loaded i) later
+loaded_as b later i w value none here is new rest U r s = subst (MovedAs b U (Some (ToLoad i)) (Loaded i)) (sym rest) (go (found_in P b.window U.tenants i w s.window is))
   where
     P : Program
     P = b.program.now
@@ -126,7 +126,7 @@ loaded_as b later i w value none here is new rest U r s = subst (MovedAs b U (So
     now : Pipeline
     now = record b { window = later.window }
 
-    go : FoundIn P b.window U.tenants i w → MovedAs b U (Some (ToLoad i)) Loaded now
+    go : FoundIn P b.window U.tenants i w → MovedAs b U (Some (ToLoad i)) (Loaded i) now
     go f = with (loaded_run P C 0 U ys t ts sp.sound sp.still sp.stops can.may)
       where
         t : Tenant
@@ -173,7 +173,7 @@ loaded_as b later i w value none here is new rest U r s = subst (MovedAs b U (So
         shown : station_of P u ≡ answered_as w value
         shown = ap (answered_as (station_of P t)) can.value ∙ ap (λ w. answered_as w value) f.found.station
 
-        with : ActRun P C 0 U ys t u ts (load_steps ts) → MovedAs b U (Some (ToLoad i)) Loaded now
+        with : ActRun P C 0 U ys t u ts (load_steps ts) → MovedAs b U (Some (ToLoad i)) (Loaded i) now
         with k =
             let leads : Leads P C 0 U (k.delivers ++ load_steps ts) (with_tenants U k.later) = subst
             (λ X. Leads P C 0 (with_tenants U X) (k.delivers ++ load_steps ts) (with_tenants U k.later)) (sym f.found.split) k.leads in
@@ -188,11 +188,12 @@ loaded_as b later i w value none here is new rest U r s = subst (MovedAs b U (So
                 tenant = t;
                 ts = ts;
                 stands = f.found.split;
+                aged = age_is b U i w f;
                 unblocked = can.unblocked;
                 delivers = k.delivers;
                 are = k.are;
                 leads = leads;
                 every = k.still;
               };
-              is = ap (λ n. Some (ToLoad n)) (age_is b U i w f);
+              is = refl;
             }

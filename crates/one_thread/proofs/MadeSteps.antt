@@ -46,16 +46,16 @@ first_same give = grind (arith, common_steps)
 -- Recovery
 
 pub recover_as : (b later : Pipeline) (m : Missed) → b.over ≡ None → FirstMiss b.window (Some m) → RecoversTo b.window later.window →
-    later ≡ record b { window = later.window } → MovesAs b (Some (ToRecover m.at)) Recovered later
+    later ≡ record b { window = later.window } → MovesAs b (Some (ToRecover m.at)) (Recovered m.at) later
 recover_as b later m none first to rest = grind (arith, common_steps, first_same, recovered_turn)
 
 pub recover_comes : (b later : Pipeline) (m : Missed) → StandsForSome b → b.over ≡ None → FirstMiss b.window (Some m) → RecoversTo b.window later.window →
-    later ≡ record b { window = later.window } → Comes b Recovered later
+    later ≡ record b { window = later.window } → Comes b (Recovered m.at) later
 recover_comes b later m h none first to rest =
     let same = same_rest b later later.window rest in
     record {
       falls = (ap (λ x. x.committed) rest, ap (λ x. x.low) rest, recover_falls b.window later.window (window_room b h) to);
-      unit = unit_next b later Recovered h (moves_as b later (Some (ToRecover m.at)) Recovered (recover_as b later m none first to rest)) same
+      unit = unit_next b later (Recovered m.at) h (moves_as b later (Some (ToRecover m.at)) (Recovered m.at) (recover_as b later m none first to rest)) same
           (ap (λ x. length x.leavers) rest ∙ h.leavers);
       same = same;
     }
@@ -63,11 +63,11 @@ recover_comes b later m h none first to rest =
 -- Execution
 
 pub run_as : (b later : Pipeline) (r : Ready) → b.over ≡ None → CanClaim b r → RunsAt b r later → later ≡ record b { window = later.window } →
-    MovesAs b (Some (ToRun r.at)) Ran later
+    MovesAs b (Some (ToRun r.at)) (Ran r.at) later
 run_as b later r none can runs rest = grind (arith, common_steps, giver, ran_as)
 
 pub run_comes : (b later : Pipeline) (r : Ready) → StandsForSome b → b.over ≡ None → CanClaim b r → RunsAt b r later →
-    later ≡ record b { window = later.window } → Comes b Ran later
+    later ≡ record b { window = later.window } → Comes b (Ran r.at) later
 run_comes b later r h none can runs rest =
     let w = giver (operands_in (registers_of b)) b.window r.at r.operands can in
     let same = same_rest b later later.window rest in
@@ -78,26 +78,26 @@ run_comes b later r h none can runs rest =
         run_falls (registers_of b) (length b.program.now.bytes) b.window later.window r.at w.station r.operands
             (window_room b h) can w.is (runs w.station w.is),
       );
-      unit = unit_next b later Ran h (moves_as b later (Some (ToRun r.at)) Ran (run_as b later r none can runs rest)) same (ap (λ x. length x.leavers) rest ∙ h.leavers);
+      unit = unit_next b later (Ran r.at) h (moves_as b later (Some (ToRun r.at)) (Ran r.at) (run_as b later r none can runs rest)) same (ap (λ x. length x.leavers) rest ∙ h.leavers);
       same = same;
     }
 
 -- A load
 
 pub load_as : (b later : Pipeline) (l : Answered) → b.over ≡ None → LoadGives b l → LoadsAt b l later →
-    later ≡ record b { window = later.window } → MovesAs b (Some (ToLoad l.at)) Loaded later
+    later ≡ record b { window = later.window } → MovesAs b (Some (ToLoad l.at)) (Loaded l.at) later
 load_as b later l none can loads rest =
     let w = giver (load_in (registers_of b) b.committed.memory) b.window l.at l.value can in
     loaded_as b later l.at w.station l.value none can w.is (loads w.station w.is) rest
 
 pub load_comes : (b later : Pipeline) (l : Answered) → StandsForSome b → b.over ≡ None → LoadGives b l → LoadsAt b l later →
-    later ≡ record b { window = later.window } → Comes b Loaded later
+    later ≡ record b { window = later.window } → Comes b (Loaded l.at) later
 load_comes b later l h none can loads rest =
     let w = giver (load_in (registers_of b) b.committed.memory) b.window l.at l.value can in
     let same = same_rest b later later.window rest in
     record {
       falls = (ap (λ x. x.committed) rest, ap (λ x. x.low) rest, load_falls (registers_of b) b.committed.memory b.window later.window l.at w.station l.value (window_room b h) can w.is (loads w.station w.is));
-      unit = unit_next b later Loaded h (moves_as b later (Some (ToLoad l.at)) Loaded (load_as b later l none can loads rest)) same (ap (λ x. length x.leavers) rest ∙ h.leavers);
+      unit = unit_next b later (Loaded l.at) h (moves_as b later (Some (ToLoad l.at)) (Loaded l.at) (load_as b later l none can loads rest)) same (ap (λ x. length x.leavers) rest ∙ h.leavers);
       same = same;
     }
 

@@ -25,15 +25,15 @@ module _ (P : Program) (C : Sizes) (U V : UpdateUnit) where
   ends_plain c (Nowhere bad nowhere same) = same_plain same
 
   pub does_plain : (answer : Turn) → Does P C U V answer → StaysPlain P C U V
-  does_plain Recovered d =
+  does_plain (Recovered age) d =
       plain_on P C 0 U (On (length d.ts) Mend ∷ d.squashes) V d.leads (tt, all_weaker IsSquash IsPlain squash_plain d.squashes d.are)
   does_plain Let d =
       let step = LetStep d.index d.predicted d.first d.second ∷ [] in
       plain_on P C 0 U (d.links ++ step) V d.leads (all_more IsPlain d.links step (all_weaker IsLink IsPlain link_plain d.links d.are) (tt, tt))
-  does_plain Ran d =
+  does_plain (Ran age) d =
       let steps = On (length d.ts) Finish ∷ On (length d.ts) Claim ∷ [] in
       plain_on P C 0 U (d.delivers ++ steps) V d.leads (all_more IsPlain d.delivers steps (all_weaker IsDeliver IsPlain deliver_plain d.delivers d.are) (tt, (tt, tt)))
-  does_plain Loaded d =
+  does_plain (Loaded age) d =
       let steps = On (length d.ts) Load ∷ [] in
       plain_on P C 0 U (d.delivers ++ steps) V d.leads (all_more IsPlain d.delivers steps (all_weaker IsDeliver IsPlain deliver_plain d.delivers d.are) (tt, tt))
   does_plain Halved d = retires_plain d.retires

@@ -1,7 +1,7 @@
 -- The turn Ran is steps of the unit.
 use Rattle.std.proofs.Common.{arith}
 use Rattle.std.proofs.lemmas.Grind.{common_steps}
-use Rattle.std.proofs.Common.{rules, ◌≡◌, ℕ, List, ◌∷◌, ◌++◌, length, take, Option, Some, None, sym, ap, ◌∙◌, subst}
+use Rattle.std.proofs.Common.{rules, ◌≡◌, ℕ, List, ◌∷◌, ◌++◌, length, take, Option, Some, None, refl, sym, ap, ◌∙◌, subst}
 use Rattle.std.specs.Prelude.{slice_get, slice_set}
 use Rattle.instructions.specs.Instruction.{first_of, second_of}
 use Rattle.instructions.specs.Operations.{outcome_of}
@@ -51,8 +51,8 @@ finished_stays t o = search rules
 
 pub ran_as : (b later : Pipeline) (i : ℕ) (w : Station) (o : Operands) → b.over ≡ None → gives (operands_in (registers_of b)) b.window i ≡ Some o →
     slice_get b.window i ≡ Some w → later.window ≡ slice_set b.window i (station_after w (outcome_of w.instr w.half w.pc o.a o.b (length b.program.now.bytes))) →
-    later ≡ record b { window = later.window } → MovesAs b (Some (ToRun i)) Ran later
-ran_as b later i w o none here is new rest U r s = subst (MovedAs b U (Some (ToRun i)) Ran) (sym rest) (go (found_in P b.window U.tenants i w s.window is))
+    later ≡ record b { window = later.window } → MovesAs b (Some (ToRun i)) (Ran i) later
+ran_as b later i w o none here is new rest U r s = subst (MovedAs b U (Some (ToRun i)) (Ran i)) (sym rest) (go (found_in P b.window U.tenants i w s.window is))
   where
     P : Program
     P = b.program.now
@@ -66,7 +66,7 @@ ran_as b later i w o none here is new rest U r s = subst (MovedAs b U (Some (ToR
     now : Pipeline
     now = record b { window = later.window }
 
-    go : FoundIn P b.window U.tenants i w → MovedAs b U (Some (ToRun i)) Ran now
+    go : FoundIn P b.window U.tenants i w → MovedAs b U (Some (ToRun i)) (Ran i) now
     go f = with (ran_run P C 0 U ys t ts sp.sound sp.still sp.stops claim)
       where
         t : Tenant
@@ -118,7 +118,7 @@ ran_as b later i w o none here is new rest U r s = subst (MovedAs b U (Some (ToR
         keeps : (u.standing ≡ t1.standing) × (u.station ≡ t1.station)
         keeps = finished_stays t1 (computed P t1)
 
-        with : ActRun P C 0 U ys t u ts (ran_steps ts) → MovedAs b U (Some (ToRun i)) Ran now
+        with : ActRun P C 0 U ys t u ts (ran_steps ts) → MovedAs b U (Some (ToRun i)) (Ran i) now
         with k =
             let leads : Leads P C 0 U (k.delivers ++ ran_steps ts) (with_tenants U k.later) = subst (λ X. Leads P C 0 (with_tenants U X) (k.delivers ++ ran_steps ts) (with_tenants U k.later))
             (sym f.found.split) k.leads in
@@ -135,10 +135,11 @@ ran_as b later i w o none here is new rest U r s = subst (MovedAs b U (Some (ToR
                 tenant = t;
                 ts = ts;
                 stands = f.found.split;
+                aged = age_is b U i w f;
                 delivers = k.delivers;
                 are = k.are;
                 leads = leads;
                 every = k.still;
               };
-              is = ap (λ n. Some (ToRun n)) (age_is b U i w f);
+              is = refl;
             }

@@ -1,7 +1,7 @@
 -- The turn Recovered is steps of the unit.
 use Rattle.std.proofs.Common.{arith}
 use Rattle.std.proofs.lemmas.Grind.{common_steps}
-use Rattle.std.proofs.Common.{rules, ◌≡◌, ℕ, ◌<◌, List, ◌∷◌, ◌++◌, length, take, Option, Some, None, sym, ap, ◌∙◌, subst}
+use Rattle.std.proofs.Common.{rules, ◌≡◌, ℕ, ◌<◌, List, ◌∷◌, ◌++◌, length, take, Option, Some, None, refl, sym, ap, ◌∙◌, subst}
 use Rattle.std.specs.Prelude.{slice_get}
 use Rattle.std.specs.List.{AllByRecursion}
 use Rattle.instructions.specs.Programs.{Program}
@@ -79,8 +79,8 @@ miss_fate f x e = search rules
 -- Recovered
 
 pub recovered_turn : (b later : Pipeline) → b.over ≡ None → (to : RecoversTo b.window later.window) → later ≡ record b { window = later.window } →
-    MovesAs b (Some (ToRecover to.i)) Recovered later
-recovered_turn b later none to rest U r s = subst (MovedAs b U (Some (ToRecover to.i)) Recovered) (sym rest) (go (found_in P b.window U.tenants to.i to.w s.window to.is))
+    MovesAs b (Some (ToRecover to.i)) (Recovered to.i) later
+recovered_turn b later none to rest U r s = subst (MovedAs b U (Some (ToRecover to.i)) (Recovered to.i)) (sym rest) (go (found_in P b.window U.tenants to.i to.w s.window to.is))
   where
     P : Program
     P = b.program.now
@@ -94,7 +94,7 @@ recovered_turn b later none to rest U r s = subst (MovedAs b U (Some (ToRecover 
     now : Pipeline
     now = record b { window = later.window }
 
-    go : FoundIn P b.window U.tenants to.i to.w → MovedAs b U (Some (ToRecover to.i)) Recovered now
+    go : FoundIn P b.window U.tenants to.i to.w → MovedAs b U (Some (ToRecover to.i)) (Recovered to.i) now
     go f = with (recover_run P C 0 U f.found.ys f.found.t f.found.ts to.x f.found.live miss)
       where
         t : Tenant
@@ -115,7 +115,7 @@ recovered_turn b later none to rest U r s = subst (MovedAs b U (Some (ToRecover 
         shown : later.window ≡ window P V.tenants
         shown = grind (arith, common_steps, ts, window_gone, ys, mended_to, t)
 
-        with : RecoverRun P C 0 U ys t ts to.x → MovedAs b U (Some (ToRecover to.i)) Recovered now
+        with : RecoverRun P C 0 U ys t ts to.x → MovedAs b U (Some (ToRecover to.i)) (Recovered to.i) now
         with k =
             let steps = On (length ts) Mend ∷ k.squashes in
             let leads : Leads P C 0 U steps V = subst (λ X. Leads P C 0 (with_tenants U X) steps V) (sym f.found.split) k.leads in
@@ -133,6 +133,7 @@ recovered_turn b later none to rest U r s = subst (MovedAs b U (Some (ToRecover 
                 tenant = t;
                 ts = ts;
                 stands = f.found.split;
+                aged = sym (window_length P ts) ∙ sym f.found.place;
                 live = f.found.live;
                 x = to.x;
                 miss = miss;
@@ -141,5 +142,5 @@ recovered_turn b later none to rest U r s = subst (MovedAs b U (Some (ToRecover 
                 are = k.are;
                 leads = leads;
               };
-              is = ap (λ n. Some (ToRecover n)) (sym (window_length P ts) ∙ sym f.found.place);
+              is = refl;
             }

@@ -7,8 +7,7 @@ use Rattle.instructions.specs.declared.instr.Instr.{Instr}
 use Rattle.instructions.specs.declared.stop.Stop.{Stop}
 use Rattle.inorder.specs.Machine.{State}
 use Rattle.inorder.specs.Moves.{IsReached}
-use Rattle.inorder.specs.Tenants.{is_live}
-use Rattle.inorder.specs.Unit.{Sizes, UpdateUnit, how_many}
+use Rattle.inorder.specs.Unit.{Sizes, UpdateUnit}
 use Rattle.one_thread.specs.declared.bench.Turn.{Turn}
 use Rattle.one_thread.specs.declared.bench.Turn.TheVariants.{Halved, Let, Loaded, Over, Ran, Recovered, Retired}
 use Rattle.one_thread.specs.Possible.{Possible, ToLet, ToLoad, ToRecover, ToRetire, ToRun, possible}
@@ -25,25 +24,25 @@ step_at_end P C U V c (Nowhere bad nowhere same) = None
 -- The step that a turn makes, by what it does
 abbrev pub step_made : (P : Program) (C : Sizes) (U V : UpdateUnit) (answer : Turn) → Does P C U V answer →
     Option Possible
-step_made P C U V Recovered does = Some (ToRecover (how_many is_live does.ts))
+step_made P C U V (Recovered age) does = Some (ToRecover age)
 step_made P C U V Let does = Some ToLet
-step_made P C U V Ran does = Some (ToRun (how_many is_live does.ts))
-step_made P C U V Loaded does = Some (ToLoad (how_many is_live does.ts))
+step_made P C U V (Ran age) does = Some (ToRun age)
+step_made P C U V (Loaded age) does = Some (ToLoad age)
 step_made P C U V Halved does = Some ToRetire
 step_made P C U V Retired does = Some ToRetire
 step_made P C U V (Over c) does = step_at_end P C U V c does
 
 -- A chooser, which was this one and is that one now, picks a step by what it says of being asked: where some are
--- possible it is asked once, by their number, and its answer names one of them, modulo that number
-pub data Picks {Q : Type 0} (Chooses : Q → ℕ → ℕ → Q → Type 0) (steps : List Possible) (step : Option Possible)
+-- possible it is asked once, by these, and its answer names one of them, modulo how many there are
+pub data Picks {Q : Type 0} (Chooses : Q → List Possible → ℕ → Q → Type 0) (steps : List Possible) (step : Option Possible)
     (old new : Q) : Type 0 where
   Nothing : steps ≡ [] → step ≡ None → new ≡ old → Picks Chooses steps step old new
-  OneOf : (answer : ℕ) → Chooses old (length steps) answer new → 0 < length steps →
+  OneOf : (answer : ℕ) → Chooses old steps answer new → 0 < length steps →
       step ≡ slice_get steps (answer % length steps) → Picks Chooses steps step old new
 
 -- Turns by the choices of a chooser
 module _ {S Q : Type 0} (Predicts : S → ℕ → Instr → ℕ → S → Type 0) (Learns : S → ℕ → ℕ → S → Type 0)
-    (Chooses : Q → ℕ → ℕ → Q → Type 0) where
+    (Chooses : Q → List Possible → ℕ → Q → Type 0) where
   -- From the unit U a turn makes the step that the chooser picks of those that are possible
   pub record TurnedBy (b : BenchFields S) (U : UpdateUnit) (q : Q) (answer : Turn) (later : BenchFields S)
       (r : Q) : Type 0 where

@@ -16,7 +16,6 @@ pub mod Order
 pub mod Possible
 pub mod Choices
 pub mod Steps
-pub mod Ordered
 pub mod Seeds
 pub mod CompletedRing
 pub mod Kept

@@ -53,10 +53,10 @@ EndIsFirst P C U V c (Nowhere bad nowhere same) = ⊤
 
 -- Nothing that stands before a turn in the order of turns is possible in the unit U
 abbrev pub IsFirst : (P : Program) (C : Sizes) (U V : UpdateUnit) (answer : Turn) → Does P C U V answer → Type 0
-IsFirst P C U V Recovered does = ⊤
+IsFirst P C U V (Recovered age) does = ⊤
 IsFirst P C U V Let does = AllByRecursion IsNoMiss U.tenants
-IsFirst P C U V Ran does = ClaimIsFirst P C U does.ts
-IsFirst P C U V Loaded does = LoadIsFirst P C U does.ts
+IsFirst P C U V (Ran age) does = ClaimIsFirst P C U does.ts
+IsFirst P C U V (Loaded age) does = LoadIsFirst P C U does.ts
 IsFirst P C U V Halved does = RetirementIsFirst P C U
 IsFirst P C U V Retired does = RetirementIsFirst P C U
 IsFirst P C U V (Over c) does = EndIsFirst P C U V c does

@@ -1,5 +1,7 @@
 -- The steps that are possible, by the stations of the live tenants.
-use Rattle.std.specs.Prelude.{◌≡◌, ℕ, zero, suc, true, false, List, [], ◌∷◌, ◌++◌, length, Option, Some, None, slice_get, if◌then◌else◌}
+use Rattle.std.specs.Prelude.{◌≡◌, ℕ, zero, suc, true, false, List, [], ◌∷◌, ◌++◌, length, map, Option, Some, None, IfSome, slice_get, if◌then◌else◌}
+use Rattle.std.specs.List.{AllByRecursion}
+use Rattle.instructions.specs.declared.stop.Stop.{Stop}
 use Rattle.instructions.specs.declared.instr.Instr.{Instr}
 use Rattle.inorder.specs.Moves.{IsReached}
 use Rattle.inorder.specs.Unit.{UpdateUnit}
@@ -29,6 +31,10 @@ named (Let f) = ToLet
 named (Run r) = ToRun r.at
 named (Load l) = ToLoad l.at
 named Retire = ToRetire
+
+-- The names of steps
+abbrev pub names : List Step → List Possible
+names steps = map named steps
 
 -- The fields permit a step
 abbrev pub Permits : Pipeline → Step → Type 0
@@ -106,6 +112,22 @@ IsFirstStep b (Some Retire) =
     NoneRecovers b × NextOf b None × NoneRuns b × NoneLoads b × (settled_at (slice_get b.window 0) ≡ true)
 IsFirstStep b None =
     NoneRecovers b × NextOf b None × NoneRuns b × NoneLoads b × (settled_at (slice_get b.window 0) ≡ false)
+
+-- A step may be made: the unit has not ended, and the fields permit it
+abbrev pub MayMake : Pipeline → Step → Type 0
+MayMake b step = (b.over ≡ None) × Permits b step
+
+-- The next step: none where the unit has ended, else the first that the fields permit
+pub record IsNextStep (b : Pipeline) (step : Option Step) : Type 0 where
+  pub first : b.over ≡ None → IsFirstStep b step
+  pub ended : (c : Stop) → b.over ≡ Some c → step ≡ None
+  pub can : IfSome step (MayMake b)
+
+-- The steps that may be made, in their order: none where the unit has ended, else all that the fields permit
+pub record AreNextSteps (b : Pipeline) (steps : List Step) : Type 0 where
+  pub all : b.over ≡ None → ArePossible b steps
+  pub ended : (c : Stop) → b.over ≡ Some c → steps ≡ []
+  pub can : AllByRecursion (MayMake b) steps
 
 -- Turns that make a step, with what they do to a predictor
 module _ {S : Type 0} (Predicts : S → ℕ → Instr → ℕ → S → Type 0) (Learns : S → ℕ → ℕ → S → Type 0) where

@@ -12,8 +12,8 @@ use Rattle.inorder.specs.declared.history.Step.{Step}
 use Rattle.inorder.specs.declared.history.Step.TheVariants.{Let as LetStep, On}
 use Rattle.inorder.specs.declared.history.Supply.{Supply}
 use Rattle.inorder.specs.Committed.{ahead, ahead_by, committed}
-use Rattle.inorder.specs.Tenants.{IsNotLive, Live, Miss, Tenant, instr, is_first}
-use Rattle.inorder.specs.Unit.{Sizes, UpdateUnit}
+use Rattle.inorder.specs.Tenants.{IsNotLive, Live, Miss, Tenant, instr, is_first, is_live}
+use Rattle.inorder.specs.Unit.{Sizes, UpdateUnit, how_many}
 use Rattle.one_thread.specs.declared.bench.Turn.{Turn}
 use Rattle.one_thread.specs.declared.bench.Turn.TheVariants.{Halved, Let, Loaded, Over, Ran, Recovered, Retired}
 use Rattle.one_thread.specs.declared.pipeline.Pipeline.{Pipeline}
@@ -35,13 +35,14 @@ IsNoMiss t = t.standing ≡ Live → (x : ℕ) → t.fate ≢ Miss x
 abbrev pub IsIn : UpdateUnit → List Tenant → Tenant → List Tenant → Type 0
 IsIn U ys t ts = U.tenants ≡ ys ++ t ∷ ts
 
--- The oldest miss: all after it are squashed, and it is mended
-pub record Recovers (P : Program) (C : Sizes) (U V : UpdateUnit) : Type 0 where
+-- The oldest miss, which has this age: all after it are squashed, and it is mended
+pub record Recovers (P : Program) (C : Sizes) (age : ℕ) (U V : UpdateUnit) : Type 0 where
   pub goes_on : NoStopRetired U.tenants
   pub ys : List Tenant
   pub tenant : Tenant
   pub ts : List Tenant
   pub stands : IsIn U ys tenant ts
+  pub aged : how_many is_live ts ≡ age
   pub live : tenant.standing ≡ Live
   pub x : ℕ
   pub miss : tenant.fate ≡ Miss x
@@ -61,25 +62,28 @@ pub record Lets (P : Program) (C : Sizes) (U V : UpdateUnit) : Type 0 where
   pub are : AllByRecursion IsLink links
   pub leads : Leads P C 0 U (links ++ LetStep index predicted first second ∷ []) V
 
--- A tenant is claimed and finished, and every delivery that is due is made
-pub record Runs (P : Program) (C : Sizes) (U V : UpdateUnit) : Type 0 where
+-- The tenant of this age is claimed and finished, and every delivery that is due is made
+pub record Runs (P : Program) (C : Sizes) (age : ℕ) (U V : UpdateUnit) : Type 0 where
   pub goes_on : NoStopRetired U.tenants
   pub ys : List Tenant
   pub tenant : Tenant
   pub ts : List Tenant
   pub stands : IsIn U ys tenant ts
+  pub aged : how_many is_live ts ≡ age
   pub delivers : List Step
   pub are : AllByRecursion IsDeliver delivers
   pub leads : Leads P C 0 U (delivers ++ On (length ts) Finish ∷ On (length ts) Claim ∷ []) V
   pub every : AreStill V.tenants
 
--- A load with its address that no store blocks gets its value, and every delivery that is due is made
-pub record LoadsOne (P : Program) (C : Sizes) (U V : UpdateUnit) : Type 0 where
+-- The load of this age, which has its address and which no store blocks, gets its value, and every delivery that is
+-- due is made
+pub record LoadsOne (P : Program) (C : Sizes) (age : ℕ) (U V : UpdateUnit) : Type 0 where
   pub goes_on : NoStopRetired U.tenants
   pub ys : List Tenant
   pub tenant : Tenant
   pub ts : List Tenant
   pub stands : IsIn U ys tenant ts
+  pub aged : how_many is_live ts ≡ age
   pub unblocked : IsUnblocked P ts tenant
   pub delivers : List Step
   pub are : AllByRecursion IsDeliver delivers
@@ -119,10 +123,10 @@ pub data EndsHere (P : Program) (C : Sizes) (U V : UpdateUnit) (c : Stop) : Type
 
 -- What each answer of a turn says of the unit before it and behind it
 abbrev pub Does : Program → Sizes → UpdateUnit → UpdateUnit → Turn → Type 0
-Does P C U V Recovered = Recovers P C U V
+Does P C U V (Recovered age) = Recovers P C age U V
 Does P C U V Let = Lets P C U V
-Does P C U V Ran = Runs P C U V
-Does P C U V Loaded = LoadsOne P C U V
+Does P C U V (Ran age) = Runs P C age U V
+Does P C U V (Loaded age) = LoadsOne P C age U V
 Does P C U V Halved = Halves P C U V
 Does P C U V Retired = Retires P C U V
 Does P C U V (Over c) = EndsHere P C U V c

@@ -14,17 +14,17 @@ use instructions::{Config, End, Ending, Memory, Predictor, Program, Stop};
 use std::alloc::Global;
 use std::marker::Model;
 
-/// What a turn did.
+/// What a turn did, and which tenant it worked on: by its age, 0 for the oldest live one.
 #[derive(Clone, Copy, Debug, PartialEq, Eq)]
 pub enum Turn {
-    /// All tenants behind the oldest miss were squashed, and it was mended.
-    Recovered,
+    /// All tenants after the oldest miss, which has this age, were squashed, and it was mended.
+    Recovered(usize),
     /// The next instruction has entered a station.
     Let,
-    /// A tenant was claimed and finished: by `Bench::turn` the oldest that can be claimed.
-    Ran,
-    /// A load that is not blocked got its value: by `Bench::turn` the oldest.
-    Loaded,
+    /// The tenant of this age was claimed and finished: by `Bench::turn` the oldest that can be claimed.
+    Ran(usize),
+    /// The load of this age, which is not blocked, got its value: by `Bench::turn` the oldest.
+    Loaded(usize),
     /// The oldest tenant retired, and was the first of two halves: what it made waits for the second.
     Halved,
     /// The oldest tenant retired, and its instruction was counted.

@@ -22,8 +22,8 @@ fn pick(steps: &[Step], choice: u32) -> Step
 impl<'a, P: Predictor + Drop> Bench<'a, P> {
     /// Makes one of the steps that are possible, that which the chooser names: a recovery from the oldest miss, the
     /// next let, the execution of a tenant that can be claimed, the load of one that is not blocked, the oldest
-    /// tenant's retirement. They are counted in this order, the older tenants before the younger ones, and the chooser
-    /// is asked once by their number. A unit that has ended, or has nobody live and no instruction to go on with,
+    /// tenant's retirement. They stand in this order, the older tenants before the younger ones, and the chooser is asked
+    /// once, by them. A unit that has ended, or has nobody live and no instruction to go on with,
     /// answers Over and asks nobody.
     pub fn turn_by<C: Chooser>(&mut self, chooser: &mut C) -> Turn
         requires { self.old.pipeline.committed.count < 2 ^ 64 - 1 }
@@ -39,8 +39,9 @@ impl<'a, P: Predictor + Drop> Bench<'a, P> {
         if steps.is_empty() {
             return Turn::Over(Stop::BadPc);
         }
-        let choice = chooser.choose(steps.len() as u32);
-        let step = pick(steps.as_slice(), choice);
+        let shown = steps.as_slice();
+        let choice = chooser.choose(shown);
+        let step = pick(shown, choice);
         self.pipeline.make(step, &mut self.predictor)
     }
 

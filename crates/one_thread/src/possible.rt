@@ -162,7 +162,7 @@ impl<'a> Pipeline<'a> {
         match step {
             Step::Recover(miss) => {
                 self.window.recover(miss);
-                Turn::Recovered
+                Turn::Recovered(miss.at)
             }
             Step::Let(next) => {
                 self.enters(predictor, next);
@@ -170,11 +170,11 @@ impl<'a> Pipeline<'a> {
             }
             Step::Run(ready) => {
                 self.claims(ready);
-                Turn::Ran
+                Turn::Ran(ready.at)
             }
             Step::Load(answered) => {
                 self.answers(answered);
-                Turn::Loaded
+                Turn::Loaded(answered.at)
             }
             Step::Retire => self.retires(),
         }

@@ -4,7 +4,7 @@ ghost use Rattle.std.specs.Prelude.{⊤};
 use inorder::{Ended, Machine};
 use instructions::{Bimod, Config, Ending, NotTaken, Predictor, Program};
 use isa::parse;
-use one_thread::{Bench, Chooser, Seeded, Stage, Turn};
+use one_thread::{Bench, Chooser, Order, Seeded, Stage, Step, Turn};
 use std::alloc::Global;
 use std::process::Abort;
 use std::test::Fail;
@@ -24,14 +24,17 @@ fn config(ring: u64, queue: u64) -> Result<Config, Fail> {
     Ok(Config::new(ring, queue, 1, 1, 1, 1_000_000, 1_000_000)?)
 }
 
-/// Names the first step each time.
+/// Names the first step each time, and keeps how many it was shown.
 #[derive(Drop)]
-struct First;
+struct First {
+    shown: usize,
+}
 
 impl Chooser for First {
     ghost Chooses = { λ old steps answer new. ⊤ };
 
-    fn choose(&mut self, _steps: u32) -> u32 {
+    fn choose(&mut self, steps: &[Step]) -> u32 {
+        self.shown = steps.len();
         0
     }
 }
@@ -126,11 +129,20 @@ fn a_younger_tenant_runs_before_an_older_one(rt: HostRuntime) -> Result<(), Fail
     Ok(())
 }
 
-// The turns of one bench by its order, and of another by the first choice.
-fn takes_first(rt: &impl Abort, ordered: &mut Bench<Bimod>, chosen: &mut Bench<Bimod>) {
+// The turns of one bench by its order, of another by the first choice, and of a third by the order without a seed.
+fn takes_first(
+    rt: &impl Abort,
+    ordered: &mut Bench<Bimod>,
+    chosen: &mut Bench<Bimod>,
+    by_order: &mut Bench<Bimod>,
+) {
+    let mut first = First { shown: 0 };
+    let mut order = Order::by_seed(None);
     for turn in 0..400 {
-        assert!(rt; ordered.has_room() && chosen.has_room());
-        assert_eq!(rt; chosen.turn_by(&mut First), ordered.turn(), "{turn:?}");
+        assert!(rt; ordered.has_room() && chosen.has_room() && by_order.has_room());
+        let made = ordered.turn();
+        assert_eq!(rt; chosen.turn_by(&mut first), made, "{turn:?}");
+        assert_eq!(rt; by_order.turn_by(&mut order), made, "{turn:?}");
     }
 }
 
@@ -142,7 +154,8 @@ fn the_first_choice_is_the_turn_in_order(rt: HostRuntime) -> Result<(), Fail> {
             let config = config(ring, queue)?;
             let mut ordered = Bench::new(rt.alloc(), &program, &config, Bimod::new())?;
             let mut chosen = Bench::new(rt.alloc(), &program, &config, Bimod::new())?;
-            takes_first(&rt, &mut ordered, &mut chosen);
+            let mut by_order = Bench::new(rt.alloc(), &program, &config, Bimod::new())?;
+            takes_first(&rt, &mut ordered, &mut chosen, &mut by_order);
         }
     }
     Ok(())
@@ -171,5 +184,48 @@ fn a_seed_gives_its_own_turns(rt: HostRuntime) -> Result<(), Fail> {
     let program = parse(rt.alloc(), LOOP)?;
     assert!(rt; turns_alike(rt.alloc(), &program, 7, 7)?);
     assert!(rt; !turns_alike(rt.alloc(), &program, 7, 8)?);
+    Ok(())
+}
+
+// The answer of the turn that makes a step, but for a retirement.
+fn told(step: Step) -> Option<Turn> {
+    match step {
+        Step::Recover(miss) => Some(Turn::Recovered(miss.at)),
+        Step::Let(_) => Some(Turn::Let),
+        Step::Run(ready) => Some(Turn::Ran(ready.at)),
+        Step::Load(answered) => Some(Turn::Loaded(answered.at)),
+        Step::Retire => None,
+    }
+}
+
+// Steps that are made one by one are the turns of another bench, and tell which tenant they work on.
+fn steps_are_turns(rt: &impl Abort, stepped: &mut Bench<Bimod>, turned: &mut Bench<Bimod>) {
+    for turn in 0..400 {
+        assert!(rt; stepped.has_room() && turned.has_room());
+        let made = turned.turn();
+        let Some(step) = stepped.next_step() else {
+            assert!(rt;
+                stepped.steps().is_empty() && matches!(made, Turn::Over(_)),
+                "{turn:?}"
+            );
+            return;
+        };
+        assert!(rt; !stepped.steps().is_empty(), "{turn:?}");
+        assert_eq!(rt; stepped.make(step), made, "{turn:?}");
+        assert!(rt; told(step).is_none_or(|answer| answer == made), "{turn:?}");
+    }
+}
+
+#[test]
+fn a_turn_makes_the_next_step(rt: HostRuntime) -> Result<(), Fail> {
+    for listing in [LOOP, APART, FAULT, b""] {
+        let program = parse(rt.alloc(), listing)?;
+        for (ring, queue) in [(2, 2), (16, 8), (32, 2)] {
+            let config = config(ring, queue)?;
+            let mut stepped = Bench::new(rt.alloc(), &program, &config, Bimod::new())?;
+            let mut turned = Bench::new(rt.alloc(), &program, &config, Bimod::new())?;
+            steps_are_turns(&rt, &mut stepped, &mut turned);
+        }
+    }
     Ok(())
 }

@@ -28,6 +28,8 @@ mod one_station;
 #[cfg(test)]
 mod operations;
 #[cfg(test)]
+mod policies;
+#[cfg(test)]
 mod programs;
 #[cfg(test)]
 mod reports;

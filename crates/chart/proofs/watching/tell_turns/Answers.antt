@@ -1,5 +1,5 @@
 use Rattle.std.proofs.Common.{◌<◌, ◌≤◌, ◌∙◌, ap, arith}
-use Rattle.one_thread.proofs.OrderedTurns.{moves_in}
+use Rattle.one_thread.proofs.ChosenTurns.{moves_by}
 use Rattle.one_thread.proofs.Ends.{left_falls}
 use Rattle.chart.specs.Rows.{kept}
 use Rattle.chart.proofs.Turns.{goes_next, goes_on, is_over, stood_part, through_limit, through_next}
@@ -8,7 +8,7 @@ use Rattle.chart.proofs.watching.tell_turns.Goals as goal
 
 pub returns-in_err-tell_turn-clause-begun : goal.returns-in_err-tell_turn-clause-begun
 returns-in_err-tell_turn-clause-begun g c =
-    let turned = c.turn_in-answer in
+    let turned = c.turn_by-answer in
     let part = c.in_err-tell_turn.ensures.part in
     let less : c.turns.bench.pipeline.committed.count < c.args.limit = omega (arith, c.count.ensures.value, c.turns-test.true) in
     on_err c.from_residual.result (λ Q D first start s. stood_part g.P.Predictor.Predicts g.P.Predictor.Learns g.C.Chooser.Chooses c.args.format Q D c.args.limit
@@ -18,10 +18,10 @@ returns-in_err-tell_turn-clause-begun g c =
 pub returns-in-Over-clause-through : goal.returns-in-Over-clause-through
 returns-in-Over-clause-through g c Q D first start s =
     let b = c.turns.bench in
-    let turned = c.turn_in-answer in
+    let turned = c.turn_by-answer in
     let later = turned.new.self in
     let told = c.in_ok-tell_turn.ensures in
-    let moves = moves_in g.P.Predictor.Predicts g.P.Predictor.Learns g.C.Chooser.Chooses b later c.turns.order turned.new.order _ c.in-Over.ensures.turn in
+    let moves = moves_by g.P.Predictor.Predicts g.P.Predictor.Learns g.C.Chooser.Chooses b later c.turns.order turned.new.order _ c.in-Over.ensures.turn in
     let less : b.pipeline.committed.count < c.args.limit = omega (arith, c.count.ensures.value, c.turns-test.true) in
     let ends = is_over c.args.limit b.pipeline later.pipeline c.in-Over.field-0 c.count.ensures.unit moves c.in-Over.ensures.same less c.in-Over.ensures.falls in
     through_next g.P.Predictor.Predicts g.P.Predictor.Learns g.C.Chooser.Chooses c.args.format Q D c.args.limit first start b later c.turns.order
@@ -37,24 +37,24 @@ returns-clause-through g c Q D first start s =
 pub returns-in-Over-clause-stays : goal.returns-in-Over-clause-stays
 returns-in-Over-clause-stays g c =
     let b = c.turns.bench in
-    let turned = c.turn_in-answer in
+    let turned = c.turn_by-answer in
     let later = turned.new.self in
-    let moves = moves_in g.P.Predictor.Predicts g.P.Predictor.Learns g.C.Chooser.Chooses b later c.turns.order turned.new.order _ c.in-Over.ensures.turn in
+    let moves = moves_by g.P.Predictor.Predicts g.P.Predictor.Learns g.C.Chooser.Chooses b later c.turns.order turned.new.order _ c.in-Over.ensures.turn in
     let less : b.pipeline.committed.count < c.args.limit = omega (arith, c.count.ensures.value, c.turns-test.true) in
     ap (λ e. e.1) (is_over c.args.limit b.pipeline later.pipeline c.in-Over.field-0 c.count.ensures.unit moves c.in-Over.ensures.same less c.in-Over.ensures.falls)
 
 pub turns-smaller : goal.turns-smaller
 turns-smaller g c =
-    let turned = c.turn_in-answer in
+    let turned = c.turn_by-answer in
     let less : c.turns.bench.pipeline.committed.count < c.args.limit = omega (arith, c.count.ensures.value, c.turns-test.true) in
     left_falls c.args.limit c.turns.bench.pipeline turned.new.self.pipeline turned.result less c.in_default.not-Over turned.ensures.falls
 
 pub turns-preserved : goal.turns-preserved
 turns-preserved g c =
     let b = c.turns.bench in
-    let turned = c.turn_in-answer in
+    let turned = c.turn_by-answer in
     let later = turned.new.self in
-    let moves = moves_in g.P.Predictor.Predicts g.P.Predictor.Learns g.C.Chooser.Chooses b later c.turns.order turned.new.order turned.result turned.ensures.turn in
+    let moves = moves_by g.P.Predictor.Predicts g.P.Predictor.Learns g.C.Chooser.Chooses b later c.turns.order turned.new.order turned.result turned.ensures.turn in
     let less : b.pipeline.committed.count < c.args.limit = omega (arith, c.count.ensures.value, c.turns-test.true) in
     let told = c.in_ok-tell_turn.ensures in
     record {

@@ -1,6 +1,6 @@
 use Rattle.std.proofs.Common.{arith}
 use Rattle.std.proofs.lemmas.Grind.{common_steps}
-use Rattle.one_thread.proofs.Fetched.{index_is, index_past, read_slot}
+use Rattle.one_thread.proofs.Fetching.{index_is, index_past, read_slot}
 use Rattle.one_thread.proofs.fetch.fetch.Goals as goal
 
 pub returns-then-code-at : goal.returns-then-code-at

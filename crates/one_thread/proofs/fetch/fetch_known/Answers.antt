@@ -1,7 +1,7 @@
 use Rattle.std.proofs.Common.{◌<◌, arith, length, sym, ◌∙◌, ap, subst}
 use Rattle.std.specs.Prelude.{slice_get}
 use Rattle.std.proofs.lemmas.Option.{slice_get_within}
-use Rattle.one_thread.proofs.Fetched.{index_is, index_known, read_slot}
+use Rattle.one_thread.proofs.Fetching.{index_is, index_known, read_slot}
 use Rattle.one_thread.proofs.fetch.fetch_known.Goals as goal
 
 pub bounds-code-at : goal.bounds-code-at

@@ -1,5 +1,5 @@
 use Rattle.std.proofs.Common.{◌<◌, ◌-◌, length, sym, ◌∙◌, arith}
-use Rattle.one_thread.proofs.Fetched.{read_slot}
+use Rattle.one_thread.proofs.Fetching.{read_slot}
 use Rattle.one_thread.proofs.Sources.{source_found, source_passed}
 use Rattle.one_thread.proofs.source.youngest_writer.Goals as goal
 

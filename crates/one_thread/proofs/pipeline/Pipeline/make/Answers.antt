@@ -19,7 +19,7 @@ use Rattle.one_thread.proofs.pipeline.Pipeline.make.Goals as goal
 
 -- A miss is mended
 
-recovered : (g : Over) (c : goal.After-recover g) → Comes c.args.self.now Recovered (record c.args.self.now { window = c.recover.new.self })
+recovered : (g : Over) (c : goal.After-recover g) → Comes c.args.self.now (Recovered c.in-Recover.miss.at) (record c.args.self.now { window = c.recover.new.self })
 recovered g c =
     let first : FirstMiss c.args.self.now.window (Some c.in-Recover.miss) = subst (Permits c.args.self.now) c.in-Recover.is c.requires.can in
     recover_comes c.args.self.now (record c.args.self.now { window = c.recover.new.self }) c.in-Recover.miss c.requires.unit c.requires.open first c.recover.ensures refl
@@ -30,7 +30,7 @@ returns-in-Recover-clause-turn g c =
     let p = c.args.predictor.now in
     let later : Pipeline = record b { window = c.recover.new.self } in
     let first : FirstMiss b.window (Some c.in-Recover.miss) = subst (Permits b) c.in-Recover.is c.requires.can in
-    plain_makes g.P.Predictor.Predicts g.P.Predictor.Learns (fields b p) (fields later p) c.args.step (Recover c.in-Recover.miss) Recovered c.in-Recover.is (λ e. cc e)
+    plain_makes g.P.Predictor.Predicts g.P.Predictor.Learns (fields b p) (fields later p) c.args.step (Recover c.in-Recover.miss) (Recovered c.in-Recover.miss.at) c.in-Recover.is (λ e. cc e)
     (recover_as b later c.in-Recover.miss c.requires.open first c.recover.ensures refl) refl
 
 pub returns-in-Recover-clause-falls : goal.returns-in-Recover-clause-falls
@@ -44,7 +44,7 @@ returns-in-Recover-clause-unit g c = (recovered g c).unit
 can_run : (g : Over) (c : goal.After-claims g) → CanClaim c.args.self.now c.in-Run.ready
 can_run g c = subst (Permits c.args.self.now) c.in-Run.is c.requires.can
 
-ran : (g : Over) (c : goal.After-claims g) → Comes c.args.self.now Ran c.claims.new.self
+ran : (g : Over) (c : goal.After-claims g) → Comes c.args.self.now (Ran c.in-Run.ready.at) c.claims.new.self
 ran g c =
     let made = c.claims.ensures in
     run_comes c.args.self.now c.claims.new.self c.in-Run.ready c.requires.unit c.requires.open (can_run g c) made.window made.rest
@@ -54,7 +54,7 @@ returns-in-Run-clause-turn g c =
     let b = c.args.self.now in
     let p = c.args.predictor.now in
     let later = c.claims.new.self in
-    plain_makes g.P.Predictor.Predicts g.P.Predictor.Learns (fields b p) (fields later p) c.args.step (Run c.in-Run.ready) Ran c.in-Run.is (λ e. cc e)
+    plain_makes g.P.Predictor.Predicts g.P.Predictor.Learns (fields b p) (fields later p) c.args.step (Run c.in-Run.ready) (Ran c.in-Run.ready.at) c.in-Run.is (λ e. cc e)
     (run_as b later c.in-Run.ready c.requires.open (can_run g c) c.claims.ensures.window c.claims.ensures.rest) refl
 
 pub returns-in-Run-clause-falls : goal.returns-in-Run-clause-falls
@@ -68,7 +68,7 @@ returns-in-Run-clause-unit g c = (ran g c).unit
 can_load : (g : Over) (c : goal.After-answers g) → LoadGives c.args.self.now c.in-Load.answered
 can_load g c = subst (Permits c.args.self.now) c.in-Load.is c.requires.can
 
-loaded : (g : Over) (c : goal.After-answers g) → Comes c.args.self.now Loaded c.answers.new.self
+loaded : (g : Over) (c : goal.After-answers g) → Comes c.args.self.now (Loaded c.in-Load.answered.at) c.answers.new.self
 loaded g c =
     let made = c.answers.ensures in
     load_comes c.args.self.now c.answers.new.self c.in-Load.answered c.requires.unit c.requires.open (can_load g c) made.window made.rest
@@ -78,7 +78,7 @@ returns-in-Load-clause-turn g c =
     let b = c.args.self.now in
     let p = c.args.predictor.now in
     let later = c.answers.new.self in
-    plain_makes g.P.Predictor.Predicts g.P.Predictor.Learns (fields b p) (fields later p) c.args.step (Load c.in-Load.answered) Loaded c.in-Load.is (λ e. cc e)
+    plain_makes g.P.Predictor.Predicts g.P.Predictor.Learns (fields b p) (fields later p) c.args.step (Load c.in-Load.answered) (Loaded c.in-Load.answered.at) c.in-Load.is (λ e. cc e)
     (load_as b later c.in-Load.answered c.requires.open (can_load g c) c.answers.ensures.window c.answers.ensures.rest) refl
 
 pub returns-in-Load-clause-falls : goal.returns-in-Load-clause-falls
