@@ -20,7 +20,7 @@ use Rattle.one_thread.specs.Turns.{Before, Does, Lets, Now, Nowhere}
 use Rattle.one_thread.specs.Window.{window}
 use Rattle.chart.specs.declared.event.Event.TheVariants.{Moved}
 use Rattle.chart.specs.declared.row.Row.{Row}
-use Rattle.chart.specs.Events.{entry_events, events, is_same, left_events, went_on, moved_events, retired_event, squash, squashes}
+use Rattle.chart.specs.Events.{entry_events, events, left_events, went_on, moved_events, retired_event, squash, squashes, worked_on}
 use Rattle.chart.specs.Happened.{Awaits, Happened, HasGone, StandsAs}
 use Rattle.chart.specs.Named.{IsRowOf, StandsIn, live_positions}
 use Rattle.chart.specs.Rows.{SoFar, all_seen, awaited, is_recovery, let_row, newcomer, phase_of, retires as leaves_one, staying}
@@ -62,36 +62,26 @@ module _ (P : Program) (us vs : List Tenant) where
 
   -- Who has gone on
 
-  moves_happened : (W : List Station) (i : ℕ) (rows : List Row) → AllByRecursion (IsRowOf P us) rows →
-      ((j : ℕ) (r : Row) (w : Station) → slice_get rows j ≡ Some r → slice_get W (i + j) ≡ Some w → StandsIn P vs r.position w) →
-      AllByRecursion (Happened P us vs) (moved_events W i rows)
-  moves_happened W i [] h f = tt
-  moves_happened W i (r ∷ rs) h f =
-      all_both (Happened P us vs) (went_on r (slice_get W i)) (moved_events W (i + 1) rs) (one (slice_get W i) refl) (moves_happened W (i + 1) rs h.1 more)
+  moved_happened : (W : List Station) (o : Option ℕ) (rows : List Row) → AllByRecursion (IsRowOf P us) rows →
+      ((j : ℕ) (r : Row) (w : Station) → slice_get rows j ≡ Some r → slice_get W j ≡ Some w → StandsIn P vs r.position w) →
+      AllByRecursion (Happened P us vs) (moved_events o W rows)
+  moved_happened W None rows h f = tt
+  moved_happened W (Some age) rows h f = one (slice_get rows age) (slice_get W age) refl refl
     where
-      more : (j : ℕ) (s : Row) (w : Station) → slice_get rs j ≡ Some s → slice_get W (i + 1 + j) ≡ Some w → StandsIn P vs s.position w
-      more j s w e g = let next : i + suc j ≡ i + 1 + j = omega arith in f (suc j) s w e (ap (slice_get W) next ∙ g)
-
-      one : (o : Option Station) → slice_get W i ≡ o → AllByRecursion (Happened P us vs) (went_on r o)
-      one None e = tt
-      one (Some w) e = go (is_same (phase_of r.station.stage) (phase_of w.stage))
-        where
-          here : i + 0 ≡ i
-          here = omega arith
-
-          go : (b : Bool) → AllByRecursion (Happened P us vs) (cond b [] (Moved r.position (phase_of r.station.stage) (phase_of w.stage) ∷ []))
-          go true = tt
-          go false = (
-            record {
-              old = r.station;
-              new = w;
-              stood = h.0;
-              stands = f 0 r w refl (ap (slice_get W) here ∙ e);
-              from_is = refl;
-              to_is = refl;
-            },
-            tt,
-          )
+      one : (r : Option Row) (w : Option Station) → slice_get rows age ≡ r → slice_get W age ≡ w → AllByRecursion (Happened P us vs) (went_on r w)
+      one None w e g = tt
+      one (Some r) None e g = tt
+      one (Some r) (Some w) e g = (
+        record {
+          old = r.station;
+          new = w;
+          stood = all_get (IsRowOf P us) rows h age r e;
+          stands = f age r w e g;
+          from_is = refl;
+          to_is = refl;
+        },
+        tt,
+      )
 
   some_stay : (answer : Turn) (live : ℕ) (rows : List Row) → AllByRecursion (IsRowOf P us) rows → AllByRecursion (IsRowOf P us) (staying answer live rows)
   some_stay answer live rows h = go (is_recovery answer) (leaves_one answer live (length rows))
@@ -113,14 +103,14 @@ module _ (P : Program) (us vs : List Tenant) where
       let rows = staying answer (length W) k.rows in
       let went = left_events answer (length W) k.retirements k.rows in
       let came = entry_events (all_seen (raised k.turns) W 0 rows) (newcomer k answer W) in
-      let there : (j : ℕ) (r : Row) (w : Station) → slice_get rows j ≡ Some r → slice_get W (0 + j) ≡ Some w → StandsIn P vs r.position w =
+      let there : (j : ℕ) (r : Row) (w : Station) → slice_get rows j ≡ Some r → slice_get W j ≡ Some w → StandsIn P vs r.position w =
       λ j r w e f.
       let at_j : slice_get (live_positions vs) j ≡ Some r.position =
       ap (λ l. slice_get l j) (sym stay) ∙ get_before (map position_of rows) extra j r.position (get_map position_of rows j r e) in
-      let same : j ≡ 0 + j = omega arith in
-      stands_at P vs (live_positions vs) W (matched P vs) j r.position w at_j (ap (slice_get W) same ∙ f) in
-      all_both (Happened P us vs) went (moved_events W 0 rows ++ came) left
-      (all_both (Happened P us vs) (moved_events W 0 rows) came (moves_happened W 0 rows (some_stay answer (length W) k.rows h) there) entry)
+      stands_at P vs (live_positions vs) W (matched P vs) j r.position w at_j f in
+      let went_further = moved_events (worked_on answer) W rows in
+      all_both (Happened P us vs) went (went_further ++ came) left
+      (all_both (Happened P us vs) went_further came (moved_happened W (worked_on answer) rows (some_stay answer (length W) k.rows h) there) entry)
 
 module _ (P : Program) (C : Sizes) (U V : UpdateUnit) (k : SoFar) (n : Named P U.tenants k) (count : k.retirements ≡ how_many is_retired U.tenants)
     (reached : IsReached P C U) where

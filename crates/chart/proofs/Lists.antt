@@ -9,8 +9,8 @@ use Rattle.std.specs.Prelude.{nat_lt, slice_get}
 use Rattle.chart.specs.declared.event.Event.{Event}
 use Rattle.chart.specs.declared.row.Row.{Row}
 use Rattle.one_thread.specs.declared.station.Station.{Station}
-use Rattle.chart.specs.Rows.{all_seen, as_list, seen_in}
-use Rattle.chart.specs.Events.{went_on, moved_events, squash, squashes}
+use Rattle.chart.specs.Rows.{all_seen, seen_in}
+use Rattle.chart.specs.Events.{squash, squashes}
 
 not_less : (n live : ℕ) → live ≤ n → nat_lt n live ≡ false
 not_less n live h = grind (arith, h)
@@ -27,12 +27,6 @@ pub squashes_none : (live n : ℕ) (rows : List Row) → n ≤ live → squashes
 squashes_none live zero rows h = refl
 squashes_none live (suc n) rows h = rw (is_less n live (omega (arith, h))) refl
 
--- one more station
-pub take_next : (W : List Station) (i : ℕ) → take (i + 1) W ≡ take i W ++ as_list (slice_get W i)
-take_next [] i = grind (arith, common_steps)
-take_next (w ∷ ws) zero = refl
-take_next (w ∷ ws) (suc i) = ap (λ n. take n (w ∷ ws)) (add-one (suc i)) ∙ ap (λ n. w ∷ take n ws) (sym (add-one i)) ∙ ap (λ l. w ∷ l) (take_next ws i)
-
 -- the row at i, and those behind it
 dropped : (rows : List Row) (i : ℕ) (r : Row) → i < length rows → r ≡ get_or rows i r → drop i rows ≡ r ∷ drop (i + 1) rows
 dropped rows i r less is = drop-cons rows i r less ∙ ap (λ x. x ∷ drop (suc i) rows) (sym is) ∙ ap (λ n. r ∷ drop n rows) (sym (add-one i))
@@ -47,17 +41,6 @@ seen_goes_on turn W i rows r s o later new whole less is there says made so_far 
     ∙ append_assoc later (s ∷ []) rest
     ∙ ap (λ x. later ++ (x ∷ rest)) (says ∙ ap (seen_in turn r) there)
     ∙ ap (λ l. later ++ all_seen turn W i l) (sym (dropped rows i r less is))
-    ∙ so_far
-
--- the events of one more row
-pub moves_go_on : (W : List Station) (i : ℕ) (rows : List Row) (r : Row) (o : Option Station) (before new whole : List Event) →
-    i < length rows → r ≡ get_or rows i r → o ≡ slice_get W i → new ≡ before ++ went_on r o → before ++ moved_events W i (drop i rows) ≡ whole →
-    new ++ moved_events W (i + 1) (drop (i + 1) rows) ≡ whole
-moves_go_on W i rows r o before new whole less is there made so_far =
-    let rest = moved_events W (i + 1) (drop (i + 1) rows) in
-    ap (λ l. l ++ rest) (made ∙ ap (λ x. before ++ went_on r x) there)
-    ∙ append_assoc before (went_on r (slice_get W i)) rest
-    ∙ ap (λ l. before ++ moved_events W i l) (sym (dropped rows i r less is))
     ∙ so_far
 
 -- one more squash

@@ -113,11 +113,6 @@ abbrev pub awaited : (register : ℕ) → List Row → Option ℕ
 awaited register rows =
     if can_be_written register then unmade (writer_of register rows) else None
 
--- The station, if there is one
-abbrev pub as_list : Option Station → List Station
-as_list None = []
-as_list (Some w) = w ∷ []
-
 -- The books
 
 -- Counts of the turns that were made, the tenants that were let and those that have retired; and the rows of the live

@@ -1,16 +1,17 @@
 //! The live tenants of a run, from turn to turn.
-ghost use Rattle.std.specs.Prelude.{◌≡◌, ◌++◌, OnOk, IfOk, length, slice_get};
-ghost use Rattle.chart.specs.Events.{entry_events, events, went_on, moved_events};
+ghost use Rattle.std.specs.Prelude.{◌≡◌, ◌++◌, OnOk, IfOk, length};
+ghost use Rattle.chart.specs.Events.{entry_events, events, moved_events, went_on, worked_on as worked_on_by};
 ghost use Rattle.chart.specs.Rows.{all_seen as all_seen_of, kept};
 ghost use Rattle.chart.specs.Rows.{let_row as let_row_of, next_kept};
 ghost use Rattle.chart.specs.Rows.{seen_in, start_kept, with_row};
 ghost use Rattle.counted_io.specs.Counted.{counted as counted_of, raised as raised_of};
 
 use crate::event::Event;
-use crate::leaving::{leave, retires};
-use crate::row::{Row, is_same, phase_of};
+use crate::leaving::{leave, retires, row_at};
+use crate::row::{Row, phase_of};
 use crate::waits::entry;
-use one_thread::{Station, Turn};
+use instructions::Predictor;
+use one_thread::{Bench, Station, Turn};
 use std::alloc::{AllocError, Global};
 
 /// Counts of the turns that were made, the tenants that were let and those that have retired; and a row for each live
@@ -43,43 +44,51 @@ fn row_count(rows: &Vec<Row>) -> usize
     rows.len()
 }
 
-fn station_at(window: &[Station], i: usize) -> Option<Station>
-    ensures { result ≡ slice_get window.now i }
+// The age of the tenant that a turn has worked on, if that has gone on.
+fn worked_on(answer: Turn) -> Option<usize>
+    ensures { result ≡ worked_on_by answer }
 {
-    window.get(i).copied()
+    match answer {
+        Turn::Recovered(age) | Turn::Ran(age) | Turn::Loaded(age) => Some(age),
+        _ => None,
+    }
 }
 
-// Adds the event of a tenant whose station says that it has gone on.
+// Adds the event of a tenant that has gone on to the phase of its station.
 fn push_moved(
     events: &mut Vec<Event>,
-    row: &Row,
+    row: Option<Row>,
     station: Option<Station>,
 ) -> Result<(), AllocError>
-    ensures { OnOk result (events.new.items
-        ≡ events.old.items ++ went_on row.now station) }
+    ensures { OnOk result (events.new.items ≡ events.old.items ++ went_on row station) }
 {
+    let Some(row) = row else {
+        return Ok(());
+    };
     let Some(station) = station else {
         return Ok(());
     };
+    let position = row.position;
     let from = phase_of(row.station.stage);
     let to = phase_of(station.stage);
-    if is_same(from, to) {
-        return Ok(());
-    }
-    let position = row.position;
     events.push(Event::Moved { position, from, to })?;
     Ok(())
 }
 
-// Adds the events of the tenants that have gone on.
-fn push_moves(events: &mut Vec<Event>, rows: &[Row], window: &[Station]) -> Result<(), AllocError>
+// Adds the event of the tenant that a turn has worked on, if that has gone on.
+fn push_worked<P: Predictor + Drop>(
+    events: &mut Vec<Event>,
+    rows: &[Row],
+    age: Option<usize>,
+    bench: &Bench<'_, P>,
+) -> Result<(), AllocError>
     ensures { OnOk result (events.new.items
-        ≡ events.old.items ++ moved_events window.now 0 rows.now) }
+        ≡ events.old.items ++ moved_events age bench.now.pipeline.window rows.now) }
 {
-    for (i, row) in rows.iter().enumerate() {
-        push_moved(events, row, station_at(window, i))?;
+    match age {
+        None => Ok(()),
+        Some(age) => push_moved(events, row_at(rows, age), bench.tenant(age)),
     }
-    Ok(())
 }
 
 // The row of a tenant as a turn left it.
@@ -93,17 +102,18 @@ fn seen(row: &Row, turn: u64, station: Option<Station>) -> Row
 }
 
 // The rows as a turn left their tenants.
-fn all_seen(
+fn all_seen<P: Predictor + Drop>(
     alloc: Global,
     rows: &[Row],
-    window: &[Station],
+    bench: &Bench<'_, P>,
     turn: u64,
 ) -> Result<Vec<Row>, AllocError>
-    ensures { IfOk result (λ later. later.items ≡ all_seen_of turn window.now 0 rows.now) }
+    ensures { IfOk result (λ later. later.items
+        ≡ all_seen_of turn bench.now.pipeline.window 0 rows.now) }
 {
     let mut later = Vec::new(alloc);
     for (i, row) in rows.iter().enumerate() {
-        later.push(seen(row, turn, station_at(window, i)))?;
+        later.push(seen(row, turn, bench.tenant(i)))?;
     }
     Ok(later)
 }
@@ -156,26 +166,28 @@ impl Books {
         }
     }
 
-    /// Keeps the rows through a turn that has left this window, and gives what became of the tenants.
-    pub(crate) fn turn(
+    /// Keeps the rows through a turn of a bench, and gives what became of the tenants.
+    pub(crate) fn turn<P: Predictor + Drop>(
         &mut self,
         alloc: Global,
         answer: Turn,
-        window: &[Station],
+        bench: &Bench<'_, P>,
     ) -> Result<Vec<Event>, AllocError>
         ensures events { IfOk result (λ all.
-            all.items ≡ events (kept self.old) answer window.now) }
-        ensures kept { OnOk result (kept self.new ≡ next_kept (kept self.old) answer window.now) }
+            all.items ≡ events (kept self.old) answer bench.now.pipeline.window) }
+        ensures kept { OnOk result (kept self.new
+            ≡ next_kept (kept self.old) answer bench.now.pipeline.window) }
     {
         let mut events = Vec::new(alloc);
-        let live = window.len();
+        let live = bench.live();
         let turn = raised(self.turns);
         let count = row_count(&self.rows);
-        let new = let_row(answer, station_at(window, count), self.lets, turn);
+        let new = let_row(answer, bench.tenant(count), self.lets, turn);
         let retirements = self.retirements;
         leave(&mut self.rows, &mut events, answer, live, retirements)?;
-        push_moves(&mut events, self.rows.as_slice(), window)?;
-        let mut rows = all_seen(alloc, self.rows.as_slice(), window, turn)?;
+        let worked = worked_on(answer);
+        push_worked(&mut events, self.rows.as_slice(), worked, bench)?;
+        let mut rows = all_seen(alloc, self.rows.as_slice(), bench, turn)?;
         push_entry(&mut events, rows.as_slice(), &new)?;
         push_row(&mut rows, new)?;
         let retired = counted(retires(answer, live, count), retirements);

@@ -8,7 +8,7 @@ use crate::row::Row;
 use one_thread::Turn;
 use std::alloc::AllocError;
 
-fn row_at(rows: &[Row], i: usize) -> Option<Row>
+pub(crate) fn row_at(rows: &[Row], i: usize) -> Option<Row>
     ensures { result ≡ slice_get rows.now i }
 {
     rows.get(i).copied()

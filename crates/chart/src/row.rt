@@ -1,6 +1,5 @@
 //! The row of a live tenant.
 ghost use Rattle.std.specs.Prelude.{◌≡◌};
-ghost use Rattle.chart.specs.Events.{is_same as is_same_in};
 ghost use Rattle.chart.specs.Rows.{phase_of as phase_in, ran_by as ran_in, settled_turn, seen};
 
 use one_thread::{Stage, Station};
@@ -46,20 +45,6 @@ pub(crate) fn phase_of(stage: Stage) -> Phase
         Stage::Miss(_) => Phase::Miss,
         Stage::Stops(_) => Phase::Stop,
     }
-}
-
-/// Whether two phases are one.
-pub(crate) fn is_same(one: Phase, other: Phase) -> bool
-    ensures { result ≡ is_same_in one other }
-{
-    matches!(
-        (one, other),
-        (Phase::Waiting, Phase::Waiting)
-            | (Phase::Address, Phase::Address)
-            | (Phase::Done, Phase::Done)
-            | (Phase::Miss, Phase::Miss)
-            | (Phase::Stop, Phase::Stop)
-    )
 }
 
 fn ran_by(turn: u64, before: Phase, behind: Phase, ran: Option<u64>) -> Option<u64>

@@ -6,7 +6,7 @@ ghost use Rattle.instructions.specs.Programs.{Program};
 ghost use Rattle.inorder.specs.Unit.{Sizes};
 ghost use Rattle.one_thread.specs.Changes.{run_from};
 ghost use Rattle.chart.specs.Events.{events};
-ghost use Rattle.chart.specs.Rows.{kept, as_list, next_kept};
+ghost use Rattle.chart.specs.Rows.{kept, next_kept};
 ghost use Rattle.counted_io.specs.Counted.{raised as raised_of};
 ghost use Rattle.chart.specs.Telling.{first_text, last_text, turn_text};
 ghost use Rattle.chart.specs.Watched.{GivesUpTo, GoesOn, Guides, IsBegun, IsThrough};
@@ -16,54 +16,9 @@ use crate::drawing::push_live;
 use crate::telling::{Format, push_events, push_first, push_turn};
 use counted_io::{Counted, Fault, write_whole};
 use instructions::Predictor;
-use one_thread::{Bench, Chooser, Station, Turn};
+use one_thread::{Bench, Chooser, Turn};
 use std::alloc::{AllocError, Global};
 use std::io::Write;
-
-// Adds a station, if there is one.
-fn push_station(window: &mut Vec<Station>, station: Option<Station>) -> Result<(), AllocError>
-    ensures { OnOk result (window.new.items ≡ window.old.items ++ as_list station) }
-{
-    if let Some(station) = station {
-        window.push(station)?;
-    }
-    Ok(())
-}
-
-// The stations of the live tenants.
-#[tactic(auto, using(crate::proofs::Lists::take_next))]
-fn window_of<P: Predictor + Drop>(
-    alloc: Global,
-    bench: &Bench<'_, P>,
-) -> Result<Vec<Station>, AllocError>
-    ensures { IfOk result (λ window. window.items ≡ bench.now.pipeline.window) }
-{
-    let mut window = Vec::new(alloc);
-    for age in 0..bench.live() {
-        push_station(&mut window, bench.tenant(age))?;
-    }
-    Ok(window)
-}
-
-// The text of a turn that left this window.
-fn turn_text(
-    alloc: Global,
-    books: &mut Books,
-    format: Format,
-    answer: Turn,
-    window: &[Station],
-) -> Result<String, AllocError>
-    ensures kept { OnOk result (kept books.new ≡ next_kept (kept books.old) answer window.now) }
-    ensures text { IfOk result (λ text. string_bytes text ≡ turn_text
-        format (raised_of (kept books.old).turns) (events (kept books.old) answer window.now)) }
-{
-    let turn = raised(books.turns);
-    let events = books.turn(alloc, answer, window)?;
-    let mut out = String::new(alloc);
-    push_turn(&mut out, format)?;
-    push_events(alloc, &mut out, format, turn, events.as_slice())?;
-    Ok(out)
-}
 
 // The text of a turn that a bench has made.
 fn bench_text<P: Predictor + Drop>(
@@ -79,8 +34,12 @@ fn bench_text<P: Predictor + Drop>(
         (raised_of (kept books.old).turns) (events (kept books.old) answer
         bench.now.pipeline.window)) }
 {
-    let window = window_of(alloc, bench)?;
-    turn_text(alloc, books, format, answer, window.as_slice())
+    let turn = raised(books.turns);
+    let events = books.turn(alloc, answer, bench)?;
+    let mut out = String::new(alloc);
+    push_turn(&mut out, format)?;
+    push_events(alloc, &mut out, format, turn, events.as_slice())?;
+    Ok(out)
 }
 
 // Writes a text, if there was room for it.

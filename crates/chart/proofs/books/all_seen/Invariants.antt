@@ -4,5 +4,5 @@ use Rattle.chart.proofs.books.all_seen.Given as goal
 
 -- the rows so far, and those to come
 abbrev pub invariant-loop-i : goal.invariant-loop-i
-invariant-loop-i l =
-    l.later.items ++ all_seen l.turn l.window l.i (drop l.i l.rows) ≡ all_seen l.turn l.window 0 l.rows
+invariant-loop-i g l =
+    l.later.items ++ all_seen l.turn l.bench.pipeline.window l.i (drop l.i l.rows) ≡ all_seen l.turn l.bench.pipeline.window 0 l.rows
