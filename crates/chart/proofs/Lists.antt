@@ -1,5 +1,5 @@
 -- Lists, one by one.
-use Rattle.std.proofs.Common.{◌≡◌, ◌<◌, ◌≤◌, ℕ, zero, suc, ◌+◌, ◌-◌, true, false, List, [], ◌∷◌, ◌++◌, length, map, take, drop, get_or, Option, Some, refl, sym, ap, ◌∙◌, subst, arith, add-one}
+use Rattle.std.proofs.Common.{◌≡◌, ◌<◌, ◌≤◌, ℕ, zero, suc, ◌+◌, ◌-◌, true, false, List, [], ◌∷◌, ◌++◌, length, map, take, drop, get_or, Option, None, Some, refl, sym, ap, ◌∙◌, subst, arith, add-one}
 use Rattle.std.proofs.Common.{append_assoc}
 use Rattle.std.proofs.Math.Seq.{drop-cons}
 use Rattle.std.proofs.lemmas.Grind.{common_steps}
@@ -26,6 +26,17 @@ squashes_more live n rows h = rw (add-one n, not_less n live h) refl
 pub squashes_none : (live n : ℕ) (rows : List Row) → n ≤ live → squashes live rows n ≡ []
 squashes_none live zero rows h = refl
 squashes_none live (suc n) rows h = rw (is_less n live (omega (arith, h))) refl
+
+-- the station, if there is one
+abbrev pub as_list : Option Station → List Station
+as_list None = []
+as_list (Some w) = w ∷ []
+
+-- one more station
+pub take_next : (W : List Station) (i : ℕ) → take (i + 1) W ≡ take i W ++ as_list (slice_get W i)
+take_next [] i = grind (arith, common_steps)
+take_next (w ∷ ws) zero = refl
+take_next (w ∷ ws) (suc i) = ap (λ n. take n (w ∷ ws)) (add-one (suc i)) ∙ ap (λ n. w ∷ take n ws) (sym (add-one i)) ∙ ap (λ l. w ∷ l) (take_next ws i)
 
 -- the row at i, and those behind it
 dropped : (rows : List Row) (i : ℕ) (r : Row) → i < length rows → r ≡ get_or rows i r → drop i rows ≡ r ∷ drop (i + 1) rows

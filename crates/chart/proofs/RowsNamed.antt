@@ -17,11 +17,11 @@ use Rattle.one_thread.specs.Turns.{Before, Does, Now, Nowhere}
 use Rattle.one_thread.specs.Window.{station_of, window}
 use Rattle.chart.specs.declared.row.Row.{Row}
 use Rattle.chart.specs.Named.{AreNamed, IsRowOf, StandsIn, live_positions}
-use Rattle.chart.specs.Rows.{SoFar, all_seen, let_row, as_list, newcomer, next_kept, seen_in, staying, with_row}
+use Rattle.chart.specs.Rows.{SoFar, all_seen, let_row, newcomer, next_kept, seen_in, staying, with_row}
 use Rattle.chart.specs.Watched.{AreTurns, Passed, unit_behind, kept_behind}
 use Rattle.counted_io.specs.Counted.{counted, raised}
 use Rattle.chart.proofs.LivePositions.{Fewer, OneLess, OneMore}
-use Rattle.chart.proofs.Lists.{take_next}
+use Rattle.chart.proofs.Lists.{as_list, take_next}
 use Rattle.chart.proofs.TurnPositions.{grows, lets, loads, recovers, retires, runs}
 
 -- Rows behind a turn

@@ -88,7 +88,7 @@ enum Work {
 }
 
 // What a step does.
-fn work(step: &Step) -> Work {
+fn work_of(step: &Step) -> Work {
     match step {
         Step::Recover(_) => Work::Recovery,
         Step::Let(_) => Work::Dispatch,
@@ -101,7 +101,7 @@ fn work(step: &Step) -> Work {
 // Where a step that is wanted stands among those that are possible.
 fn place(steps: &[Step], wanted: Work) -> Option<u32> {
     for (at, step) in steps.iter().enumerate() {
-        if work(step) == wanted {
+        if work_of(step) == wanted {
             return u32::try_from(at).ok();
         }
     }
@@ -122,7 +122,7 @@ fn with_age(two: (Option<usize>, Option<usize>), age: usize) -> (Option<usize>, 
 fn oldest_two(steps: &[Step]) -> (Option<usize>, Option<usize>) {
     let mut two = (None, None);
     for step in steps.iter() {
-        if let Work::Execution(age) = work(step) {
+        if let Work::Execution(age) = work_of(step) {
             two = with_age(two, age);
         }
     }
