@@ -1,5 +1,5 @@
 -- What is told of a run on one thread.
-use Rattle.std.proofs.Common.{◌≡◌, true, List, ℕ, refl, sym, subst, None}
+use Rattle.std.proofs.Common.{◌≡◌, true, List, ℕ, refl, sym, subst}
 use Rattle.answers.specs.Answer.{ending_status}
 use Rattle.answers.specs.declared.outcome.Status.{Status}
 use Rattle.instructions.specs.declared.end.End.{End}
@@ -15,7 +15,7 @@ use Rattle.on_threads.specs.declared.went.Went.{Went}
 -- the report of a run on one thread
 pub alone_reports : (asked : Asked) (P : Program) (end : End) (status : Status) (text : List ℕ) (went : Went) → asked.alone ≡ true
     → end_state end ≡ end_of P asked.config.limit → status ≡ ending_status end.outcome → text ≡ report_of end
-    → went ≡ written_run status Nothing None → IsReport asked P text went
+    → went ≡ written_run status Nothing → IsReport asked P text went
 alone_reports asked P end status text went is ends same reported told = rw (reported, told, same) (record {
   ending = end.outcome;
   state = state_in end;

@@ -4,7 +4,7 @@ ghost use Rattle.counted_io.specs.Counted.{failures_of, Gives};
 ghost use Rattle.command_line.specs.Replies.{HasWritten, IfRefused, IsLeftBy};
 ghost use Rattle.command_line.specs.Exits.{HoldsOfInput, IsOfOneThread};
 ghost use Rattle.on_threads.specs.Answers.{IsAnswerTo, IsAsAlone, IsSomeAnswerTo};
-ghost use Rattle.on_threads.specs.Runs.{CameToItsEnd, IsRunWith, WasWritten, refused_run};
+ghost use Rattle.on_threads.specs.Runs.{CameToItsEnd, WasWritten, refused_run};
 
 use crate::{Asked, Refusal, Went, single_thread};
 use counted_io::Counted;
@@ -38,8 +38,6 @@ pub fn go<T: Threads + Wait + Sync, R: Read + Drop, W: Write, G: Gate + Sync>(
         HoldsOfInput R.remaining reader (λ input. IsAsAlone asked.now.config.limit input result
         (Gives W.contents writer.old writer.new)) }
     ensures alone { asked.now.alone ≡ true → IsOfOneThread result.line }
-    // Threads ran with the ring, queue, first tag, units, places and turns that are asked for, and tell so.
-    ensures ran { IsRunWith asked.now.config result.status result.line result.ran }
     // A run that is refused has a status of its own.
     ensures refused { IfRefused result.line (λ refusal. result ≡ refused_run refusal) }
     // The writer is blamed for one failed call, and only then, and there is no log to blame.

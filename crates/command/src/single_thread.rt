@@ -1,5 +1,5 @@
 //! A run of the one-thread unit.
-ghost use Rattle.std.specs.Prelude.{◌≡◌, ◌-◌, ◌^◌, ◌<◌, IfOk, IfErr, None, true, string_bytes};
+ghost use Rattle.std.specs.Prelude.{◌≡◌, ◌-◌, ◌^◌, ◌<◌, IfOk, IfErr, true, string_bytes};
 ghost use Rattle.answers.specs.Answer.{most_taken};
 ghost use Rattle.counted_io.specs.Counted.{failures_of};
 ghost use Rattle.counted_io.specs.Replies.{HasReplied};
@@ -38,14 +38,13 @@ pub(crate) fn answered<R: Read, W: Write>(
         reader.old reader.new writer.old writer.new (IsAnswerTo asked.now went)) }
     ensures line { IfOk result (λ went. went.line ≡ Nothing) }
     ensures alone { IsOfOneThread (went_of result).line }
-    ensures ran { IfOk result (λ went. went.ran ≡ None) }
     ensures err { IfErr result (IsUnansweredBy R.remaining W.contents
         reader.old reader.new writer.old writer.new (IsSomeAnswerTo asked.now)) }
 {
     let predictor = choose(asked.predictor);
     let (went, text) = match read_listing(alloc, reader)? {
         Ok(program) => report(alloc, asked, &program, predictor)?,
-        Err(line) => (written(Status::TextFault, Line::Nothing, None), line),
+        Err(line) => (written(Status::TextFault, Line::Nothing), line),
     };
     write_whole(writer, text.as_str().as_bytes())?;
     Ok(went)
@@ -81,10 +80,9 @@ fn report(
     ensures ok { IfOk result (λ answer.
         IsReport asked.now program.now (string_bytes answer.1) answer.0) }
     ensures line { IfOk result (λ answer. answer.0.line ≡ Nothing) }
-    ensures ran { IfOk result (λ answer. answer.0.ran ≡ None) }
 {
     let end = ended(alloc, asked, program, predictor)?;
     let text = report_text(alloc, &end)?;
     let status = Status::of(end.outcome);
-    Ok((written(status, Line::Nothing, None), text))
+    Ok((written(status, Line::Nothing), text))
 }

@@ -1,5 +1,5 @@
 -- How a listing is answered that was read, and how its devices are left where it is not answered.
-use Rattle.std.proofs.Common.{◌≡◌, ◌∙◌, ℕ, List, Option, None, Result, Ok, Err, String, string_bytes}
+use Rattle.std.proofs.Common.{◌≡◌, ◌∙◌, ℕ, List, Option, Result, Ok, Err, String, string_bytes}
 use Rattle.std.specs.declared.alloc.Global.{Global}
 use Rattle.instructions.specs.Programs.{Program}
 use Rattle.isa.specs.declared.listing.fault.FaultKind.{FaultKind}
@@ -32,7 +32,7 @@ not_run remaining contents r r' w A Trace of_run read = absurd of_run
 -- what is told of a listing that was read: the report of its program, or the line of its fault
 abbrev pub IsTold : Asked → Result Program (String Global) → List ℕ → Went → Type 0
 IsTold asked (Ok P) text went = IsReport asked P text went
-IsTold asked (Err line) text went = (text ≡ string_bytes line) × (went ≡ written_run TextFault Nothing None)
+IsTold asked (Err line) text went = (text ≡ string_bytes line) × (went ≡ written_run TextFault Nothing)
 
 -- where a listing is parsed as this, what is told of it answers it
 pub told_answers : (asked : Asked) (found : Result Program (String Global)) (listing : Result Program (ℕ × FaultKind))

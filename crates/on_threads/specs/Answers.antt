@@ -1,5 +1,5 @@
 -- What is told of a listing.
-use Rattle.std.specs.Prelude.{◌≡◌, ◌≤◌, ◌<◌, ℕ, Bool, true, false, Result, Ok, Err, List, None, Some}
+use Rattle.std.specs.Prelude.{◌≡◌, ◌≤◌, ◌<◌, ℕ, Bool, true, false, Result, Ok, Err, List, Some}
 use Rattle.instructions.specs.declared.end.Ending.{Ending}
 use Rattle.instructions.specs.declared.end.Ending.TheVariants.{Limit}
 use Rattle.isa.specs.declared.listing.fault.FaultKind.{FaultKind}
@@ -56,7 +56,7 @@ pub record IsReport (asked : Asked) (P : Program) (text : List ℕ) (went : Went
 -- what is told of the program of a listing, or of its fault
 abbrev pub IsAnswerFor : Asked → Result Program (ℕ × FaultKind) → List ℕ → Went → Type 0
 IsAnswerFor asked (Ok P) text went = IsReport asked P text went
-IsAnswerFor asked (Err f) text went = (text ≡ fault_line f.0 f.1) × (went ≡ written_run TextFault Nothing None)
+IsAnswerFor asked (Err f) text went = (text ≡ fault_line f.0 f.1) × (went ≡ written_run TextFault Nothing)
 
 -- the text goes with what is told of the bytes of a listing
 abbrev pub IsAnswerTo : Asked → Went → (bytes text : List ℕ) → Type 0

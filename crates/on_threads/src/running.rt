@@ -6,7 +6,7 @@ ghost use Rattle.counted_io.specs.Replies.{HasReplied};
 ghost use Rattle.command_line.specs.Replies.{HasWritten, IfRefused, IsLeftBy};
 ghost use Rattle.command_line.specs.Exits.{HoldsOfInput};
 ghost use Rattle.on_threads.specs.Answers.{IsAnswerTo, IsAsAlone, IsSomeAnswerTo};
-ghost use Rattle.on_threads.specs.Runs.{CameToItsEnd, IsRunWith, WasWritten, refused_run};
+ghost use Rattle.on_threads.specs.Runs.{CameToItsEnd, WasWritten, refused_run};
 ghost use Rattle.on_threads.specs.Unanswered.{IsUnansweredBy};
 
 use crate::went::{refused, written};
@@ -42,8 +42,6 @@ pub fn go<T: Threads + Wait + Sync, R: Read + Drop, W: Write, G: Gate + Sync>(
     ensures same { WasWritten result.line → CameToItsEnd asked.now.config.limit result →
         HoldsOfInput R.remaining reader (λ input. IsAsAlone asked.now.config.limit input result
         (Gives W.contents writer.old writer.new)) }
-    // Threads ran with the ring, queue, first tag, units, places and turns that are asked for, and tell so.
-    ensures ran { IsRunWith asked.now.config result.status result.line result.ran }
     // A run that is refused has a status of its own.
     ensures refused { IfRefused result.line (λ refusal. result ≡ refused_run refusal) }
     // The writer is blamed for one failed call, and only then, and there is no log to blame.
@@ -74,14 +72,13 @@ fn answered<T: Threads + Wait + Sync, R: Read, W: Write, G: Gate + Sync>(
     ensures ok { IfOk result (λ went. HasReplied R.remaining W.contents most_taken
         reader.old reader.new writer.old writer.new (IsAnswerTo asked.now went)) }
     ensures line { IfOk result (λ went. WasWritten went.line) }
-    ensures ran { IfOk result (λ went. IsRunWith asked.now.config went.status went.line went.ran) }
     ensures err { IfErr result (IsUnansweredBy R.remaining W.contents
         reader.old reader.new writer.old writer.new (IsSomeAnswerTo asked.now)) }
 {
     let predictor = choose(asked.predictor);
     let (went, text) = match read_listing(alloc, reader)? {
         Ok(program) => threads::report(wait, alloc, asked, &program, predictor, gate)?,
-        Err(line) => (written(Status::TextFault, Line::Nothing, None), line),
+        Err(line) => (written(Status::TextFault, Line::Nothing), line),
     };
     write_whole(writer, text.as_str().as_bytes())?;
     Ok(went)

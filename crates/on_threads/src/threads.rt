@@ -1,7 +1,7 @@
 //! A run on several threads.
 ghost use Rattle.std.specs.Prelude.{◌≡◌, IfOk, IfErr, Some, false, string_bytes};
 ghost use Rattle.on_threads.specs.Answers.{IsReport};
-ghost use Rattle.on_threads.specs.Runs.{IsRunWith, WasWritten};
+ghost use Rattle.on_threads.specs.Runs.{WasWritten};
 ghost use Rattle.on_threads.specs.Threads.{ended_of, run_refusal};
 ghost use Rattle.on_threads.specs.Unanswered.{IsOfRun};
 ghost use Rattle.command_line.specs.Predictors.{IsChosen};
@@ -12,7 +12,7 @@ use answers::Status;
 use command_line::{Asked, Chosen, Line, Refusal};
 use instructions::{End, Program};
 use isa::report_text;
-use pool::{Gate, Ran, Run, RunInTurns, Tally, run_in_turns};
+use pool::{Gate, Run, Tally, run};
 use std::alloc::Global;
 use std::sync::Wait;
 use std::thread::Threads;
@@ -22,7 +22,6 @@ use std::thread::Threads;
 pub(crate) struct Ended {
     end: End,
     tally: Tally,
-    ran: Ran,
 }
 
 /// Runs a program on threads with the predictor that is asked for: what is told of the run, and its report.
@@ -39,24 +38,21 @@ pub(crate) fn report<T: Threads + Wait + Sync, G: Gate + Sync>(
     ensures ok { IfOk result (λ answer.
         IsReport asked.now program.now (string_bytes answer.1) answer.0) }
     ensures line { IfOk result (λ answer. WasWritten answer.0.line) }
-    ensures ran { IfOk result (λ answer.
-        IsRunWith asked.now.config answer.0.status answer.0.line answer.0.ran) }
     ensures err { IfErr result IsOfRun }
 {
-    let run = run_in_turns(wait, alloc, program, &asked.config, predictor, gate);
-    let Ended { end, tally, ran } = ended_run(run)?;
+    let run = run(wait, alloc, program, &asked.config, predictor, gate);
+    let Ended { end, tally } = ended_run(run)?;
     let text = report_text(alloc, &end)?;
     let status = Status::of(end.outcome);
-    Ok((written(status, Line::Tally(tally), Some(ran)), text))
+    Ok((written(status, Line::Tally(tally)), text))
 }
 
-fn ended_run(run: RunInTurns) -> Result<Ended, Refusal>
-    ensures ok { IfOk result (λ ended. ended_of run.run run.ran ≡ Some ended) }
+fn ended_run(run: Run) -> Result<Ended, Refusal>
+    ensures ok { IfOk result (λ ended. ended_of run ≡ Some ended) }
     ensures err { IfErr result IsOfRun }
 {
-    let RunInTurns { run, ran } = run;
     match run {
-        Run::Ended(end, tally) | Run::LimitReached(end, tally) => Ok(Ended { end, tally, ran }),
+        Run::Ended(end, tally) | Run::LimitReached(end, tally) => Ok(Ended { end, tally }),
         Run::Refused(refusal) => Err(run_refusal(refusal)),
     }
 }

@@ -5,26 +5,22 @@ ghost use Rattle.on_threads.specs.Runs.{refused_run, written_run};
 
 use answers::Status;
 use command_line::{Exit, Line, Refusal};
-use pool::Ran;
 use std::process::ExitCode;
 
-/// How a run went: the exit status of the program, what standard error is told, and what the threads of a run tell of
-/// how they carried it out, once its report was written. A run alone has none, and a listing with a fault.
+/// How a run went: the exit status of the program, and what standard error is told.
 #[derive(Drop)]
 pub struct Went {
     pub status: u8,
     pub line: Line,
-    pub ran: Option<Ran>,
 }
 
 /// A run whose text was written whole.
-pub fn written(status: Status, line: Line, ran: Option<Ran>) -> Went
-    ensures { result ≡ written_run status line ran }
+pub fn written(status: Status, line: Line) -> Went
+    ensures { result ≡ written_run status line }
 {
     Went {
         status: status.number(),
         line,
-        ran,
     }
 }
 
@@ -36,7 +32,6 @@ pub fn refused(refusal: Refusal) -> Went
     Went {
         status: exit.status,
         line: exit.line,
-        ran: None,
     }
 }
 

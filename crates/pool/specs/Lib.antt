@@ -1,3 +1,2 @@
 pub mod Dispatching
-pub mod RunTurns
 pub mod Terms

@@ -1,5 +1,5 @@
 -- A term of a run: how it begins, and how it ends.
-use Rattle.std.specs.Prelude.{◌≡◌, List, Err}
+use Rattle.std.specs.Prelude.{◌≡◌, List, None}
 use Rattle.atomic_table.specs.Seated.{TableId}
 use Rattle.counts.specs.Seats.{Counter}
 use Rattle.front.specs.Fronts.{IsUnused}
@@ -7,7 +7,6 @@ use Rattle.front.specs.Stills.{FrontMayEnter, TheStillFront}
 use Rattle.inorder.specs.declared.history.Entry.{Entry}
 use Rattle.inorder.specs.History.{unit_of}
 use Rattle.instructions.specs.Settings.{Settings}
-use Rattle.committing.specs.declared.ends.Refusal.TheVariants.{Thread}
 use Rattle.station.specs.Renewals.{HasNobody}
 use Rattle.station.specs.Seats.{Caller, TheCore}
 use Rattle.workers.specs.Configured.{configured_sizes}
@@ -15,7 +14,7 @@ use Rattle.pool.specs.declared.dispatch.Begin.{Begin}
 use Rattle.pool.specs.declared.dispatch.Begin.TheVariants.{Again, Fresh}
 use Rattle.pool.specs.declared.dispatch.Dispatcher.{Dispatcher}
 use Rattle.pool.specs.declared.terms.Term.{Term}
-use Rattle.committing.specs.Committing.{MayRenewCore, TheCommitter}
+use Rattle.committing.specs.Committing.{TheCommitter}
 
 -- The seat is of this core, and a front that has departed from another enters with it
 pub record Enters (core : TheCore) (departed : TheCore) (seen : List Entry) (seat : Caller) : Type 0 where
@@ -26,11 +25,6 @@ pub record Enters (core : TheCore) (departed : TheCore) (seen : List Entry) (sea
 abbrev pub Begins : {S : Type 0} → TheCore → Begin S → Caller → Type 0
 Begins core (Fresh predictor) seat = IsUnused core seat
 Begins core (Again still) seat = Enters core still.core still.seen seat
-
--- The commit side is at this core, and has not begun there
-pub record MayCommit (core : TheCore) (committer : TheCommitter) : Type 0 where
-  pub back_is : committer.back.core ≡ core
-  pub begun : committer.over ≡ Err Thread
 
 -- The seats that the threads of a term own are at this core, and add to these totals
 pub record AreAt {S : Type 0} (core : TheCore) (counts : TableId) (dispatcher : Dispatcher S)
@@ -46,7 +40,7 @@ pub record MayBegin {S : Type 0} (counts : TableId) (config : Settings) (committ
     (term : Term S) : Type 0 where
   pub sizes_are : term.core.sizes ≡ configured_sizes config
   pub owned : AreAt term.core counts term.owned.dispatcher term.owned.unit term.count
-  pub commits : MayCommit term.core committer
+  pub back_is : committer.back.core ≡ term.core
 
 -- The front has departed from this core, with a seat that has seen that nobody is live
 pub record HasDeparted {S : Type 0} (core : TheCore) (seat : Caller) (still : TheStillFront S) : Type 0 where
@@ -71,7 +65,7 @@ pub record IsReturned {S : Type 0} (core : TheCore) (counts : TableId) (dispatch
   pub given : IsGivenBack core counts dispatcher
   pub unit_is : unit.core ≡ core
   pub back_is : committer.back.core ≡ core
-  pub may : MayRenewCore committer
+  pub going : committer.back.ended ≡ None
 
 -- Another core of the same program and sizes, the front's seat and a unit's at it, and the back there
 pub record AreRenewed (old : TheCore) (seen : List Entry) (core : TheCore) (seat unit : Caller)

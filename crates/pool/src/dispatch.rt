@@ -1,7 +1,7 @@
 //! The dispatch thread.
 ghost use Rattle.std.specs.Prelude.{◌≡◌, IfSome, true};
 ghost use Rattle.hints.specs.Hinted.{IsEndOf};
-ghost use Rattle.pool.specs.Dispatching.{HintsLet};
+ghost use Rattle.pool.specs.Dispatching.{HintsLet, OffersLets};
 ghost use Rattle.pool.specs.Terms.{Begins, IsGivenBack};
 ghost use Rattle.pool.specs.declared.dispatch.Stepped.TheVariants.{Ended};
 ghost use Rattle.workers.specs.Deeds.{CountsFrontDeeds};
@@ -42,6 +42,7 @@ fn let_next<K: Bounds + Ring, P: Predictor + Drop, G, R: Wait>(
     ensures hinter { IsEndOf shared.now.state.now.hints hinter.new }
     ensures hinted { HintsLet shared.now.core.now front.old.seen front.new.seen result
         hinter.old hinter.new }
+    ensures offers { OffersLets front.old.seen front.new.seen hinter.old hinter.new }
     ensures ended { result ≡ Ended → front.new.rested ≡ true }
 {
     let _ring = shared.core.ring();
@@ -73,6 +74,7 @@ fn recover_or_let<K: Bounds + Ring, P: Predictor + Drop, G, R: Wait>(
     ensures count { count.new.seat.of ≡ shared.now.state.now.counts }
     ensures counted { CountsFrontDeeds front.old.seen front.new.seen count.old count.new }
     ensures hinter { IsEndOf shared.now.state.now.hints hinter.new }
+    ensures offers { OffersLets front.old.seen front.new.seen hinter.old hinter.new }
     ensures ended { result ≡ Ended → front.new.rested ≡ true }
 {
     if let Recovery::Mended { squashed, .. } = front.recover(shared.core) {
@@ -118,21 +120,23 @@ fn take_turns<K: Bounds + Ring, P: Predictor + Drop, G, R: Wait>(
     shared: &TermShared<'_, K, G, R>,
     front: &mut Front<P>,
     count: &mut Gathered,
+    hinter: &mut Hinter,
     turns: &mut Turns,
 ) -> bool
     requires core { front.old.core ≡ shared.now.core.now }
     requires count { count.old.seat.of ≡ shared.now.state.now.counts }
+    requires hinter { IsEndOf shared.now.state.now.hints hinter.old }
     ensures core { front.new.core ≡ shared.now.core.now }
     ensures count { count.new.seat.of ≡ shared.now.state.now.counts }
     ensures counted { CountsFrontDeeds front.old.seen front.new.seen count.old count.new }
+    ensures offers { OffersLets front.old.seen front.new.seen hinter.old hinter.new }
     ensures turns { TurnsAreTaken turns.old turns.new }
     ensures ended { result ≡ true → front.new.rested ≡ true }
     ensures taken { result ≡ true → IsTakenFrom turns.old turns.new }
 {
-    let mut hinter = shared.state.hints.hinter();
     let mut backoff = Backoff::after(PATIENCE);
     while turns.take() {
-        match recover_or_let(shared, front, count, &mut hinter) {
+        match recover_or_let(shared, front, count, hinter) {
             Stepped::Worked => backoff.reset(),
             Stepped::Idle => backoff.snooze(),
             Stepped::Ended => return true,
@@ -163,7 +167,8 @@ pub(crate) fn dispatch<K: Bounds + Ring, P: Predictor + Drop, G, R: Wait>(
     } = dispatcher;
     let mut front = enter(shared.core, seat, begin);
     let mut gathered = Gathered::new(count);
-    let has_ended = take_turns(shared, &mut front, &mut gathered, &mut turns);
+    let mut hinter = shared.state.hints.hinter();
+    let has_ended = take_turns(shared, &mut front, &mut gathered, &mut hinter, &mut turns);
     let count = gathered.end(&shared.state.counts);
     if !has_ended {
         drop(front);

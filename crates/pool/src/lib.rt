@@ -9,7 +9,7 @@ mod running;
 mod starting;
 mod terms;
 
-pub use committing::{Ran, Refusal, Run, RunInTurns, TermRecord};
+pub use committing::{Refusal, Run};
 pub use counts::Tally;
-pub use running::{run, run_in_turns};
+pub use running::run;
 pub use workers::{Bounds, Gate, Open};

@@ -1,5 +1,5 @@
 //! The next term of a run, at a renewed core.
-ghost use Rattle.std.specs.Prelude.{◌≡◌, Err, IfNone, IfSome};
+ghost use Rattle.std.specs.Prelude.{◌≡◌, IfNone, IfSome, Some};
 ghost use Rattle.pool.specs.Terms.{AreRenewed, IsReturned, MayBegin};
 ghost use Rattle.workers.specs.Configured.{configured_sizes};
 
@@ -27,7 +27,7 @@ pub(crate) fn renew<K: Naming + Bounds + Ring, P: Predictor + Drop>(
     requires count { term.count.of ≡ state.now.counts }
     ensures turns { committer.new.turns ≡ committer.old.turns }
     ensures begins { IfSome result (MayBegin state.now.counts K.config committer.new) }
-    ensures refused { IfNone result (committer.new.over ≡ Err Refusal.Memory) }
+    ensures refused { IfNone result (committer.new.wanting ≡ Some Refusal.Memory) }
     ensures goes_on { IfSome result (λ next.
         AreRenewed term.core term.owned.dispatcher.seat.seen
         next.core next.owned.dispatcher.seat next.owned.unit committer.new.back.core) }

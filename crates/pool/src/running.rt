@@ -1,16 +1,13 @@
 //! Runs a program in threads, and joins them.
 ghost use Rattle.std.specs.Prelude.{◌≡◌, [], IfOk};
-ghost use Rattle.committing.specs.Ended.{HasRun};
-ghost use Rattle.committing.specs.RunEnds.{RunIsRight, IsWithinLimit};
-ghost use Rattle.committing.specs.Runs.{HasTurnsLeft, IsCarriedOut, IsLimit};
+ghost use Rattle.committing.specs.RunEnds.{HasRun, RunIsRight, IsWithinLimit, TakesTurns};
 ghost use Rattle.counts.specs.Shares.{all_parts};
-ghost use Rattle.pool.specs.RunTurns.{TakesTurns};
 ghost use Rattle.pool.specs.Terms.{MayBegin};
 
 use crate::making::{RunShared, make, make_state};
 use crate::terms::{Term, run_terms};
 use back::Naming;
-use committing::{Committer, Run, RunInTurns, start_snappers, wants_memory};
+use committing::{Committer, Refusal, Run, start_snappers};
 use counts::{CountSeat, Counts};
 use hints::Ring;
 use instructions::{Config, Memory, Predictor, Program};
@@ -33,7 +30,7 @@ fn run_in_threads<
     state: &'x RunState<K>,
     count: CountSeat,
     predictor: P,
-) -> Result<RunInTurns, Memory>
+) -> Result<Run, Memory>
     requires count { count ≡ record { of = K.counts; shares = all_parts; seen = [] } }
     requires program { run.now.program.now ≡ K.program }
     requires config { run.now.config.now ≡ K.config }
@@ -50,9 +47,10 @@ fn run_in_threads<
         {
             let (wait, gate) = (run.wait, run.gate);
             let places = run.config.places();
-            match start_snappers(scope, wait, state, gate, places, snapper) {
-                Some(places) => run_terms(run, state, &places, term, committing),
-                None => drop(term),
+            if start_snappers(scope, wait, state, gate, places, snapper) {
+                run_terms(run, state, term, committing);
+            } else {
+                drop(term);
             }
             state.end_run();
         },
@@ -66,12 +64,7 @@ fn run_named<
     P: Predictor + Drop + Send,
     G: Gate + Sync,
     R: Threads + Wait + Sync,
->(
-    run: &RunShared<'_, G, R>,
-    counts: Counts,
-    count: CountSeat,
-    predictor: P,
-) -> Result<RunInTurns, Memory>
+>(run: &RunShared<'_, G, R>, counts: Counts, count: CountSeat, predictor: P) -> Result<Run, Memory>
     requires counts { counts ≡ K.counts }
     requires count { count ≡ record { of = counts; shares = all_parts; seen = [] } }
     requires program { run.now.program.now ≡ K.program }
@@ -87,40 +80,6 @@ fn run_named<
 
 /// Runs a program on as many unit threads as the configuration says, beside one that dispatches, one
 /// that commits (the caller's own) and those that take snapshots. All have ended when the call returns.
-/// The record beside the end says on which core and with how many threads the run was, and whether a
-/// limit was the limit of instructions.
-pub fn run_in_turns<'x, P: Predictor + Drop + Send, G: Gate + Sync, R: Threads + Wait + Sync>(
-    wait: &'x R,
-    alloc: Global,
-    program: &'x Program,
-    config: &Config,
-    predictor: P,
-    gate: &'x G,
-) -> RunInTurns
-    ensures right { RunIsRight program.now result.run }
-    ensures within { IsWithinLimit config.now.limit result.run }
-    ensures all { ((result.ran).turns).all ≡ config.now.turns }
-    ensures turns_left { HasTurnsLeft result.ran result.run }
-    ensures carried { IsCarriedOut config.now result.ran result.run }
-    ensures limit { IsLimit config.now.limit result.ran result.run }
-{
-    let Ok((counts, count)) = Counts::make(alloc) else {
-        return wants_memory(config);
-    };
-    let run = RunShared {
-        wait,
-        alloc,
-        program,
-        config,
-        gate,
-    };
-    match run_named::<Brand, P, G, R>(&run, counts, count, predictor) {
-        Ok(run) => run,
-        Err(_) => wants_memory(config),
-    }
-}
-
-/// Runs a program as `run_in_turns` does, and answers only how the run ended.
 pub fn run<'x, P: Predictor + Drop + Send, G: Gate + Sync, R: Threads + Wait + Sync>(
     wait: &'x R,
     alloc: Global,
@@ -133,6 +92,18 @@ pub fn run<'x, P: Predictor + Drop + Send, G: Gate + Sync, R: Threads + Wait + S
     ensures within { IsWithinLimit config.now.limit result }
     ensures turns { TakesTurns config.now.turns result }
 {
-    let RunInTurns { run, ran: _ } = run_in_turns(wait, alloc, program, config, predictor, gate);
-    run
+    let Ok((counts, count)) = Counts::make(alloc) else {
+        return Run::Refused(Refusal::Memory);
+    };
+    let run = RunShared {
+        wait,
+        alloc,
+        program,
+        config,
+        gate,
+    };
+    match run_named::<Brand, P, G, R>(&run, counts, count, predictor) {
+        Ok(run) => run,
+        Err(_) => Run::Refused(Refusal::Memory),
+    }
 }

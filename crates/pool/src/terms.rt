@@ -1,7 +1,7 @@
 //! The terms of a run: in each, threads work at one core, and give back what they own where that is to
 //! be renewed.
 ghost use Rattle.std.specs.Prelude.{◌≡◌, IfSome};
-ghost use Rattle.pool.specs.Terms.{AreAt, IsReturned, MayBegin, MayCommit};
+ghost use Rattle.pool.specs.Terms.{AreAt, IsReturned, MayBegin};
 ghost use Rattle.workers.specs.Turns.{IsTakenFrom};
 
 use crate::dispatch::Dispatcher;
@@ -9,7 +9,7 @@ use crate::making::RunShared;
 use crate::renewal::renew;
 use crate::starting::start_dispatch;
 use back::Naming;
-use committing::{Committer, Places};
+use committing::Committer;
 use counts::WorkerSeat;
 use hints::Ring;
 use instructions::Predictor;
@@ -47,15 +47,13 @@ fn commit_in_threads<
     R: Threads + Wait + Sync,
 >(
     shared: &'x TermShared<'x, K, G, R>,
-    places: &'x Places,
     owned: Owned<P>,
     count: WorkerSeat,
     committer: &'c mut Committer<K>,
 ) -> (&'c mut Committer<K>, Option<Owned<P>>)
     requires owned { AreAt shared.now.core.now shared.now.state.now.counts
         owned.dispatcher owned.unit count }
-    requires places { places.now ≡ (K.config).places }
-    requires commits { MayCommit shared.now.core.now committer.old }
+    requires back { committer.old.back.core ≡ shared.now.core.now }
     ensures returned { IfSome result.1 (λ r.
         IsReturned shared.now.core.now shared.now.state.now.counts
         r.dispatcher r.unit result.0.now) }
@@ -67,8 +65,7 @@ fn commit_in_threads<
         move |scope| -> (&mut Committer<K>, Option<Owned<P>>)
             requires owned { AreAt shared.now.core.now shared.now.state.now.counts
                 owned.dispatcher owned.unit count }
-            requires places { places.now ≡ (K.config).places }
-            requires commits { MayCommit shared.now.core.now committer.now }
+            requires back { committer.now.back.core ≡ shared.now.core.now }
             ensures returned { IfSome result.1 (λ r.
                 IsReturned shared.entry.now.core.now shared.entry.now.state.now.counts
                 r.dispatcher r.unit result.0.now) }
@@ -79,12 +76,11 @@ fn commit_in_threads<
             let Some(dispatching) = start_dispatch(scope, shared, dispatcher) else {
                 return (committer, None);
             };
-            let Some((unit, units)) = start_units(scope, shared, unit, count) else {
+            let Some(unit) = start_units(scope, shared, unit, count) else {
                 shared.state.end_run();
                 return (committer, None);
             };
-            let reason = committer.take_turns(shared);
-            if !committer.record_term(shared, reason, &units, places) {
+            if !committer.work(shared) {
                 shared.state.end_run();
                 return (committer, None);
             }
@@ -102,14 +98,7 @@ pub(crate) fn run_terms<
     P: Predictor + Drop + Send,
     G: Gate + Sync,
     R: Threads + Wait + Sync,
->(
-    run: &RunShared<'_, G, R>,
-    state: &RunState<K>,
-    places: &Places,
-    first: Term<P>,
-    committer: &mut Committer<K>,
-)
-    requires places { places.now ≡ (K.config).places }
+>(run: &RunShared<'_, G, R>, state: &RunState<K>, first: Term<P>, committer: &mut Committer<K>)
     requires begins { MayBegin state.now.counts K.config committer.old first }
 {
     let mut term = first;
@@ -124,7 +113,7 @@ pub(crate) fn run_terms<
             core: &core,
             gate: run.gate,
         };
-        let (after, returned) = commit_in_threads(&shared, places, owned, unit_count, committer);
+        let (after, returned) = commit_in_threads(&shared, owned, unit_count, committer);
         committer = after;
         let Some(owned) = returned else {
             drop(core);

@@ -107,9 +107,14 @@ fn second_place_takes_a_second_snapper(rt: HostRuntime) -> Result<(), Fail> {
     let third = first.another().is_err();
     let taken = second.as_mut().map(|snapper| snapper.take());
     drop(second);
+    if let Ok(mark) = &shown {
+        first.learn(mark);
+    }
+    let own = first.take();
     let again = tries(&mut first, 1000).is_some();
     publisher.end(&rt);
     same(&rt, &shown?, &Mark { n: 1 });
+    same(&rt, &own?, &after_one());
     assert!(rt; third && again);
     same(&rt, &taken, &Some(Ok(after_one())));
     Ok(())

@@ -12,7 +12,7 @@ mod turned;
 
 use instructions::{Config, End, NotTaken};
 use isa::{parse, report_text};
-use pool::{Gate, Run, RunInTurns, Tally, run, run_in_turns};
+use pool::{Gate, Run, Tally, run};
 use std::alloc::Global;
 use std::sync::Wait;
 use std::test::Fail;
@@ -82,19 +82,6 @@ fn end_of_held<R: Threads + Wait + Sync, G: Gate + Sync>(
         Run::Ended(end, _) => Ok(end),
         _ => Err(Fail::from("ended")),
     }
-}
-
-// Runs a listing on the threads, and gives the turns that the commit thread has left.
-fn run_listing_in_turns<R: Threads + Wait + Sync, G: Gate + Sync>(
-    wait: &R,
-    alloc: Global,
-    listing: &[u8],
-    shape: &Shape,
-    gate: &G,
-) -> Result<RunInTurns, Fail> {
-    let config = shape.config()?;
-    let program = parse(alloc, listing)?;
-    Ok(run_in_turns(wait, alloc, &program, &config, NotTaken, gate))
 }
 
 // The report of a run that has its end.

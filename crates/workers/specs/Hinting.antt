@@ -42,6 +42,11 @@ abbrev pub HintsWoken : (ring woken : ℕ) → Finish → TheHinter → TheHinte
 HintsWoken ring woken Finished old new = HasHinted woken ring old new
 HintsWoken ring woken Stale old new = new ≡ old
 
+-- No station was offered, or as many as these that woke, modulo 2^64
+abbrev pub OffersWoken : (ring woken : ℕ) → TheHinter → TheHinter → Type 0
+OffersWoken ring woken old new =
+    (new.offered ≡ old.offered) ⊎ (new.offered % 2 ^ 64 ≡ (old.offered + set_below woken ring) % 2 ^ 64)
+
 -- The station at which a unit looks
 abbrev pub candidate_station : Candidate → ℕ
 candidate_station (Hinted station) = station

@@ -1,12 +1,9 @@
 -- A unit at work, and how it stops.
-use Rattle.std.specs.Prelude.{⊤, ◌≡◌}
+use Rattle.std.specs.Prelude.{◌≡◌}
 use Rattle.atomic_table.specs.Seated.{TableId}
 use Rattle.hints.specs.Hinted.{TheHints}
 use Rattle.workers.specs.Deeds.{CountsDeeds}
 use Rattle.workers.specs.Hinting.{Searches}
-use Rattle.workers.specs.Turns.{TheTurns}
-use Rattle.workers.specs.declared.compute.Stopped.{Stopped}
-use Rattle.workers.specs.declared.compute.Stopped.TheVariants.{Over, Spent}
 use Rattle.workers.specs.declared.unit.Unit.{Unit}
 use Rattle.station.specs.Seats.{TheCore}
 
@@ -15,11 +12,6 @@ pub record Works (core : TheCore) (counts : TableId) (hints : TheHints) (unit : 
   pub core_is : unit.seat.core ≡ core
   pub count_is : unit.count.seat.of ≡ counts
   pub searches : Searches hints unit.search
-
--- The term is over, or no turn is left
-abbrev pub UnitStops : TheTurns → Stopped → Type 0
-UnitStops turns (Over over) = ⊤
-UnitStops turns (Spent none other) = turns.left ≡ 0
 
 -- Between two moments the unit has counted just its deeds, with those that are gathered and not added yet
 pub record HasCountedDeeds (old new : Unit) : Type 0 where

@@ -1,19 +1,19 @@
 //! The work of a unit thread.
-ghost use Rattle.std.specs.Prelude.{◌≡◌, ◌<◌, ◌≤◌, ◌^◌, IfNone};
+ghost use Rattle.std.specs.Prelude.{◌≡◌, ◌<◌, ◌≤◌, ◌^◌, false};
 ghost use Rattle.inorder.specs.History.{IsLegal};
 ghost use Rattle.station.specs.Claiming.{ClaimAnswers, Holds};
 ghost use Rattle.station.specs.Seats.{IsSameSeat};
 ghost use Rattle.workers.specs.Deeds.{HasAddedDeeds, HasDone, HasFinishedAll, total_of_claim, total_of_finish};
-ghost use Rattle.workers.specs.Hinting.{AsksOnce, HintsWoken, candidate_station};
+ghost use Rattle.workers.specs.Hinting.{AsksOnce, HintsWoken, OffersWoken, candidate_station};
 ghost use Rattle.workers.specs.Turns.{TurnsAreTaken};
-ghost use Rattle.workers.specs.Units.{HasCountedDeeds, UnitStops, Works};
+ghost use Rattle.workers.specs.Units.{HasCountedDeeds, Works};
 
 use crate::bounds::Bounds;
 use crate::gate::Gate;
 use crate::hinting::hint_each;
 use crate::search::Candidate;
 use crate::shared::TermShared;
-use crate::state::{Activated, NoneLeft, TermOver, UnitTurns};
+use crate::turns::Turns;
 use crate::unit::{Unit, Worker};
 use counts::Total;
 use hints::Ring;
@@ -56,30 +56,31 @@ fn is_held<G: Gate>(gate: &G, unit: &Unit, job: &Job, number: u32, station: u32)
 }
 
 // Waits while the gate holds the unit that has this job, and the unit has turns left, of which each question takes one.
-// Another unit is active meanwhile.
+// Another unit is active meanwhile. True where the unit was held.
 fn wait_at<K: Bounds + Ring, G: Gate, R>(
     shared: &TermShared<'_, K, G, R>,
     unit: &Unit,
     job: &Job,
-    turns: &mut UnitTurns<K>,
-) -> Option<Activated>
+    turns: &mut Turns,
+) -> bool
     requires { job.now.station < 2 ^ 32 }
     ensures turns { TurnsAreTaken turns.old turns.new }
-    ensures other { IfNone result (turns.new.left ≡ turns.old.left) }
+    ensures held { result ≡ false → turns.new.left ≡ turns.old.left }
 {
     let (gate, state) = (shared.gate, shared.state);
     let (number, station) = (unit.number, job.station() as u32);
-    let mut other = None;
+    let mut was_held = false;
     'questions: while is_held(gate, unit, job, number, station)
-        && state.over().is_none()
-        && turns.take().is_ok()
+        && !state.is_term_over()
+        && turns.take()
     {
-        if other.is_none() {
-            other = Some(state.activate());
+        if !was_held {
+            state.activate();
+            was_held = true;
         }
         yield_now();
     }
-    other
+    was_held
 }
 
 // Finishes a job, counts the finish, and hints the stations that its result woke.
@@ -101,6 +102,8 @@ fn finish<K: Bounds + Ring, G, R: Wait>(
         (total_of_finish result) }
     ensures hinted { HintsWoken shared.now.core.now.sizes.ring unit.new.seat.woken result
         unit.old.search.hinter unit.new.search.hinter }
+    ensures offers { OffersWoken shared.now.core.now.sizes.ring unit.new.seat.woken
+        unit.old.search.hinter unit.new.search.hinter }
     ensures asks { unit.new.search.hinter.asked ≡ unit.old.search.hinter.asked }
 {
     if let Finish::Stale = compute(shared.core, &mut unit.seat, job) {
@@ -119,13 +122,13 @@ fn finish<K: Bounds + Ring, G, R: Wait>(
     Finish::Finished
 }
 
-// Claims at one station and finishes the job that is there, or backs off without a job. Takes a turn for each time that
-// the gate holds the unit, and another unit is active then.
+// Claims at one station and finishes the job that is there, or backs off without a job. True where the gate held the
+// unit, which takes a turn for each time.
 fn claim_and_finish<K: Bounds + Ring, G: Gate, R: Wait>(
     shared: &TermShared<'_, K, G, R>,
     unit: &mut Unit,
-    turns: &mut UnitTurns<K>,
-) -> Option<Activated>
+    turns: &mut Turns,
+) -> bool
     requires { Works shared.now.core.now shared.now.state.now.counts
         shared.now.state.now.hints unit.old }
     ensures works { Works shared.now.core.now shared.now.state.now.counts
@@ -133,8 +136,10 @@ fn claim_and_finish<K: Bounds + Ring, G: Gate, R: Wait>(
     ensures counted { HasCountedDeeds unit.old unit.new }
     ensures finished { HasFinishedAll unit.old.seat.by unit.old.seat.seen unit.new.seat.seen }
     ensures asks { AsksOnce unit.old.search unit.new.search }
+    ensures offers { OffersWoken shared.now.core.now.sizes.ring unit.new.seat.woken
+        unit.old.search.hinter unit.new.search.hinter }
     ensures turns { TurnsAreTaken turns.old turns.new }
-    ensures held { IfNone result (turns.new.left ≡ turns.old.left) }
+    ensures held { result ≡ false → turns.new.left ≡ turns.old.left }
 {
     let candidate = unit
         .search
@@ -143,30 +148,21 @@ fn claim_and_finish<K: Bounds + Ring, G: Gate, R: Wait>(
         Claim::Job(job) => job,
         Claim::NotOpen | Claim::Waiting { tag: _, k: _ } | Claim::Moved { tag: _ } => {
             unit.back_off(candidate);
-            return None;
+            return false;
         }
     };
     unit.count_claim(shared, candidate);
-    let other = wait_at(shared, unit, &job, turns);
+    let was_held = wait_at(shared, unit, &job, turns);
     let _finished = finish(shared, unit, job);
-    other
-}
-
-/// Why a unit takes no more turns.
-#[derive(Drop)]
-pub(crate) enum Stopped {
-    /// The threads of the term are to end.
-    Over(TermOver),
-    /// No turn is left, and another unit is active.
-    Spent(NoneLeft, Activated),
+    was_held
 }
 
 // Takes turns until the term is over or none is left, which activates another unit.
 fn take_turns<K: Bounds + Ring, G: Gate, R: Wait>(
     shared: &TermShared<'_, K, G, R>,
     unit: &mut Unit,
-    turns: &mut UnitTurns<K>,
-) -> Stopped
+    turns: &mut Turns,
+)
     requires { Works shared.now.core.now shared.now.state.now.counts
         shared.now.state.now.hints unit.old }
     ensures works { Works shared.now.core.now shared.now.state.now.counts
@@ -174,16 +170,13 @@ fn take_turns<K: Bounds + Ring, G: Gate, R: Wait>(
     ensures counted { HasCountedDeeds unit.old unit.new }
     ensures finished { HasFinishedAll unit.old.seat.by unit.old.seat.seen unit.new.seat.seen }
     ensures turns { TurnsAreTaken turns.old turns.new }
-    ensures stopped { UnitStops turns.new result }
 {
-    'turns: loop {
-        if let Some(over) = shared.state.over() {
-            return Stopped::Over(over);
+    'turns: while !shared.state.is_term_over() {
+        if !turns.take() {
+            shared.state.activate();
+            return;
         }
-        if let Err(none) = turns.take() {
-            return Stopped::Spent(none, shared.state.activate());
-        }
-        let _other = claim_and_finish(shared, unit, turns);
+        let _was_held = claim_and_finish(shared, unit, turns);
     }
 }
 
@@ -191,18 +184,17 @@ fn take_turns<K: Bounds + Ring, G: Gate, R: Wait>(
 fn work_with<K: Bounds + Ring, G: Gate, R: Wait>(
     shared: &TermShared<'_, K, G, R>,
     worker: Worker,
-    turns: &mut UnitTurns<K>,
-) -> (Worker, Stopped)
+    turns: &mut Turns,
+) -> Worker
     requires core { worker.seat.core ≡ shared.now.core.now }
     requires count { worker.count.of ≡ shared.now.state.now.counts }
-    ensures added { HasAddedDeeds worker result.0 }
-    ensures finished { HasFinishedAll worker.seat.by worker.seat.seen result.0.seat.seen }
+    ensures added { HasAddedDeeds worker result }
+    ensures finished { HasFinishedAll worker.seat.by worker.seat.seen result.seat.seen }
     ensures turns { TurnsAreTaken turns.old turns.new }
-    ensures stopped { UnitStops turns.new result.1 }
 {
     let mut unit = Unit::enter(shared, worker);
-    let stopped = take_turns(shared, &mut unit, turns);
-    (unit.stop(shared), stopped)
+    take_turns(shared, &mut unit, turns);
+    unit.stop(shared)
 }
 
 /// Waits until the unit is active, looks for work at the stations that are hinted, and without a hint in ring order,
@@ -210,18 +202,16 @@ fn work_with<K: Bounds + Ring, G: Gate, R: Wait>(
 pub(crate) fn work<K: Bounds + Ring, G: Gate, R: Wait>(
     shared: &TermShared<'_, K, G, R>,
     worker: Worker,
-) -> (Worker, Stopped)
+) -> Worker
     requires core { worker.seat.core ≡ shared.now.core.now }
     requires count { worker.count.of ≡ shared.now.state.now.counts }
     requires first { 1 ≤ worker.number }
     requires last { worker.number ≤ shared.now.state.now.units }
-    ensures added { HasAddedDeeds worker result.0 }
-    ensures finished { HasFinishedAll worker.seat.by worker.seat.seen result.0.seat.seen }
+    ensures added { HasAddedDeeds worker result }
+    ensures finished { HasFinishedAll worker.seat.by worker.seat.seen result.seat.seen }
 {
     let state = shared.state;
-    if let Some(over) = state.wait_until_active(shared.wait, worker.number) {
-        return (worker, Stopped::Over(over));
-    }
+    state.wait_until_active(shared.wait, worker.number);
     let mut turns = state.turns_of(worker.number).lock(shared.wait);
     work_with(shared, worker, &mut *turns)
 }

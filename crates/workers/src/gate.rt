@@ -4,7 +4,8 @@ ghost use Rattle.std.specs.Prelude.{◌≡◌, false};
 use counts::Tally;
 use snapshots::Snap;
 
-/// Watches a run from all its threads. Units and places are numbered from 1.
+/// Watches a run from all its threads. Units and places are numbered from 1. That a run asks and tells it so is tested, and
+/// in no clause.
 pub trait Gate {
     /// Whether the unit is held. Asked between its claim and its finish, again and again while that is
     /// true and the unit has turns left.

@@ -60,6 +60,7 @@ impl Search {
         ensures station { candidate_station result < ring }
         ensures looks { FindsStation ring self.old self.new result }
         ensures asks { AsksOnce self.old self.new }
+        ensures offers { self.new.hinter.offered ≡ self.old.hinter.offered }
     {
         if let Some(station) = hints.pop(wait, &mut self.hinter) {
             return Candidate::Hinted(station as usize);

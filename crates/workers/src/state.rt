@@ -7,69 +7,9 @@ use counts::Counts;
 use hints::{Hints, Ring};
 use instructions::Memory;
 use std::alloc::Global;
-use std::marker::{Model, PhantomData};
 use std::sync::atomic::Ordering::{Acquire, Release};
 use std::sync::atomic::{AtomicBool, AtomicU64};
 use std::sync::{Mutex, Wait};
-
-/// The turns of a unit: as many as each thread of its run has. All are made with the state of the run, and taken one by
-/// one.
-#[derive(Drop)]
-pub(crate) struct UnitTurns<K: Bounds> {
-    turns: Turns,
-    run: PhantomData<K>,
-}
-
-impl<K: Bounds> Model for UnitTurns<K> {
-    ghost use Rattle.std.specs.Prelude.{◌≡◌};
-    ghost use Rattle.workers.specs.Turns.{TheTurns};
-
-    ghost Value = { TheTurns };
-
-    ghost view = { λ unit. unit.turns };
-
-    ghost invariant = { λ unit. (unit.turns).all ≡ (K.config).turns };
-}
-
-impl<K: Bounds> UnitTurns<K> {
-    ghost use Rattle.std.specs.Prelude.{◌≡◌, ◌+◌, IfErr, IfOk};
-    ghost use Rattle.workers.specs.Turns.{untaken};
-
-    fn new(turns: u32) -> UnitTurns<K>
-        requires { turns ≡ (K.config).turns }
-        ensures { result ≡ untaken turns }
-    {
-        UnitTurns {
-            turns: Turns::new(turns),
-            run: PhantomData,
-        }
-    }
-
-    /// Takes a turn, if one is left.
-    pub(crate) fn take(&mut self) -> Result<(), NoneLeft>
-        ensures all { self.new.all ≡ self.old.all }
-        ensures one { IfOk result (λ _. self.new.left + 1 ≡ self.old.left) }
-        ensures none { IfErr result (λ _. (self.new.left ≡ 0) × (self.old.left ≡ 0)) }
-    {
-        if self.turns.take() {
-            Ok(())
-        } else {
-            Err(NoneLeft(()))
-        }
-    }
-}
-
-/// Shows that a unit has no turn left: `UnitTurns::take` alone makes one.
-#[derive(Drop)]
-pub(crate) struct NoneLeft(());
-
-/// Shows that one unit more is active: `RunState::activate` alone makes one.
-#[derive(Drop)]
-pub(crate) struct Activated(());
-
-/// Shows that the threads of a term are to end: `RunState::over` alone makes one.
-#[derive(Drop)]
-pub(crate) struct TermOver(());
 
 /// The state of a run, which outlives a renewal of the core: the totals, the hints, the turns of each unit, and whether
 /// threads are to end.
@@ -89,27 +29,19 @@ pub struct RunState<K: Bounds + Ring> {
     // so many are active at once at the most, where there is work for them
     most_active: AtomicU64,
     // the turns of each unit, which its threads take one term after another
-    unit_turns: Vec<Mutex<UnitTurns<K>>>,
+    unit_turns: Vec<Mutex<Turns>>,
     pub ghost counts_are: { counts ≡ K.counts },
     pub ghost ring: { hints.ring ≡ (K.config).ring },
-    pub ghost units_are: { units ≡ (K.config).units },
-    pub ghost turns_are: { turns ≡ (K.config).turns },
-    pub ghost few: { units ≤ 64 },
     ghost each: { length unit_turns.items ≡ units },
 }
 
 // The turns of so many units, none of which has taken one.
-fn unit_turns<K: Bounds>(
-    alloc: Global,
-    units: u32,
-    turns: u32,
-) -> Result<Vec<Mutex<UnitTurns<K>>>, Memory>
-    requires { turns ≡ (K.config).turns }
+fn unit_turns(alloc: Global, units: u32, turns: u32) -> Result<Vec<Mutex<Turns>>, Memory>
     ensures { IfOk result (λ all. length all.items ≡ units) }
 {
     let mut all = Vec::new(alloc);
     for _ in 0..units {
-        all.push(Mutex::new(UnitTurns::new(turns)))?;
+        all.push(Mutex::new(Turns::new(turns)))?;
     }
     Ok(all)
 }
@@ -127,12 +59,9 @@ impl<K: Bounds + Ring> RunState<K> {
     ) -> Result<Self, Memory>
         requires counts { counts ≡ K.counts }
         requires ring { hints.ring ≡ (K.config).ring }
-        requires units { units ≡ (K.config).units }
-        requires most { units ≤ 64 }
-        requires turns { turns ≡ (K.config).turns }
         ensures { IfOk result (λ state. state.hints ≡ hints) }
     {
-        let unit_turns = unit_turns::<K>(alloc, units, turns)?;
+        let unit_turns = unit_turns(alloc, units, turns)?;
         Ok(RunState {
             counts,
             hints,
@@ -157,7 +86,7 @@ impl<K: Bounds + Ring> RunState<K> {
     /// Ends the term for its threads: the core is to be renewed.
     pub fn end_term(&self) {
         self.term_ended.store(true, Release);
-        let _activated = self.activate();
+        self.activate();
     }
 
     /// Whether the core is to be renewed.
@@ -169,7 +98,7 @@ impl<K: Bounds + Ring> RunState<K> {
     pub fn end_run(&self) {
         self.run_ended.store(true, Release);
         self.wake_watchers();
-        let _activated = self.activate();
+        self.activate();
     }
 
     /// Whether all threads are to end.
@@ -178,16 +107,12 @@ impl<K: Bounds + Ring> RunState<K> {
     }
 
     /// Whether the threads of the term are to end.
-    pub(crate) fn over(&self) -> Option<TermOver> {
-        if self.has_run_ended() || self.has_term_ended() {
-            Some(TermOver(()))
-        } else {
-            None
-        }
+    pub(crate) fn is_term_over(&self) -> bool {
+        self.has_run_ended() || self.has_term_ended()
     }
 
     /// The turns of a unit, which stay here from term to term: its thread takes them where they are.
-    pub(crate) fn turns_of(&self, unit: u32) -> &Mutex<UnitTurns<K>>
+    pub(crate) fn turns_of(&self, unit: u32) -> &Mutex<Turns>
         requires first { 1 ≤ unit }
         requires last { unit ≤ self.now.units }
     {
@@ -211,28 +136,26 @@ impl<K: Bounds + Ring> RunState<K> {
     }
 
     /// Activates one unit more.
-    pub(crate) fn activate(&self) -> Activated {
+    pub(crate) fn activate(&self) {
         self.active.fetch_add(1, Release);
         self.active.wake_all();
-        Activated(())
     }
 
     /// Activates one unit more, where that is not too many at once.
     pub(crate) fn activate_for_work(&self) {
         if self.active.load(Acquire) < self.most_active.load(Acquire) {
-            let _activated = self.activate();
+            self.activate();
         }
     }
 
     /// Parks the unit until it is active, which takes no turn, or the threads of the term are to end.
-    pub(crate) fn wait_until_active<R: Wait>(&self, wait: &R, unit: u32) -> Option<TermOver> {
+    pub(crate) fn wait_until_active<R: Wait>(&self, wait: &R, unit: u32) {
         for _ in wait.forever() {
             let active = self.active.load(Acquire);
-            if unit as u64 <= active || self.over().is_some() {
-                break;
+            if unit as u64 <= active || self.is_term_over() {
+                return;
             }
             self.active.park(wait, (active & 0xffff_ffff) as u32);
         }
-        self.over()
     }
 }

@@ -43,11 +43,4 @@ impl Turns {
         self.taken += 1;
         true
     }
-
-    /// How many turns are left.
-    pub fn left(&self) -> u32
-        ensures { result ≡ self.now.left }
-    {
-        self.all - self.taken
-    }
 }

@@ -1,6 +1,6 @@
 //! Renewal of the core: the back leaves the old one and enters another.
-ghost use Rattle.std.specs.Prelude.{◌≡◌, Err, IfNone, IfSome};
-ghost use Rattle.committing.specs.Committing.{AreRenewedWithBack, MayRenewCore};
+ghost use Rattle.std.specs.Prelude.{◌≡◌, IfNone, IfSome, None, Some};
+ghost use Rattle.committing.specs.Committing.{AreRenewedWithBack};
 ghost use Rattle.inorder.specs.History.{unit_of};
 ghost use Rattle.station.specs.Renewals.{HasNobody};
 
@@ -22,13 +22,13 @@ impl<K: Naming + Bounds + Ring> Committer<K> {
         parts: (Global, &RunState<K>, Core, FrontSeat, UnitSeat),
     ) -> (Self, Option<(Core, FrontSeat, UnitSeat)>)
         requires core { self.back.core ≡ parts.2 }
-        requires may { MayRenewCore self }
+        requires going { self.back.ended ≡ None }
         requires front { parts.3.core ≡ parts.2 }
         requires nobody { HasNobody (unit_of parts.2.program parts.2.sizes parts.3.seen) }
         requires unit { parts.4.core ≡ parts.2 }
         ensures turns { result.0.turns ≡ self.turns }
-        ensures begins { IfSome result.1 (λ t. result.0.over ≡ Err Refusal.Thread) }
-        ensures refused { IfNone result.1 (result.0.over ≡ Err Refusal.Memory) }
+        ensures begins { IfSome result.1 (λ t. result.0.wanting ≡ Some Refusal.Thread) }
+        ensures refused { IfNone result.1 (result.0.wanting ≡ Some Refusal.Memory) }
         ensures goes_on { IfSome result.1 (λ t.
             AreRenewedWithBack parts.entry.2 parts.entry.3 parts.entry.4 t.0 t.1 t.2 result.0.back.core) }
     {
@@ -38,22 +38,22 @@ impl<K: Naming + Bounds + Ring> Committer<K> {
             mut count,
             limit,
             turns,
-            mut renewals,
-            mut over,
-            last_term,
+            wanting: _,
         } = self;
         let (alloc, state, core, front, unit) = parts;
         let (seat, still) = back.leave();
-        let (back, now) = match core.renew(alloc, front, seat, unit) {
+        let (back, wanting, now) = match core.renew(alloc, front, seat, unit) {
             Ok((core, front, seat, unit)) => {
                 state.counts.add(&mut count, Total::Renewals, 1);
-                renewals += 1;
-                over = Err(Refusal::Thread);
-                (still.enter(seat), Some((core, front, unit)))
+                (
+                    still.enter(seat),
+                    Refusal::Thread,
+                    Some((core, front, unit)),
+                )
             }
             Err(refused) => {
                 drop(refused.1);
-                (still.enter_again(refused.3), None)
+                (still.enter_again(refused.3), Refusal::Memory, None)
             }
         };
         let committer = Committer {
@@ -61,9 +61,7 @@ impl<K: Naming + Bounds + Ring> Committer<K> {
             count,
             limit,
             turns,
-            renewals,
-            over,
-            last_term,
+            wanting: Some(wanting),
         };
         (committer, now)
     }
@@ -80,13 +78,13 @@ impl<K: Naming + Bounds + Ring> Committer<K> {
         unit: UnitSeat,
     ) -> Option<(Core, FrontSeat, UnitSeat)>
         requires core { self.old.back.core ≡ core }
-        requires may { MayRenewCore self.old }
+        requires going { self.old.back.ended ≡ None }
         requires front { front.core ≡ core }
         requires nobody { HasNobody (unit_of core.program core.sizes front.seen) }
         requires unit { unit.core ≡ core }
         ensures turns { self.new.turns ≡ self.old.turns }
-        ensures begins { IfSome result (λ t. self.new.over ≡ Err Refusal.Thread) }
-        ensures refused { IfNone result (self.new.over ≡ Err Refusal.Memory) }
+        ensures begins { IfSome result (λ t. self.new.wanting ≡ Some Refusal.Thread) }
+        ensures refused { IfNone result (self.new.wanting ≡ Some Refusal.Memory) }
         ensures goes_on { IfSome result (λ t.
             AreRenewedWithBack core front unit t.0 t.1 t.2 self.new.back.core) }
     {

@@ -1,29 +1,26 @@
 //! The turns of the commit thread: in each one commit and one refresh.
-ghost use Rattle.std.specs.Prelude.{◌≡◌, ◌≢◌, ◌+◌, ◌<◌, ◌≤◌, Err, IfNone, IfOk, None, true};
+ghost use Rattle.std.specs.Prelude.{◌≡◌, ◌+◌, ◌<◌, None, true};
 ghost use Rattle.back.specs.Backs.{IsSameBack, back_state};
 ghost use Rattle.counts.specs.Reads.{WasTotal};
 ghost use Rattle.counts.specs.Totals.{tallied};
 ghost use Rattle.hints.specs.Hinted.{IsEndOf};
-ghost use Rattle.committing.specs.Committing.{Because, HintsLoaded, IsReason, MayRenewCore};
-ghost use Rattle.committing.specs.declared.commit.Why.{Why};
+ghost use Rattle.committing.specs.Committing.{HintsLoaded};
 
-use super::{Committer, PATIENCE, Why};
+use super::{Committer, PATIENCE};
 use crate::ends::Refusal;
-use crate::places::Places;
-use crate::ran::TermRecord;
 use back::{Commit, Mark, Naming, Refresh};
 use counts::{CountSeat, Tally, Total};
 use hints::{Hinter, Ring};
 use instructions::Memory;
 use std::snapshot::Snapshot;
 use std::sync::Wait;
-use workers::{Backoff, Bounds, Gate, StartedUnits, TermShared, hint_each};
+use workers::{Backoff, Bounds, Gate, TermShared, hint_each};
 
 // How many instructions the commit thread commits until it shows again.
 const SHOWN_EACH: u64 = 64;
 
-// Passes a tally to the gate: its retirements are those of the snapshot that was shown, and each total is what it was
-// at a moment since `before`.
+// Passes a tally to the gate. Its caller owes that the retirements are those of the snapshot that was shown, and that each
+// total is what it was at a moment since `before`.
 fn pass_tally<G: Gate>(
     gate: &G,
     shown: &Mark,
@@ -45,9 +42,6 @@ impl<K: Naming + Bounds + Ring> Committer<K> {
         ensures back { IsSameBack self.old.back (record self.new.back
             { shown = self.old.back.shown }) }
         ensures turns { self.new.turns ≡ self.old.turns }
-        ensures renewals { self.new.renewals ≡ self.old.renewals }
-        ensures over { self.new.over ≡ self.old.over }
-        ensures last { self.new.last ≡ self.old.last }
     {
         let mark = self.back.show(shared.wait)?;
         let before = Snapshot::of(&self.count);
@@ -63,16 +57,11 @@ impl<K: Naming + Bounds + Ring> Committer<K> {
         shared: &TermShared<'_, K, G, R>,
     ) -> Result<Option<bool>, Memory>
         requires core { self.old.back.core ≡ shared.now.core.now }
-        requires begun { self.old.over ≡ Err Refusal.Memory }
         requires room { (back_state self.old.back).count < (K.config).limit }
         requires turn { (back_state self.old.back).count + (self.old.turns).left
             < (self.old.turns).all }
         ensures core { self.new.back.core ≡ shared.now.core.now }
-        ensures ended { IfOk result (λ committed. IfNone committed (self.new.back.ended ≢ None)) }
         ensures turns { self.new.turns ≡ self.old.turns }
-        ensures renewals { self.new.renewals ≡ self.old.renewals }
-        ensures over { self.new.over ≡ self.old.over }
-        ensures last { self.new.last ≡ self.old.last }
     {
         match self.back.commit(shared.core) {
             Commit::Ended(_) => Ok(None),
@@ -95,11 +84,7 @@ impl<K: Naming + Bounds + Ring> Committer<K> {
         requires core { self.old.back.core ≡ shared.now.core.now }
         requires hinter { IsEndOf shared.now.state.now.hints hinter.old }
         ensures core { self.new.back.core ≡ shared.now.core.now }
-        ensures ended { self.new.back.ended ≡ self.old.back.ended }
         ensures turns { self.new.turns ≡ self.old.turns }
-        ensures renewals { self.new.renewals ≡ self.old.renewals }
-        ensures over { self.new.over ≡ self.old.over }
-        ensures last { self.new.last ≡ self.old.last }
         ensures hinter { IsEndOf shared.now.state.now.hints hinter.new }
         ensures hinted { HintsLoaded shared.now.core.now.sizes.ring self.new.back.woken result
             hinter.old hinter.new }
@@ -119,79 +104,52 @@ impl<K: Naming + Bounds + Ring> Committer<K> {
         true
     }
 
-    /// Takes turns, in each of which it commits and refreshes once, until the program has ended, the limit is reached
-    /// or no turn is left, and then answers which. No reason is answered where the core is to be renewed. A refused
-    /// snapshot is want of memory.
-    pub fn take_turns<G: Gate, R: Wait>(
+    // Takes turns, in each of which it commits and refreshes once. True where the run is over: the program has ended, the
+    // limit is reached or no turn is left; and false where the core is to be renewed. A refused snapshot is want of memory.
+    fn take_turns<G: Gate, R: Wait>(
         &mut self,
         shared: &TermShared<'_, K, G, R>,
-    ) -> Result<Option<Why>, Memory>
+    ) -> Result<bool, Memory>
         requires core { self.old.back.core ≡ shared.now.core.now }
-        requires fresh { self.old.over ≡ Err Refusal.Thread }
         ensures core { self.new.back.core ≡ shared.now.core.now }
-        ensures begun { self.new.over ≡ Err Refusal.Memory }
-        ensures over { IfOk result (IsReason (K.config).limit self.new) }
     {
-        self.over = Err(Refusal::Memory);
         let mut hinter = shared.state.hints.hinter();
         let mut backoff = Backoff::after(PATIENCE);
         while self.turns.take() {
             if self.limit as u64 <= self.back.n() {
-                return Ok(Some(Why::AtLimit));
+                return Ok(true);
             }
             let Some(has_committed) = self.commit(shared)? else {
-                return Ok(Some(Why::AtEnd));
+                return Ok(true);
             };
             if self.refresh(shared, &mut hinter) || has_committed {
                 backoff.reset();
             } else if shared.state.has_term_ended() {
-                return Ok(None);
+                return Ok(false);
             } else {
                 backoff.snooze();
             }
         }
-        Ok(Some(Why::Spent))
+        Ok(true)
     }
 
-    /// Records a term whose turns were taken. Where the run is over, the last state is shown, and the reason is kept.
-    /// True where the run is not over, and the core is to be renewed.
-    pub fn record_term<G: Gate, R: Wait>(
-        &mut self,
-        shared: &TermShared<'_, K, G, R>,
-        reason: Result<Option<Why>, Memory>,
-        units: &StartedUnits,
-        places: &Places,
-    ) -> bool
+    /// Commits at the core of a term. True where the core is to be renewed, with which the run goes on. Where the run is
+    /// over the last state is shown.
+    pub fn work<G: Gate, R: Wait>(&mut self, shared: &TermShared<'_, K, G, R>) -> bool
         requires core { self.old.back.core ≡ shared.now.core.now }
-        requires begun { self.old.over ≡ Err Refusal.Memory }
-        requires over { IfOk reason (IsReason (K.config).limit self.old) }
-        requires units { units.now ≡ (K.config).units }
-        requires places { places.now ≡ (K.config).places }
         ensures core { self.new.back.core ≡ shared.now.core.now }
-        ensures has_run { self.new.over ≢ Err Refusal.Thread }
-        ensures goes_on { result ≡ true → MayRenewCore self.new }
+        ensures goes_on { result ≡ true → self.new.back.ended ≡ None }
     {
-        let Ok(reason) = reason else {
+        self.wanting = Some(Refusal::Memory);
+        let Ok(is_over) = self.take_turns(shared) else {
             return false;
         };
-        if reason.is_some() && self.show(shared).is_err() {
-            return false;
+        if !is_over && self.back.ended().is_none() {
+            return true;
         }
-        self.last_term = Some(TermRecord::of(
-            shared.core,
-            &self.back,
-            self.renewals,
-            units,
-            places,
-        ));
-        if let Some(why) = reason {
-            self.over = Ok(why);
-            return false;
+        if self.show(shared).is_ok() {
+            self.wanting = None;
         }
-        if self.back.ended().is_some() {
-            self.over = Ok(Why::AtEnd);
-            return false;
-        }
-        true
+        false
     }
 }

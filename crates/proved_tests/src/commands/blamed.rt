@@ -26,7 +26,7 @@ const FORMS: &[&[&str]] = &[
 
 // Each refusal has the same status, and no threads tell of it.
 fn is_refused(went: &Went, refusal: Refusal) -> bool {
-    went.status == 5 && went.line == Line::Refused(refusal) && went.ran.is_none()
+    went.status == 5 && went.line == Line::Refused(refusal)
 }
 
 #[test]

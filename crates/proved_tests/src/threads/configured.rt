@@ -1,7 +1,7 @@
-//! What a run tells of how it was carried out, and how many units are active.
-use super::{Shape, plain, run_listing, run_listing_in_turns};
+//! How many units are active.
+use super::{plain, run_listing};
 use crate::same::same;
-use pool::{Gate, Open, Run, Tally};
+use pool::{Gate, Run, Tally};
 use snapshots::Snap;
 use std::alloc::Global;
 use std::process::Abort;
@@ -10,28 +10,6 @@ use std::sync::atomic::AtomicU64;
 use std::sync::atomic::Ordering::SeqCst;
 use std::test::*;
 use std::thread::{Threads, available_parallelism};
-
-const LISTING: &[u8] = b"addiu $1,$0,5\naddu $2,$1,$1\nbreak\n";
-
-#[test]
-fn a_run_tells_its_last_term(rt: HostRuntime) -> Result<(), Fail> {
-    // two stations with two tags each: the third instruction is let behind a renewal
-    let shape = Shape {
-        ring: 2,
-        first_tag: 268_435_454,
-        places: 2,
-        turns: 50_000_000,
-        ..plain(3)
-    };
-    let told = run_listing_in_turns(&rt, rt.alloc(), LISTING, &shape, &Open)?;
-    let term = told.ran.last_term().ok_or("no term has ended")?;
-    same(&rt, &term.units(), &3);
-    same(&rt, &term.places(), &2);
-    same(&rt, &term.n(), &2);
-    same(&rt, &term.renewals(), &1);
-    assert!(rt; told.ran.turns_left() < 50_000_000);
-    Ok(())
-}
 
 /// Lets each unit wait for a while between claim and finish, and notes which have asked.
 #[derive(Drop)]

@@ -1,6 +1,7 @@
 //! How runs end.
-use super::{Shape, plain, run_listing, run_listing_in_turns};
-use pool::{Gate, Open, Run, RunInTurns, Tally};
+use super::{Shape, plain, run_listing};
+use crate::same::same;
+use pool::{Gate, Open, Run, Tally};
 use snapshots::Snap;
 use std::process::Abort;
 use std::test::*;
@@ -23,9 +24,9 @@ impl Gate for Shut {
     fn counted(&self, _tally: &Tally) {}
 }
 
-// The turns that are left tell a limit of instructions from one of turns.
+// The limit is that of instructions, or of turns, of which each instruction takes one.
 #[test]
-fn the_commit_thread_tells_the_turns_that_it_has_left(rt: HostRuntime) -> Result<(), Fail> {
+fn a_run_ends_at_its_limit_or_without_turns(rt: HostRuntime) -> Result<(), Fail> {
     for (limit, turns) in [
         (2, 1_000_000_000),
         (1_000_000, 3),
@@ -36,19 +37,14 @@ fn the_commit_thread_tells_the_turns_that_it_has_left(rt: HostRuntime) -> Result
             turns,
             ..plain(2)
         };
-        let RunInTurns { run, ran } = run_listing_in_turns(&rt, rt.alloc(), LOOP, &shape, &Open)?;
-        let left = ran.turns_left() as u64;
-        match run {
-            Run::LimitReached(end, _) => {
-                assert!(rt; end.n == limit || left == 0);
-                assert!(rt; end.n + left <= turns);
-                assert!(rt; limit < 1_000_000 || turns == 3);
-            }
-            Run::Ended(end, _) => {
-                assert_eq!(rt; end.n, 601);
-                assert!(rt; end.n + left < turns);
-                assert!(rt; limit == 1_000_000);
-            }
+        match run_listing(&rt, rt.alloc(), LOOP, &shape, &Open)? {
+            Run::LimitReached(end, _) if turns == 3 => assert!(rt; end.n <= 3),
+            Run::LimitReached(end, _) => same(&rt, &(end.n, limit), &(2, 2)),
+            Run::Ended(end, _) => same(
+                &rt,
+                &(end.n, limit, turns),
+                &(601, 1_000_000, 1_000_000_000),
+            ),
             Run::Refused(_) => return Err(Fail::from("refused")),
         }
     }

@@ -12,10 +12,10 @@ use Rattle.on_threads.proofs.running.answered.Goals.{in-Ok+in_ok-report-in-Ok, i
 pub returns-clause-ok : goal.returns-clause-ok
 returns-clause-ok g c =
     let found = c.in_ok-program in
-    let went = c.match-branch-2.went in
+    let went = c.match-branch-2.text in
     let told : IsTold c.args.asked.now found.field-0 (string_bytes went.1) went.0 = elim c.match-branch-2.branch [
-      | in-Ok+in_ok-report-in-Ok w ↦ rw (w.in-Ok.is, w.went-is) w.in_ok-report-in-Ok.ensures.ok
-      | in-Err w ↦ rw (w.in-Err.is, w.went-is) (refl, w.written.ensures)
+      | in-Ok+in_ok-report-in-Ok w ↦ rw (w.in-Ok.is, w.text-is) w.in_ok-report-in-Ok.ensures.ok
+      | in-Err w ↦ rw (w.in-Err.is, w.text-is) (refl, w.written.ensures)
     ] in
     replied g.R.Read.remaining g.W.Write.contents most_taken _ _ _ _ (λ input. IsParsed found.field-0 (listing input))
     (IsAnswerTo c.args.asked.now went.0) _ _ found.ensures.read found.ensures.ok

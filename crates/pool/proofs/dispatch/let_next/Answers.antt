@@ -1,4 +1,5 @@
 use Rattle.std.proofs.Common.{◌<◌, ap, arith}
+use Rattle.counts.specs.declared.tally.Total.TheVariants.{Lets}
 use Rattle.inorder.specs.Unit.{Sizes}
 use Rattle.pool.proofs.DispatchDeeds.{in_ring, let_done}
 use Rattle.pool.proofs.dispatch.let_next.Goals as goal
@@ -20,3 +21,8 @@ returns-in-Let-clause-counted g c = λ total has.
     let counts = c.count.ensures.counted total in
     let done = let_done _ _ _ _ _ _ _ _ c.in-Let.ensures.reply.lets total in
     omega (arith, counts, done)
+
+pub returns-in-Let-clause-offers : goal.returns-in-Let-clause-offers
+returns-in-Let-clause-offers g c =
+    let done = let_done _ _ _ _ _ _ _ _ c.in-Let.ensures.reply.lets Lets in
+    omega (arith, done, c.push-is_put.ensures.offered.once)

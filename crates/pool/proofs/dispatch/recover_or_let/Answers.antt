@@ -1,4 +1,5 @@
 use Rattle.std.proofs.Common.{arith}
+use Rattle.counts.specs.declared.tally.Total.TheVariants.{Lets}
 use Rattle.pool.proofs.DispatchDeeds.{mended_done}
 use Rattle.pool.proofs.dispatch.recover_or_let.Goals as goal
 
@@ -8,3 +9,8 @@ returns-in-Mended-clause-counted g c = λ total has.
     let mend = c.count.ensures.counted total in
     let done = mended_done _ _ _ _ _ _ c.in-Mended.ensures.reply total in
     omega (arith, squashes, mend, done)
+
+pub returns-in-Mended-clause-offers : goal.returns-in-Mended-clause-offers
+returns-in-Mended-clause-offers g c =
+    let done = mended_done _ _ _ _ _ _ c.in-Mended.ensures.reply Lets in
+    omega (arith, done)

@@ -10,9 +10,7 @@ invariant_of-self g c =
     let same = c.refresh.ensures.kept in
     let kept = not_loaded c.args.shared.now.core.now old.by old.seen new.seen c.refresh.result c.refresh.ensures.reply c.in_default.not-Loaded in
     let counted = counted_kept g.K.Bounds.counts old new same.state same.by c.self.inside.count c.self.invariant.counted kept in
-    let i = c.self.inside in
-    stays g.K.Bounds.counts g.K.Bounds.config old new i.turns i.renewals i.last_term i.count i.count i.limit
-    i.over c.self.invariant same.state same.ended counted kept.times
+    stays c.self.invariant same.state same.ended counted
 
 pub invariant_of-self-2 : goal.invariant_of-self-2
 invariant_of-self-2 g c =
@@ -23,6 +21,4 @@ invariant_of-self-2 g c =
     let one = loaded_done core.program core.sizes old.by old.seen new.seen c.in-Loaded.station c.in-Loaded.tag c.in-Loaded.value c.in-Loaded.ensures.reply in
     let counted = counted_load g.K.Bounds.counts old new same.state same.by c.self.inside.count c.add.new.seat
     c.self.invariant.counted one (c.add.ensures.of ∙ c.args.shared.now.state.now.counts_are) c.add.ensures.shares in
-    let i = c.self.inside in
-    stays g.K.Bounds.counts g.K.Bounds.config old new i.turns i.renewals i.last_term i.count c.add.new.seat i.limit
-    i.over c.self.invariant same.state same.ended counted one.times
+    stays c.self.invariant same.state same.ended counted

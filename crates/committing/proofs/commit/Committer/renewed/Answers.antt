@@ -1,15 +1,15 @@
-use Rattle.std.proofs.Common.{◌∙◌, List, ap, subst, sym, arith}
+use Rattle.std.proofs.Common.{◌∙◌, List, ap, subst, sym}
 use Rattle.inorder.specs.declared.history.Entry.{Entry}
 use Rattle.inorder.specs.Callers.{GoesOn as HasNoStop}
 use Rattle.inorder.specs.History.{unit_of}
 use Rattle.back.specs.Stills.{BackMayEnterAgain}
 use Rattle.station.specs.Renewals.{seats_of}
 use Rattle.station.specs.Seats.{Caller, TheCore}
-use Rattle.committing.specs.Committing.{MayRenewCore, TheCommitter, committer_of}
+use Rattle.committing.specs.Committing.{TheCommitter}
 use Rattle.committing.proofs.Committers.{refused, renewed}
 use Rattle.committing.proofs.Renewed.{entered, may_again, renews_once}
 use Rattle.committing.proofs.commit.Committer.renewed.Given.{Over}
-use Rattle.committing.proofs.commit.Committer.renewed.Goals.{After-drop, After-leave-seat, in-Ok, in-Err}
+use Rattle.committing.proofs.commit.Committer.renewed.Goals.{After-drop, in-Ok, in-Err}
 use Rattle.committing.proofs.commit.Committer.renewed.Goals as goal
 
 pub renew-requires-clause-goes_on : goal.renew-requires-clause-goes_on
@@ -32,26 +32,19 @@ enter_again-requires-clause-goes_on g c = (again g c).goes_on
 pub enter_again-requires-clause-head : goal.enter_again-requires-clause-head
 enter_again-requires-clause-head g c = (again g c).head
 
-may_renew : (g : Over) (c : After-leave-seat g) → let i = c.self.inside in MayRenewCore (committer_of i.back i.turns i.renewals i.over i.last_term)
-may_renew g c = subst (λ (k : TheCommitter). MayRenewCore k) (sym c.self.view_is) c.requires.may
-
--- A renewal took a turn, so that there are no more of them than turns
-pub overflow_add-renewals : goal.overflow_add-renewals
-overflow_add-renewals g c = omega (arith, (may_renew g (goal.at.overflow_add-renewals g c).After-leave-seat).worked, c.self.invariant.keeps.fits)
-
 pub invariant_of-committer : goal.invariant_of-committer
 invariant_of-committer g c =
     let left = c.leave-seat.ensures in
-    let may = may_renew g (goal.at.invariant_of-committer g c).After-leave-seat in
+    let going = ap (λ (k : TheCommitter). k.back.ended) c.self.view_is ∙ c.requires.going in
     elim c.match-renew.branch [
       | in-Ok w ↦
           let is = w.in-Ok.ensures.ok in
-          rw (w.back-is, w.renewals-is, w.over-is, w.count-is)
-          (renewed c.self.invariant may (entered w.in-Ok.seat left.still w.enter.ensures.back w.enter.ensures.state) w.add.new.seat (sym left.by ∙ left.goes_on.by_is)
+          rw (w.back-is, w.count-is)
+          (renewed c.self.invariant going (entered w.in-Ok.seat left.still w.enter.ensures.back w.enter.ensures.state) w.add.new.seat (sym left.by ∙ left.goes_on.by_is)
           (ap (λ (k : Caller). k.by) is.first.back_is)
           (renews_once {old = seats_of c.args.parts.3 c.leave-seat.result.0 c.args.parts.4} is left.seen) (w.add.ensures.of ∙ c.args.parts.1.now.counts_are) w.add.ensures.shares)
       | in-Err w ↦
-          rw (w.back-is, w.renewals-is, w.over-is, w.count-is)
-          (refused c.self.invariant may (entered w.in-Err.refused.3 left.still w.enter_again.ensures.back w.enter_again.ensures.state) {left = c.leave-seat.result.0} left.by left.seen
+          rw (w.back-is, w.count-is)
+          (refused c.self.invariant going (entered w.in-Err.refused.3 left.still w.enter_again.ensures.back w.enter_again.ensures.state) {left = c.leave-seat.result.0} left.by left.seen
           w.in-Err.ensures.err.met.back)
     ]

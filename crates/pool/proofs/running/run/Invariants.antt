@@ -1,4 +1,4 @@
-use Rattle.pool.proofs.running.run_in_turns.Given as goal
+use Rattle.pool.proofs.running.run.Given as goal
 
 abbrev pub ghosts-run_named-K-Naming : goal.ghosts-run_named-K-Naming
 ghosts-run_named-K-Naming g a = record { program = a.run.now.program.now }
