@@ -1,7 +1,12 @@
-"""An independent model of the machine against the library, on random words and states: lockstep.py LIBRARY HOW_MANY."""
-import ctypes
+"""An independent model of the machine against the library, through ruu.py, on random words and states: lockstep.py LIBRARY
+HOW_MANY. A step in two tells what it changed, and after each some steps are made at once."""
+import os
 import random
 import sys
+
+sys.dont_write_bytecode = True
+sys.path.insert(0, os.path.join(os.path.dirname(os.path.abspath(__file__)), "..", "crates", "ruu_step"))
+import ruu
 
 MASK, START, LO, HI = 0xFFFFFFFF, 0x400000, 32, 33
 FUNCTIONS = [0, 2, 3, 4, 6, 7, 8, 9, 13, 16, 17, 18, 19, 24, 25, 26, 27, *range(32, 40), 42, 43]
@@ -22,6 +27,12 @@ class Model:
         self.text, self.memory, self.registers, self.pc = text, bytearray(memory), list(registers), pc
 
     def step(self):
+        # the registers that are written, and of a load or store the width, the address, whether it stores, and what
+        self.written, self.touched = [], (0, 0, 0, 0)
+        self.answer = self.stepped()
+        return self.answer
+
+    def stepped(self):
         place, odd = divmod((self.pc - START) & MASK, 4)
         if odd or place >= len(self.text):
             return BADPC
@@ -35,6 +46,7 @@ class Model:
     def set(self, register, value):
         if register:
             self.registers[register] = value & MASK
+            self.written.append(register)
         return 0
 
     def set_if_fits(self, register, value):
@@ -42,6 +54,7 @@ class Model:
 
     def set_pair(self, low, high):
         self.registers[LO], self.registers[HI] = low & MASK, high & MASK
+        self.written = [LO, HI]
         return 0
 
     def go(self, target):
@@ -110,6 +123,7 @@ class Model:
             return UNALIGNED
         if at + width > len(self.memory):
             return RANGE
+        self.touched = width, at, int(op >= 40), b & (1 << 8 * width) - 1 if op >= 40 else 0
         if op >= 40:
             self.memory[at : at + width] = (b & (1 << 8 * width) - 1).to_bytes(width, "little")
             return 0
@@ -130,11 +144,55 @@ def random_word(rng):
     return word & ~0xFFC0 if word >> 26 > 31 and rng.random() < 0.6 else word
 
 
+def expected_change(model, registers):
+    """What the model's step changed, as the library tells it."""
+    written = [r for r in model.written if r] if model.answer == 0 else []
+    values = [it for r in written for it in (r, model.registers[r])] + [0] * (4 - 2 * len(written))
+    return (len(written), *values, *(model.touched if model.answer == 0 else (0, 0, 0, 0)))
+
+
+def told(change):
+    registers = change.registers, change.first, change.first_value, change.second, change.second_value
+    return *registers, change.width, change.address, change.is_store, change.stored
+
+
+def refuses(call, *areas):
+    try:
+        call(*areas)
+    except (TypeError, ValueError):
+        return True
+    return False
+
+
+def refusals(machine):
+    """Areas that are none are refused, and nothing is run."""
+    text, memory, registers, pc = ruu.words([0x24010005]), ruu.data(4), ruu.words([0] * 34), ruu.word(START)
+    areas = [text, memory, registers, pc]
+    bad = [areas[:k] + [it] + areas[k + 1 :] for k in range(4) for it in (None, 7, ruu.data(34) if k != 1 else text)]
+    bad.append([text, memory, ruu.words([0] * 33), pc])
+    refused = [refuses(machine.step, *it) for it in bad] + [refuses(machine.run, *areas, it) for it in (None, -1, 1 << 64)]
+    refused += [refuses(machine.step_told, *areas, it) for it in (None, 7, ruu.word(0))]
+    if not all(refused) or pc.value != START:
+        sys.exit("an area that is none is not refused")
+    if machine.step(text, ruu.data(3), registers, pc) != ruu.SIZES or pc.value != START or machine.run(*areas, 9) != (ruu.BADPC, 1):
+        sys.exit("ruu.py answers otherwise")
+    if [ruu.stop_name(k) for k in (0, 5, -1, 99)] != ["went", "badpc", "no operation", "no answer"]:
+        sys.exit("ruu.py names otherwise")
+
+
+def many(machine, model, text, memory, registers, pc, steps):
+    """So many steps at once leave what the model's leave."""
+    areas = ruu.words(text), ruu.data(memory), ruu.words(registers), ruu.word(pc)
+    given = machine.run(*areas, steps)
+    done, answer = 0, 0
+    while done < steps and (answer := model.step()) == 0:
+        done += 1
+    return (*given, bytes(areas[1]), list(areas[2]), areas[3].value) == (answer, done, bytes(model.memory), model.registers, model.pc)
+
+
 def main():
-    call = ctypes.CDLL(sys.argv[1]).ruu_step
-    numbers = ctypes.POINTER(ctypes.c_uint32)
-    call.argtypes = [numbers, ctypes.c_size_t, ctypes.POINTER(ctypes.c_uint8), ctypes.c_size_t, numbers, numbers]
-    call.restype = ctypes.c_int32
+    machine = ruu.load(sys.argv[1])
+    refusals(machine)
     rng, answers = random.Random(7), {}
     for _ in range(int(sys.argv[2])):
         memory = rng.randbytes(rng.choice([0, 4, 64]))
@@ -143,15 +201,20 @@ def main():
         pc = START + 4 * rng.randrange(len(text) + (rng.random() < 0.1)) + (rng.random() < 0.03)
         model = Model(text, memory, registers, pc)
         wanted = model.step(), bytes(model.memory), model.registers, model.pc
-        given = (ctypes.c_uint8 * len(memory))(*memory), (ctypes.c_uint32 * 34)(*registers), ctypes.c_uint32(pc)
-        answer = call((ctypes.c_uint32 * len(text))(*text), len(text), given[0], len(memory), given[1], given[2])
-        if (answer, bytes(given[0]), list(given[1]), given[2].value) != wanted:
+        change, is_told = ruu.Change(9, 9, 9, 9, 9, 9, 9, 9, 9), rng.random() < 0.5
+        areas = ruu.words(text), ruu.data(memory), ruu.words(registers), ruu.word(pc)
+        answer = machine.step_told(*areas, change) if is_told else machine.step(*areas)
+        if (answer, bytes(areas[1]), list(areas[2]), areas[3].value) != wanted:
             sys.exit(f"{[hex(it) for it in text]} at {pc:#x} with {registers}: answered {answer}, and {wanted[0]} was wanted")
+        if is_told and told(change) != expected_change(model, registers):
+            sys.exit(f"{[hex(it) for it in text]} at {pc:#x} with {registers}: told {told(change)}, and not {expected_change(model, registers)}")
+        if not many(machine, Model(text, memory, registers, pc), text, memory, registers, pc, rng.randrange(4)):
+            sys.exit(f"{[hex(it) for it in text]} at {pc:#x} with {registers}: many steps leave something else")
         answers[answer] = answers.get(answer, 0) + 1
     missing = {NO_OPERATION, 0, BREAK, OVERFLOW, UNALIGNED, RANGE, BADPC} - set(answers)
     if missing:
         sys.exit(f"no step answered {missing}")
-    print(f"{sys.argv[2]} steps answer and leave what the model says; {answers[0]} of them went on")
+    print(f"{sys.argv[2]} steps answer, change and leave what the model says; {answers[0]} of them went on")
 
 
 main()

@@ -1,7 +1,8 @@
 #!/usr/bin/env bash
-# The static library and its callers, where there is a C compiler: an independent model agrees with it on 60,000 random words
-# and states; the simulators of examples/lockstep, which have a mistake that was planted, differ where the mistake shows, and
-# without it nowhere; a step refuses sizes that no program has. `rt ci` proves the library and builds none, so this does.
+# The static library and its callers, where there is a C compiler: an independent model agrees with it, through ruu.py, on
+# 60,000 random words and states, in what a step tells, and in many steps at once; the simulators of examples/lockstep, which
+# have a mistake that was planted, differ where the mistake shows, and without it nowhere; a step refuses sizes that no program
+# has, and ruu.py areas that are none. `rt ci` proves the library and builds none, so this does.
 . "$(dirname "$0")/common.bash"
 command -v cc > /dev/null || { echo "no C compiler: the library was not built"; exit 0; }
 
@@ -31,15 +32,24 @@ for name in primes numbers sorting; do
 done
 cat > "$work/sizes.c" <<'C'
 #include "ruu.h"
+#include <string.h>
 int main(void)
 {
     static uint32_t text[16385], registers[34], pc = 0x00400000;
     static uint8_t memory[65540];
+    struct ruu_change change = {9, 9, 9, 9, 9, 9, 9, 9, 9};
+    uint64_t steps = 9;
     return ruu_step(text, 16385, memory, 0, registers, &pc) != RUU_SIZES || ruu_step(text, 1, memory, 65540, registers, &pc) != RUU_SIZES ||
            ruu_step(text, 1, memory, 3, registers, &pc) != RUU_SIZES || pc != 0x00400000 || ruu_step(text, 1, memory, 4, registers, &pc) != 0 ||
-           pc != 0x00400004 || ruu_step(text, 1, memory, 4, registers, &pc) != RUU_BADPC || pc != 0x00400004;
+           pc != 0x00400004 || ruu_step(text, 1, memory, 4, registers, &pc) != RUU_BADPC || pc != 0x00400004 ||
+           ruu_step_told(text, 1, memory, 3, registers, &pc, &change) != RUU_SIZES || change.registers != 0 || change.width != 0 ||
+           ruu_run(text, 1, memory, 3, registers, &pc, &steps) != RUU_SIZES || steps != 0 || strcmp(ruu_stop_name(RUU_RANGE), "range") != 0;
 }
 C
 cc "${flags[@]}" -o "$work/sizes" "$work/sizes.c" "$archive" || fail "a caller in C does not compile"
 "$work/sizes" || fail "a step refuses other sizes"
+for standard in c89 c99 c11 c++98 c++17; do
+  cc -x "${standard%%[0-9]*}" -std=$standard -pedantic-errors -Wall -Wextra -Werror -Wno-long-long -fsyntax-only -include crates/ruu_step/ruu.h /dev/null \
+    || fail "ruu.h is no $standard"
+done
 echo "the library: built, and called from C and from Python"

@@ -43,6 +43,7 @@ said=$(as_user "$at" ./ruu --version)
 [ "$(head -n 1 "$at/VERSION")" = "$version" ] && grep -qE '^commit ([0-9a-f]{40}(-dirty)?|unknown)$' "$at/VERSION" || fail 'VERSION says something else'
 [ "$(tail -n 1 "$at/VERSION")" = "$(rt version)" ] || fail 'VERSION names another kit'
 grep -qx "#define RUU_VERSION \"$version\"" "$at/lib/ruu.h" || fail 'ruu.h says another version'
+grep -qx "VERSION = \"$version\"" "$at/lib/ruu.py" || fail 'ruu.py says another version'
 grep -qF "\`$name.tar.gz\`" README.md || fail 'README.md names another package'
 [ "$(grep -m 1 '^## ' CHANGELOG.md)" = "## $version" ] || fail 'CHANGELOG.md begins with another version'
 for it in LICENSE-MIT LICENSE-APACHE licenses/clap/LICENSE-MIT licenses/circular_buffer/LICENSE; do
@@ -107,6 +108,11 @@ if command -v cc > /dev/null; then
 fi
 as_user "$at" python3 examples/lockstep/lockstep.py lib/libruu_step.so examples/c/primes.elf --right > "$work/out" 2> "$work/err" \
   && grep -q 'no difference' "$work/out" || fail 'Python does not load the library'
+as_user "$at/lib" python3 -B -c '
+import ruu
+machine = ruu.load("./libruu_step.so")
+print(machine.run(ruu.words([0x24010005, 13]), ruu.data(0), ruu.words([0] * 34), ruu.word(ruu.TEXT), 9))' > "$work/out" 2> "$work/err" \
+  && [ "$(cat "$work/out")" = '(1, 1)' ] || fail 'ruu.py does not load the library'
 echo 'the library is linked in both forms, and loaded'
 
 # what is not proved, and without tar

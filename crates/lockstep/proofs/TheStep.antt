@@ -1,5 +1,5 @@
 -- A step over a text is the machine's.
-use Rattle.std.proofs.Common.{◌≡◌, ℕ, zero, suc, ◌-◌, ◌/◌, ◌<◌, ◌≤◌, Bool, true, false, eqb, eqb-true, List, length, Option, None, Some, refl, sym, ap, ◌∙◌, subst, ⊎_elim}
+use Rattle.std.proofs.Common.{◌≡◌, ℕ, zero, suc, ◌-◌, ◌/◌, ◌<◌, ◌≤◌, Bool, true, false, eqb, eqb-true, List, [], length, Option, None, Some, refl, sym, ap, ◌∙◌, subst, ⊎_elim}
 use Rattle.std.specs.Prelude.{slice_get, slice_index}
 use Rattle.std.proofs.lemmas.Option.{slice_get-get_or, slice_get_cases, slice_get_past}
 use Rattle.instructions.specs.declared.instr.Instr.{Instr}
@@ -83,3 +83,17 @@ the_run P text (suc k) s h e =
         end_behind (end_over text k) s (Some r) ≡ Some (end_after (end_from P k) s r)
     go (Goes t) l more = more t (l ∙ e)
     go (Halts c) l more = refl
+
+pub step_keeps : (text : List ℕ) (s t : State) → step_over text s ≡ Some (Goes t) → length t.memory ≡ length s.memory
+step_keeps text s t e = by_word (word_at text s.pc) e
+  where
+    by_said : (o : Option Instr) → step_by s o ≡ Some (Goes t) → length t.memory ≡ length s.memory
+    by_said None h = absurd (cc h)
+    by_said (Some i) h =
+        let P : Program = record { code = []; bytes = s.memory } in
+        let f : fetched P s (Some i) ≡ Goes t = cc h in
+        subst (KeepsLength s) f (by_fetch P s (Some i))
+
+    by_word : (o : Option ℕ) → step_at s o ≡ Some (Goes t) → length t.memory ≡ length s.memory
+    by_word None h = absurd (cc h)
+    by_word (Some w) h = by_said (decode s.pc w) h

@@ -1,5 +1,5 @@
 -- One step of the in-order machine over a text of machine words and over buffers of a caller.
-use Rattle.std.specs.Prelude.{◌≡◌, ℕ, ◌-◌, ◌/◌, List, [], Option, None, Some, ◌==◌, if◌then◌else◌, slice_get}
+use Rattle.std.specs.Prelude.{◌≡◌, ℕ, ◌-◌, ◌/◌, List, [], Option, None, Some, Result, Ok, Err, ◌==◌, if◌then◌else◌, slice_get}
 use Rattle.instructions.specs.declared.instr.Instr.{Instr}
 use Rattle.instructions.specs.declared.stop.Stop.TheVariants.{BadPc}
 use Rattle.instructions.specs.Programs.{text_start, address}
@@ -46,3 +46,9 @@ IsStepped old answer registers memory pc (Some (Halts c)) =
     (answer ≡ Stopped c) × HoldsState registers memory pc old
 IsStepped old answer registers memory pc None =
     (answer ≡ NoOperation) × HoldsState registers memory pc old
+
+-- the instruction of the word at an address, or the answer of a step where there is none
+abbrev pub IsFetched : (pc : ℕ) → Option ℕ → Result Instr Answer → Type 0
+IsFetched pc None result = result ≡ Err (Stopped BadPc)
+IsFetched pc (Some w) (Ok i) = decode pc w ≡ Some i
+IsFetched pc (Some w) (Err answer) = (decode pc w ≡ None) × (answer ≡ NoOperation)

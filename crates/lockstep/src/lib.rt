@@ -2,8 +2,10 @@
 //! runs beside it.
 #![tactic(auto)]
 
+mod change;
 mod laws;
 mod stepping;
 
+pub use change::Change;
 pub use laws::{a_run_is_the_machines, a_step_is_the_machines};
-pub use stepping::{Answer, step};
+pub use stepping::{Answer, run_many, step, step_told};
