@@ -18,7 +18,7 @@ use Rattle.isa.specs.Listing.{read, labels}
 use Rattle.isa.specs.InstrText.{with_operands_text}
 use Rattle.isa.proofs.TextBytes.{Of, of_append, of_all, all_of, of_other, inner, IsPart, part_of, AreParts, Starts, Ends, before_at, split_whole}
 use Rattle.isa.proofs.TextNumbers.{number_of, decimal_part}
-use Rattle.isa.proofs.TextRead.{in_code, IsCode, no_comment, no_colon, blank_behind, with_operands_code, indent_in_code, start_trimmed, code_read, code_unlabelled}
+use Rattle.isa.proofs.TextRead.{in_code, IsCode, no_comment, no_colon, blank_after, with_operands_code, indent_in_code, start_trimmed, code_read, code_unlabelled}
 use Rattle.disassembly.specs.Writing.{printable, row_word, row_words, row_line, space_line}
 use Rattle.disassembly.proofs.Printed.{code_printable, inner_printable}
 use Rattle.disassembly.proofs.HexNumbers.{hex_part, hex_number}
@@ -149,7 +149,7 @@ pub row_read : (at : ℕ) (row : List ℕ) → length row ≡ 16 → AllBytes ro
 unfolding with_operands
 row_read at row size fits =
     commented_read (with_operands_text (codes ".word") (row_words row)) (32 ∷ hexadecimal at) (row_code row)
-    ∙ blank_behind (codes ".word") (row_words row) word_word (row_parts row)
+    ∙ blank_after (codes ".word") (row_words row) word_word (row_parts row)
     ∙ rw (row_data row fits) (ap gives_bytes (by_bytes row size fits))
 
 pub row_bare : (at : ℕ) (row : List ℕ) → labels (row_line at row) ≡ []
@@ -183,7 +183,7 @@ pub space_read : (n : ℕ) → n ≤ 65536 → n % 4 ≡ 0 → read (space_line 
 unfolding with_operands
 space_read n room whole =
     code_read 8 (with_operands_text (codes ".space") (decimal_text n ∷ [])) (space_code n room)
-    ∙ blank_behind (codes ".space") (decimal_text n ∷ []) space_word (space_parts n room)
+    ∙ blank_after (codes ".space") (decimal_text n ∷ []) space_word (space_parts n room)
     ∙ rw (space_data n room whole) refl
 
 pub space_bare : (n : ℕ) → n ≤ 65536 → labels (space_line n) ≡ []

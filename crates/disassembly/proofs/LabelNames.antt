@@ -1,5 +1,5 @@
 -- The labels of two addresses differ, and each label that is used is in the table.
-use Rattle.std.proofs.Common.{◌≡◌, ℕ, zero, suc, ◌%◌, ◌/◌, ◌^◌, ◌≤◌, ◌<◌, Bool, true, false, ◌==◌, List, [], ◌∷◌, ◌++◌, map, get_or, is_some, Some, None, refl, ap, ◌∙◌, sym, arith, inl, inr}
+use Rattle.std.proofs.Common.{◌≡◌, ℕ, zero, suc, ◌%◌, ◌/◌, ◌^◌, ◌≤◌, ◌<◌, Bool, true, false, ◌==◌, List, [], ◌∷◌, ◌++◌, cond, map, get_or, is_some, Some, None, refl, ap, ◌∙◌, sym, arith, inl, inr}
 use Rattle.std.specs.Prelude.{slice_index_or}
 use Rattle.std.specs.Char.{digit_value}
 use Rattle.std.specs.Map.{lookup}
@@ -11,9 +11,23 @@ use Rattle.instructions.specs.Programs.{address}
 use Rattle.isa.specs.Report.{hex_digit, hex8}
 use Rattle.isa.specs.InstrText.{label_text}
 use Rattle.isa.specs.Listing.{stands_in, is_double}
-use Rattle.isa.proofs.LabelTable.{lookup_push, lookup_keep, stands_among}
+use Rattle.isa.proofs.HeldLabels.{stands_among}
 use Rattle.disassembly.specs.Writing.{marked, with_mark}
 use Rattle.disassembly.proofs.Few.{all_under, under}
+
+-- ---- a name after labels that lack it, and another name
+
+lookup_push : (t : List ℕ → Bool) (ps : List (List ℕ × ℕ)) (k : List ℕ) (v : ℕ) → lookup t ps ≡ None
+    → lookup t (ps ++ (k, v) ∷ []) ≡ cond (t k) (Some v) None
+lookup_push t [] k v e = refl
+lookup_push t (p ∷ ps) k v e = elim (cases_Bool (t p.0)) [
+  | inl is ↦ let bad : Some p.1 ≡ None = rw is at e in absurd cc
+  | inr not ↦ let others : lookup t ps ≡ None = rw not at e in rw not (lookup_push t ps k v others)
+]
+
+lookup_keep : (t : List ℕ → Bool) (ps : List (List ℕ × ℕ)) (k : List ℕ) (v : ℕ) → t k ≡ false → lookup t (ps ++ (k, v) ∷ []) ≡ lookup t ps
+lookup_keep t [] k v e = rw e refl
+lookup_keep t (p ∷ ps) k v e = ap (cond (t p.0) (Some p.1)) (lookup_keep t ps k v e)
 
 -- ---- digits
 

@@ -7,8 +7,8 @@ use Rattle.instructions.specs.declared.instr.Instr.{Instr}
 use Rattle.instructions.specs.Programs.{address}
 use Rattle.isa.specs.Statement.{Parsed}
 use Rattle.isa.specs.Listing.{Lines, read, labels, labels_at, table, numbered, memory, instruction_count, is_double, all_labels, fault_in, first_fault}
-use Rattle.isa.proofs.Behind.{numbered_push, table_push, memory_push, names_are as labels_are_names}
-use Rattle.isa.proofs.FirstFault.{first_behind, behind_none}
+use Rattle.isa.proofs.NextLine.{numbered_push, table_push, memory_push, names_are as labels_are_names}
+use Rattle.isa.proofs.FirstFault.{first_after, after_none}
 use Rattle.disassembly.specs.Writing.{as_line, unlines, printable, AllPrintable, Faultless, IsReadAs, AllRead, LinesSay, AllQuiet, IsText}
 use Rattle.disassembly.proofs.Printed.{line_plain}
 
@@ -24,13 +24,13 @@ faultless_push before (b ∷ ls) l h f =
     let whole : (before ++ b ∷ []) ++ ls ≡ before ++ b ∷ ls = append_assoc before (b ∷ []) ls in
     (h.0, faultless_push (before ++ b ∷ []) ls l h.1 (subst (λ (c : Lines). fault_in c l ≡ None) (sym whole) f))
 
-none_behind : (before ls : Lines) → Faultless before ls → first_behind before ls ≡ None
-unfolding first_behind
+none_behind : (before ls : Lines) → Faultless before ls → first_after before ls ≡ None
+unfolding first_after
 none_behind before [] h = refl
 none_behind before (l ∷ ls) h = rw (h.0) (none_behind (before ++ l ∷ []) ls h.1)
 
 pub faultless_none : (ls : Lines) → Faultless [] ls → first_fault ls ≡ None
-faultless_none ls h = sym (behind_none ls) ∙ none_behind [] ls h
+faultless_none ls h = sym (after_none ls) ∙ none_behind [] ls h
 
 read_length : (ds : List (ℕ × Parsed)) (is : List Instr) → AllRead ds is → length ds ≡ length is
 read_length [] [] h = refl
