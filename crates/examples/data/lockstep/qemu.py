@@ -18,7 +18,7 @@ from ending import run
 from simulator import START, load
 
 PAGE, HEADER = 0x10000, 52
-RUU = os.path.join(os.path.dirname(os.path.abspath(__file__)), "..", "..", "ruu")
+RUU = os.path.join(os.path.dirname(os.path.dirname(os.path.dirname(os.path.abspath(__file__)))), "ruu")
 NAMES = [*(f"${n}" for n in range(32)), "LO", "HI"]
 STATE = re.compile(r"pc=0x(\w+) HI=0x(\w+) LO=0x(\w+)")
 LINE = re.compile(r"core   0: 3 0x(\w{8}) (?:\(0x(\w{8})\)(.*)|stop|limit)")
