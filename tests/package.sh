@@ -68,6 +68,7 @@ drive examples/sum.s --seed 3 --steps 20
 listing examples/c/primes.elf
 page examples/sum.s OUT
 random --seed 7
+judge examples/judge/stores.s examples/judge/stores.passed.log
 translate examples/translate/hanoi.s
 translate examples/translate/hanoi.s --run --alone --seed 3
 "
