@@ -63,14 +63,14 @@ def gathered_of(program, asked, script):
 
 
 def sought(program, asked, script):
-    """The steps of a run that ends with what `--until` looks for: where no order is given, of the first seed that shows it."""
-    is_free = not (asked.has_seed or asked.is_alone or asked.script)
-    for seed in session.SEEDS if is_free else (asked.seed,):
-        asked.seed = seed
+    """The steps of a run that ends with what `--until` looks for: where no order is given, of the first shuffle that shows it."""
+    is_free = not (asked.is_shuffled or asked.is_alone or asked.script)
+    for number in session.SHUFFLES if is_free else (asked.shuffle,):
+        asked.shuffle = number
         run = gathered_of(program, asked, script)
         if run and run.steps[-1]["kind"] == SOUGHT[asked.until]:
             return run
-    where = f"{session.SEEDS[-1]} seeds" if is_free else asked.order
+    where = f"{session.SHUFFLES[-1]} shuffles" if is_free else asked.order
     print(f"ruu: no {NOUNS[asked.until]} in steps {asked.first} to {asked.last} of {where}", file=sys.stderr)
     sys.exit(1)
 

@@ -1,18 +1,22 @@
-"""Sessions of `ruu drive`: the commands of a run, by a seed, a script or the order of one thread, and the questions asked between them."""
+"""Sessions of `ruu drive`: the commands of a run, shuffled, by a script or the order of one thread, and the questions asked between them."""
 import subprocess
 import sys
 
 ASKED = ("table", "queue", "report")
-# How many commands a seed may choose for each step that is shown: some change nothing.
+# How many commands a shuffle may choose for each step that is shown: some change nothing.
 COMMANDS_A_STEP = 10
 MOST_COMMANDS = 1000000
-# Seeds that are tried until one shows what is looked for.
-SEEDS = range(1, 201)
+# The greatest count before a command.
+MOST_TIMES = 1000
+# Shuffles that are tried until one shows what is looked for.
+SHUFFLES = range(1, 201)
 # First words of the answers that show in a page; another answer says that a command changed nothing.
 TELLING = {"Let", "Job", "Finished", "Stale", "Loaded", "Blocked", "Retired", "Half", "Ended", "Mended", "Idle", "Renewed"}
 # Commands of a script that only ask, and those that stand for several.
 ASKING = {"help", "list", "look", "info", "creator", "touched", "operand", "link", "station", "ring", "table", "queue", "report"}
 SEVERAL = {"step", "until"}
+# Commands of a script that an undo does not take back.
+STAYING = ASKING | {"quit", "undo"}
 
 
 class Exchange:
@@ -63,10 +67,10 @@ def driven(program, words, more, script):
     return exchanges(done.stdout)
 
 
-def of_seed(program, words):
-    """The commands that the seed chooses, with their answers, up to the end of the run."""
+def shuffled(program, words):
+    """The commands that the number chooses, with their answers, up to the end of the run."""
     count = min(MOST_COMMANDS, COMMANDS_A_STEP * (words.last + 1))
-    found = driven(program, words, ["--seed", str(words.seed), "--steps", str(count)], "")
+    found = driven(program, words, ["--shuffle", str(words.shuffle), "--steps", str(count)], "")
     return [exchange for exchange in found if exchange.command not in ASKED]
 
 
@@ -80,7 +84,7 @@ def command_of(line, jobs):
         unit = next(unit for unit, job in jobs.items() if job == told[2:5:2])
         del jobs[unit]
         return f"finish {unit} {told[2]}"
-    return {"Let": "turn", "Mended": "recover", "Loaded": "refresh", "Retired": "commit", "Half": "commit", "Ended": "commit"}.get(told[0])
+    return {"Let": "turn", "Mended": "recover", "Loaded": "refresh", "Blocked": "refresh", "Retired": "commit", "Half": "commit", "Ended": "commit"}.get(told[0])
 
 
 def note_job(exchange, jobs):
@@ -122,7 +126,25 @@ def script_in(text):
     lines = text.splitlines()
     if any(line.startswith("> ") for line in lines):
         lines = [line[2:] if line.startswith("> ") else "" for line in lines]
-    return "".join(" ".join(plain(line.partition("#")[0].split())) + "\n" for line in lines)
+    return [plain(line.partition("#")[0].split()) for line in lines]
+
+
+def one_script(commands):
+    """The script of these commands in which none has a count, and none is undone."""
+    done = []
+    for words in commands:
+        times, words = (int(words[0]), words[1:]) if len(words) > 1 and words[0].isdigit() else (1, words)
+        for _ in range(min(times, MOST_TIMES)):
+            if words == ["undo"]:
+                last = next((at for at in reversed(range(len(done))) if done[at] and done[at][0] not in STAYING), len(done))
+                del done[last:last + 1]
+            else:
+                done.append(words)
+    return text_of(done)
+
+
+def text_of(commands):
+    return "".join(" ".join(words) + "\n" for words in commands)
 
 
 def plain(words):
@@ -133,10 +155,13 @@ def plain(words):
 def of_words(program, words, script):
     """The commands of the run that is asked for, with their answers."""
     if script is not None:
-        return of_script(program, words, script_in(script))
+        commands = script_in(script)
+        # a line that is no command is told by its number
+        driven(program, words, [], text_of(commands))
+        return of_script(program, words, one_script(commands))
     if words.is_alone:
         return of_script(program, words, f"step {words.last + 1}\n")
-    return of_seed(program, words)
+    return shuffled(program, words)
 
 
 def shown(commands, most):

@@ -4,14 +4,14 @@ import os
 import sys
 
 MOST = 2 ** 64 - 1
-NUMBERS = {"--seed": (0, MOST), "--beside": (0, MOST), "--lsq-size": (2, 32), "--from": (0, 100000), "--steps": (1, 10000)}
+NUMBERS = {"--shuffle": (0, MOST), "--beside": (0, MOST), "--lsq-size": (2, 32), "--from": (0, 100000), "--steps": (1, 10000)}
 LISTED = {"--ruu-size": ("2", "4", "8", "16", "32"), "--bpred": ("nottaken", "taken", "bimod"),
           "--until": ("blocked", "misprediction", "stale")}
 FILES = {"--script"}
 FLAGS = {"--alone", "--quiz"}
 STANDARD = {"--ruu-size": "8", "--bpred": "bimod", "--from": "0", "--steps": "2000"}
 # Each says in which order the steps come.
-ORDERS = ("--seed", "--script", "--alone")
+ORDERS = ("--shuffle", "--script", "--alone")
 
 
 class Words:
@@ -19,8 +19,8 @@ class Words:
 
     def __init__(self, files, options):
         self.listing, self.out = files
-        self.seed = int(options.get("--seed", "1"))
-        self.has_seed = "--seed" in options
+        self.shuffle = int(options.get("--shuffle", "1"))
+        self.is_shuffled = "--shuffle" in options
         self.script = options.get("--script")
         self.is_alone = "--alone" in options
         self.is_quiz = "--quiz" in options
@@ -37,9 +37,9 @@ class Words:
         return ["--ruu-size", str(self.ring), "--lsq-size", str(self.queue), "--bpred", self.predictor]
 
     def other(self):
-        """The words of the page beside this one: its order is another seed."""
+        """The words of the page beside this one: its order is another shuffle."""
         other = copy.copy(self)
-        other.seed, other.script, other.is_alone = self.beside, None, False
+        other.shuffle, other.script, other.is_alone = self.beside, None, False
         return other
 
     @property
@@ -50,7 +50,7 @@ class Words:
     @property
     def order(self):
         """The order of the steps in words."""
-        return f"script {os.path.basename(self.script)}" if self.script else "the order of chart" if self.is_alone else f"seed {self.seed}"
+        return f"script {os.path.basename(self.script)}" if self.script else "the order of chart" if self.is_alone else f"shuffle {self.shuffle}"
 
 
 def mistaken(text):

@@ -1,8 +1,8 @@
 #!/usr/bin/env bash
 # Charts and logs of `./ruu chart`: of some listings they stand beside them, counted by hand; of each example the report is
-# that of `./ruu run --alone`, and the chart behind it is drawn anew from the log, which says of each turn who was let, went on
-# and left. In the order of a seed the report stays, and the charts are those that are stored for two seeds. Then what goes
-# wrong: devices that fail, files that do not open, a log over the listing, want of memory. And a run of 100,000 instructions
+# that of `./ruu run --alone`, and the chart behind it is drawn anew from the log, which says of each turn who was let, went on,
+# began to wait for a store and left. In the order of a seed the report stays, and the charts are those that are stored for two
+# seeds. Then the number of rows and their order, the names of registers, and what goes wrong: devices that fail, files that do not open, a log over the listing, want of memory. And a run of 100,000 instructions
 # is told in the memory of one of 100.
 . "$(dirname "$0")/common.bash"
 build_refuse
@@ -36,6 +36,7 @@ echo "$count charts, and the logs beside them, are as they were counted by hand"
 # Draws each tenant of a log, and compares the lines with those of the chart. The log and its pictures are described in
 # crates/chart/specs.
 cat > "$work/draw.py" << 'DRAW'
+import re
 import sys
 turn, rows, left, order = 0, {}, {}, []
 lines = open(sys.argv[1]).read().split("\n")
@@ -49,9 +50,14 @@ for line in lines[2:-1]:
         turn += 1
     elif what == "I":
         assert int(of[0]) == int(of[1]) == len(rows) and of[2] == "0", line
-        rows[of[0]] = {"let": turn, "at": "Ds", "ran": None, "settled": None}
-    elif what == "L":
+        rows[of[0]] = {"let": turn, "at": "Ds", "ran": None, "settled": None, "held": ""}
+    elif what == "L" and of[1] == "0":
         rows[of[0]]["text"] = of[2]
+    elif what == "L":
+        before, store = of[2].rsplit(" ", 1)
+        assert of[1] == "1" and before == "waits for the store" and int(store) < int(of[0]) and rows[of[0]]["at"] == "Ad", line
+        assert rows[of[0]]["held"] != " B:" + store and rows[store]["text"].split(" ")[1] in ("sw", "sh", "sb"), line
+        rows[of[0]]["held"] = " B:" + store
     elif what == "W":
         assert int(of[1]) < int(of[0]), line
     elif what == "E":
@@ -84,12 +90,33 @@ def picture(row, end, mark):
 def drawn(name, end, mark):
     row = rows[name]
     pc, instr = row["text"].split(" ", 1)
-    return "%s\t%d\t%s %s %s%s" % (name, row["let"], pc, instr.ljust(26), " " * ((row["let"] - 1) % 64), picture(row, end, mark))
+    return "%s\t%d\t%s %s %s%s" % (name, row["let"], pc, (instr + row["held"]).ljust(26), " " * ((row["let"] - 1) % 64), picture(row, end, mark))
 
-wanted = [drawn(name, *left[name]) for name in order]
-wanted += [drawn(name, turn + 1, ">") for name in rows if name not in left]
+def axis(turn):
+    ruler = "".join(f"{column}".rjust(5, ".") for column in range(5, 61, 5)) + "...."
+    return "row\tturn\tpc         %s %s" % (f"from turn {turn}".ljust(26), ruler)
+
+# The log does not say how long a load was blocked: its marks stand behind its execution.
+def unmarked(line):
+    return re.sub(r"(?<=X)B+", lambda it: "-" * len(it[0]), line)
+
+options = sys.argv[3:]
+names = [*order, *(it for it in rows if it not in left)] if "--by-leave" in options else [*rows]
+most = int(options[options.index("--rows") + 1]) if "--rows" in options else 1000
+wanted, round_before = [], None
+for name in names:
+    if int(name) < most:
+        at = (rows[name]["let"] - 1) // 64
+        if at != round_before:
+            wanted.append(axis(64 * at + 1))
+        round_before = at
+        wanted.append(drawn(name, *left.get(name, (turn + 1, ">"))))
+if len(rows) > most:
+    wanted.append(f"rows {most} of {len(rows)}: --rows N draws N")
 told = open(sys.argv[2]).read().split("\n")
-assert told[-1] == "" and told[:-1] == wanted, "\n".join(t + "\n" + w for t, w in zip(told, wanted) if t != w)
+assert told[-1] == "" and [unmarked(it) for it in told[:-1]] == wanted, "\n".join(t + "\n" + w for t, w in zip(told, wanted) if unmarked(t) != w)
+for it in told[:-1]:
+    assert (" B:" in it) == bool(re.search("XB", it)) or re.search(" B:.*X[RS>]$", it), it
 print(len(rows))
 DRAW
 
@@ -111,7 +138,7 @@ tell() { # listing, options, -- and options of the chart alone
   tail -c +$(($(stat -c %s "$work/report") + 1)) "$work/out" > "$work/chart"
   "$chart" chart "$listing" "${options[@]}" "$@" > "$work/charted" 2> "$work/err"
   [ $? -eq $status ] && cmp -s "$work/charted" "$work/out" && [ ! -s "$work/err" ] || fail "$listing ${options[*]} $*: another chart without a log"
-  count=$(python3 "$work/draw.py" "$work/log" "$work/chart" 2> "$work/err") || fail "$listing ${options[*]} $*: the log draws another chart"
+  count=$(python3 "$work/draw.py" "$work/log" "$work/chart" "$@" 2> "$work/err") || fail "$listing ${options[*]} $*: the log draws another chart"
   told=$((told + count))
 }
 
@@ -119,6 +146,7 @@ for listing in examples/*.s tests/listings/limit.s; do
   tell "$listing" --limit 2000
   tell "$listing" --limit 500 --ruu-size 4 --bpred nottaken
   tell "$listing" --limit 77 --ruu-size 32 --lsq-size 2 --bpred taken
+  tell "$listing" --limit 200 -- --by-leave --rows 150
 done
 [ $told -gt 5000 ] || fail "only $told tenants were told"
 echo "the charts and logs of the examples agree on each of $told tenants"
@@ -160,6 +188,54 @@ for seed in {0..5} 18446744073709551615; do
   count=$((count + 1))
 done
 echo "with $count seeds the reports stay, and charts and logs agree on each of $told tenants"
+
+# of a run without an end 1,000 rows are drawn, and a line tells of more; the first is the same of each number of rows
+printf 'l: j l\n' > "$work/endless.s"
+"$chart" chart "$work/endless.s" > "$work/out"
+[ $? -eq 4 ] || fail 'a run without an end has another status'
+[ "$(grep -cP '^\d' "$work/out")" -eq 1000 ] && [ "$(tail -n 1 "$work/out")" = 'rows 1000 of 1000015: --rows N draws N' ] \
+  || fail 'a run without an end has another number of rows'
+[ "$(stat -c %s "$work/out")" -lt 200000 ] || fail 'a run without an end fills the disk'
+cp "$work/out" "$work/thousand"
+for rows in 0 1 64 1000 1001; do
+  "$chart" chart "$work/endless.s" --rows $rows > "$work/out"
+  [ "$(grep -cP '^\d' "$work/out")" -eq $rows ] || fail "$rows rows are others"
+  [ "$(tail -n 1 "$work/out")" = "rows $rows of 1000015: --rows N draws N" ] || fail "$rows rows have no line behind them"
+  diff <(grep -P '^\d' "$work/thousand" | head -n $rows) <(grep -P '^\d' "$work/out" | head -n 1000) > "$work/diff" || fail "$rows rows: $(cat "$work/diff")"
+done
+echo 'a run without an end has as many rows as are wanted, and a line that tells of more'
+
+# a load that waits for a store: counted by hand
+cat > "$work/blocked.s" << 'LISTING'
+        .word 4, 0
+        lw    $t0,0($zero)
+        sw    $t0,0($t0)      # its address comes from the load
+        lw    $t1,0($zero)    # waits for it
+        break
+LISTING
+"$chart" chart "$work/blocked.s" --trace "$work/log" | tail -n 5 > "$work/out"
+cat > "$work/told" << 'CHART'
+row	turn	pc         from turn 1                ....5...10...15...20...25...30...35...40...45...50...55...60....
+0	1	0x00400000 lw $t0,0($zero)            L...X--V==R
+1	2	0x00400004 sw $t0,0($t0)               L......X--R
+2	3	0x00400008 lw $t1,0($zero) B:1          L..XBBBV==R
+3	4	0x0040000c break                         L..X------R
+CHART
+cmp -s "$work/told" "$work/out" || { diff "$work/told" "$work/out"; fail 'a blocked load is drawn otherwise'; }
+[ "$(grep -P '^L\t2\t1' "$work/log")" = "$(printf 'L\t2\t1\twaits for the store 1')" ] || fail 'the log names another store'
+
+# registers as the listing has most of them, whatever its comments say
+written() { # name, listing, the instruction in the chart
+  printf "$2" > "$work/written.s"
+  "$chart" chart "$work/written.s" --trace "$work/log" > "$work/out"
+  grep -qF "$3" "$work/out" && grep -qF "$3" "$work/log" || fail "$1: another instruction"
+}
+written 'numbers' 'addu $9,$8,$10\nbreak\n' '0x00400000 addu $9,$8,$10'
+written 'names' 'addu $t1,$t0,$t2\nbreak\n' '0x00400000 addu $t1,$t0,$t2'
+written 'names in comments' '# $t0 $t1 $t2 $t3 $t4\naddu $9,$8,$10 # $sp $fp\nbreak\n' '0x00400000 addu $9,$8,$10'
+written 'more names' 'addu $t1,$8,$t2\nbreak\n' '0x00400000 addu $t1,$t0,$t2'
+written 'more numbers' 'addu $9,$t0,$10\nbreak\n' '0x00400000 addu $9,$8,$10'
+echo 'a blocked load names its store, and registers are written as in the listing'
 
 # A listing with a fault has no pictures.
 says() { # name, status, standard error
@@ -270,7 +346,7 @@ echo "each of $((n - 1)) allocations was refused in turn, $refused told"
 
 # the least room in which 100 instructions are told has room for 100,000
 within() { # kilobytes, limit
-  (ulimit -v "$1"; exec "$chart" chart tests/listings/limit.s --trace "$work/log" --limit "$2") > /dev/null 2>&1
+  (ulimit -v "$1"; exec "$chart" chart tests/listings/limit.s --trace "$work/log" --limit "$2" --rows 100) > /dev/null 2>&1
   [ $? -eq 4 ]
 }
 low=0 high=1048576

@@ -6,7 +6,8 @@
 
 A line is `crate file function: requires NAME ..; ensures NAME ..`. A clause without a name has the name `-`. What is private
 to its file is left out: a function counts if it is `pub`, or is of a trait that is. The page leaves out what a library does
-not hand on, the tests, and what a trait asks for without a clause of its own; a call that has conditions has a `*` there."""
+not hand on, programs, the tests, the examples of proof, and what a trait asks for without a clause of its own; it counts the calls that
+have one clause without a name, or none. A call that has conditions has a `*` there."""
 import functools
 import os
 import re
@@ -150,7 +151,7 @@ def names_outside(crate, file, function, said):
     """The names by which the page lists a function: other crates can call it, and it has a clause or no trait asks for it."""
     has_clause = any(kind == "ensures" for kind, _, _ in said)
     if not os.path.exists(f"{ROOT}/crates/{crate}/src/lib.rt"):
-        return [function] if has_clause else []
+        return []
     names, modules = handed_on(crate)
     module = re.match(r"\w+", file)[0]
     with open(f"{ROOT}/crates/{crate}/src/{file}", encoding="utf-8") as it:
@@ -170,25 +171,30 @@ def names_of(said, kind):
 
 
 def rows_of(owner, calls):
-    """The lines of the page on the calls of one type, or of none: those with the same clauses stand in one."""
+    """The lines of the page on the calls of one type, or of none, whose clauses have names: those with the same stand in one."""
     alike = {}
     for function, said in calls:
         star = "*" if names_of(said, "requires") else ""
-        alike.setdefault(tuple(names_of(said, "ensures")), []).append(function.rpartition("::")[2] + star)
+        if has_names(said):
+            alike.setdefault(tuple(names_of(said, "ensures")), []).append(function.rpartition("::")[2] + star)
     for gives, names in alike.items():
         of = ", ".join(names)
         call = f"{owner}::{{{of}}}" if owner and len(names) > 1 else f"{owner}::{of}" if owner else of
-        line = call if gives == ("-",) else f"{call}: {' '.join(gives) or 'no clause'}"
-        yield textwrap.fill(line, 100, initial_indent=" " * 4, subsequent_indent=" " * 8)
+        yield textwrap.fill(f"{call}: {' '.join(gives)}", 100, initial_indent=" " * 4, subsequent_indent=" " * 8)
 
 
+def has_names(said):
+    return names_of(said, "ensures") not in ([], ["-"])
+
+
+# crates whose calls the page leaves out: tests, and examples of proof
+LEFT_OUT = ["proved_tests", "in_order_issue", "lookahead", "load_ahead", "dual_issue", "client"]
 PAGE = """# Calls and their clauses
 
-Written by `tests/clauses.py --page` from the sources; [PROMISES.md](PROMISES.md) says what the clauses mean. A line has public
-calls of one type, or functions of none, whose clauses (`ensures`) have the same names. These follow the colon, `-` for one without
-a name; calls without a colon have one clause, without a name. Also without a clause a call does nothing undefined, and returns if it
-takes neither `Wait` nor `Threads`. A call with `*` has conditions (`requires`). Crates of tests are left out, and a program's
-functions without clauses.
+Written by `tests/clauses.py --page`; [PROMISES.md](PROMISES.md) says what the clauses mean. A line has public calls of one type, or
+functions of none, and after the colon the names of their clauses (`ensures`), `-` for one without a name; `*` marks a call with
+conditions (`requires`). `+ n` counts calls with one clause, without a name, or none. Without a clause too a call does nothing
+undefined, and returns if it takes neither `Wait` nor `Threads`. Programs, tests and examples of proof are left out.
 """
 
 
@@ -198,10 +204,12 @@ def page():
         of_crate = {key[1:]: said for key, said in found.items() if key[0] == crate}
         calls = {}
         for (file, function), said in of_crate.items():
-            for name in [] if crate == "proved_tests" else names_outside(crate, file, function, said):
+            for name in [] if crate in LEFT_OUT else names_outside(crate, file, function, said):
                 calls.setdefault(name.rpartition("::")[0], []).append((name, said))
         if calls:
-            lines += [f"## {crate}\n", *(row for owner, of in calls.items() for row in rows_of(owner, of)), ""]
+            others = sum(not has_names(said) for of in calls.values() for _, said in of)
+            lines += [f"## {crate}\n", *(row for owner, of in calls.items() for row in rows_of(owner, of))]
+            lines += [f"    + {others}", ""] if others else [""]
     return "\n".join(lines).rstrip("\n")
 
 

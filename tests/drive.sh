@@ -76,7 +76,7 @@ for line in 'look 99' '# hello' 'quit'; do
   drive "$work/script" examples/double.s
   [ $status -eq 0 ] || fail "$line: status $status"
 done
-for line in hello look 'quit now' 'list 1' step 'step 0x1' 'step 1 2' until 'until A' 'queue 1'; do
+for line in hello look 'quit now' 'list 1' step 'step 0x1' 'step 1 2' until 'until A' 'until Stale' 'queue 1' 'undo 1' 6 '6 hello' '2 6 turn' '1001 turn' '-1 turn'; do
   printf 'turn\n%s\nturn\nquit\n' "$line" > "$work/script"
   drive "$work/script" examples/double.s
   [ $status -eq 1 ] || fail "$line: status $status"
@@ -102,6 +102,24 @@ for name in double wrong_path forwarding fibonacci; do
 done
 echo 'steps come to the end of a run'
 
+# what is undone was not done: some commands of a shuffle, and all of them
+for name in double wrong_path forwarding; do
+  drive "$work/none" "examples/$name.s" --ruu-size 8 --shuffle 1 --steps 60
+  sed -n 's/^> //p' "$work/out" | head -n -2 > "$work/commands"
+  count=$(wc -l < "$work/commands")
+  for left in $((count / 2)) 0; do
+    { head -n $left "$work/commands"; echo table; echo report; } > "$work/script"
+    drive "$work/script" "examples/$name.s" --ruu-size 8
+    tail -n +$((left + 1)) "$work/out" > "$work/told"
+    { cat "$work/commands"; echo "$((count - left)) undo"; echo table; echo report; } > "$work/script"
+    drive "$work/script" "examples/$name.s" --ruu-size 8
+    [ $status -eq 0 ] || fail "$name, undone to $left: status $status"
+    [ "$(grep -cx Undone "$work/out")" -eq $((count - left)) ] || fail "$name: not all is undone"
+    sed '1,/^Undone$/d' "$work/out" | grep -vx Undone | cmp -s - "$work/told" || fail "$name, undone to $left: told otherwise"
+  done
+done
+echo 'what is undone was not done'
+
 # each line is told before its answer where that is wanted, and nothing else changes
 drive "$script" examples/drive/relet.s --ruu-size 4 --bpred nottaken --echo
 sed -n 's/^> //p' "$work/out" | cmp -s - "$script" || fail 'the echo is not the script'
@@ -111,10 +129,10 @@ grep -v '^> ' "$work/out" | cmp -s - examples/drive/relet.told || fail 'an echo 
 # alike, and another seed chooses otherwise
 for name in double wrong_path forwarding fibonacci; do
   for seed in 1 2 3; do
-    drive "$work/none" "examples/$name.s" --ruu-size 8 --seed $seed --steps 20000
+    drive "$work/none" "examples/$name.s" --ruu-size 8 --shuffle $seed --steps 20000
     [ $status -eq 0 ] || fail "$name, seed $seed: status $status"
     cp "$work/out" "$work/seeded.$seed"
-    drive "$work/none" "examples/$name.s" --ruu-size 8 --seed $seed --steps 20000
+    drive "$work/none" "examples/$name.s" --ruu-size 8 --shuffle $seed --steps 20000
     is_told "$name, seed $seed once more" "$work/seeded.$seed" 0 ''
     sed '1,/^> report$/d' "$work/out" | cmp -s - "examples/$name.report" || fail "$name, seed $seed: another report"
     sed -n 's/^> //p' "$work/seeded.$seed" > "$work/script"
@@ -127,7 +145,7 @@ echo 'seeds choose commands, whose lines are scripts'
 
 # each allocation is refused in turn: the refusal is named behind a beginning of the answers, or a snapshot was not
 # shown or the core not renewed, or all is told as before
-for name in relet queue steps snapshot renewed renewed_twice; do
+for name in relet queue steps undo snapshot renewed renewed_twice; do
   words_of "examples/drive/$name.txt"
   n=0 refused=0 kept=0
   while :; do

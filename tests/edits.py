@@ -6,12 +6,16 @@
 
 The last line is 'N refused, M not refused'. What the crates stand on is proved first: with BUILT=1 that was done just now.
 
+An edit is refused if a check says of the source that something is not proved: a clause, an invariant, or what a call or an
+operation asks for. An answer in `proofs/` that does not fit the wrong body is no refusal, since another one may fit. Where only an
+answer would be in the way, a line `unanswered: FILE GOAL` of the edit names the goal that is false of the wrong body: it is tried
+without that answer, beside all others.
+
 One check tries many. A function is proved from the contracts of those that it calls and never from their bodies, so an edit of
 one body opens goals of that function alone, and a check of one takes most of its time to read what it stands on. A check takes
-at most one edit of each function. An edit is refused if a goal is open in a function whose body it changes. If none is, but the
-function calls one that is not proved, the edit waits for the next check. If a goal is open in a function that no edit of the
-check changes, or if no edit would be settled, each of them is tried alone. So is an edit of what stands in no body: by a check
-of what its line `function: MODULE::NAME` names, or of the whole crate."""
+at most one edit of each function. If no goal is open in it, but the function calls one that is not proved, the edit waits for the
+next check. If a goal is open in a function that no edit of the check changes, or if no edit would be settled, each of them is tried
+alone. So is an edit of what stands in no body: by a check of what its line `function: MODULE::NAME` names, or of the whole crate."""
 import concurrent.futures
 import os
 import re
@@ -41,7 +45,7 @@ class Edit:
     """An edit as its file has it: its changes, each within a line, and where it has to be refused, if it says so."""
 
     def __init__(self, crate, folder, file):
-        self.name, self.changes, self.named = f"{crate}/{folder}/{file}", [], []
+        self.name, self.changes, self.named, self.unanswered = f"{crate}/{folder}/{file}", [], [], []
         with open(f"{ROOT}/crates/{self.name}", encoding="utf-8") as it:
             lines = it.read().split("\n")
         path, old = "", None
@@ -49,6 +53,8 @@ class Edit:
             word, _, rest = line.partition(": ") if not line.startswith("new:") else ("new", "", line[5:])
             if word == "function":
                 self.named.append(rest.strip())
+            elif word == "unanswered":
+                self.unanswered.append(tuple(rest.split()))
             elif word == "file":
                 path = rest.strip()
             elif word == "old":
@@ -65,6 +71,11 @@ class Edit:
             if texts[path].count(old) != 1:
                 return f"an old text is in {path} {texts[path].count(old)} times, and not once"
             texts[path] = texts[path].replace(old, new)
+        for path, goal in self.unanswered:
+            answers = texts.get(path, "").split("\n\n")
+            texts[path] = "\n\n".join(it for it in answers if not re.search(rf"^pub {re.escape(goal)} :", it, re.M))
+            if len(texts[path].split("\n\n")) == len(answers):
+                return f"there is no answer {goal} in {path}"
         return None if self.changes else "it replaces nothing"
 
     def bodies(self, texts):
@@ -106,9 +117,9 @@ def run(words, folder):
 class Trial:
     """What a check of some functions of a crate, or of all, says of these texts of its files."""
 
-    # a goal that is not proved; and a proof that names what an edit took away
-    OPEN = re.compile(r"note: (\S+?):(\d+):\d+: |(\S+?):(\d+):\d+: error")
-    NAMED = re.compile(r"(note: )?(\./)?proofs/.*(has no field|is not in scope|has no `|was not admitted)")
+    # a goal of the source that is not proved; and an answer that does not fit
+    OPEN = re.compile(r"note: (?:\./)?(src/\S+?):(\d+):\d+: it is not proved that")
+    UNFIT = re.compile(r"(?:note: )?(?:\./)?(proofs/\S+/Answers\.antt):\d+:\d+: .*")
 
     def __init__(self, words, room, texts, names):
         shutil.rmtree(f"{room}/crate", ignore_errors=True)
@@ -121,19 +132,22 @@ class Trial:
         self.is_over = went.returncode in (0, 1) and bool(re.search(r"^(only=\d+ proved=\d+$|logic=)", self.output, re.M))
         self.told = dict(re.findall(r"^fn \w+::(\S+): (.*)$", self.output, re.M))
         lines = self.output.split("\n") if self.is_over and went.returncode else []
-        self.open = [it for it in lines if self.OPEN.match(it) and not self.NAMED.match(it)]
+        self.open = [it for it in lines if self.OPEN.match(it)]
+        self.unfit = {}
+        for found in filter(None, map(self.UNFIT.match, lines)):
+            self.unfit.setdefault(found[1], found[0])
 
     def is_proved(self, name):
-        return any(is_end(name, whole) and told == "proved" for whole, told in self.told.items())
+        return any(is_end(name, whole) and told in ("proved", "proved, may wait") for whole, told in self.told.items())
 
-    def where(self, line, names):
-        """The function in which a goal is open: as one of these names if it is one."""
-        found = self.OPEN.match(line)
-        path, at = (found[1] or found[3]).removeprefix("./"), int(found[2] or found[4]) - 1
-        if path.startswith("src/"):
-            return next((it.name for it in reversed(functions(path, self.texts[path])) if it.has(at)), path)
-        whole = "::".join(path.removeprefix("proofs/").split("/")[:-1])
-        return next((it for it in names if is_end(it, whole)), whole)
+    def answer_of(self, name):
+        """What is said of the answers of a function, where one does not fit."""
+        return next((line for path, line in self.unfit.items() if is_end(name, "::".join(path.split("/")[1:-1]))), None)
+
+    def where(self, line):
+        """The function in which a goal is open."""
+        path, at = self.OPEN.match(line)[1], int(self.OPEN.match(line)[2]) - 1
+        return next((it.name for it in reversed(functions(path, self.texts[path])) if it.has(at)), path)
 
 
 class Trials:
@@ -169,7 +183,7 @@ class Trials:
         chosen, texts = self.next_group()
         trial, goals = Trial(self.words, self.room, texts, chosen), {}
         for line in trial.open:
-            goals.setdefault(trial.where(line, chosen), line)
+            goals.setdefault(trial.where(line), line)
         edits, unsettled = list(dict.fromkeys(chosen.values())), []
         if not trial.is_over or goals.keys() - chosen.keys():
             self.alone += edits
@@ -177,8 +191,9 @@ class Trials:
         for it in edits:
             names = [name for name, edit in chosen.items() if edit is it]
             goal = next((goals[name] for name in names if name in goals and not trial.is_proved(name)), None)
-            if goal or all(trial.is_proved(name) for name in names):
-                self.tell(it, goal, f"proved: {', '.join(names)}")
+            unfit = next((trial.answer_of(name) for name in names if trial.answer_of(name)), None)
+            if goal or unfit or all(trial.is_proved(name) for name in names):
+                self.tell(it, goal, unfit or f"proved: {', '.join(names)}")
             else:
                 unsettled.append(it)
         is_stuck = len(unsettled) == len(edits)
@@ -191,7 +206,7 @@ class Trials:
             self.tell(edit, None, fault)
             return
         trial = Trial(self.words, self.room, texts, edit.named or edit.bodies(self.texts))
-        self.tell(edit, next(iter(trial.open), None), trial.output[-2000:])
+        self.tell(edit, next(iter(trial.open), None), next(iter(trial.unfit.values()), trial.output[-2000:]))
 
     def tell(self, edit, goal, why):
         (self.refused if goal else self.missed).append(edit)

@@ -91,6 +91,22 @@ PLACES = [
     ((0, 0x03E00008), "the word 0x03e00008 at 0x00400004 has no delay slot behind it"),
 ]
 
+# what avoids a refusal, by how it ends
+REMEDIES = {
+    "syscall": "there is no system to call: leave it out, and end by break",
+    "break with a code": "compile with -mno-check-zero-division",
+    "zal": "compile with -mno-abicalls -fno-pic",
+    ("lwl", "lwr", "swl", "swr"): "compile with -fno-store-merging -fno-expensive-optimizations, and without packed structures",
+    "of a coprocessor": "compile with -msoft-float",
+    "no operation of MIPS I": "compile with -march=mips1 -mno-check-zero-division",
+    "outside the text": "link all of it into one text, by examples/c/link.ld",
+    "is in a delay slot and is no nop": "compile with -fno-delayed-branch; in assembly write nop there",
+    "has no delay slot behind it": "write nop after it",
+    ("this is no ELF file", "no executable", "no segment is at 0x00400000"): "link it by examples/c/compile.sh",
+    ("32 bits", "not little endian", "not for MIPS"): "compile with mipsel-linux-gnu-gcc -march=mips1",
+    ("not at 0x00400000", "does not fit"): "link it by examples/c/link.ld",
+}
+
 CUT = "the file ends before what it names"
 NO_ELF = "this is no ELF file"
 NO_TEXT = "no segment is at 0x00400000"
@@ -127,13 +143,21 @@ def changed(file, at, what):
     return file[:at] + what + file[at + len(what):]
 
 
-def convert(file):
+def convert(file, *options):
     """Status, listing, and what is said."""
     path = sys.argv[1]
     with open(path, "wb") as it:
         it.write(file)
-    went = subprocess.run([LISTING, path], capture_output=True, text=True, check=False, stdin=subprocess.DEVNULL)
-    return went.returncode, went.stdout, went.stderr.removeprefix(f"ruu: {path}: ").rstrip("\n")
+    went = subprocess.run([LISTING, *options, path], capture_output=True, text=True, check=False, stdin=subprocess.DEVNULL)
+    return went.returncode, went.stdout, went.stderr.replace(f"ruu: {path}: ", "").rstrip("\n")
+
+
+def with_remedy(why):
+    """A reason with what avoids it."""
+    for end, remedy in REMEDIES.items():
+        if why.endswith(end):
+            return f"{why}; {remedy}"
+    return why
 
 
 def gives(what, file, wanted):
@@ -144,8 +168,8 @@ def gives(what, file, wanted):
 
 def is_refused(what, file, why):
     status, listing, said = convert(file)
-    if (status, listing, said) != (2, "", why):
-        sys.exit(f"FAILED: {what}: status {status}, {said!r} and not {why!r}")
+    if (status, listing, said) != (2, "", with_remedy(why)):
+        sys.exit(f"FAILED: {what}: status {status}, {said!r} and not {with_remedy(why)!r}")
 
 
 def check_listings():
@@ -183,6 +207,30 @@ def check_refusals():
             is_refused(f"the first {size} bytes", file[:size], NO_ELF if size < 4 else CUT)
 
 
+def check_places():
+    """The function of a refusal, all refusals of a file, and a $gp that nobody sets."""
+    slot = "the word 0x24020005 at 0x00400004 is in a delay slot and is no nop"
+    named = changed(NAMED, 116, words_of([0x08100000]))
+    named = changed(named, 120, words_of([0x24020005]))
+    is_refused("a refusal in a function", named, f"in main: {slot}")
+    words = [0x08100000, 0x24020005, 0x0000000C, 0x88410003, 0x0000000D]
+    all_of_it = [slot, "the word 0x0000000c at 0x00400008 is no operation here: it is syscall",
+                 "the word 0x88410003 at 0x0040000c is no operation here: it is lwl"]
+    status, listing, said = convert(of_words(*words), "--all")
+    if (status, listing, said.split("\n")) != (2, "", [with_remedy(why) for why in all_of_it]):
+        sys.exit(f"FAILED: --all: status {status}, {said}")
+    status, listing, said = convert(of_words(*[0x0000000C] * 203), "--all")
+    if status != 2 or len(said.split("\n")) != 201 or not said.endswith("\n3 more are refused"):
+        sys.exit(f"FAILED: --all of many: status {status}, {said[-200:]}")
+    # lw $v0,-32752($gp), and with lui $gp before it; and one that moves $gp
+    for words, warned in [((0x8F828010, 0x0000000D), True), ((0x3C1C0001, 0x8F828010, 0x0000000D), False), ((0x03801021, 0x0000000D), True)]:
+        status, listing, said = convert(of_words(*words))
+        warning = "warning: $gp is read in the text at 0x00400000 and nothing sets it, so it is 0; compile with -G0"
+        if status != 0 or not listing or said != (warning if warned else ""):
+            sys.exit(f"FAILED: $gp of {words}: status {status}, {said}")
+
+
 check_listings()
 check_refusals()
+check_places()
 print("executables that are made here give their listings, and others are refused with their reasons")

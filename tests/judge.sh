@@ -90,7 +90,7 @@ echo 'each mistake of the simulator is refused at its cause'
 answers=0
 for listing in examples/*.s examples/drive/{loads,blocked_load,past_a_store,part_of_a_load,creator,square}.s; do
   for seed in {1..4}; do
-    "$drive" drive "$listing" --ruu-size 4 --lsq-size 2 --seed "$seed" | sed 's/^> //' > "$work/told"
+    "$drive" drive "$listing" --ruu-size 4 --lsq-size 2 --shuffle "$seed" | sed 's/^> //' > "$work/told"
     rm -rf "$work/refused"
     mkdir "$work/refused"
     python3 tests/judge.py events < "$work/told" > "$work/log" && python3 tests/judge.py refused "$work/refused" < "$work/told" \
@@ -141,6 +141,40 @@ judged "$listing" "$work/log"
 is_status 0 'an empty log'
 [ "$(tail -n +2 "$work/out")" = $'limit\ncount 0\npc 0x00400000' ] || fail 'an empty log: another report than that of the start'
 echo 'lines that are not read are named'
+
+# loads that guess, and squashes without a misprediction
+printf '.word 7\n lui $1,0\n sw $1,0($1)\n lw $2,0($0)\n addu $3,$2,$2\n break\n' > "$work/guess.s"
+told() { # events, one a word: `let`, or an event with its numbers behind dots
+  printf '%s\n' "$@" | tr . ' ' > "$work/log"
+}
+speculates() { # status, what its second line says, options
+  local status_wanted=$1 said=$2
+  shift 2
+  judged "$@" "$work/guess.s" "$work/log"
+  is_status "$status_wanted" "$said"
+  sed -n 2p "$work/out" | grep -q "$said" || { head -n 2 "$work/out"; fail "not said: $said"; }
+}
+wrong=(let let let let execute.2 load.2.=.7 execute.3.=.14 execute.0 retire execute.1 retire)
+told "${wrong[@]}" retire
+speculates 1 'the older store 1 sw $1,0($1) has no address yet'
+speculates 1 '2 lw $2,0($0) has guessed another value than it has: 0x00000000' --guess
+told "${wrong[@]}" squash squash let 'load 4 = 0' 
+speculates 1 'no older instruction in flight is known to be mispredicted' --guess
+told "${wrong[@]}" squash squash let execute.4 load.4.=.0 retire let execute.5.=.0 retire let complete.6 retire
+speculates 0 'stop break' --guess --flush
+told let let let execute.2 load.2.=.0 execute.0 retire execute.1 retire retire
+speculates 0 'limit' --guess
+told let let let load.2.=.0 execute.0 retire execute.1 retire retire
+speculates 0 'limit' --guess
+told let let let execute.2 load.2.=.0 execute.0 retire retire.2
+speculates 1 '1 sw $1,0($1) is older, and retires first' --guess
+told let let let execute.2 load.2 
+speculates 1 'has no address yet' --guess
+told let squash
+speculates 1 'no older instruction' --guess
+told let let squash.0
+speculates 1 '1 sw $1,0($1) is younger, and is squashed first' --flush
+echo 'guesses are judged as they retire, and flushes where they may be'
 
 # files and options
 for words in "$listing" '' '--ruu-size 0 a b' '--ruu-size x a b' '--issue both a b' '--within a b' 'a b c' '--lsq-size'; do

@@ -28,9 +28,9 @@ begins with the words of `ruu_words/specs`, `station` has each call on them, and
 {sections}"""
 
 PICTURE = """\
- alone    chart  commit_log   ruu      run    drive            listing
-   |        |         |        |        |       |                 |
-   +--------+---------+---- command     |       |            disassembly
+ alone    chart               ruu      run    drive            listing
+   |        |                  |        |       |                 |
+   +--------+-------------- command     |       |            disassembly
             |                  |        |       |                 |
           bench                +--- on_threads  |                elf
             |                           |       |
@@ -46,7 +46,7 @@ PICTURE = """\
             |                               |
             +---------------+---------------+
                             |
-                         inorder -- lsq               the in-order machine, the unit as
+    commit_log, judge -- inorder -- lsq               the in-order machine, the unit as
                             |                         definitions, and the theorem
                       instructions -- isa -- lexical  operations; listings"""
 

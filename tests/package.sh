@@ -64,8 +64,9 @@ run examples/sum.s --alone --names
 check examples/sum.s --all
 chart examples/sum.s --seed 3
 commits examples/sum.s
-drive examples/sum.s --seed 3 --steps 20
+drive examples/sum.s --shuffle 3 --steps 20
 listing examples/c/primes.elf
+words examples/sum.s
 page examples/sum.s OUT
 random --seed 7
 judge examples/judge/stores.s examples/judge/stores.passed.log

@@ -1,8 +1,8 @@
 """Checks the page of a run against `ruu drive`: page.py LISTING PAGE SEEN ORDER OPTION.., where SEEN is what a browser showed of the
-page, or `-`, and ORDER is a seed, the file of a script, or `alone`. And page.py PART WHOLE: the steps of a page are those of a
+page, or `-`, and ORDER is a shuffle, the file of a script, or `alone`. And page.py PART WHOLE: the steps of a page are those of a
 longer one.
 
-The steps come in the order of the seed, of the script or of one thread. They are driven once more, and after each every station,
+The steps come in the order of the shuffle, of the script or of one thread. They are driven once more, and after each every station,
 operand, register and commit is asked for by commands of its own: `look`, `info`, `operand`, `creator`, `ring`, `report`. Nothing
 of the page's own program is used."""
 import json
@@ -204,9 +204,9 @@ SHOWN = "Let Job Finished Stale Loaded Retired Half Ended Mended".split(" ")
 
 
 def check_order(page, listing, options, order):
-    """The order of the steps: the answers are those of the seed, of the script or of turns on one thread, each once."""
+    """The order of the steps: the answers are those of the shuffle, of the script or of turns on one thread, each once."""
     if order.isdigit():
-        answers = drive(listing, [*options, "--seed", order, "--steps", "20000"], "")
+        answers = drive(listing, [*options, "--shuffle", order, "--steps", "20000"], "")
     elif order == "alone":
         answers = drive(listing, options, "step 10000\n")
     else:

@@ -13,7 +13,7 @@ make_page() { # words
 }
 
 page() { # listing, order, options
-  local listing=$1 order=(--seed "$2")
+  local listing=$1 order=(--shuffle "$2")
   [ "$2" != alone ] || order=(--alone)
   [ ! -e "$2" ] || order=(--script "$2")
   shift 2
@@ -78,8 +78,8 @@ checked examples/double.s "$work/script.txt"
 # the order of the unit on one thread
 checked examples/wrong_path.s alone --ruu-size 32 --bpred nottaken
 
-# what a seed chose, as it was written, is a script
-$drive drive examples/sum.s --ruu-size 8 --seed 7 --steps 100 < /dev/null > "$work/told.txt"
+# what a shuffle chose, as it was written, is a script
+$drive drive examples/sum.s --ruu-size 8 --shuffle 7 --steps 100 < /dev/null > "$work/told.txt"
 page examples/sum.s "$work/told.txt"
 python3 -B tests/page.py examples/sum.s "$work/page.html" - 7 --ruu-size 8 --lsq-size 8 --bpred bimod || fail 'a transcript is no script'
 
@@ -92,17 +92,17 @@ part() { # options
 }
 page examples/wrong_path.s 5 --bpred nottaken
 mv "$work/page.html" "$whole"
-part --seed 5 --from 20 --steps 30
-part --seed 5 --from 170
-part --seed 5 --steps 1
-part --seed 5 --until misprediction
-grep -q ': 40 steps, seed 5$' "$work/out" || fail 'a page up to a misprediction has other steps'
-part --seed 5 --until misprediction --from 45
+part --shuffle 5 --from 20 --steps 30
+part --shuffle 5 --from 170
+part --shuffle 5 --steps 1
+part --shuffle 5 --until misprediction
+grep -q ': 40 steps, shuffle 5$' "$work/out" || fail 'a page up to a misprediction has other steps'
+part --shuffle 5 --until misprediction --from 45
 up_to() { # kind, first words of the answer, listing
   make_page "$3" "$work/page.html" --until "$1"
   [ $status -eq 0 ] || fail "no page up to $1"
-  seed=$(sed -n 's/.*, seed //p' "$work/out")
-  python3 -B tests/page.py "$3" "$work/page.html" - "$seed" --ruu-size 8 --lsq-size 8 --bpred bimod || fail "the page up to $1"
+  number=$(sed -n 's/.*, shuffle //p' "$work/out")
+  python3 -B tests/page.py "$3" "$work/page.html" - "$number" --ruu-size 8 --lsq-size 8 --bpred bimod || fail "the page up to $1"
   python3 -B - "$work/page.html" "$2" << 'END' || fail "the page up to $1 ends otherwise"
 import re, sys
 sys.path.insert(0, "tests")
@@ -122,11 +122,11 @@ page examples/forwarding.s 3 --quiz
 ! $browser || show 1280
 page examples/wrong_path.s 5 --bpred nottaken --from 40 --steps 30
 ! $browser || show 1280
-make_page examples/forwarding.s "$work/pair.html" --seed 3 --beside 7 --bpred taken
+make_page examples/forwarding.s "$work/pair.html" --shuffle 3 --beside 7 --bpred taken
 [ "$(cat "$work/out")" = "$work/pair.html: 63 steps beside 61" ] || fail 'two runs are told otherwise'
-for seed in 3 7; do
-  page examples/forwarding.s $seed --bpred taken
-  mv "$work/page.html" "$work/$seed.html"
+for number in 3 7; do
+  page examples/forwarding.s $number --bpred taken
+  mv "$work/page.html" "$work/$number.html"
 done
 if $browser; then
   cat >> "$work/pair.html" << 'END'
@@ -167,21 +167,21 @@ says() { # status, first line on standard error, words
 }
 says 3 'error: page takes two files: the listing, and the page that is written' examples/sum.s
 says 3 'error: page takes two files: the listing, and the page that is written' examples/sum.s a b
-says 3 'error: there is no option --seeds' examples/sum.s "$work/x.html" --seeds 3
-says 3 'error: --seed takes a number from 0 to 18446744073709551615' examples/sum.s "$work/x.html" --seed=18446744073709551616
+says 3 'error: there is no option --shuffles' examples/sum.s "$work/x.html" --shuffles 3
+says 3 'error: --shuffle takes a number from 0 to 18446744073709551615' examples/sum.s "$work/x.html" --shuffle=18446744073709551616
 says 3 'error: --ruu-size takes 2, 4, 8, 16 or 32' examples/sum.s "$work/x.html" --ruu-size 64
 says 3 'error: --lsq-size is at most --ruu-size' examples/sum.s "$work/x.html" --ruu-size 4 --lsq-size 8
 says 3 'error: --bpred takes nottaken, taken or bimod' examples/sum.s "$work/x.html" --bpred gshare
-says 3 'error: --seed is given twice' examples/sum.s "$work/x.html" --seed 1 --seed 2
-says 3 'error: --seed takes a value' examples/sum.s "$work/x.html" --seed
+says 3 'error: --shuffle is given twice' examples/sum.s "$work/x.html" --shuffle 1 --shuffle 2
+says 3 'error: --shuffle takes a value' examples/sum.s "$work/x.html" --shuffle
 says 3 'error: --until ends one run, and takes no --beside' examples/sum.s "$work/x.html" --until stale --beside 3
 says 3 'error: --alone takes no value' examples/sum.s "$work/x.html" --alone=1
-says 3 'error: --seed and --alone are two orders of steps: one of them can be given' examples/sum.s "$work/x.html" --alone --seed 3
+says 3 'error: --shuffle and --alone are two orders of steps: one of them can be given' examples/sum.s "$work/x.html" --alone --shuffle 3
 says 3 'error: --until takes blocked, misprediction or stale' examples/sum.s "$work/x.html" --until never
 says 3 'error: --from takes a number from 0 to 100000' examples/sum.s "$work/x.html" --from -1
 says 3 'error: --from is past the end: the run has the steps 0 to 12' examples/double.s "$work/x.html" --from 13
-says 1 'ruu: no stale result in steps 0 to 1999 of 200 seeds' examples/double.s "$work/x.html" --until stale
-says 1 'ruu: no blocked load in steps 0 to 1999 of seed 4' examples/double.s "$work/x.html" --until blocked --seed 4
+says 1 'ruu: no stale result in steps 0 to 1999 of 200 shuffles' examples/double.s "$work/x.html" --until stale
+says 1 'ruu: no blocked load in steps 0 to 1999 of shuffle 4' examples/double.s "$work/x.html" --until blocked --shuffle 4
 printf 'turn\nfly away\n' > "$work/script.txt"
 says 1 "ruu: $work/script.txt: line 2: unknown word; help lists the commands" examples/sum.s "$work/x.html" --script "$work/script.txt"
 says 3 'error: OUT.html names the file of the script' examples/sum.s "$work/script.txt" --script "$work/script.txt"

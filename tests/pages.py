@@ -316,14 +316,14 @@ def check_written():
 
 
 def check_shape(page):
-    """No page is longer than its limit, no line of a block is wider than 100 columns, and no cell has over 200 characters."""
+    """No page is longer than its limit, no line of a block is wider than 130 columns, and no cell has over 200 characters."""
     with open(page, encoding="utf-8") as it:
         lines = len(it.readlines())
     if lines > MOST_LINES.get(page, lines):
         wrong(page, f"{lines} lines")
     for _, block in blocks(page):
         for line in block:
-            if len(line.expandtabs(8)) > 100:
+            if len(line.expandtabs(8)) > 130:
                 wrong(page, f"{len(line.expandtabs(8))} columns: {line}")
     for line in prose(page).splitlines():
         for cell in line.split(" | ") if line.startswith("| ") else []:

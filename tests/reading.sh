@@ -79,12 +79,14 @@ done
 build run chart
 chart=crates/chart/out/chart
 
-# each form, as the chart of its run writes it behind the address: up to two blanks or the picture
+# each form, as the chart of its run writes it behind the address: up to two blanks or the picture; by numbers, as most registers
+# of the listing are written
+numbers='addu $1,$1,$1\naddu $1,$1,$1\n'
 count=0
 while IFS= read -r row; do
   [[ $row == *' => '* ]] || continue
   name=${row%% => *}
-  printf '%b' "$name" > "$work/listing.s"
+  printf '%b' "$name\n$numbers" > "$work/listing.s"
   written=$("$chart" chart - --limit 1 < "$work/listing.s" 2> "$work/err" | sed -nE 's/^0\t1\t0x00400000 (.*[^ ]) +L.*/\1/p')
   [ "$written" = "${row#* => }" ] || fail "$name is written as $written"
   count=$((count + 1))

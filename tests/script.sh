@@ -3,7 +3,7 @@
 # is not, a file that cannot be read and a missing kit are told before anything is proved; and what is proved, with a kit that proves
 # nothing. With the word `renew` those texts are written anew from the programs.
 . "$(dirname "$0")/common.bash"
-declare -A program_of=([run]=run [check]=checker [chart]=chart [commits]=commit_log [drive]=drive [judge]=judge [listing]=listing)
+declare -A program_of=([run]=run [check]=checker [chart]=chart [commits]=commit_log [drive]=drive [judge]=judge [listing]=listing [words]=words)
 programs=(ruu "${program_of[@]}")
 for program in "${programs[@]}"; do
   build run "$program"

@@ -179,7 +179,7 @@ def cases():
 SAMPLES = {"D": "$t0", "S": "$t1", "T": "$t2", "I": "10", "-I": "7", "U": "40000", "H": "3", "Z": "0", "W": "0x20000", "N": "100000",
            "L": "f", "I(S)": "4($t1)", "N(S)": "100000($t1)", "A": "4($t1)", "P": "4($t1)"}
 # Words of which `ruu check` knows nothing, but for a load or a store of a number.
-UNKNOWN = set("la lb lbu lh lhu lw sb sh sw ld sd ulh ulhu ulw ush usw abs mulu mulou rol ror movz movn clz clo bgezal bltzal".split())
+UNKNOWN = set("la lb lbu lh lhu lw sb sh sw ld sd ulh ulhu ulw ush usw mulu mulou rol ror movz movn clz clo bgezal bltzal".split())
 
 
 def is_known(row):

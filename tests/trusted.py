@@ -21,8 +21,9 @@ Written by `tests/trusted.py`.
 
 ## How the parts stand on each other
 
-1. **The theorem** (`instructions`, `lsq`, `inorder`) speaks of a unit as a list of tenants and of the steps that may be made on it.
-   It knows no word, thread or schedule: in each unit that legal steps reach, what has retired is the in-order machine's.
+1. **The theorem** (`instructions`, `lsq`, `inorder`) speaks of a unit as a list of in-flight instructions (*tenants*) and of the
+   steps that may be made on it. It knows no word, thread or schedule: in each unit that legal steps reach, what has retired is the
+   in-order machine's.
 2. **One thread** (`one_thread`, `bench`): each turn is such a step, so the theorem holds of the run, and a measure says that it ends.
 3. **Shared words** (`ruu_words`, `station`): a rule says of each step on a word which step of a unit it is. The rule is proved
    of each call on its own, whatever others do between its steps; so all calls together make one history of legal steps.
@@ -32,13 +33,15 @@ Written by `tests/trusted.py`.
 
 ## The definitions
 
-A proof says that code meets its clauses, and not that these say what is meant. That is judged by reading the {total} lines of
-definitions below, which the five promises cite (comments and imports are not counted). Proofs, code and the other
-definitions need no reading: the check reads them.
+A proof says that code meets its clauses, and not that these say what is meant: for that a reader reads the {total} lines of
+definitions that the five promises cite. Comments and imports are not counted. Proofs, code and other definitions need no reading:
+the check reads them.
 
 | promise | definition | lines that it cites |
 |---|---|---|
 {promises}
+
+By crate and file of `specs/`, with lines:
 
 {files}
 
@@ -74,17 +77,6 @@ def lines(file):
         return sum(bool(line.strip()) and not re.match(r"\s*--|(pub )?use ", line) for line in it)
 
 
-def about(file):
-    """The first sentence of a file, without its full stop."""
-    with open(f"{ROOT}/crates/{file}.antt", encoding="utf-8") as it:
-        text = ""
-        for line in it:
-            if not line.startswith("-- "):
-                break
-            text += line[3:].strip() + " "
-    return re.split(r"[.:;](?: |$)", text)[0].strip()
-
-
 def main():
     of = {promise: below(root) for promise, root in ROOTS.items()}
     every = set().union(*of.values())
@@ -95,8 +87,7 @@ def main():
     for crate in order:
         own = sorted(it for it in every if it.startswith(f"{crate}/"))
         if own:
-            files.append(f"- `{crate}`, {sum(map(lines, own))} lines:")
-            files += [f"  - `{it.split('/')[-1]}` ({lines(it)}): {about(it)}" for it in own]
+            files.append(f"- `{crate}`, {sum(map(lines, own))}: " + ", ".join(f"`{it.split('/')[-1]}` {lines(it)}" for it in own))
     print(PAGE.format(total=sum(map(lines, every)), promises=promises, files="\n".join(files)), end="")
 
 

@@ -2,7 +2,7 @@
 # Compiles and runs the tests of tests/unproved, which need no proof, in a copy of the repository in which they are a crate.
 # They are named as Rust, which they nearly are: `rt ci` takes no Rattle file that no check reads.
 . "$(dirname "$0")/common.bash"
-uses='instructions isa lsq counted_io inorder one_thread own_model in_order_issue lookahead load_ahead dual_issue bench ruu_words encoding station snapshots front back pool
+uses='instructions isa lsq counted_io inorder one_thread own_model in_order_issue lookahead load_ahead dual_issue bench ruu_words encoding station snapshots front back hints pool
   command_line on_threads command'
 tar cf - HANDLES crates/*/src crates/*/specs crates/*/proofs | tar xf - -C "$work"
 { cat crates.txt; echo "unproved tests_may=Threads+Wait:" $uses; } > "$work/crates.txt"

@@ -12,7 +12,7 @@ import subprocess
 import sys
 
 os.chdir(os.path.dirname(os.path.dirname(os.path.realpath(__file__))))
-WRITTEN_BY_SCRIPTS = ["docs/CLAUSES.md"]
+WRITTEN_BY_SCRIPTS = ["docs/CLAUSES.md", "docs/TRUSTED.md"]
 
 
 def git(*words):

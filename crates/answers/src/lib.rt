@@ -1,4 +1,4 @@
-//! What a listing comes to: it is read, and the report of its run or the line of its first fault is written, with a status.
+//! The answer to a listing: it is read, and the report of its run or the line of its first fault is written, with a status.
 #![tactic(auto)]
 
 mod listing;

@@ -5,7 +5,7 @@ use Rattle.std.proofs.Math.Seq.{take-append_seam}
 use Rattle.std.proofs.lemmas.Bool.{le-ltb, ltb-false}
 use Rattle.std.proofs.lemmas.List.{append-nil}
 use Rattle.std.specs.List.{AllByRecursion}
-use Rattle.std.specs.Prelude.{nat_lt, slice_get}
+use Rattle.std.specs.Prelude.{is_some, nat_lt, slice_get}
 use Rattle.instructions.specs.Instruction.{first_of, second_of}
 use Rattle.instructions.specs.Programs.{Program}
 use Rattle.inorder.specs.Callers.{is_retired}
@@ -18,12 +18,18 @@ use Rattle.one_thread.specs.declared.bench.Turn.TheVariants.{Halved, Let, Loaded
 use Rattle.one_thread.specs.declared.station.Station.{Station}
 use Rattle.one_thread.specs.Turns.{Before, Does, Lets, Now, Nowhere}
 use Rattle.one_thread.specs.Window.{window}
-use Rattle.chart.specs.declared.event.Event.TheVariants.{Moved}
+use Rattle.lsq.specs.declared.answer.Answer.{Answer}
+use Rattle.lsq.specs.declared.answer.Answer.TheVariants.{Blocked as BlockedAt, Forward, Memory}
+use Rattle.lsq.specs.declared.entry.Entry.{Entry}
+use Rattle.one_thread.specs.Loads.{waits}
+use Rattle.chart.specs.declared.event.Event.TheVariants.{Blocked, Moved}
 use Rattle.chart.specs.declared.row.Row.{Row}
+use Rattle.chart.specs.declared.telling.Style.{Style}
+use Rattle.chart.specs.Blocked.{Queued, block_event, block_events, blocker, blocker_of, entry_after, held_by, joined, joined_by, no_rows, position_at, waits_for}
 use Rattle.chart.specs.Events.{entry_events, events, left_events, went_on, moved_events, retired_event, squash, squashes, worked_on}
 use Rattle.chart.specs.Happened.{Awaits, Happened, HasGone, StandsAs}
 use Rattle.chart.specs.Named.{IsRowOf, StandsIn, live_positions}
-use Rattle.chart.specs.Rows.{SoFar, all_seen, awaited, is_recovery, let_row, newcomer, phase_of, retires as leaves_one, staying}
+use Rattle.chart.specs.Rows.{SoFar, all_seen, awaited, is_recovery, let_row, newcomer, phase_of, retires as leaves_one, rows_behind, staying}
 use Rattle.chart.specs.Watched.{AreTurns, Passed, unit_behind, events_at, kept_behind}
 use Rattle.counted_io.specs.Counted.{raised}
 use Rattle.chart.proofs.LivePositions.{Fewer, OneLess, OneMore}
@@ -31,7 +37,7 @@ use Rattle.chart.proofs.Lists.{all_behind, all_both, all_but_first, all_get, all
 use Rattle.chart.proofs.Producers.{let_window, row_awaits}
 use Rattle.chart.proofs.Reached.{by_turns}
 use Rattle.chart.proofs.Retirements.{retirements_are}
-use Rattle.chart.proofs.RowsNamed.{Named, as_before, each_row, fewer_left, matched, named, one_less, position_of, positions_length, row_count, seen_positions, seen_stations}
+use Rattle.chart.proofs.RowsNamed.{Named, as_before, behind, each_row, fewer_left, matched, named, one_less, position_of, positions_length, row_count, seen_positions, seen_stations, unheld}
 use Rattle.chart.proofs.RowsNamed.{stands_at, station_in}
 use Rattle.chart.proofs.TurnPositions.{grows, lets, loads, recovers, retires, runs}
 
@@ -83,6 +89,56 @@ module _ (P : Program) (us vs : List Tenant) where
         tt,
       )
 
+  -- Who is blocked
+
+  -- somebody is live at a position
+  Stands : ℕ → Type 0
+  Stands position = (w : Station) × StandsIn P vs position w
+
+  -- a load that waits, and whom it waits for
+  record Found (r : Row) (store : ℕ) : Type 0 where
+    pub waits : is_some (waits r.station) ≡ true
+    pub stands : Stands store
+
+  blocks_happened : (turn : ℕ) (q : Queued) (rows : List Row) → AllByRecursion Stands q.positions → AllByRecursion (IsRowOf P vs) rows →
+      AllByRecursion (Happened P us vs) (block_events turn q rows)
+  unfolding Stands
+  blocks_happened turn q [] h k = tt
+  blocks_happened turn q (r ∷ rs) h k =
+      all_both (Happened P us vs) (block_event r (blocker q r)) (block_events turn (joined q held) rs) (one (blocker q r) refl)
+      (blocks_happened turn (joined q held) rs (grows (entry_after q.rows held)) k.1)
+    where
+      held : Row
+      held = held_by turn r (blocker q r)
+
+      same : (o : Option ℕ) → (held_by turn r o).position ≡ r.position
+      same None = refl
+      same (Some store) = refl
+
+      grows : (e : Option Entry) → AllByRecursion Stands (joined_by q held e).positions
+      grows None = h
+      grows (Some e) =
+          all_both Stands q.positions (held.position ∷ []) h
+          ((r.station, subst (λ p. StandsIn P vs p r.station) (sym (same (blocker q r))) k.0), tt)
+
+      at_place : (x : Answer) (store : ℕ) → position_at q.positions x ≡ Some store → Stands store
+      at_place (BlockedAt place) store e = all_get Stands q.positions h place store e
+      at_place Memory store e = absurd (cc)
+      at_place (Forward value) store e = absurd (cc)
+
+      found : (store : ℕ) (o : Option ℕ) → waits r.station ≡ o → blocker_of q r o ≡ Some store → Found r store
+      found store None e b = absurd (cc)
+      found store (Some a) e b = record { waits = ap is_some e; stands = at_place _ store b }
+
+      begins : (store : ℕ) (b : Bool) → Found r store → AllByRecursion (Happened P us vs) (cond b [] (Blocked r.position store ∷ []))
+      begins store true x = tt
+      begins store false x =
+          (record { load = r.station; stands = k.0; waits = x.waits; other = x.stands.0; stood = x.stands.1 }, tt)
+
+      one : (o : Option ℕ) → blocker q r ≡ o → AllByRecursion (Happened P us vs) (block_event r o)
+      one None e = tt
+      one (Some store) e = begins store (waits_for r.held store) (found store (waits r.station) refl e)
+
   some_stay : (answer : Turn) (live : ℕ) (rows : List Row) → AllByRecursion (IsRowOf P us) rows → AllByRecursion (IsRowOf P us) (staying answer live rows)
   some_stay answer live rows h = go (is_recovery answer) (leaves_one answer live (length rows))
     where
@@ -97,8 +153,9 @@ module _ (P : Program) (us vs : List Tenant) where
       AllByRecursion (Happened P us vs) (left_events answer (length (window P vs)) k.retirements k.rows) →
       AllByRecursion (Happened P us vs)
       (entry_events (all_seen (raised k.turns) (window P vs) 0 (staying answer (length (window P vs)) k.rows)) (newcomer k answer (window P vs))) →
+      AllByRecursion (IsRowOf P vs) (rows_behind k answer (window P vs)) →
       AllByRecursion (Happened P us vs) (events k answer (window P vs))
-  together k answer extra h stay left entry =
+  together k answer extra h stay left entry behind_it =
       let W = window P vs in
       let rows = staying answer (length W) k.rows in
       let went = left_events answer (length W) k.retirements k.rows in
@@ -109,8 +166,10 @@ module _ (P : Program) (us vs : List Tenant) where
       ap (λ l. slice_get l j) (sym stay) ∙ get_before (map position_of rows) extra j r.position (get_map position_of rows j r e) in
       stands_at P vs (live_positions vs) W (matched P vs) j r.position w at_j f in
       let went_further = moved_events (worked_on answer) W rows in
-      all_both (Happened P us vs) went (went_further ++ came) left
-      (all_both (Happened P us vs) went_further came (moved_happened W (worked_on answer) rows (some_stay answer (length W) k.rows h) there) entry)
+      let held = block_events (raised k.turns) no_rows (rows_behind k answer W) in
+      all_both (Happened P us vs) went (went_further ++ (came ++ held)) left
+      (all_both (Happened P us vs) went_further (came ++ held) (moved_happened W (worked_on answer) rows (some_stay answer (length W) k.rows h) there)
+      (all_both (Happened P us vs) came held entry (blocks_happened (raised k.turns) no_rows (rows_behind k answer W) tt behind_it)))
 
 module _ (P : Program) (C : Sizes) (U V : UpdateUnit) (k : SoFar) (n : Named P U.tenants k) (count : k.retirements ≡ how_many is_retired U.tenants)
     (reached : IsReached P C U) where
@@ -202,35 +261,38 @@ module _ (P : Program) (C : Sizes) (U V : UpdateUnit) (k : SoFar) (n : Named P U
             tt,
           )
 
-  happened : (answer : Turn) → Does P C U V answer → AllByRecursion (Happened P U.tenants V.tenants) (events k answer (window P V.tenants))
-  happened (Recovered age) d =
+  happened : (answer : Turn) → Does P C U V answer → AllByRecursion (IsRowOf P V.tenants) (rows_behind k answer (window P V.tenants)) →
+      AllByRecursion (Happened P U.tenants V.tenants) (events k answer (window P V.tenants))
+  happened (Recovered age) d h =
       let f = recovers P C U V d in
-      together P U.tenants V.tenants k (Recovered age) [] each (all_of (take (length (window P V.tenants)) k.rows) (fewer_left P C U V k n f)) (some_left f) tt
-  happened Let d =
+      together P U.tenants V.tenants k (Recovered age) [] each (all_of (take (length (window P V.tenants)) k.rows) (fewer_left P C U V k n f)) (some_left f) tt h
+  happened Let d h =
       let o = lets P C U V d in
       let stay : map position_of k.rows ++ length U.tenants ∷ [] ≡ live_positions V.tenants =
       ap (λ l. l ++ length U.tenants ∷ []) n.positions ∙ sym o.positions in
-      together P U.tenants V.tenants k Let (length U.tenants ∷ []) each stay tt (one_came d)
-  happened (Ran age) d = together P U.tenants V.tenants k (Ran age) [] each (all_of k.rows (n.positions ∙ sym (runs P C U V d).positions)) tt tt
-  happened (Loaded age) d = together P U.tenants V.tenants k (Loaded age) [] each (all_of k.rows (n.positions ∙ sym (loads P C U V d).positions)) tt tt
-  happened Halved d =
+      together P U.tenants V.tenants k Let (length U.tenants ∷ []) each stay tt (one_came d) h
+  happened (Ran age) d h = together P U.tenants V.tenants k (Ran age) [] each (all_of k.rows (n.positions ∙ sym (runs P C U V d).positions)) tt tt h
+  happened (Loaded age) d h = together P U.tenants V.tenants k (Loaded age) [] each (all_of k.rows (n.positions ∙ sym (loads P C U V d).positions)) tt tt h
+  happened Halved d h =
       let o = retires P C U V d.retires in
-      together P U.tenants V.tenants k Halved [] each (all_of (staying Halved (length (window P V.tenants)) k.rows) (one_less P C U V k n o)) (one_left o) tt
-  happened Retired d =
+      together P U.tenants V.tenants k Halved [] each (all_of (staying Halved (length (window P V.tenants)) k.rows) (one_less P C U V k n o)) (one_left o) tt h
+  happened Retired d h =
       let o = retires P C U V d in
-      together P U.tenants V.tenants k Retired [] each (all_of (staying Retired (length (window P V.tenants)) k.rows) (one_less P C U V k n o)) (one_left o) tt
-  happened (Over c) (Before stopped same) =
-      together P U.tenants V.tenants k (Over c) [] each (all_of (staying (Over c) (length (window P V.tenants)) k.rows) (as_before P C U V k n same)) (none_left same) tt
-  happened (Over c) (Now r stopped) =
+      together P U.tenants V.tenants k Retired [] each (all_of (staying Retired (length (window P V.tenants)) k.rows) (one_less P C U V k n o)) (one_left o) tt h
+  happened (Over c) (Before stopped same) h =
+      together P U.tenants V.tenants k (Over c) [] each (all_of (staying (Over c) (length (window P V.tenants)) k.rows) (as_before P C U V k n same)) (none_left same) tt h
+  happened (Over c) (Now r stopped) h =
       let o = retires P C U V r in
-      together P U.tenants V.tenants k (Over c) [] each (all_of (staying (Over c) (length (window P V.tenants)) k.rows) (one_less P C U V k n o)) (one_left o) tt
-  happened (Over c) (Nowhere bad nowhere same) =
-      together P U.tenants V.tenants k (Over c) [] each (all_of (staying (Over c) (length (window P V.tenants)) k.rows) (as_before P C U V k n same)) (none_left same) tt
+      together P U.tenants V.tenants k (Over c) [] each (all_of (staying (Over c) (length (window P V.tenants)) k.rows) (one_less P C U V k n o)) (one_left o) tt h
+  happened (Over c) (Nowhere bad nowhere same) h =
+      together P U.tenants V.tenants k (Over c) [] each (all_of (staying (Over c) (length (window P V.tenants)) k.rows) (as_before P C U V k n same)) (none_left same) tt h
 
-pub all_happened : (P : Program) (C : Sizes) (turns : List Passed) (t : Passed) → AreTurns P C (t ∷ turns) → length t.unit.tenants < 2 ^ 64 →
-    AllByRecursion (Happened P (unit_behind turns).tenants t.unit.tenants) (events_at P turns t)
-all_happened P C turns t a small =
+pub all_happened : (f : Style) (P : Program) (C : Sizes) (turns : List Passed) (t : Passed) → AreTurns P C (t ∷ turns) → length t.unit.tenants < 2 ^ 64 →
+    AllByRecursion (Happened P (unit_behind turns).tenants t.unit.tenants) (events_at f P turns t)
+all_happened f P C turns t a small =
     let more = grows P C (unit_behind turns) t.unit t.answer a.1 in
     let before : length (unit_behind turns).tenants < 2 ^ 64 = omega (arith, more, small) in
-    happened P C (unit_behind turns) t.unit (kept_behind P turns) (named P C turns a.0 before) (retirements_are P C turns a.0 before) (by_turns P C turns a.0)
-    t.answer a.1
+    let k = kept_behind f P turns in
+    let n = named f P C turns a.0 before in
+    happened P C (unit_behind turns) t.unit k n (retirements_are f P C turns a.0 before) (by_turns P C turns a.0)
+    t.answer a.1 (each_row P t.unit.tenants (unheld k t.answer (window P t.unit.tenants)) (behind P C (unit_behind turns) t.unit k n t.answer a.1 small))

@@ -1,4 +1,5 @@
 pub mod Lists
+pub mod Taken
 pub mod BooksKept
 pub mod Turns
 pub mod WholeRuns

@@ -24,7 +24,9 @@ use Rattle.one_thread.specs.declared.bench.Turn.{Turn}
 use Rattle.one_thread.specs.declared.bench.Turn.TheVariants.{Halved, Let, Loaded, Over, Ran, Recovered, Retired}
 use Rattle.one_thread.specs.Turns.{Before, Does, Now, Nowhere, Retires}
 use Rattle.one_thread.specs.Window.{window}
-use Rattle.chart.specs.Rows.{SoFar, next_kept}
+use Rattle.chart.specs.Kept.{next_kept}
+use Rattle.chart.specs.Rows.{SoFar}
+use Rattle.chart.specs.declared.telling.Style.{Style}
 use Rattle.chart.specs.Watched.{AreTurns, Passed, unit_behind, kept_behind}
 use Rattle.counted_io.specs.Counted.{counted, raised}
 use Rattle.chart.proofs.RowsNamed.{Named, named, positions_length, row_count}
@@ -134,11 +136,11 @@ module _ (P : Program) (C : Sizes) (U V : UpdateUnit) where
     counts (Over c) (Now r stopped) = counts_one r
     counts (Over c) (Nowhere bad nowhere same) = counts_none same
 
-pub retirements_are : (P : Program) (C : Sizes) (turns : List Passed) → AreTurns P C turns → length (unit_behind turns).tenants < 2 ^ 64 →
-    (kept_behind P turns).retirements ≡ how_many is_retired (unit_behind turns).tenants
-retirements_are P C [] a small = refl
-retirements_are P C (t ∷ ts) a small =
+pub retirements_are : (f : Style) (P : Program) (C : Sizes) (turns : List Passed) → AreTurns P C turns → length (unit_behind turns).tenants < 2 ^ 64 →
+    (kept_behind f P turns).retirements ≡ how_many is_retired (unit_behind turns).tenants
+retirements_are f P C [] a small = refl
+retirements_are f P C (t ∷ ts) a small =
     let U = unit_behind ts in
     let more = grows P C U t.unit t.answer a.1 in
     let before : length U.tenants < 2 ^ 64 = omega (arith, more, small) in
-    counts P C U t.unit (kept_behind P ts) (named P C ts a.0 before) (retirements_are P C ts a.0 before) small t.answer a.1
+    counts P C U t.unit (kept_behind f P ts) (named f P C ts a.0 before) (retirements_are f P C ts a.0 before) small t.answer a.1

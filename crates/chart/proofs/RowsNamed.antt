@@ -1,8 +1,8 @@
 -- Each row is that of the tenant at its position.
 use Rattle.std.proofs.Common.{◌≡◌, ◌<◌, ◌≤◌, ℕ, zero, suc, ◌+◌, ◌^◌, Bool, true, false, cond, List, [], ◌∷◌, ◌++◌, length, map, take, drop, Option, Some, None, refl, sym, ap, ◌∙◌, subst, arith}
-use Rattle.std.proofs.Common.{add-one, length-append}
+use Rattle.std.proofs.Common.{add-one, append_assoc, length-append}
 use Rattle.std.proofs.lemmas.Bool.{le-ltb, lt-ltb}
-use Rattle.std.proofs.lemmas.List.{drop-map, length-map, map-append, take-map}
+use Rattle.std.proofs.lemmas.List.{append-nil, drop-map, length-map, map-append, take-map}
 use Rattle.std.proofs.Math.Seq.{take-append_seam, take-length}
 use Rattle.std.specs.List.{AllByRecursion}
 use Rattle.std.specs.Prelude.{is_some, nat_lt, slice_get}
@@ -16,8 +16,12 @@ use Rattle.one_thread.specs.declared.station.Station.{Station}
 use Rattle.one_thread.specs.Turns.{Before, Does, Now, Nowhere}
 use Rattle.one_thread.specs.Window.{station_of, window}
 use Rattle.chart.specs.declared.row.Row.{Row}
+use Rattle.chart.specs.declared.telling.Style.{Style}
 use Rattle.chart.specs.Named.{AreNamed, IsRowOf, StandsIn, live_positions}
-use Rattle.chart.specs.Rows.{SoFar, all_seen, let_row, newcomer, next_kept, seen_in, staying, with_row}
+use Rattle.lsq.specs.declared.entry.Entry.{Entry}
+use Rattle.chart.specs.Blocked.{Queued, all_held, blocker, entry_after, held_by, held_rows, joined, joined_by, no_rows}
+use Rattle.chart.specs.Kept.{next_kept}
+use Rattle.chart.specs.Rows.{SoFar, all_seen, let_row, newcomer, rows_behind, seen_in, staying, with_row}
 use Rattle.chart.specs.Watched.{AreTurns, Passed, unit_behind, kept_behind}
 use Rattle.counted_io.specs.Counted.{counted, raised}
 use Rattle.chart.proofs.LivePositions.{Fewer, OneLess, OneMore}
@@ -74,6 +78,40 @@ seen_stations turn W i (r ∷ rs) h =
     ∙ ap (λ k. w ∷ take (length rs) (drop k W)) (add-one i)
     ∙ ap (take (suc (length rs))) (sym (drop_there W i w there.1))
 
+-- What a load waits for changes neither its position nor its station
+
+held_map : {X : Type 0} (g : Row → X) (turn : ℕ) → ((r : Row) (o : Option ℕ) → g (held_by turn r o) ≡ g r) → (q : Queued) (rows : List Row) →
+    map g (all_held turn q rows).rows ≡ map g q.rows ++ map g rows
+held_map g turn same q [] = sym (append-nil (map g q.rows))
+held_map g turn same q (r ∷ rs) =
+    let held : Row = held_by turn r (blocker q r) in
+    held_map g turn same (joined q held) rs
+    ∙ ap (λ l. l ++ map g rs) (more (entry_after q.rows held) ∙ map-append g q.rows (held ∷ []))
+    ∙ append_assoc (map g q.rows) (g held ∷ []) (map g rs)
+    ∙ ap (λ x. map g q.rows ++ (x ∷ map g rs)) (same r (blocker q r))
+  where
+    more : (e : Option Entry) → map g (joined_by q (held_by turn r (blocker q r)) e).rows ≡ map g (q.rows ++ held_by turn r (blocker q r) ∷ [])
+    more None = refl
+    more (Some e) = refl
+
+pub held_positions : (turn : ℕ) (rows : List Row) → map position_of (held_rows turn rows) ≡ map position_of rows
+held_positions turn rows = held_map position_of turn same no_rows rows
+  where
+    same : (r : Row) (o : Option ℕ) → (held_by turn r o).position ≡ r.position
+    same r None = refl
+    same r (Some store) = refl
+
+pub held_stations : (turn : ℕ) (rows : List Row) → map station_in (held_rows turn rows) ≡ map station_in rows
+held_stations turn rows = held_map station_in turn same no_rows rows
+  where
+    same : (r : Row) (o : Option ℕ) → (held_by turn r o).station ≡ r.station
+    same r None = refl
+    same r (Some store) = refl
+
+-- the books behind a turn, before the loads that are blocked are looked for
+abbrev pub unheld : SoFar → Turn → List Station → SoFar
+unheld k answer W = record (next_kept k answer W) { rows = rows_behind k answer W }
+
 -- The rows are those of the live tenants
 pub record Named (P : Program) (ts : List Tenant) (k : SoFar) : Type 0 where
   pub lets : k.lets ≡ length ts
@@ -87,7 +125,7 @@ module _ (P : Program) (C : Sizes) (U V : UpdateUnit) (k : SoFar) (n : Named P U
   -- nobody has come
   plain_next : (answer : Turn) → length V.tenants ≡ length U.tenants → newcomer k answer (window P V.tenants) ≡ None →
       map position_of (staying answer (length (window P V.tenants)) k.rows) ≡ live_positions V.tenants →
-      Named P V.tenants (next_kept k answer (window P V.tenants))
+      Named P V.tenants (unheld k answer (window P V.tenants))
   plain_next answer counts none here =
       let S = window P V.tenants in
       let stay = staying answer (length S) k.rows in
@@ -104,7 +142,7 @@ module _ (P : Program) (C : Sizes) (U V : UpdateUnit) (k : SoFar) (n : Named P U
       }
 
   -- one was let
-  let_next : OneMore U.tenants V.tenants → length V.tenants < 2 ^ 64 → Named P V.tenants (next_kept k Let (window P V.tenants))
+  let_next : OneMore U.tenants V.tenants → length V.tenants < 2 ^ 64 → Named P V.tenants (unheld k Let (window P V.tenants))
   let_next one small =
       let S = window P V.tenants in
       let m : ℕ = length k.rows in
@@ -114,7 +152,7 @@ module _ (P : Program) (C : Sizes) (U V : UpdateUnit) (k : SoFar) (n : Named P U
       let there = slice_there S m (omega (arith, wide)) in
       let w : Station = there.0 in
       let seen = all_seen (raised k.turns) S 0 k.rows in
-      let row : Row = record { position = k.lets; let_at = raised k.turns; ran = None; settled = None; station = w } in
+      let row : Row = record { position = k.lets; let_at = raised k.turns; ran = None; held = None; settled = None; station = w } in
       let new : newcomer k Let S ≡ Some row = ap (λ o. let_row Let o k.lets (raised k.turns)) there.1 in
       let next : raised (length U.tenants) ≡ length V.tenants = omega (arith, one.count, small) in
       record {
@@ -161,23 +199,33 @@ module _ (P : Program) (C : Sizes) (U V : UpdateUnit) (k : SoFar) (n : Named P U
       ∙ ap (λ m. take m (live_positions V.tenants ++ f.gone)) (sym (positions_length P V.tenants))
       ∙ take-append_seam (live_positions V.tenants) f.gone
 
-  next : (answer : Turn) → Does P C U V answer → length V.tenants < 2 ^ 64 → Named P V.tenants (next_kept k answer (window P V.tenants))
-  next (Recovered age) d small = let f = recovers P C U V d in plain_next (Recovered age) f.count refl (fewer_left f)
-  next Let d small = let_next (lets P C U V d) small
-  next (Ran age) d small = let s = runs P C U V d in plain_next (Ran age) s.count refl (n.positions ∙ sym s.positions)
-  next (Loaded age) d small = let s = loads P C U V d in plain_next (Loaded age) s.count refl (n.positions ∙ sym s.positions)
-  next Halved d small = let o = retires P C U V d.retires in plain_next Halved o.count refl (one_less o)
-  next Retired d small = let o = retires P C U V d in plain_next Retired o.count refl (one_less o)
-  next (Over c) (Before stopped same) small = plain_next (Over c) (ap (λ X. length X.tenants) same) refl (as_before same)
-  next (Over c) (Now r stopped) small = let o = retires P C U V r in plain_next (Over c) o.count refl (one_less o)
-  next (Over c) (Nowhere bad nowhere same) small = plain_next (Over c) (ap (λ X. length X.tenants) same) refl (as_before same)
+  pub behind : (answer : Turn) → Does P C U V answer → length V.tenants < 2 ^ 64 → Named P V.tenants (unheld k answer (window P V.tenants))
+  behind (Recovered age) d small = let f = recovers P C U V d in plain_next (Recovered age) f.count refl (fewer_left f)
+  behind Let d small = let_next (lets P C U V d) small
+  behind (Ran age) d small = let s = runs P C U V d in plain_next (Ran age) s.count refl (n.positions ∙ sym s.positions)
+  behind (Loaded age) d small = let s = loads P C U V d in plain_next (Loaded age) s.count refl (n.positions ∙ sym s.positions)
+  behind Halved d small = let o = retires P C U V d.retires in plain_next Halved o.count refl (one_less o)
+  behind Retired d small = let o = retires P C U V d in plain_next Retired o.count refl (one_less o)
+  behind (Over c) (Before stopped same) small = plain_next (Over c) (ap (λ X. length X.tenants) same) refl (as_before same)
+  behind (Over c) (Now r stopped) small = let o = retires P C U V r in plain_next (Over c) o.count refl (one_less o)
+  behind (Over c) (Nowhere bad nowhere same) small = plain_next (Over c) (ap (λ X. length X.tenants) same) refl (as_before same)
 
-pub named : (P : Program) (C : Sizes) (turns : List Passed) → AreTurns P C turns → length (unit_behind turns).tenants < 2 ^ 64 →
-    Named P (unit_behind turns).tenants (kept_behind P turns)
-named P C [] a small = record { lets = refl; positions = refl; stations = refl }
-named P C (t ∷ ts) a small =
+  next : (answer : Turn) → Does P C U V answer → length V.tenants < 2 ^ 64 → Named P V.tenants (next_kept k answer (window P V.tenants))
+  next answer d small =
+      let n' = behind answer d small in
+      let R = rows_behind k answer (window P V.tenants) in
+      record {
+        lets = n'.lets;
+        positions = held_positions (raised k.turns) R ∙ n'.positions;
+        stations = held_stations (raised k.turns) R ∙ n'.stations;
+      }
+
+pub named : (f : Style) (P : Program) (C : Sizes) (turns : List Passed) → AreTurns P C turns → length (unit_behind turns).tenants < 2 ^ 64 →
+    Named P (unit_behind turns).tenants (kept_behind f P turns)
+named f P C [] a small = record { lets = refl; positions = refl; stations = refl }
+named f P C (t ∷ ts) a small =
     let more = grows P C (unit_behind ts) t.unit t.answer a.1 in
-    next P C (unit_behind ts) t.unit (kept_behind P ts) (named P C ts a.0 (omega (arith, more, small))) t.answer a.1 small
+    next P C (unit_behind ts) t.unit (kept_behind f P ts) (named f P C ts a.0 (omega (arith, more, small))) t.answer a.1 small
 
 -- Row by row
 
@@ -245,8 +293,8 @@ each_row P ts k n =
     (subst (λ ps. Matched P ts ps (map station_in k.rows)) (sym n.positions)
     (subst (Matched P ts (live_positions ts)) (sym n.stations) (matched P ts)))
 
-pub rows_are_named : (P : Program) (C : Sizes) (turns : List Passed) → AreTurns P C turns → length (unit_behind turns).tenants < 2 ^ 64 →
-    AreNamed P (unit_behind turns).tenants (kept_behind P turns).rows
-rows_are_named P C turns a small =
-    let n = named P C turns a small in
-    record { positions = n.positions; each = each_row P (unit_behind turns).tenants (kept_behind P turns) n }
+pub rows_are_named : (f : Style) (P : Program) (C : Sizes) (turns : List Passed) → AreTurns P C turns → length (unit_behind turns).tenants < 2 ^ 64 →
+    AreNamed P (unit_behind turns).tenants (kept_behind f P turns).rows
+rows_are_named f P C turns a small =
+    let n = named f P C turns a small in
+    record { positions = n.positions; each = each_row P (unit_behind turns).tenants (kept_behind f P turns) n }

@@ -24,9 +24,10 @@ use Rattle.one_thread.specs.Choices.{IsTurnBy, Picks, TurnedBy, step_made}
 use Rattle.one_thread.specs.StandsFor.{StandsFor, StandsForSome, sizes}
 use Rattle.one_thread.specs.Turns.{BenchFields, Does, Falls, Moves, SizesStay, Trains}
 use Rattle.one_thread.specs.Window.{window}
-use Rattle.chart.specs.declared.telling.Format.{Format}
+use Rattle.chart.specs.declared.telling.Style.{Style}
 use Rattle.chart.specs.Events.{events}
-use Rattle.chart.specs.Rows.{SoFar, next_kept}
+use Rattle.chart.specs.Kept.{next_kept}
+use Rattle.chart.specs.Rows.{SoFar}
 use Rattle.chart.specs.Telling.{last_text, turn_text}
 use Rattle.chart.specs.Watched.{GoesOn, Guides, LastIsOver, IsBegun, IsDue, NoTurnIsDue, IsThrough, Passed, Stood, count_behind, unit_behind, events_at, kept_behind, told}
 
@@ -45,15 +46,12 @@ sizes_same b later e =
     ∙ ap (λ n. record (sizes later) { ring = b.ring; queue = b.queue; first_tag = n }) e.first_tag
 
 -- what is said of a turn, by the fields and by the unit
-same_text : (f : Format) (P : Program) (k : SoFar) (ts : List Passed) (answer : Turn) (W : List Station) (U : UpdateUnit) →
-    k ≡ kept_behind P ts → W ≡ window P U.tenants →
-    turn_text f (raised k.turns) (events k answer W) ≡ turn_text f (raised (kept_behind P ts).turns) (events_at P ts (record {
-      answer = answer;
-      unit = U;
-    }))
+same_text : (f : Style) (P : Program) (k : SoFar) (ts : List Passed) (answer : Turn) (W : List Station) (U : UpdateUnit) →
+    k ≡ kept_behind f P ts → W ≡ window P U.tenants →
+    turn_text k (events k answer W) ≡ turn_text (kept_behind f P ts) (events_at f P ts (record { answer = answer; unit = U }))
 same_text f P k ts answer W U kept shows =
-    ap (λ x. turn_text f (raised x.turns) (events x answer W)) kept
-    ∙ ap (λ w. turn_text f (raised (kept_behind P ts).turns) (events (kept_behind P ts) answer w)) shows
+    ap (λ x. turn_text x (events x answer W)) kept
+    ∙ ap (λ w. turn_text (kept_behind f P ts) (events (kept_behind f P ts) answer w)) shows
 
 -- a turn behind which the count was below the limit does not pass it
 count_next : (limit : ℕ) (b later : Pipeline) (answer : Turn) → b.committed.count < limit → Falls answer b later → later.committed.count ≤ limit
@@ -75,7 +73,7 @@ DoesBy Chooses P C U V answer old new = (does : Does P C U V answer) × Picks Ch
 
 -- A run that is told, by its predictor and its chooser, from these on
 module _ {S Q : Type 0} (Predicts : S → ℕ → Instr → ℕ → S → Type 0) (Learns : S → ℕ → ℕ → S → Type 0) (Chooses : Q → List Possible → ℕ → Q → Type 0)
-    (f : Format) (P : Program) (C : Sizes) (limit : ℕ) (first : Guides S Q) (start : Option (List ℕ)) where
+    (f : Style) (P : Program) (C : Sizes) (limit : ℕ) (first : Guides S Q) (start : Option (List ℕ)) where
   -- One turn more
 
   -- the turn that was made, behind those that were told
@@ -129,7 +127,7 @@ module _ {S Q : Type 0} (Predicts : S → ℕ → Instr → ℕ → S → Type 0
   stood_next : (b later : BenchFields S) (o o' : Q) (k k' : SoFar) (answer : Turn) (now new : Option (List ℕ)) →
       IsTurnBy Predicts Learns Chooses b o answer later o' → SizesStay b.pipeline later.pipeline →
       k' ≡ next_kept k answer later.pipeline.window →
-      Appends now new (turn_text f (raised k.turns) (events k answer later.pipeline.window)) → b.pipeline.committed.count < limit →
+      Appends now new (turn_text k (events k answer later.pipeline.window)) → b.pipeline.committed.count < limit →
       GoesOn Predicts Learns Chooses f P C limit b o k first start now → StoodNext later o' k' answer new
   stood_next b later o o' k k' answer now new turned same next says less g =
       go (has_passed b later o o' g.stood.turns answer g.stood.program g.stood.sizes program g.stood.reached g.stood.stands turned)
@@ -152,7 +150,7 @@ module _ {S Q : Type 0} (Predicts : S → ℕ → Instr → ℕ → S → Type 0
               ordered = (o, g.stood.ordered, m.does.1);
               reached = m.reached;
               stands = m.stands;
-              kept = next ∙ ap (λ x. next_kept x answer later.pipeline.window) g.stood.kept ∙ ap (λ W. next_kept (kept_behind P g.stood.turns) answer W) m.shows;
+              kept = next ∙ ap (λ x. next_kept x answer later.pipeline.window) g.stood.kept ∙ ap (λ W. next_kept (kept_behind f P g.stood.turns) answer W) m.shows;
               says = Appends-trans start now new (told f P g.stood.turns) _ g.stood.says (subst (Appends now new) line says);
             };
             over = λ c e. e;
@@ -163,7 +161,7 @@ module _ {S Q : Type 0} (Predicts : S → ℕ → Instr → ℕ → S → Type 0
   pub goes_next : (b later : BenchFields S) (o o' : Q) (k k' : SoFar) (answer : Turn) (now new : Option (List ℕ)) →
       IsTurnBy Predicts Learns Chooses b o answer later o' → SizesStay b.pipeline later.pipeline →
       k' ≡ next_kept k answer later.pipeline.window →
-      Appends now new (turn_text f (raised k.turns) (events k answer later.pipeline.window)) → b.pipeline.committed.count < limit →
+      Appends now new (turn_text k (events k answer later.pipeline.window)) → b.pipeline.committed.count < limit →
       ((c : Stop) → answer ≡ Over c → ⊥) → Falls answer b.pipeline later.pipeline →
       GoesOn Predicts Learns Chooses f P C limit b o k first start now → GoesOn Predicts Learns Chooses f P C limit later o' k' first start new
   goes_next b later o o' k k' answer now new turned same next says less more falls g =
@@ -174,7 +172,7 @@ module _ {S Q : Type 0} (Predicts : S → ℕ → Instr → ℕ → S → Type 0
   pub through_next : (b later : BenchFields S) (o o' : Q) (k k' : SoFar) (answer : Turn) (now new : Option (List ℕ)) →
       IsTurnBy Predicts Learns Chooses b o answer later o' → SizesStay b.pipeline later.pipeline →
       k' ≡ next_kept k answer later.pipeline.window →
-      Appends now new (turn_text f (raised k.turns) (events k answer later.pipeline.window)) → b.pipeline.committed.count < limit →
+      Appends now new (turn_text k (events k answer later.pipeline.window)) → b.pipeline.committed.count < limit →
       (c : Stop) → answer ≡ Over c → run_from later.pipeline limit ≡ (ByStop c, later.pipeline.committed) →
       GoesOn Predicts Learns Chooses f P C limit b o k first start now → IsThrough Predicts Learns Chooses f P C limit later o' k' first start new
   through_next b later o o' k k' answer now new turned same next says less c is ends g =
@@ -194,8 +192,8 @@ module _ {S Q : Type 0} (Predicts : S → ℕ → Instr → ℕ → S → Type 0
   -- a turn that was due and told in part, or not at all
   pub stood_part : (b later : BenchFields S) (o o' : Q) (k : SoFar) (answer : Turn) (now new : Option (List ℕ)) (n : ℕ) →
       IsTurnBy Predicts Learns Chooses b o answer later o' → SizesStay b.pipeline later.pipeline →
-      n ≤ length (turn_text f (raised k.turns) (events k answer later.pipeline.window)) →
-      Appends now new (take n (turn_text f (raised k.turns) (events k answer later.pipeline.window))) → b.pipeline.committed.count < limit →
+      n ≤ length (turn_text k (events k answer later.pipeline.window)) →
+      Appends now new (take n (turn_text k (events k answer later.pipeline.window))) → b.pipeline.committed.count < limit →
       GoesOn Predicts Learns Chooses f P C limit b o k first start now → IsBegun Predicts Learns Chooses f P C limit first start new
   stood_part b later o o' k answer now new n turned same inside says below g =
       go (has_passed b later o o' s.turns answer s.program s.sizes program s.reached s.stands turned)
@@ -210,8 +208,8 @@ module _ {S Q : Type 0} (Predicts : S → ℕ → Instr → ℕ → S → Type 0
       go m =
           let t : Passed = record { answer = answer; unit = m.unit } in
           let before = told f P s.turns in
-          let T = turn_text f (raised (kept_behind P s.turns).turns) (events_at P s.turns t) in
-          let last = last_text f (kept_behind P (t ∷ s.turns)) in
+          let T = turn_text (kept_behind f P s.turns) (events_at f P s.turns t) in
+          let last = last_text (kept_behind f P (t ∷ s.turns)) in
           let line = same_text f P k s.turns answer later.pipeline.window m.unit s.kept m.shows in
           let less : n ≤ length T = subst (λ l. n ≤ length l) line inside in
           let part : take (length before + n) ((before ++ T) ++ last) ≡ before ++ take n T = ap (take (length before + n))

@@ -8,7 +8,8 @@ use Rattle.chart.specs.declared.event.Event.{Event}
 use Rattle.chart.specs.declared.event.Event.TheVariants.{Let, Moved, Left}
 use Rattle.chart.specs.declared.event.Way.TheVariants.{Retired, Squashed}
 use Rattle.chart.specs.declared.row.Row.{Row}
-use Rattle.chart.specs.Rows.{SoFar, all_seen, awaited, is_recovery, newcomer, phase_of, retires, staying}
+use Rattle.chart.specs.Blocked.{block_events, no_rows}
+use Rattle.chart.specs.Rows.{SoFar, all_seen, awaited, is_recovery, newcomer, phase_of, retires, rows_behind, staying}
 use Rattle.counted_io.specs.Counted.{raised}
 
 -- The squash of a tenant, if there is one
@@ -61,10 +62,11 @@ entry_events rows None = []
 entry_events rows (Some r) = let_event rows r ∷ []
 
 -- The events of a turn that left this window: the tenants that have left, then the one that has gone on, then the one
--- that was let
+-- that was let, then the loads that begin to wait for a store
 abbrev pub events : SoFar → Turn → List Station → List Event
 events k answer W =
     left_events answer (length W) k.retirements k.rows
     ++ (moved_events (worked_on answer) W (staying answer (length W) k.rows)
-    ++ entry_events
-    (all_seen (raised k.turns) W 0 (staying answer (length W) k.rows)) (newcomer k answer W))
+    ++ (entry_events
+    (all_seen (raised k.turns) W 0 (staying answer (length W) k.rows)) (newcomer k answer W)
+    ++ block_events (raised k.turns) no_rows (rows_behind k answer W)))

@@ -1,5 +1,5 @@
 -- What became of tenants at a turn, by the tenants before it and behind it.
-use Rattle.std.specs.Prelude.{◌≡◌, ℕ, List, length, Option, Some, None}
+use Rattle.std.specs.Prelude.{◌≡◌, ℕ, List, length, Option, Some, None, is_some, true}
 use Rattle.instructions.specs.Instruction.{first_of, second_of}
 use Rattle.instructions.specs.Programs.{Program}
 use Rattle.inorder.specs.Callers.{is_retired}
@@ -7,8 +7,9 @@ use Rattle.inorder.specs.Tenants.{IsThere, Standing, Tenant}
 use Rattle.inorder.specs.Tenants as tenant
 use Rattle.inorder.specs.Unit.{at, creator, how_many, value_of}
 use Rattle.one_thread.specs.declared.station.Station.{Station}
+use Rattle.one_thread.specs.Loads.{waits}
 use Rattle.chart.specs.declared.event.Event.{Event}
-use Rattle.chart.specs.declared.event.Event.TheVariants.{Left, Let, Moved}
+use Rattle.chart.specs.declared.event.Event.TheVariants.{Blocked, Left, Let, Moved}
 use Rattle.chart.specs.declared.event.Way.TheVariants.{Retired, Squashed}
 use Rattle.chart.specs.declared.row.Phase.{Phase}
 use Rattle.chart.specs.declared.row.Row.{Row}
@@ -45,6 +46,14 @@ pub record HasGoneOn (P : Program) (before behind : List Tenant) (position : ℕ
   pub from_is : from ≡ phase_of old.stage
   pub to_is : to ≡ phase_of new.stage
 
+-- The load at a position has its address and no value, and the tenant that it waits for is live
+pub record WaitsFor (P : Program) (behind : List Tenant) (position store : ℕ) : Type 0 where
+  pub load : Station
+  pub stands : StandsIn P behind position load
+  pub waits : is_some (waits load) ≡ true
+  pub other : Station
+  pub stood : StandsIn P behind store other
+
 -- The tenant of a row was live, and has left
 pub record HasGone (P : Program) (before behind : List Tenant) (r : Row) (standing : Standing) : Type 0 where
   pub stood : IsRowOf P before r
@@ -59,5 +68,6 @@ pub record HasRetired (P : Program) (before behind : List Tenant) (r : Row) (oth
 abbrev pub Happened : Program → List Tenant → List Tenant → Event → Type 0
 Happened P before behind (Let r first second) = WasLet P before behind r first second
 Happened P before behind (Moved position from to) = HasGoneOn P before behind position from to
+Happened P before behind (Blocked position store) = WaitsFor P behind position store
 Happened P before behind (Left r (Retired others)) = HasRetired P before behind r others
 Happened P before behind (Left r Squashed) = HasGone P before behind r tenant.Squashed

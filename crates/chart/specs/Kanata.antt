@@ -1,9 +1,10 @@
 -- A log of the format Kanata, version 0004, which pipeline viewers read. Its cycles are turns, and
 -- its identifiers are positions.
 use Rattle.std.specs.Prelude.{ℕ, List, [], ◌++◌, Option, Some, None, codes, decimal}
+use Rattle.isa.specs.declared.listing.instr_text.Naming.{Naming}
 use Rattle.isa.specs.Report.{hexadecimal, newline}
 use Rattle.chart.specs.declared.event.Event.{Event}
-use Rattle.chart.specs.declared.event.Event.TheVariants.{Let, Moved, Left}
+use Rattle.chart.specs.declared.event.Event.TheVariants.{Blocked, Let, Moved, Left}
 use Rattle.chart.specs.declared.event.Way.{Way}
 use Rattle.chart.specs.declared.event.Way.TheVariants.{Retired, Squashed}
 use Rattle.chart.specs.declared.row.Phase.{Phase}
@@ -34,11 +35,16 @@ wait_line position (Some producer) =
     codes "W\t" ++ (decimal position ++ (codes "\t" ++ (decimal producer ++ codes "\t0\n")))
 
 -- A tenant was let
-abbrev pub let_lines : Row → List ℕ
-let_lines r =
+abbrev pub let_lines : Naming → Row → List ℕ
+let_lines n r =
     codes "I\t" ++ (decimal r.position ++ (codes "\t" ++ (decimal r.position ++ (codes "\t0\nL\t"
     ++ (decimal r.position ++ (codes "\t0\t" ++ (hexadecimal r.station.pc ++ (codes " "
-    ++ (tenant_text r.station ++ (codes "\nS\t" ++ (decimal r.position ++ codes "\t0\tDs\n")))))))))))
+    ++ (tenant_text n r.station ++ (codes "\nS\t" ++ (decimal r.position ++ codes "\t0\tDs\n")))))))))))
+
+-- A load is blocked by a store
+abbrev pub block_line : (position store : ℕ) → List ℕ
+block_line position store =
+    codes "L\t" ++ (decimal position ++ (codes "\t1\twaits for the store " ++ (decimal store ++ newline)))
 
 -- The end of a line that tells how a tenant has left
 abbrev pub way_text : Way → List ℕ
@@ -46,10 +52,11 @@ way_text (Retired before) = decimal before ++ codes "\t0\n"
 way_text Squashed = codes "0\t1\n"
 
 -- The lines of an event
-abbrev pub event_lines : Event → List ℕ
-event_lines (Let r first second) =
-    let_lines r ++ (wait_line r.position first ++ wait_line r.position second)
-event_lines (Moved position from to) =
+abbrev pub event_lines : Naming → Event → List ℕ
+event_lines n (Let r first second) =
+    let_lines n r ++ (wait_line r.position first ++ wait_line r.position second)
+event_lines n (Moved position from to) =
     codes "E\t" ++ (decimal position ++ (codes "\t0\t" ++ (stage_text from ++ (codes "\nS\t"
     ++ (decimal position ++ (codes "\t0\t" ++ (stage_text to ++ newline)))))))
-event_lines (Left r way) = codes "R\t" ++ (decimal r.position ++ (codes "\t" ++ way_text way))
+event_lines n (Blocked position store) = block_line position store
+event_lines n (Left r way) = codes "R\t" ++ (decimal r.position ++ (codes "\t" ++ way_text way))

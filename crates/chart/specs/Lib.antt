@@ -1,8 +1,12 @@
 pub mod Rows
+pub mod Blocked
 pub mod Events
+pub mod Lines
+pub mod Kept
 pub mod Drawings
 pub mod Kanata
 pub mod Telling
+pub mod Names
 pub mod Watched
 pub mod Named
 pub mod Happened

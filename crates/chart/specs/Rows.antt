@@ -1,5 +1,5 @@
 -- The rows of the live tenants of a run, from turn to turn.
-use Rattle.std.specs.Prelude.{ℕ, ◌+◌, Bool, true, false, List, [], ◌∷◌, ◌++◌, length, take, drop, Option, Some, None, is_some, ◌==◌, nat_lt, if◌then◌else◌, slice_get}
+use Rattle.std.specs.Prelude.{ℕ, ◌+◌, Bool, true, false, List, [], ◌∷◌, ◌++◌, length, take, drop, Option, Some, None, ◌==◌, nat_lt, if◌then◌else◌, slice_get}
 use Rattle.inorder.specs.Unit.{can_be_written}
 use Rattle.one_thread.specs.declared.bench.Turn.{Turn}
 use Rattle.one_thread.specs.declared.bench.Turn.TheVariants.{Halved, Let, Over, Recovered, Retired}
@@ -10,7 +10,9 @@ use Rattle.chart.specs.declared.row.Phase.{Phase}
 use Rattle.chart.specs.declared.row.Phase.TheVariants.{Waiting, Address, Done, Miss, Stop}
 use Rattle.chart.specs.declared.row.Row.{Row}
 use Rattle.chart.specs.declared.books.Books.{Books}
-use Rattle.counted_io.specs.Counted.{counted, raised}
+use Rattle.chart.specs.declared.lines.Line.{Line}
+use Rattle.chart.specs.declared.telling.Style.{Style}
+use Rattle.counted_io.specs.Counted.{raised}
 
 -- The phase of a tenant, by the stage of its station
 abbrev pub phase_of : Stage → Phase
@@ -39,6 +41,7 @@ seen turn r w =
       position = r.position;
       let_at = r.let_at;
       ran = ran_by turn (phase_of r.station.stage) (phase_of w.stage) r.ran;
+      held = r.held;
       settled = settled_turn turn (phase_of r.station.stage) (phase_of w.stage) r.settled;
       station = w;
     }
@@ -78,7 +81,7 @@ staying answer live rows =
 -- The row of a tenant that was let, by the station behind those before it
 abbrev pub let_row : Turn → Option Station → (position turn : ℕ) → Option Row
 let_row Let (Some w) position turn =
-    Some (record { position = position; let_at = turn; ran = None; settled = None; station = w })
+    Some (record { position = position; let_at = turn; ran = None; held = None; settled = None; station = w })
 let_row _ _ position turn = None
 
 -- The rows, and one more if there is one
@@ -115,34 +118,37 @@ awaited register rows =
 
 -- The books
 
--- Counts of the turns that were made, the tenants that were let and those that have retired; and the rows of the live
--- ones, the oldest first
+-- How a run is told; counts of the turns that were made, the tenants that were let and those that have retired; the
+-- rows of the live ones, the oldest first; and the lines that are drawn
 pub record SoFar : Type 0 where
+  pub style : Style
   pub turns : ℕ
   pub lets : ℕ
   pub retirements : ℕ
   pub rows : List Row
+  pub lines : List Line
 
 -- The content of the books
 abbrev pub kept : Books → SoFar
-kept b = record { turns = b.turns; lets = b.lets; retirements = b.retirements; rows = b.rows.items }
+kept b =
+    record {
+      style = b.style;
+      turns = b.turns;
+      lets = b.lets;
+      retirements = b.retirements;
+      rows = b.rows.items;
+      lines = b.lines.items;
+    }
 
 -- The content before the first turn
-abbrev pub start_kept : SoFar
-start_kept = record { turns = 0; lets = 0; retirements = 0; rows = [] }
+abbrev pub start_kept : Style → SoFar
+start_kept s = record { style = s; turns = 0; lets = 0; retirements = 0; rows = []; lines = [] }
 
 -- The row of the tenant that was let at a turn that left this window
 abbrev pub newcomer : SoFar → Turn → List Station → Option Row
 newcomer k answer W = let_row answer (slice_get W (length k.rows)) k.lets (raised k.turns)
 
--- The content behind a turn that left this window
-abbrev pub next_kept : SoFar → Turn → List Station → SoFar
-next_kept k answer W =
-    record {
-      turns = raised k.turns;
-      lets = counted (is_some (newcomer k answer W)) k.lets;
-      retirements = counted (retires answer (length W) (length k.rows)) k.retirements;
-      rows =
-          with_row (all_seen (raised k.turns) W 0 (staying answer (length W) k.rows))
-          (newcomer k answer W);
-    }
+-- The rows behind a turn that left this window, before the loads that are blocked are looked for
+abbrev pub rows_behind : SoFar → Turn → List Station → List Row
+rows_behind k answer W =
+    with_row (all_seen (raised k.turns) W 0 (staying answer (length W) k.rows)) (newcomer k answer W)

@@ -1,7 +1,7 @@
 -- A run that is told turn by turn.
 use Rattle.std.specs.Prelude.{⊤, ◌≡◌, ◌≤◌, ◌<◌, length, ℕ, List, [], ◌∷◌, ◌++◌, take, Option}
 use Rattle.std.specs.Io.KnownBytes.{Appends}
-use Rattle.counted_io.specs.Counted.{Gives, raised}
+use Rattle.counted_io.specs.Counted.{Gives}
 use Rattle.counted_io.specs.declared.counted.Counted.{Counted}
 use Rattle.instructions.specs.Programs.{Program}
 use Rattle.instructions.specs.Settings.{Settings}
@@ -21,10 +21,11 @@ use Rattle.one_thread.specs.Possible.{Possible, possible}
 use Rattle.one_thread.specs.Turns.{BenchFields, Does, Trains}
 use Rattle.one_thread.specs.Window.{window}
 use Rattle.inorder.specs.Moves.{IsReached}
-use Rattle.chart.specs.declared.telling.Format.{Format}
+use Rattle.chart.specs.declared.telling.Style.{Style}
 use Rattle.chart.specs.declared.event.Event.{Event}
 use Rattle.chart.specs.Events.{events}
-use Rattle.chart.specs.Rows.{SoFar, next_kept, start_kept}
+use Rattle.chart.specs.Kept.{next_kept}
+use Rattle.chart.specs.Rows.{SoFar, start_kept}
 use Rattle.chart.specs.Telling.{first_text, last_text, turn_text}
 
 -- A turn that was made: its answer, and the unit behind it
@@ -67,22 +68,22 @@ NoTurnIsDue P limit ts (ByStop code) = LastIsOver ts code
 NoTurnIsDue P limit ts ByLimit = count_behind P ts ≡ limit
 
 -- The rows and counts behind these turns
-abbrev pub kept_behind : Program → List Passed → SoFar
-kept_behind P [] = start_kept
-kept_behind P (t ∷ ts) = next_kept (kept_behind P ts) t.answer (window P t.unit.tenants)
+abbrev pub kept_behind : Style → Program → List Passed → SoFar
+kept_behind f P [] = start_kept f
+kept_behind f P (t ∷ ts) = next_kept (kept_behind f P ts) t.answer (window P t.unit.tenants)
 
 -- The events of a turn behind others
-abbrev pub events_at : Program → List Passed → Passed → List Event
-events_at P ts t = events (kept_behind P ts) t.answer (window P t.unit.tenants)
+abbrev pub events_at : Style → Program → List Passed → Passed → List Event
+events_at f P ts t = events (kept_behind f P ts) t.answer (window P t.unit.tenants)
 
 -- The text of these turns
-abbrev pub told : Format → Program → List Passed → List ℕ
-told f P [] = first_text f
-told f P (t ∷ ts) = told f P ts ++ turn_text f (raised (kept_behind P ts).turns) (events_at P ts t)
+abbrev pub told : Style → Program → List Passed → List ℕ
+told f P [] = first_text f.format
+told f P (t ∷ ts) = told f P ts ++ turn_text (kept_behind f P ts) (events_at f P ts t)
 
 -- The text of a whole run
-abbrev pub text : Format → Program → List Passed → List ℕ
-text f P ts = told f P ts ++ last_text f (kept_behind P ts)
+abbrev pub text : Style → Program → List Passed → List ℕ
+text f P ts = told f P ts ++ last_text (kept_behind f P ts)
 
 -- The sizes that a configuration gives a unit
 abbrev pub sizes_by : Settings → Sizes
@@ -121,7 +122,7 @@ guides predictor order = record { predictor = predictor; order = order }
 module _ {S Q : Type 0} (Predicts : S → ℕ → Instr → ℕ → S → Type 0) (Learns : S → ℕ → ℕ → S → Type 0)
     (Chooses : Q → List Possible → ℕ → Q → Type 0) where
   -- The bench stands for the unit behind some turns, and these were told
-  pub record Stood (f : Format) (P : Program) (C : Sizes) (limit : ℕ) (b : BenchFields S) (order : Q)
+  pub record Stood (f : Style) (P : Program) (C : Sizes) (limit : ℕ) (b : BenchFields S) (order : Q)
       (k : SoFar) (first : Guides S Q) (start now : Option (List ℕ)) : Type 0 where
     pub program : b.pipeline.program.now ≡ P
     pub sizes : sizes b.pipeline ≡ C
@@ -132,18 +133,18 @@ module _ {S Q : Type 0} (Predicts : S → ℕ → Instr → ℕ → S → Type 0
     pub ordered : AreOrdered Chooses P C first.order turns are order
     pub reached : IsReached P C (unit_behind turns)
     pub stands : StandsFor b.pipeline (unit_behind turns)
-    pub kept : k ≡ kept_behind P turns
+    pub kept : k ≡ kept_behind f P turns
     pub says : Appends start now (told f P turns)
 
   -- The bench stood so, its unit has not ended, and its count is no more than the limit
-  pub record GoesOn (f : Format) (P : Program) (C : Sizes) (limit : ℕ) (b : BenchFields S) (order : Q)
+  pub record GoesOn (f : Style) (P : Program) (C : Sizes) (limit : ℕ) (b : BenchFields S) (order : Q)
       (k : SoFar) (first : Guides S Q) (start now : Option (List ℕ)) : Type 0 where
     pub stood : Stood f P C limit b order k first start now
     pub going : (code : Stop) → LastIsOver stood.turns code → ⊥
     pub within : b.pipeline.committed.count ≤ limit
 
   -- The bench stood so, and all turns of its run were told
-  pub record IsThrough (f : Format) (P : Program) (C : Sizes) (limit : ℕ) (b : BenchFields S) (order : Q)
+  pub record IsThrough (f : Style) (P : Program) (C : Sizes) (limit : ℕ) (b : BenchFields S) (order : Q)
       (k : SoFar) (first : Guides S Q) (start now : Option (List ℕ)) : Type 0 where
     pub stood : Stood f P C limit b order k first start now
     pub over : NoTurnIsDue P limit stood.turns (run_from b.pipeline limit).0
@@ -151,7 +152,7 @@ module _ {S Q : Type 0} (Predicts : S → ℕ → Instr → ℕ → S → Type 0
   -- A run up to a limit was told from its first turn to its last one: legal turns by the guesses of this
   -- predictor and in this order, each of which was due, until none was. The last of them leaves the state in which
   -- the run ends
-  pub record IsTold (f : Format) (P : Program) (C : Sizes) (limit : ℕ) (first : Guides S Q) (end : Ending × State)
+  pub record IsTold (f : Style) (P : Program) (C : Sizes) (limit : ℕ) (first : Guides S Q) (end : Ending × State)
       (before after : Option (List ℕ)) : Type 0 where
     pub turns : List Passed
     pub are : AreTurns P C turns
@@ -165,7 +166,7 @@ module _ {S Q : Type 0} (Predicts : S → ℕ → Instr → ℕ → S → Type 0
 
   -- A beginning was told of a run up to a limit: of legal turns by the guesses of this predictor and in this order,
   -- each of which was due. While a further one is due, nothing was written of the text behind the last turn
-  pub record IsBegun (f : Format) (P : Program) (C : Sizes) (limit : ℕ) (first : Guides S Q)
+  pub record IsBegun (f : Style) (P : Program) (C : Sizes) (limit : ℕ) (first : Guides S Q)
       (before after : Option (List ℕ)) : Type 0 where
     pub turns : List Passed
     pub are : AreTurns P C turns

@@ -3,18 +3,20 @@ ghost use Rattle.std.specs.Prelude.{◌≡◌, ◌≢◌, ◌+◌, ◌-◌, ◌^
 ghost use Rattle.isa.specs.Listing.{listing};
 ghost use Rattle.counted_io.specs.Counted.{failures_of, known_by};
 ghost use Rattle.inorder.specs.Runs.{end_of, end_state};
-ghost use Rattle.chart.specs.Answers.{IsBegun, IsWatched, log_failures, outputs};
+ghost use Rattle.chart.specs.Answers.{IsBegun, IsBegunBy, IsWatched, IsWatchedBy, log_failures, outputs};
+ghost use Rattle.chart.specs.Names.{naming_of as naming_in};
 ghost use Rattle.answers.specs.Answer.{status_number};
 ghost use Rattle.command_line.specs.Exits.{HoldsOfInput, IsOfOneThread, failed_writes, refused};
 ghost use Rattle.command_line.specs.declared.exit.Line.TheVariants.{Nothing, Refused};
 
+use crate::naming::naming_of;
 use crate::pictures::{draw, trace};
-use answers::{Status, read_listing};
+use answers::{MOST_TAKEN, Status};
 use bench::run;
 use command_line::{Charted, Exit, Line, Refusal, choose, refused};
-use counted_io::{Counted, write_whole};
+use counted_io::{Counted, read_up_to, write_whole};
 use instructions::{End, Memory, Program};
-use isa::report_text;
+use isa::{FaultKind, Naming, fault_text, parse, report_text};
 use std::alloc::Global;
 use std::io::{Read, Write};
 
@@ -39,7 +41,7 @@ pub fn chart<R: Read + Drop, W: Write, L: Write>(
     ensures opened { result.line ≡ Refused Refusal.Open → reader ≡ None }
     // What was written whole is told of the reader's bytes.
     ensures answer { result.line ≡ Nothing → HoldsOfInput R.remaining reader (λ input.
-        IsWatched asked.now (listing input) result.status
+        IsWatched asked.now input result.status
         (outputs (known_by W.contents writer.old) (known_by L.contents log.old))
         (outputs (known_by W.contents writer.new) (known_by L.contents log.new))) }
     ensures quiet { result.line ≡ Nothing → failures_of writer.new ≡ failures_of writer.old }
@@ -56,7 +58,7 @@ pub fn chart<R: Read + Drop, W: Write, L: Write>(
     // What was written before a refusal is a beginning, and each part waits for the one before it.
     // Of the report nothing is written, or all, or a proper beginning before a failed call.
     ensures begun { (refusal : Refusal) → result.line ≡ Refused refusal →
-        HoldsOfInput R.remaining reader (λ input. IsBegun asked.now (listing input) refusal
+        HoldsOfInput R.remaining reader (λ input. IsBegun asked.now input refusal
         (outputs (known_by W.contents writer.old) (known_by L.contents log.old))
         (outputs (known_by W.contents writer.new) (known_by L.contents log.new))) }
 {
@@ -84,7 +86,7 @@ fn watched<R: Read, W: Write, L: Write>(
     requires writer_room { failures_of writer.old < 2 ^ 64 - 1 }
     requires log_room { failures_of log.old < 2 ^ 64 - 1 }
     ensures ok { IfOk result (λ status. IfSome (known_by R.remaining reader.old) (λ input.
-        IsWatched asked.now (listing input) (status_number status)
+        IsWatched asked.now input (status_number status)
         (outputs (known_by W.contents writer.old) (known_by L.contents log.old))
         (outputs (known_by W.contents writer.new) (known_by L.contents log.new)))) }
     ensures quiet { OnOk result (failures_of writer.new ≡ failures_of writer.old) }
@@ -98,31 +100,26 @@ fn watched<R: Read, W: Write, L: Write>(
     ensures trace { IfErr result (λ refusal.
         failures_of log.new ≡ failures_of log.old + log_failures refusal) }
     ensures begun { IfErr result (λ refusal. IfSome (known_by R.remaining reader.old) (λ input.
-        IsBegun asked.now (listing input) refusal
+        IsBegun asked.now input refusal
         (outputs (known_by W.contents writer.old) (known_by L.contents log.old))
         (outputs (known_by W.contents writer.new) (known_by L.contents log.new)))) }
 {
-    match read_listing(alloc, reader)? {
-        Ok(program) => told(alloc, asked, &program, writer, log),
-        Err(line) => {
-            write_whole(writer, line.as_str().as_bytes())?;
-            Ok(Status::TextFault)
-        },
-    }
+    let listing = read_up_to(alloc, reader, MOST_TAKEN)?;
+    answered(alloc, asked, listing.as_slice(), writer, log)
 }
 
-// Writes the report of a program's run, then its chart, then its log; gives the status.
-fn told<W: Write, L: Write>(
+// Writes all that is told of the bytes of a listing; gives the status.
+fn answered<W: Write, L: Write>(
     alloc: Global,
     asked: &Charted<'_>,
-    program: &Program,
+    bytes: &[u8],
     writer: &mut Counted<W>,
     log: &mut Counted<L>,
 ) -> Result<Status, Refusal>
     requires writer_room { failures_of writer.old < 2 ^ 64 - 1 }
     requires log_room { failures_of log.old < 2 ^ 64 - 1 }
     ensures ok { IfOk result (λ status.
-        IsWatched asked.now (Ok program.now) (status_number status)
+        IsWatchedBy asked.now (naming_in bytes.now) (listing bytes.now) (status_number status)
         (outputs (known_by W.contents writer.old) (known_by L.contents log.old))
         (outputs (known_by W.contents writer.new) (known_by L.contents log.new))) }
     ensures quiet { OnOk result (failures_of writer.new ≡ failures_of writer.old) }
@@ -134,15 +131,55 @@ fn told<W: Write, L: Write>(
         failures_of writer.new ≡ failures_of writer.old + failed_writes refusal) }
     ensures trace { IfErr result (λ refusal.
         failures_of log.new ≡ failures_of log.old + log_failures refusal) }
-    ensures begun { IfErr result (λ refusal. IsBegun asked.now (Ok program.now) refusal
+    ensures begun { IfErr result (λ refusal.
+        IsBegunBy asked.now (naming_in bytes.now) (listing bytes.now) refusal
+        (outputs (known_by W.contents writer.old) (known_by L.contents log.old))
+        (outputs (known_by W.contents writer.new) (known_by L.contents log.new))) }
+{
+    match parse(alloc, bytes) {
+        Ok(program) => told(alloc, asked, naming_of(bytes), &program, writer, log),
+        Err(fault) if fault.kind == FaultKind::Memory => Err(Refusal::Memory),
+        Err(fault) => {
+            let line = fault_text(alloc, &fault)?;
+            write_whole(writer, line.as_str().as_bytes())?;
+            Ok(Status::TextFault)
+        }
+    }
+}
+
+// Writes the report of a program's run, then its chart, then its log; gives the status.
+fn told<W: Write, L: Write>(
+    alloc: Global,
+    asked: &Charted<'_>,
+    naming: Naming,
+    program: &Program,
+    writer: &mut Counted<W>,
+    log: &mut Counted<L>,
+) -> Result<Status, Refusal>
+    requires writer_room { failures_of writer.old < 2 ^ 64 - 1 }
+    requires log_room { failures_of log.old < 2 ^ 64 - 1 }
+    ensures ok { IfOk result (λ status.
+        IsWatchedBy asked.now naming (Ok program.now) (status_number status)
+        (outputs (known_by W.contents writer.old) (known_by L.contents log.old))
+        (outputs (known_by W.contents writer.new) (known_by L.contents log.new))) }
+    ensures quiet { OnOk result (failures_of writer.new ≡ failures_of writer.old) }
+    ensures log_quiet { OnOk result (failures_of log.new ≡ failures_of log.old) }
+    ensures err { IfErr result (λ refusal. IsOfOneThread (Refused refusal)) }
+    ensures opened { IfErr result (λ refusal. refusal ≢ Refusal.Open) }
+    ensures has_read { IfErr result (λ refusal. refusal ≢ Refusal.Read) }
+    ensures write { IfErr result (λ refusal.
+        failures_of writer.new ≡ failures_of writer.old + failed_writes refusal) }
+    ensures trace { IfErr result (λ refusal.
+        failures_of log.new ≡ failures_of log.old + log_failures refusal) }
+    ensures begun { IfErr result (λ refusal. IsBegunBy asked.now naming (Ok program.now) refusal
         (outputs (known_by W.contents writer.old) (known_by L.contents log.old))
         (outputs (known_by W.contents writer.new) (known_by L.contents log.new))) }
 {
     let end = ran(alloc, asked, program)?;
     let report = report_text(alloc, &end)?;
     write_whole(writer, report.as_str().as_bytes())?;
-    draw(alloc, asked, program, writer)?;
-    trace(alloc, asked, program, log)?;
+    draw(alloc, asked, naming, program, writer)?;
+    trace(alloc, asked, naming, program, log)?;
     Ok(Status::of(end.outcome))
 }
 

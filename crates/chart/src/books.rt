@@ -2,37 +2,43 @@
 ghost use Rattle.std.specs.Prelude.{◌≡◌, ◌++◌, OnOk, IfOk, length};
 ghost use Rattle.chart.specs.Events.{entry_events, events, moved_events, went_on, worked_on as worked_on_by};
 ghost use Rattle.chart.specs.Rows.{all_seen as all_seen_of, kept};
-ghost use Rattle.chart.specs.Rows.{let_row as let_row_of, next_kept};
+ghost use Rattle.chart.specs.Kept.{closed, next_kept};
+ghost use Rattle.chart.specs.Rows.{let_row as let_row_of};
 ghost use Rattle.chart.specs.Rows.{seen_in, start_kept, with_row};
 ghost use Rattle.counted_io.specs.Counted.{counted as counted_of, raised as raised_of};
 
+use crate::blocked::hold;
 use crate::event::Event;
 use crate::leaving::{leave, retires, row_at};
+use crate::lines::{Line, add_live, note_all};
 use crate::row::{Row, phase_of};
+use crate::telling::Style;
 use crate::waits::entry;
 use instructions::Predictor;
 use one_thread::{Bench, Station, Turn};
 use std::alloc::{AllocError, Global};
 
-/// Counts of the turns that were made, the tenants that were let and those that have retired; and a row for each live
-/// tenant, the oldest first.
+/// How a run is told; counts of the turns that were made, the tenants that were let and those that have retired; a row
+/// for each live tenant, the oldest first; and the lines that are drawn.
 #[derive(Drop)]
 pub(crate) struct Books {
-    pub(crate) turns: u64,
-    lets: u64,
+    pub(crate) style: Style,
+    turns: u64,
+    pub(crate) lets: u64,
     retirements: u64,
-    pub(crate) rows: Vec<Row>,
+    rows: Vec<Row>,
+    pub(crate) lines: Vec<Line>,
 }
 
 // A count and one more, up to the greatest number.
-pub(crate) fn raised(n: u64) -> u64
+fn raised(n: u64) -> u64
     ensures { result ≡ raised_of n }
 {
     n.saturating_add(1)
 }
 
 // A count, and one more if there is one.
-fn counted(more: bool, n: u64) -> u64
+pub(crate) fn counted(more: bool, n: u64) -> u64
     ensures { result ≡ counted_of more n }
 {
     if more { raised(n) } else { n }
@@ -127,6 +133,7 @@ fn let_row(answer: Turn, station: Option<Station>, position: u64, turn: u64) -> 
             position,
             let_at: turn,
             ran: None,
+            held: None,
             settled: None,
             station,
         }),
@@ -155,14 +162,16 @@ fn push_row(rows: &mut Vec<Row>, new: Option<Row>) -> Result<(), AllocError>
 }
 
 impl Books {
-    pub(crate) fn new(alloc: Global) -> Books
-        ensures { kept result ≡ start_kept }
+    pub(crate) fn new(alloc: Global, style: Style) -> Books
+        ensures { kept result ≡ start_kept style }
     {
         Books {
+            style,
             turns: 0,
             lets: 0,
             retirements: 0,
             rows: Vec::new(alloc),
+            lines: Vec::new(alloc),
         }
     }
 
@@ -187,9 +196,11 @@ impl Books {
         leave(&mut self.rows, &mut events, answer, live, retirements)?;
         let worked = worked_on(answer);
         push_worked(&mut events, self.rows.as_slice(), worked, bench)?;
-        let mut rows = all_seen(alloc, self.rows.as_slice(), bench, turn)?;
-        push_entry(&mut events, rows.as_slice(), &new)?;
-        push_row(&mut rows, new)?;
+        let mut seen = all_seen(alloc, self.rows.as_slice(), bench, turn)?;
+        push_entry(&mut events, seen.as_slice(), &new)?;
+        push_row(&mut seen, new)?;
+        let rows = hold(alloc, &mut events, seen.as_slice(), turn)?;
+        note_all(&mut self.lines, &self.style, turn, events.as_slice())?;
         let retired = counted(retires(answer, live, count), retirements);
         let lets = counted(new.is_some(), self.lets);
         self.turns = turn;
@@ -197,5 +208,13 @@ impl Books {
         self.retirements = retired;
         self.rows = rows;
         Ok(events)
+    }
+
+    /// Adds the lines of the tenants that are still live.
+    pub(crate) fn close(&mut self) -> Result<(), AllocError>
+        ensures { OnOk result (kept self.new ≡ closed (kept self.old)) }
+    {
+        let turn = raised(self.turns);
+        add_live(&mut self.lines, &self.style, turn, self.rows.as_slice())
     }
 }

@@ -1,21 +1,25 @@
-//! The chart: a line for each tenant that has left.
-ghost use Rattle.std.specs.Prelude.{◌≡◌, ◌++◌, ◌-◌, OnOk, string_bytes, length};
+//! The chart: a line for each tenant, and what became of it.
+ghost use Rattle.std.specs.Prelude.{◌≡◌, ◌<◌, ◌^◌, ◌++◌, ◌-◌, IfOk, OnOk, None, string_bytes, length};
 ghost use Rattle.isa.specs.Report.{newline};
 ghost use Rattle.instructions.specs.Instruction.{kind as kind_of};
-ghost use Rattle.chart.specs.Drawings.{behind_ran, half_label, line, live_lines};
-ghost use Rattle.chart.specs.Drawings.{mark_behind, padded, picture};
-ghost use Rattle.chart.specs.Drawings.{settled_mark as settled_mark_of, tenant_text, times};
+ghost use Rattle.chart.specs.Drawings.{axis, axis_above, axis_label, behind_ran, columns_head, ruler, half_label, held_label, held_turns as held_turns_of};
+ghost use Rattle.chart.specs.Drawings.{line, lines_text, mark_after_ran, mark_behind, padded, picture, rest_text};
+ghost use Rattle.chart.specs.Drawings.{round as round_of, settled_mark as settled_mark_of, tenant_text, times, way_mark as way_mark_of};
 
-use crate::row::Row;
+use crate::event::Way;
+use crate::lines::Line;
+use crate::row::{Held, Row};
 use instructions::{Half, Instr, Kind};
-use isa::{Hexadecimal, InstrText};
-use one_thread::Station;
+use isa::{Hexadecimal, InstrText, Naming};
 use std::alloc::{AllocError, Global};
 
 /// The columns that an instruction takes.
 const COLUMNS: usize = 26;
 
-// Adds a text so many times.
+/// How many turns a column stands for: the picture wraps after these.
+const TURNS: u64 = 64;
+
+// Adds a text n times.
 fn push_times(out: &mut String, n: u64, text: &str) -> Result<(), AllocError>
     ensures { OnOk result (string_bytes out.new ≡ string_bytes out.old ++ times n text.now) }
 {
@@ -38,17 +42,36 @@ pub(crate) fn half_text(instr: &Instr, half: Half) -> &'static str
     }
 }
 
-fn push_instr(alloc: Global, out: &mut String, station: &Station) -> Result<(), AllocError>
-    ensures { OnOk result (string_bytes out.new
-        ≡ string_bytes out.old ++ padded (tenant_text station.now)) }
+// Adds a text, and blanks up to the next column.
+fn push_padded(out: &mut String, text: &str) -> Result<(), AllocError>
+    ensures { OnOk result (string_bytes out.new ≡ string_bytes out.old ++ padded text.now) }
 {
-    let instr = station.instr.to_instr();
-    let half = half_text(&instr, station.half);
-    let instr = InstrText::by_numbers(instr);
-    let text = format!(in alloc; "{instr}{half}")?;
-    out.push_str(text.as_str())?;
+    out.push_str(text)?;
     let blanks = COLUMNS.saturating_sub(text.len());
     push_times(out, blanks as u64, " ")
+}
+
+// Adds the position of the store that a load has waited for last.
+fn push_held(out: &mut String, held: Option<Held>) -> Result<(), AllocError>
+    ensures { OnOk result (string_bytes out.new ≡ string_bytes out.old ++ held_label held) }
+{
+    match held {
+        None => Ok(()),
+        Some(Held { store, .. }) => write!(out, " B:{store}"),
+    }
+}
+
+fn push_instr(alloc: Global, out: &mut String, row: &Row, naming: Naming) -> Result<(), AllocError>
+    ensures { OnOk result (string_bytes out.new ≡ string_bytes out.old
+        ++ padded (tenant_text naming row.now.station ++ held_label row.now.held)) }
+{
+    let station = &row.station;
+    let instr = station.instr.to_instr();
+    let half = half_text(&instr, station.half);
+    let instr = InstrText { naming, instr };
+    let mut text = format!(in alloc; "{instr}{half}")?;
+    push_held(&mut text, row.held)?;
+    push_padded(out, text.as_str())
 }
 
 // Adds a mark, and what stands between it and the mark before it.
@@ -76,6 +99,34 @@ fn settled_mark(kind: Kind) -> &'static str
     }
 }
 
+// How many turns after its execution a load could have no value.
+fn held_turns(ran: u64, held: Option<Held>) -> u64
+    ensures { result ≡ held_turns_of ran held }
+{
+    match held {
+        None => 0,
+        Some(held) => held.turn.saturating_add(1).saturating_sub(ran),
+    }
+}
+
+// Adds a mark behind the execution, with one for each turn in which a load was blocked.
+fn push_mark_after_ran(
+    out: &mut String,
+    ran: u64,
+    held: Option<Held>,
+    turn: u64,
+    mark: &str,
+) -> Result<(), AllocError>
+    ensures { OnOk result (string_bytes out.new
+        ≡ string_bytes out.old ++ mark_after_ran ran held turn mark.now) }
+{
+    let gap = turn.saturating_sub(ran).saturating_sub(1);
+    let blocked = held_turns(ran, held);
+    push_times(out, blocked.min(gap), "B")?;
+    push_times(out, gap.saturating_sub(blocked), "-")?;
+    out.push_str(mark)
+}
+
 fn push_behind_ran(
     out: &mut String,
     row: &Row,
@@ -83,14 +134,14 @@ fn push_behind_ran(
     turn: u64,
     mark: &str,
 ) -> Result<(), AllocError>
-    ensures { OnOk result (string_bytes out.new ≡ string_bytes out.old
-        ++ behind_ran (kind_of row.now.station.instr.op) ran row.now.settled turn mark.now) }
+    ensures { OnOk result (string_bytes out.new ≡ string_bytes out.old ++ behind_ran
+        (kind_of row.now.station.instr.op) ran row.now.held row.now.settled turn mark.now) }
 {
     match row.settled {
-        None => push_mark(out, "-", ran, turn, mark),
+        None => push_mark_after_ran(out, ran, row.held, turn, mark),
         Some(settled) => {
             let kind = row.station.instr.to_instr().op().kind();
-            push_mark(out, "-", ran, settled, settled_mark(kind))?;
+            push_mark_after_ran(out, ran, row.held, settled, settled_mark(kind))?;
             push_mark(out, "=", settled, turn, mark)
         }
     }
@@ -100,7 +151,7 @@ fn push_picture(out: &mut String, row: &Row, turn: u64, mark: &str) -> Result<()
     ensures { OnOk result (string_bytes out.new
         ≡ string_bytes out.old ++ picture row.now turn mark.now) }
 {
-    let indent = row.let_at.saturating_sub(1) % 64;
+    let indent = row.let_at.saturating_sub(1) % TURNS;
     push_times(out, indent, " ")?;
     out.push_str("L")?;
     match row.ran {
@@ -112,38 +163,119 @@ fn push_picture(out: &mut String, row: &Row, turn: u64, mark: &str) -> Result<()
     }
 }
 
-/// Adds the line of a tenant, up to a turn and with a mark for that.
-pub(crate) fn push_line(
+fn way_mark(way: Option<Way>) -> &'static str
+    ensures { result.now ≡ way_mark_of way }
+{
+    match way {
+        Some(Way::Retired(_)) => "R",
+        Some(Way::Squashed) => "S",
+        None => ">",
+    }
+}
+
+fn push_line(
     alloc: Global,
     out: &mut String,
-    row: &Row,
-    turn: u64,
-    mark: &str,
+    naming: Naming,
+    shown: &Line,
 ) -> Result<(), AllocError>
     ensures { OnOk result (string_bytes out.new
-        ≡ string_bytes out.old ++ line row.now turn mark.now) }
+        ≡ string_bytes out.old ++ line naming shown.now) }
 {
+    let row = &shown.row;
     let (position, let_at) = (row.position, row.let_at);
     let pc = Hexadecimal(row.station.pc);
     write!(out, "{position}\t{let_at}\t{pc} ")?;
-    push_instr(alloc, out, &row.station)?;
+    push_instr(alloc, out, row, naming)?;
     out.push_str(" ")?;
-    push_picture(out, row, turn, mark)?;
+    push_picture(out, row, shown.turn, way_mark(shown.way))?;
     out.push_str("\n")
 }
 
-/// Adds the lines of the tenants that are still live.
-pub(crate) fn push_live(
+// How often the picture has wrapped before a turn.
+fn round(turn: u64) -> u64
+    ensures { result ≡ round_of turn }
+{
+    turn.saturating_sub(1) / TURNS
+}
+
+#[tactic(auto, unfolding(crate::specs::Drawings::columns_head))]
+fn columns_head() -> &'static str
+    ensures { result.now ≡ columns_head }
+{
+    "row\tturn\tpc         "
+}
+
+#[tactic(auto, unfolding(crate::specs::Drawings::ruler))]
+fn ruler() -> &'static str
+    ensures { result.now ≡ ruler }
+{
+    " ....5...10...15...20...25...30...35...40...45...50...55...60....\n"
+}
+
+// The first turn of a round, as an axis names it.
+#[tactic(auto, unfolding(crate::specs::Drawings::axis_label))]
+fn axis_label(alloc: Global, round: u64) -> Result<String, AllocError>
+    requires { round < 2 ^ 58 }
+    ensures { IfOk result (λ label. string_bytes label ≡ axis_label round) }
+{
+    let first = round * TURNS + 1;
+    format!(in alloc; "from turn {first}")
+}
+
+fn push_axis(alloc: Global, out: &mut String, round: u64) -> Result<(), AllocError>
+    requires { round < 2 ^ 58 }
+    ensures { OnOk result (string_bytes out.new ≡ string_bytes out.old ++ axis round) }
+{
+    let from = axis_label(alloc, round)?;
+    out.push_str(columns_head())?;
+    push_padded(out, from.as_str())?;
+    out.push_str(ruler())
+}
+
+// Adds the axis above a line of a round, where the line before it is of another round or there is none.
+fn push_axis_above(
     alloc: Global,
     out: &mut String,
-    rows: &[Row],
-    turn: u64,
+    before: Option<u64>,
+    round: u64,
+) -> Result<(), AllocError>
+    requires { round < 2 ^ 58 }
+    ensures { OnOk result (string_bytes out.new
+        ≡ string_bytes out.old ++ axis_above before round) }
+{
+    if before == Some(round) {
+        return Ok(());
+    }
+    push_axis(alloc, out, round)
+}
+
+/// Adds the lines of tenants, those of each round below its axis.
+pub(crate) fn push_lines(
+    alloc: Global,
+    out: &mut String,
+    naming: Naming,
+    lines: &[Line],
 ) -> Result<(), AllocError>
     ensures { OnOk result (string_bytes out.new
-        ≡ string_bytes out.old ++ live_lines turn rows.now) }
+        ≡ string_bytes out.old ++ lines_text naming None lines.now) }
 {
-    for row in rows.iter() {
-        push_line(alloc, out, row, turn, ">")?;
+    let mut before = None;
+    for line in lines.iter() {
+        let round = round(line.row.let_at);
+        push_axis_above(alloc, out, before, round)?;
+        push_line(alloc, out, naming, line)?;
+        before = Some(round);
     }
     Ok(())
+}
+
+/// Adds the line that tells that more tenants were let than are drawn.
+pub(crate) fn push_rest(out: &mut String, drawn: u64, lets: u64) -> Result<(), AllocError>
+    ensures { OnOk result (string_bytes out.new ≡ string_bytes out.old ++ rest_text drawn lets) }
+{
+    if drawn >= lets {
+        return Ok(());
+    }
+    write!(out, "rows {drawn} of {lets}: --rows N draws N\n")
 }

@@ -25,6 +25,11 @@ pub enum Event {
         from: Phase,
         to: Phase,
     },
+    /// The load at this position is blocked by the store at the other.
+    Blocked {
+        position: u64,
+        store: u64,
+    },
     /// The tenant of this row has left.
     Left {
         row: Row,

@@ -1,11 +1,12 @@
 //! A log of the format Kanata, version 0004.
 ghost use Rattle.std.specs.Prelude.{◌≡◌, ◌++◌, OnOk, string_bytes};
-ghost use Rattle.chart.specs.Kanata.{first_lines, tick, stage_text as stage_text_of, wait_line, let_lines, way_text, event_lines};
+ghost use Rattle.chart.specs.Kanata.{block_line, event_lines, first_lines, let_lines, stage_text as stage_text_of, tick, wait_line, way_text};
+ghost use Rattle.chart.specs.Telling.{events_lines};
 
 use crate::drawing::half_text;
 use crate::event::{Event, Way};
 use crate::row::{Phase, Row};
-use isa::{Hexadecimal, InstrText};
+use isa::{Hexadecimal, InstrText, Naming};
 use std::alloc::AllocError;
 
 pub(crate) fn push_head(out: &mut String) -> Result<(), AllocError>
@@ -42,14 +43,15 @@ fn push_wait(out: &mut String, position: u64, producer: Option<u64>) -> Result<(
     }
 }
 
-fn push_let(out: &mut String, row: &Row) -> Result<(), AllocError>
-    ensures { OnOk result (string_bytes out.new ≡ string_bytes out.old ++ let_lines row.now) }
+fn push_let(out: &mut String, naming: Naming, row: &Row) -> Result<(), AllocError>
+    ensures { OnOk result (string_bytes out.new
+        ≡ string_bytes out.old ++ let_lines naming row.now) }
 {
     let position = row.position;
     let pc = Hexadecimal(row.station.pc);
     let instr = row.station.instr.to_instr();
     let half = half_text(&instr, row.station.half);
-    let instr = InstrText::by_numbers(instr);
+    let instr = InstrText { naming, instr };
     write!(
         out,
         "I\t{position}\t{position}\t0\nL\t{position}\t0\t{pc} {instr}{half}\nS\t{position}\t0\tDs\n"
@@ -65,12 +67,21 @@ fn push_way(out: &mut String, way: Way) -> Result<(), AllocError>
     }
 }
 
-pub(crate) fn push_event(out: &mut String, event: &Event) -> Result<(), AllocError>
-    ensures { OnOk result (string_bytes out.new ≡ string_bytes out.old ++ event_lines event.now) }
+// Adds what a load waits for, as a label.
+fn push_block(out: &mut String, position: u64, store: u64) -> Result<(), AllocError>
+    ensures { OnOk result (string_bytes out.new
+        ≡ string_bytes out.old ++ block_line position store) }
+{
+    write!(out, "L\t{position}\t1\twaits for the store {store}\n")
+}
+
+fn push_event(out: &mut String, naming: Naming, event: &Event) -> Result<(), AllocError>
+    ensures { OnOk result (string_bytes out.new
+        ≡ string_bytes out.old ++ event_lines naming event.now) }
 {
     match event {
         Event::Let { row, first, second } => {
-            push_let(out, row)?;
+            push_let(out, naming, row)?;
             push_wait(out, row.position, *first)?;
             push_wait(out, row.position, *second)
         }
@@ -78,10 +89,26 @@ pub(crate) fn push_event(out: &mut String, event: &Event) -> Result<(), AllocErr
             let (from, to) = (stage_text(*from), stage_text(*to));
             write!(out, "E\t{position}\t0\t{from}\nS\t{position}\t0\t{to}\n")
         }
+        Event::Blocked { position, store } => push_block(out, *position, *store),
         Event::Left { row, way } => {
             let position = row.position;
             write!(out, "R\t{position}\t")?;
             push_way(out, *way)
         }
     }
+}
+
+/// Adds the lines of the events of a turn.
+pub(crate) fn push_events(
+    out: &mut String,
+    naming: Naming,
+    events: &[Event],
+) -> Result<(), AllocError>
+    ensures { OnOk result (string_bytes out.new
+        ≡ string_bytes out.old ++ events_lines naming events.now) }
+{
+    for event in events.iter() {
+        push_event(out, naming, event)?;
+    }
+    Ok(())
 }

@@ -2,13 +2,16 @@
 #![tactic(auto)]
 
 mod answering;
+mod blocked;
 mod books;
 mod drawing;
 mod event;
 mod kanata;
 mod laws;
 mod leaving;
+mod lines;
 mod log_file;
+mod naming;
 mod pictures;
 mod row;
 mod telling;

@@ -2,14 +2,15 @@
 ghost use Rattle.std.specs.Prelude.{◌≡◌, ◌≢◌, ◌+◌, ◌-◌, ◌^◌, ◌<◌, IfErr, OnOk, OnErr, is_some, true};
 ghost use Rattle.counted_io.specs.Counted.{failures_of, known_by};
 ghost use Rattle.chart.specs.Answers.{HasBegun, HasToldWhole, IsLogged, IsOfLog};
-ghost use Rattle.chart.specs.Answers.{log_failures, log_refusal};
+ghost use Rattle.chart.specs.Answers.{log_failures, log_refusal, style_of as style_in};
 ghost use Rattle.command_line.specs.Exits.{IsOfWriting, failed_writes};
 
-use crate::telling::Format;
+use crate::telling::{Format, Style};
 use crate::watched::watch;
 use command_line::{Charted, Refusal, choose};
 use counted_io::{Counted, Fault};
 use instructions::Program;
+use isa::Naming;
 use one_thread::Order;
 use std::alloc::Global;
 use std::io::Write;
@@ -18,21 +19,22 @@ use std::io::Write;
 pub(crate) fn draw<W: Write>(
     alloc: Global,
     asked: &Charted<'_>,
+    naming: Naming,
     program: &Program,
     writer: &mut Counted<W>,
 ) -> Result<(), Refusal>
     requires room { failures_of writer.old < 2 ^ 64 - 1 }
-    ensures told { OnOk result (HasToldWhole Format.Chart asked.now program.now
+    ensures told { OnOk result (HasToldWhole Format.Chart asked.now naming program.now
         (known_by W.contents writer.old) (known_by W.contents writer.new)) }
     ensures quiet { OnOk result (failures_of writer.new ≡ failures_of writer.old) }
     ensures err { IfErr result IsOfWriting }
     ensures write { IfErr result (λ refusal.
         failures_of writer.new ≡ failures_of writer.old + failed_writes refusal) }
     ensures trace { IfErr result (λ refusal. log_failures refusal ≡ 0) }
-    ensures begun { OnErr result (HasBegun Format.Chart asked.now program.now
+    ensures begun { OnErr result (HasBegun Format.Chart asked.now naming program.now
         (known_by W.contents writer.old) (known_by W.contents writer.new)) }
 {
-    picture(alloc, asked, program, Format::Chart, writer)?;
+    picture(alloc, asked, naming, program, Format::Chart, writer)?;
     Ok(())
 }
 
@@ -40,11 +42,12 @@ pub(crate) fn draw<W: Write>(
 pub(crate) fn trace<L: Write>(
     alloc: Global,
     asked: &Charted<'_>,
+    naming: Naming,
     program: &Program,
     log: &mut Counted<L>,
 ) -> Result<(), Refusal>
     requires room { failures_of log.old < 2 ^ 64 - 1 }
-    ensures told { OnOk result (IsLogged (is_some asked.now.log) asked.now program.now
+    ensures told { OnOk result (IsLogged (is_some asked.now.log) asked.now naming program.now
         (known_by L.contents log.old) (known_by L.contents log.new)) }
     ensures quiet { OnOk result (failures_of log.new ≡ failures_of log.old) }
     ensures err { IfErr result IsOfLog }
@@ -52,13 +55,13 @@ pub(crate) fn trace<L: Write>(
     ensures write { IfErr result (λ refusal. failed_writes refusal ≡ 0) }
     ensures trace { IfErr result (λ refusal.
         failures_of log.new ≡ failures_of log.old + log_failures refusal) }
-    ensures begun { OnErr result (HasBegun Format.Kanata asked.now program.now
+    ensures begun { OnErr result (HasBegun Format.Kanata asked.now naming program.now
         (known_by L.contents log.old) (known_by L.contents log.new)) }
 {
     if asked.log.is_none() {
         return Ok(());
     }
-    match picture(alloc, asked, program, Format::Kanata, log) {
+    match picture(alloc, asked, naming, program, Format::Kanata, log) {
         Ok(()) => Ok(()),
         Err(fault) => Err(log_refusal(fault)),
     }
@@ -68,14 +71,15 @@ pub(crate) fn trace<L: Write>(
 fn picture<W: Write>(
     alloc: Global,
     asked: &Charted<'_>,
+    naming: Naming,
     program: &Program,
     format: Format,
     writer: &mut Counted<W>,
 ) -> Result<(), Fault>
     requires { failures_of writer.old < 2 ^ 64 - 1 }
-    ensures told { OnOk result (HasToldWhole format asked.now program.now
+    ensures told { OnOk result (HasToldWhole format asked.now naming program.now
         (known_by W.contents writer.old) (known_by W.contents writer.new)) }
-    ensures begun { OnErr result (HasBegun format asked.now program.now
+    ensures begun { OnErr result (HasBegun format asked.now naming program.now
         (known_by W.contents writer.old) (known_by W.contents writer.new)) }
     ensures quiet { OnOk result (failures_of writer.new ≡ failures_of writer.old) }
     ensures write { IfErr result (λ fault. fault ≡ Fault.Write →
@@ -86,16 +90,34 @@ fn picture<W: Write>(
 {
     let predictor = choose(asked.run.predictor);
     let order = Order::by_seed(asked.run.seed);
+    let style = style_of(format, asked, naming);
     watch(
         alloc,
         program,
         &asked.run.config,
         predictor,
         order,
-        format,
+        style,
         writer,
     )?;
     Ok(())
+}
+
+// How a run is told that is asked for.
+fn style_of(format: Format, asked: &Charted<'_>, naming: Naming) -> Style
+    ensures { result ≡ style_in format asked.now naming }
+{
+    let rows = match format {
+        Format::Chart => asked.rows,
+        Format::Kanata => 0,
+    };
+    let by_leave = asked.by_leave;
+    Style {
+        format,
+        naming,
+        rows,
+        by_leave,
+    }
 }
 
 fn log_refusal(fault: Fault) -> Refusal

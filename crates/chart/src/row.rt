@@ -1,5 +1,6 @@
 //! The row of a live tenant.
 ghost use Rattle.std.specs.Prelude.{◌≡◌};
+ghost use Rattle.chart.specs.Blocked.{held_by};
 ghost use Rattle.chart.specs.Rows.{phase_of as phase_in, ran_by as ran_in, settled_turn, seen};
 
 use one_thread::{Stage, Station};
@@ -19,6 +20,15 @@ pub enum Phase {
     Stop,
 }
 
+/// The store that blocks a load.
+#[derive(Clone, Copy)]
+pub struct Held {
+    /// The position of the store.
+    pub store: u64,
+    /// The last turn after which the load was blocked.
+    pub turn: u64,
+}
+
 /// A live tenant: the station as it stood behind a turn, and what became of it so far. Turns are
 /// counted from 1.
 #[derive(Clone, Copy)]
@@ -29,6 +39,8 @@ pub struct Row {
     pub let_at: u64,
     /// The turn at which it was claimed and finished.
     pub ran: Option<u64>,
+    /// The store that has blocked a load last.
+    pub held: Option<Held>,
     /// The turn at which a load got its value, or a miss was mended.
     pub settled: Option<u64>,
     pub station: Station,
@@ -78,8 +90,22 @@ impl Row {
             position: self.position,
             let_at: self.let_at,
             ran: ran_by(turn, before, behind, self.ran),
+            held: self.held,
             settled: settled_by(turn, before, behind, self.settled),
             station,
+        }
+    }
+
+    /// The row of a tenant that waits for this store after a turn, if it waits for one.
+    pub(crate) fn held_by(&self, turn: u64, store: Option<u64>) -> Row
+        ensures { result ≡ held_by turn self.now store }
+    {
+        match store {
+            None => *self,
+            Some(store) => Row {
+                held: Some(Held { store, turn }),
+                ..*self
+            },
         }
     }
 }

@@ -1,83 +1,70 @@
-//! The text of a run's events.
-ghost use Rattle.std.specs.Prelude.{◌≡◌, ◌++◌, OnOk, string_bytes};
-ghost use Rattle.chart.specs.Telling.{first_text, event_text, events_text, tick_text};
-ghost use Rattle.chart.specs.Drawings.{way_mark as way_mark_of};
+//! The text of a run, as it is told.
+ghost use Rattle.std.specs.Prelude.{◌≡◌, IfOk, OnOk, string_bytes};
+ghost use Rattle.chart.specs.Rows.{kept};
+ghost use Rattle.chart.specs.Telling.{first_text, last_text, turn_by};
 
-use crate::drawing::push_line;
-use crate::event::{Event, Way};
-use crate::kanata::{push_event, push_head, push_tick};
+use crate::books::Books;
+use crate::drawing::{push_lines, push_rest};
+use crate::event::Event;
+use crate::kanata::{push_events, push_head, push_tick};
+use isa::Naming;
 use std::alloc::{AllocError, Global};
 
 /// The format in which a run is told.
 #[derive(Clone, Copy, Debug, PartialEq, Eq)]
 pub enum Format {
-    /// A line for each tenant, once it has left.
+    /// A line for each tenant, once the run has ended.
     Chart,
     /// A log of the format Kanata, version 0004, which the pipeline viewer Konata opens.
     Kanata,
 }
 
-// Adds the text before the first turn.
-pub(crate) fn push_first(out: &mut String, format: Format) -> Result<(), AllocError>
-    ensures { OnOk result (string_bytes out.new ≡ string_bytes out.old ++ first_text format) }
-{
-    match format {
-        Format::Chart => Ok(()),
-        Format::Kanata => push_head(out),
-    }
+/// How a run is told.
+#[derive(Clone, Copy)]
+pub struct Style {
+    pub format: Format,
+    /// The way in which registers are written.
+    pub naming: Naming,
+    /// So many tenants have a line, those that were let first.
+    pub rows: u64,
+    /// The lines stand in the order in which their tenants have left, and not in that of the program.
+    pub by_leave: bool,
 }
 
-// Adds the text at the begin of a turn.
-pub(crate) fn push_turn(out: &mut String, format: Format) -> Result<(), AllocError>
-    ensures { OnOk result (string_bytes out.new ≡ string_bytes out.old ++ tick_text format) }
+/// The text before the first turn.
+pub(crate) fn first(alloc: Global, format: Format) -> Result<String, AllocError>
+    ensures { IfOk result (λ text. string_bytes text ≡ first_text format) }
 {
-    match format {
-        Format::Chart => Ok(()),
-        Format::Kanata => push_tick(out),
+    let mut out = String::new(alloc);
+    if let Format::Kanata = format {
+        push_head(&mut out)?;
     }
+    Ok(out)
 }
 
-fn way_mark(way: Way) -> &'static str
-    ensures { result.now ≡ way_mark_of way }
+/// The text of a turn with these events.
+pub(crate) fn turn(alloc: Global, style: &Style, events: &[Event]) -> Result<String, AllocError>
+    ensures { IfOk result (λ text. string_bytes text
+        ≡ turn_by style.now.format style.now.naming events.now) }
 {
-    match way {
-        Way::Retired(_) => "R",
-        Way::Squashed => "S",
+    let mut out = String::new(alloc);
+    if let Format::Kanata = style.format {
+        push_tick(&mut out)?;
+        push_events(&mut out, style.naming, events)?;
     }
+    Ok(out)
 }
 
-fn push_told(
-    alloc: Global,
-    out: &mut String,
-    format: Format,
-    turn: u64,
-    event: &Event,
-) -> Result<(), AllocError>
-    ensures { OnOk result (string_bytes out.new
-        ≡ string_bytes out.old ++ event_text format turn event.now) }
+/// The text behind the last turn.
+pub(crate) fn last(alloc: Global, books: &mut Books) -> Result<String, AllocError>
+    ensures { IfOk result (λ text. string_bytes text ≡ last_text (kept books.old)) }
 {
-    match (format, event) {
-        (Format::Kanata, event) => push_event(out, event),
-        (Format::Chart, Event::Left { row, way }) => {
-            push_line(alloc, out, row, turn, way_mark(*way))
-        }
-        (Format::Chart, _) => Ok(()),
+    let mut out = String::new(alloc);
+    let style = books.style;
+    if let Format::Chart = style.format {
+        books.close()?;
+        push_lines(alloc, &mut out, style.naming, books.lines.as_slice())?;
+        push_rest(&mut out, style.rows, books.lets)?;
     }
-}
-
-// Adds the text of the events of a turn.
-pub(crate) fn push_events(
-    alloc: Global,
-    out: &mut String,
-    format: Format,
-    turn: u64,
-    events: &[Event],
-) -> Result<(), AllocError>
-    ensures { OnOk result (string_bytes out.new
-        ≡ string_bytes out.old ++ events_text format turn events.now) }
-{
-    for event in events.iter() {
-        push_told(alloc, out, format, turn, event)?;
-    }
-    Ok(())
+    Ok(out)
 }

@@ -9,7 +9,7 @@ use crate::row::Row;
 use instructions::Reg;
 
 // The youngest tenant that writes a register.
-fn writer_of(register: Reg, rows: &[Row]) -> Option<Row>
+pub(crate) fn writer_of(register: Reg, rows: &[Row]) -> Option<Row>
     ensures { result ≡ writer_in register rows.now }
 {
     let mut found = None;

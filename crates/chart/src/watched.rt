@@ -5,8 +5,8 @@ ghost use Rattle.inorder.specs.Runs.{end_of, end_state};
 ghost use Rattle.chart.specs.Watched.{IsBegun, IsTold, guides, sizes_by};
 
 use crate::books::Books;
-use crate::telling::Format;
-use crate::watching::{tell_first, tell_last, tell_turns};
+use crate::telling::{Style, first, last};
+use crate::watching::{tell, tell_turns};
 use counted_io::{Counted, Fault};
 use instructions::{Config, End, Predictor, Program};
 use one_thread::{Bench, Chooser};
@@ -21,20 +21,20 @@ pub fn watch<P: Predictor + Drop, C: Chooser + Drop, W: Write>(
     config: &Config,
     predictor: P,
     order: C,
-    format: Format,
+    style: Style,
     writer: &mut Counted<W>,
 ) -> Result<End, Fault>
     requires { failures_of writer.old < 2 ^ 64 - 1 }
     // The run ends as the in-order machine does, and what was written is told of all its turns, which
     // are legal ones by this predictor's guesses, and those that the order asks for.
     ensures end { IfOk result (λ end. end_state end ≡ end_of program.now config.now.limit) }
-    ensures told { IfOk result (λ end. IsTold P.Predicts P.Learns C.Chooses format program.now
+    ensures told { IfOk result (λ end. IsTold P.Predicts P.Learns C.Chooses style program.now
         (sizes_by config.now) config.now.limit (guides predictor order) (end_state end)
         (known_by W.contents writer.old) (known_by W.contents writer.new)) }
     ensures quiet { OnOk result (failures_of writer.new ≡ failures_of writer.old) }
     // The text that was written before a fault is a beginning of what is told of such turns, each due
     // within the limit.
-    ensures begun { OnErr result (IsBegun P.Predicts P.Learns C.Chooses format program.now
+    ensures begun { OnErr result (IsBegun P.Predicts P.Learns C.Chooses style program.now
         (sizes_by config.now) config.now.limit (guides predictor order)
         (known_by W.contents writer.old) (known_by W.contents writer.new)) }
     ensures write { IfErr result (λ fault. fault ≡ Fault.Write →
@@ -45,12 +45,10 @@ pub fn watch<P: Predictor + Drop, C: Chooser + Drop, W: Write>(
 {
     let mut bench = Bench::new(alloc, program, config, predictor)?;
     let mut order = order;
-    let mut books = Books::new(alloc);
+    let mut books = Books::new(alloc, style);
     let limit = u64::from(config.limit());
-    tell_first(alloc, format, writer)?;
-    tell_turns(
-        alloc, &mut bench, &mut order, &mut books, format, limit, writer,
-    )?;
-    tell_last(alloc, &books, format, writer)?;
+    tell(first(alloc, style.format), writer)?;
+    tell_turns(alloc, &mut bench, &mut order, &mut books, limit, writer)?;
+    tell(last(alloc, &mut books), writer)?;
     Ok(bench.run(limit))
 }

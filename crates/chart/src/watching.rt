@@ -5,15 +5,15 @@ ghost use Rattle.counted_io.specs.Counted.{failures_of, known_by, Gives};
 ghost use Rattle.instructions.specs.Programs.{Program};
 ghost use Rattle.inorder.specs.Unit.{Sizes};
 ghost use Rattle.one_thread.specs.Changes.{run_from};
+ghost use Rattle.chart.specs.declared.telling.Style.{Style};
 ghost use Rattle.chart.specs.Events.{events};
-ghost use Rattle.chart.specs.Rows.{kept, next_kept};
-ghost use Rattle.counted_io.specs.Counted.{raised as raised_of};
-ghost use Rattle.chart.specs.Telling.{first_text, last_text, turn_text};
+ghost use Rattle.chart.specs.Kept.{next_kept};
+ghost use Rattle.chart.specs.Rows.{kept};
+ghost use Rattle.chart.specs.Telling.{turn_text};
 ghost use Rattle.chart.specs.Watched.{GivesUpTo, GoesOn, Guides, IsBegun, IsThrough};
 
-use crate::books::{Books, raised};
-use crate::drawing::push_live;
-use crate::telling::{Format, push_events, push_first, push_turn};
+use crate::books::Books;
+use crate::telling::turn;
 use counted_io::{Counted, Fault, write_whole};
 use instructions::Predictor;
 use one_thread::{Bench, Chooser, Turn};
@@ -25,29 +25,27 @@ fn bench_text<P: Predictor + Drop>(
     alloc: Global,
     bench: &Bench<'_, P>,
     books: &mut Books,
-    format: Format,
     answer: Turn,
 ) -> Result<String, AllocError>
     ensures kept { OnOk result
         (kept books.new ≡ next_kept (kept books.old) answer bench.now.pipeline.window) }
-    ensures text { IfOk result (λ text. string_bytes text ≡ turn_text format
-        (raised_of (kept books.old).turns) (events (kept books.old) answer
-        bench.now.pipeline.window)) }
+    ensures text { IfOk result (λ text. string_bytes text ≡ turn_text (kept books.old)
+        (events (kept books.old) answer bench.now.pipeline.window)) }
 {
-    let turn = raised(books.turns);
+    let style = books.style;
     let events = books.turn(alloc, answer, bench)?;
-    let mut out = String::new(alloc);
-    push_turn(&mut out, format)?;
-    push_events(alloc, &mut out, format, turn, events.as_slice())?;
-    Ok(out)
+    turn(alloc, &style, events.as_slice())
 }
 
-// Writes a text, if there was room for it.
-fn tell<W: Write>(text: Result<String, AllocError>, writer: &mut Counted<W>) -> Result<(), Fault>
+/// Writes a text, if there was room for it.
+pub(crate) fn tell<W: Write>(
+    text: Result<String, AllocError>,
+    writer: &mut Counted<W>,
+) -> Result<(), Fault>
     requires { failures_of writer.old < 2 ^ 64 - 1 }
     ensures ok { OnOk result (IsOk text) }
-    ensures says { OnOk result (IfOk text (λ all.
-        Gives W.contents writer.old writer.new (string_bytes all))) }
+    ensures says { OnOk result ((bytes : List ℕ) → IfOk text (λ all. string_bytes all ≡ bytes) →
+        Gives W.contents writer.old writer.new bytes) }
     ensures quiet { OnOk result (failures_of writer.new ≡ failures_of writer.old) }
     ensures write { IfErr result (λ fault. fault ≡ Fault.Write →
         failures_of writer.new ≡ failures_of writer.old + 1) }
@@ -68,88 +66,25 @@ fn tell_turn<P: Predictor + Drop, W: Write>(
     alloc: Global,
     bench: &Bench<'_, P>,
     books: &mut Books,
-    format: Format,
     answer: Turn,
     writer: &mut Counted<W>,
 ) -> Result<(), Fault>
     requires { failures_of writer.old < 2 ^ 64 - 1 }
     ensures kept { OnOk result
         (kept books.new ≡ next_kept (kept books.old) answer bench.now.pipeline.window) }
-    ensures says { OnOk result (Gives W.contents writer.old writer.new (turn_text format
-        (raised_of (kept books.old).turns) (events (kept books.old) answer
-        bench.now.pipeline.window))) }
+    ensures says { OnOk result (Gives W.contents writer.old writer.new (turn_text
+        (kept books.old) (events (kept books.old) answer bench.now.pipeline.window))) }
     ensures quiet { OnOk result (failures_of writer.new ≡ failures_of writer.old) }
     ensures write { IfErr result (λ fault. fault ≡ Fault.Write →
         failures_of writer.new ≡ failures_of writer.old + 1) }
-    ensures part { OnErr result (GivesUpTo W.contents writer.old writer.new (turn_text format
-        (raised_of (kept books.old).turns) (events (kept books.old) answer
-        bench.now.pipeline.window))) }
+    ensures part { OnErr result (GivesUpTo W.contents writer.old writer.new (turn_text
+        (kept books.old) (events (kept books.old) answer bench.now.pipeline.window))) }
     ensures quiet_memory { IfErr result (λ fault. fault ≡ Fault.Memory →
         failures_of writer.new ≡ failures_of writer.old) }
     ensures read { IfErr result (λ fault. fault ≢ Fault.Read) }
 {
-    let text = bench_text(alloc, bench, books, format, answer);
+    let text = bench_text(alloc, bench, books, answer);
     tell(text, writer)
-}
-
-fn first(alloc: Global, format: Format) -> Result<String, AllocError>
-    ensures { IfOk result (λ text. string_bytes text ≡ first_text format) }
-{
-    let mut out = String::new(alloc);
-    push_first(&mut out, format)?;
-    Ok(out)
-}
-
-/// Writes the text before the first turn.
-pub(crate) fn tell_first<W: Write>(
-    alloc: Global,
-    format: Format,
-    writer: &mut Counted<W>,
-) -> Result<(), Fault>
-    requires { failures_of writer.old < 2 ^ 64 - 1 }
-    ensures says { OnOk result (Gives W.contents writer.old writer.new (first_text format)) }
-    ensures quiet { OnOk result (failures_of writer.new ≡ failures_of writer.old) }
-    ensures write { IfErr result (λ fault. fault ≡ Fault.Write →
-        failures_of writer.new ≡ failures_of writer.old + 1) }
-    ensures part { OnErr result (GivesUpTo W.contents writer.old writer.new (first_text format)) }
-    ensures quiet_memory { IfErr result (λ fault. fault ≡ Fault.Memory →
-        failures_of writer.new ≡ failures_of writer.old) }
-    ensures read { IfErr result (λ fault. fault ≢ Fault.Read) }
-{
-    tell(first(alloc, format), writer)
-}
-
-fn last(alloc: Global, books: &Books, format: Format) -> Result<String, AllocError>
-    ensures { IfOk result (λ text. string_bytes text ≡ last_text format (kept books.now)) }
-{
-    let mut out = String::new(alloc);
-    if let Format::Chart = format {
-        let turn = raised(books.turns);
-        push_live(alloc, &mut out, books.rows.as_slice(), turn)?;
-    }
-    Ok(out)
-}
-
-/// Writes the text behind the last turn.
-pub(crate) fn tell_last<W: Write>(
-    alloc: Global,
-    books: &Books,
-    format: Format,
-    writer: &mut Counted<W>,
-) -> Result<(), Fault>
-    requires { failures_of writer.old < 2 ^ 64 - 1 }
-    ensures says { OnOk result
-        (Gives W.contents writer.old writer.new (last_text format (kept books.now))) }
-    ensures quiet { OnOk result (failures_of writer.new ≡ failures_of writer.old) }
-    ensures write { IfErr result (λ fault. fault ≡ Fault.Write →
-        failures_of writer.new ≡ failures_of writer.old + 1) }
-    ensures part { OnErr result
-        (GivesUpTo W.contents writer.old writer.new (last_text format (kept books.now))) }
-    ensures quiet_memory { IfErr result (λ fault. fault ≡ Fault.Memory →
-        failures_of writer.new ≡ failures_of writer.old) }
-    ensures read { IfErr result (λ fault. fault ≢ Fault.Read) }
-{
-    tell(last(alloc, books, format), writer)
 }
 
 /// Makes turns in an order until the unit has ended, or its count has reached a limit, and writes the text of each.
@@ -158,16 +93,15 @@ pub(crate) fn tell_turns<P: Predictor + Drop, C: Chooser + Drop, W: Write>(
     bench: &mut Bench<'_, P>,
     order: &mut C,
     books: &mut Books,
-    format: Format,
     limit: u64,
     writer: &mut Counted<W>,
 ) -> Result<(), Fault>
     requires { failures_of writer.old < 2 ^ 64 - 1 }
-    ensures through { OnOk result ((Q : Program) (D : Sizes) (first : Guides P C)
+    ensures through { OnOk result ((f : Style) (Q : Program) (D : Sizes) (first : Guides P C)
         (start : Option (List ℕ)) →
-        GoesOn P.Predicts P.Learns C.Chooses format Q D limit bench.old order.old (kept books.old)
+        GoesOn P.Predicts P.Learns C.Chooses f Q D limit bench.old order.old (kept books.old)
         first start (known_by W.contents writer.old) →
-        IsThrough P.Predicts P.Learns C.Chooses format Q D limit bench.new order.new
+        IsThrough P.Predicts P.Learns C.Chooses f Q D limit bench.new order.new
         (kept books.new) first start (known_by W.contents writer.new)) }
     ensures ends { OnOk result
         (run_from bench.new.pipeline limit ≡ run_from bench.old.pipeline limit) }
@@ -179,16 +113,16 @@ pub(crate) fn tell_turns<P: Predictor + Drop, C: Chooser + Drop, W: Write>(
     ensures quiet_memory { IfErr result (λ fault. fault ≡ Fault.Memory →
         failures_of writer.new ≡ failures_of writer.old) }
     ensures read { IfErr result (λ fault. fault ≢ Fault.Read) }
-    ensures begun { OnErr result ((Q : Program) (D : Sizes) (first : Guides P C)
+    ensures begun { OnErr result ((f : Style) (Q : Program) (D : Sizes) (first : Guides P C)
         (start : Option (List ℕ)) →
-        GoesOn P.Predicts P.Learns C.Chooses format Q D limit bench.old order.old (kept books.old)
+        GoesOn P.Predicts P.Learns C.Chooses f Q D limit bench.old order.old (kept books.old)
         first start (known_by W.contents writer.old) →
-        IsBegun P.Predicts P.Learns C.Chooses format Q D limit first start
+        IsBegun P.Predicts P.Learns C.Chooses f Q D limit first start
         (known_by W.contents writer.new)) }
 {
     'turns: while bench.count() < limit {
         let answer = bench.turn_by(order);
-        tell_turn(alloc, bench, books, format, answer, writer)?;
+        tell_turn(alloc, bench, books, answer, writer)?;
         if let Turn::Over(_) = answer {
             return Ok(());
         }

@@ -1,6 +1,7 @@
 //! Remedies of faults, in a sentence or two. Proved of a remedy is alone that each of its bytes is shown without harm.
 
 mod characters;
+mod data;
 mod instead;
 mod labels;
 mod lists;
@@ -8,6 +9,7 @@ mod numbered;
 mod numbers;
 mod operands;
 mod registers;
+mod second;
 mod sentences;
 mod tried;
 mod words;
@@ -36,6 +38,7 @@ fn said_first<'a>(
 ) -> Option<Remedy<'a>> {
     let code_text = before_comment(line);
     let has_other_comment = other_comment(line, code(line)).is_some();
+    let found = second::statement(code_text).or(data::by_label(bytes, statement));
     let sentence = match fault.kind {
         FaultKind::NotAscii if bytes.starts_with(EXECUTABLE) => {
             "This is an executable: './ruu listing FILE' writes its listing."
@@ -44,6 +47,7 @@ fn said_first<'a>(
         FaultKind::DoubleLabel => return labels::double(labels, line, fault.line),
         FaultKind::UnknownLabel => return labels::unknown(bytes, statement),
         FaultKind::TooLong | FaultKind::Memory => return None,
+        _ if found.is_some() => return found,
         _ if has_other_comment => "A comment begins with #.",
         FaultKind::UnknownOp => row_of(&SENTENCES, statement.word)?,
         FaultKind::BadOperands => return operands::odd_operand(statement),

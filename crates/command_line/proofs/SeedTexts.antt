@@ -36,12 +36,12 @@ same_none None seed none is = is
 same_none (Some text) seed none is = absurd none
 
 -- a number of commands without a seed
-pub not_counted : (rows : List Row) (found : Option (Bor Text)) (seed : Option ℕ) → IsSeed (first_of (codes "seed") rows) seed
+pub not_counted : (rows : List Row) (found : Option (Bor Text)) (seed : Option ℕ) → IsSeed (first_of (codes "shuffle") rows) seed
     → option_map (λ s. s.now) found ≡ first_of (codes "steps") rows → is_some seed ≡ false → is_some found ≡ true → AreNoSteps rows
 not_counted rows None seed reads is none some s n held = false≢true some
 not_counted rows (Some text) (Some m) reads is none some s n held = false≢true (sym none)
 not_counted rows (Some text) None reads is none some s n held =
-    let other : s ≡ None = same_none (first_of (codes "seed") rows) s reads held.seed_is in
+    let other : s ≡ None = same_none (first_of (codes "shuffle") rows) s reads held.seed_is in
     let steps : first_of (codes "steps") rows ≡ None = subst (λ (o : Option ℕ). IsCounted o (first_of (codes "steps") rows)) other held.counted in
     none-some text.now (sym (is ∙ steps))
 

@@ -10,7 +10,7 @@ IsCounted None steps = steps ≡ None
 
 -- the seed and the number of commands are those that the rows hold, or the defaults
 pub record AreSteps (rows : List Row) (seed : Option ℕ) (count : ℕ) : Type 0 where
-  pub seed_is : IsSeed (first_of (codes "seed") rows) seed
+  pub seed_is : IsSeed (first_of (codes "shuffle") rows) seed
   pub count_is : IsNumberFrom 1 1000000 400 (first_of (codes "steps") rows) count
   pub counted : IsCounted seed (first_of (codes "steps") rows)
 

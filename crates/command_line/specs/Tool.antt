@@ -35,14 +35,15 @@ run_rules =
 -- those of `ruu commits`
 abbrev pub commits_rules : List Rule
 commits_rules =
-    file_rule ∷ option_rule (codes "ruu-size") ∷ option_rule (codes "lsq-size") ∷ option_rule (codes "bpred")
-    ∷ option_rule (codes "limit") ∷ option_rule (codes "seed") ∷ []
+    file_rule ∷ option_rule (codes "limit") ∷ option_rule (codes "from") ∷ option_rule (codes "hash")
+    ∷ flag_rule (codes "text") ∷ []
 
 -- those of `ruu chart`
 abbrev pub chart_rules : List Rule
 chart_rules =
     file_rule ∷ option_rule (codes "ruu-size") ∷ option_rule (codes "lsq-size") ∷ option_rule (codes "bpred")
-    ∷ option_rule (codes "limit") ∷ option_rule (codes "seed") ∷ option_rule (codes "trace") ∷ []
+    ∷ option_rule (codes "limit") ∷ option_rule (codes "seed") ∷ option_rule (codes "rows")
+    ∷ flag_rule (codes "by-leave") ∷ option_rule (codes "trace") ∷ []
 
 -- those of `ruu check`
 abbrev pub check_rules : List Rule
@@ -53,7 +54,7 @@ abbrev pub drive_rules : List Rule
 drive_rules =
     file_rule ∷ option_rule (codes "ruu-size") ∷ option_rule (codes "lsq-size") ∷ option_rule (codes "bpred")
     ∷ option_rule (codes "first-tag") ∷ flag_rule (codes "quiet-prompt") ∷ flag_rule (codes "echo")
-    ∷ option_rule (codes "seed") ∷ option_rule (codes "steps") ∷ []
+    ∷ option_rule (codes "shuffle") ∷ option_rule (codes "steps") ∷ []
 
 -- with arguments in turn
 abbrev pub with_rules : App → List Rule → App

@@ -7,6 +7,7 @@ ghost use Rattle.command_line.specs.Rings.{HasOddRing};
 ghost use Rattle.command_line.specs.Tool.{chart_word};
 
 use crate::entered::entered;
+use crate::entries::{flag, number};
 use crate::names::CHART;
 use crate::reading_watched::{values_of, watched};
 use crate::trace::log_of;
@@ -35,6 +36,13 @@ fn read<'a>(alloc: Global, matches: &ArgMatches<'a>) -> Result<Charted<'a>, NoRu
 {
     let values = values_of(alloc, CHART, matches)?;
     let log = log_of(alloc, matches, values.file)?;
+    let rows = number(alloc, CHART, matches, "rows", 0, 0xffff_ffff, 1_000)?;
+    let by_leave = flag(matches, "by-leave");
     let run = watched(alloc, CHART, matches, values)?;
-    Ok(Charted { run, log })
+    Ok(Charted {
+        run,
+        log,
+        rows,
+        by_leave,
+    })
 }

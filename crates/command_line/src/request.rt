@@ -47,6 +47,10 @@ pub struct Charted<'a> {
     pub run: Watched<'a>,
     /// The file that gets the log, by a name that is neither `-` nor that of the listing.
     pub log: Option<&'a str>,
+    /// So many instructions get a row at most.
+    pub rows: u64,
+    /// The rows are wanted in the order in which instructions leave.
+    pub by_leave: bool,
 }
 
 /// A listing that is to be read and checked, and not run.

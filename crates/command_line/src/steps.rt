@@ -25,11 +25,11 @@ pub(crate) fn steps_of<'a>(alloc: Global, matches: &ArgMatches<'a>) -> Result<St
     ensures usage { IfErr result IsUsage }
     ensures err { IfErr result (λ _. AreNoSteps (rows_of (found_of matches.now))) }
 {
-    let seed = seed(alloc, DRIVE, matches, "seed")?;
+    let seed = seed(alloc, DRIVE, matches, "shuffle")?;
     let count = number(alloc, DRIVE, matches, "steps", 1, 1_000_000, 400)?;
     let steps = matches.get_str("steps");
     if seed.is_none() && steps.is_some() {
-        return Err(usage(alloc, DRIVE, "--steps needs --seed"));
+        return Err(usage(alloc, DRIVE, "--steps needs --shuffle"));
     }
     Ok(Steps { seed, count })
 }

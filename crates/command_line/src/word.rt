@@ -156,13 +156,22 @@ Exit status: 0 the listing ran to a break, 1 it stopped otherwise, 2 a fault in 
 3 a mistake on the command line, 4 the limit of instructions or turns was reached,
 5 no memory, no thread, or a file could not be opened, read or written.";
 
-static CHART_ARGUMENTS: [Argument; 7] = [
+static CHART_ARGUMENTS: [Argument; 9] = [
     FILE,
     RING,
     QUEUE,
     PREDICTOR,
     LIMIT,
     SEED,
+    valued!(
+        "rows",
+        "N",
+        "Instructions to draw at most, from the first on: 0 to 4294967295 [default: 1000]"
+    ),
+    flag!(
+        "by-leave",
+        "Order rows by when instructions retire or are squashed"
+    ),
     valued!(
         "trace",
         "LOG",
@@ -171,7 +180,7 @@ static CHART_ARGUMENTS: [Argument; 7] = [
 ];
 
 const CHART_ABOUT: &str =
-    "Runs a listing on one thread, writes its report and draws what became of each tenant";
+    "Runs a listing on one thread, writes its report and draws what became of each instruction";
 
 const CHART_NOTES: &str = "\
 Example: ruu chart examples/sum.s --ruu-size 8 --seed 7
@@ -182,17 +191,33 @@ Exit status: 0 the listing ran to a break, 1 it stopped otherwise, 2 a fault in 
 3 a mistake on the command line, 4 the limit of instructions was reached,
 5 no memory, or a file could not be opened, read or written.";
 
-static COMMITS_ARGUMENTS: [Argument; 6] = [FILE, RING, QUEUE, PREDICTOR, LIMIT, SEED];
+static COMMITS_ARGUMENTS: [Argument; 5] = [
+    FILE,
+    LIMIT,
+    valued!(
+        "from",
+        "N",
+        "Begin with the Nth instruction: 1 to 4294967295 [default: 1]"
+    ),
+    valued!(
+        "hash",
+        "N",
+        "Write a hash after each N instructions in place of lines: 0, for none, to 4294967295 [default: 0]"
+    ),
+    flag!(
+        "text",
+        "Write the text of each instruction at the end of its line"
+    ),
+];
 
 const COMMITS_ABOUT: &str =
-    "Runs a listing on one thread and writes a line for each instruction that is committed";
+    "Runs a listing in order and writes a line for each instruction that is committed";
 
 const COMMITS_NOTES: &str = "\
-Example: ruu commits examples/sum.s --limit 20
+Example: ruu commits examples/sum.s --from 100 --limit 120
 
-The lines are explained in docs/REFERENCE.md. --ruu-size, --lsq-size, --bpred and --seed change the
-turns and no byte of them, and --limit how many lines there are at most. The last line of a run that
-stops says where.
+The lines and the hash, which is of registers and memory, are explained in docs/REFERENCE.md. The
+last line says where the run stopped, or that it reached the limit.
 
 Exit status: 0 the listing ran to a break, 1 it stopped otherwise, 2 a fault in its text,
 3 a mistake on the command line, 4 the limit of instructions was reached,
@@ -225,14 +250,14 @@ static DRIVE_ARGUMENTS: [Argument; 9] = [
     flag!("quiet-prompt", "Show no prompt on a terminal"),
     flag!("echo", "Write each command before its answer"),
     valued!(
-        "seed",
+        "shuffle",
         "N",
-        "Choose the commands by this seed, and read none: 0 to 18446744073709551615"
+        "Choose the commands by this number, and read none: 0 to 18446744073709551615"
     ),
     valued!(
         "steps",
         "N",
-        "Commands to choose at most: 1 to 1000000; needs --seed [default: 400]"
+        "Commands to choose at most: 1 to 1000000; needs --shuffle [default: 400]"
     ),
 ];
 

@@ -1,3 +1,4 @@
+mod Hashing
 mod LogKept
-mod Retirement
+mod Replied
 mod WordFound

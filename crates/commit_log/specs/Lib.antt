@@ -1,6 +1,6 @@
 pub use Rattle.command_line.specs.Exits
 pub mod Words
+pub mod Hashes
 pub mod Lines
 pub mod Logs
-pub mod Retirements
-pub mod Answers
+pub mod Steps

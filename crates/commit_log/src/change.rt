@@ -1,18 +1,16 @@
-//! The change by an instruction: registers and stored bytes.
-ghost use Rattle.std.specs.Prelude.{◌≡◌, ◌++◌, Some, OnOk, replicate, string_bytes, slice_index};
-ghost use Rattle.commit_log.specs.Lines.{change_text, gap, store_text, register_column, register_with_value};
+//! The change by an instruction: registers, and the memory that it accesses.
+ghost use Rattle.std.specs.Prelude.{◌≡◌, ◌++◌, Some, OnOk, codes, string_bytes, slice_index};
+ghost use Rattle.isa.specs.Report.{hexadecimal};
+ghost use Rattle.commit_log.specs.Lines.{change, change_of_register, register_column, register_with_value, store_text};
 
 use crate::digits::Stored;
-use instructions::{Half, Instr, Kind, Reg};
+use crate::fetched::Fetched;
+use instructions::{Half, Kind, Reg};
 use isa::Hexadecimal;
 use std::alloc::AllocError;
 use std::fmt;
 
-/// The columns of the text before a change. A blank follows, so that the change begins in column 17 from the begin of the
-/// text, or one column after a longer text.
-const TEXT_WIDTH: usize = 16;
-
-// A register in three columns.
+// A register, in three columns where it is a general one.
 #[derive(Clone, Copy)]
 struct Label(Reg);
 
@@ -22,8 +20,8 @@ impl fmt::Display for Label {
     fn fmt<W: fmt::Write>(&self, f: &mut fmt::Formatter<W>) -> fmt::Result {
         let number = self.0.number();
         match number {
-            32 => f.write_str("lo "),
-            33 => f.write_str("hi "),
+            32 => f.write_str("c32_lo"),
+            33 => f.write_str("c33_hi"),
             _ if number < 10 => write!(f, "x{number} "),
             _ => write!(f, "x{number}"),
         }
@@ -36,68 +34,68 @@ fn value_of(registers: &[u32; 34], r: Reg) -> u32
     registers[r.number() as usize]
 }
 
-// Blanks up to the next column.
-fn push_gap(out: &mut String, length: usize) -> Result<(), AllocError>
-    ensures { OnOk result (string_bytes out.new ≡ string_bytes out.old ++ gap length) }
-{
-    let mut left = 1 + TEXT_WIDTH.saturating_sub(length);
-    'blanks: while left > 0 {
-        out.push_str(" ")?;
-        left -= 1;
-    }
-    Ok(())
-}
-
 fn push_register(out: &mut String, registers: &[u32; 34], r: Reg) -> Result<(), AllocError>
     ensures { OnOk result
         (string_bytes out.new ≡ string_bytes out.old ++ register_with_value r registers.now) }
 {
     let label = Label(r);
     let value = Hexadecimal(value_of(registers, r));
-    write!(out, "{label} {value}")
+    write!(out, " {label} {value}")
 }
 
-fn push_memory(out: &mut String, registers: &[u32; 34], instr: &Instr) -> Result<(), AllocError>
+// Adds a register that was written, but register 0, which never changes.
+fn push_written(out: &mut String, registers: &[u32; 34], r: Reg) -> Result<(), AllocError>
     ensures { OnOk result
-        (string_bytes out.new ≡ string_bytes out.old ++ store_text instr.now registers.now) }
+        (string_bytes out.new ≡ string_bytes out.old ++ change_of_register r registers.now) }
 {
-    let base = value_of(registers, instr.first());
-    let address = Hexadecimal(base.wrapping_add(instr.number()));
-    let stored = Stored {
-        width: instr.op().width(),
-        value: value_of(registers, instr.second()),
-    };
-    write!(out, "mem {address} {stored}")
+    if r.number() == 0 {
+        return Ok(());
+    }
+    push_register(out, registers, r)
 }
 
-/// Adds the change by an instruction after its text of this length, by the registers after it.
+fn push_address(out: &mut String, address: u32) -> Result<(), AllocError>
+    ensures { OnOk result (string_bytes out.new
+        ≡ string_bytes out.old ++ (codes " mem " ++ hexadecimal address)) }
+{
+    let address = Hexadecimal(address);
+    write!(out, " mem {address}")
+}
+
+// Adds the address of a store, and the bytes that it writes.
+fn push_store(out: &mut String, fetched: &Fetched, registers: &[u32; 34]) -> Result<(), AllocError>
+    ensures { OnOk result (string_bytes out.new ≡ string_bytes out.old
+        ++ store_text fetched.now.instr fetched.now.address registers.now) }
+{
+    let stored = Stored {
+        width: fetched.instr.op().width(),
+        value: value_of(registers, fetched.instr.second()),
+    };
+    push_address(out, fetched.address)?;
+    write!(out, " {stored}")
+}
+
+/// Adds the change by an instruction, by the registers after it.
 pub(crate) fn push_change(
     out: &mut String,
-    length: usize,
-    instr: &Instr,
+    fetched: &Fetched,
     registers: &[u32; 34],
 ) -> Result<(), AllocError>
-    ensures { OnOk result (string_bytes out.new
-        ≡ string_bytes out.old ++ change_text length instr.now registers.now) }
+    ensures { OnOk result (string_bytes out.new ≡ string_bytes out.old
+        ++ change fetched.now.instr fetched.now.address registers.now) }
 {
+    let instr = &fetched.instr;
     if instr.op().is_pair() {
-        push_gap(out, length)?;
         push_register(out, registers, Reg::LO)?;
-        out.push_str(" ")?;
         return push_register(out, registers, Reg::HI);
     }
+    let written = instr.destination(Half::Low);
     match instr.op().kind() {
-        Kind::Stores => {
-            push_gap(out, length)?;
-            push_memory(out, registers, instr)
+        Kind::Stores => push_store(out, fetched, registers),
+        Kind::Loads => {
+            push_written(out, registers, written)?;
+            push_address(out, fetched.address)
         }
-        _ => {
-            let written = instr.destination(Half::Low);
-            if written.number() == 0 {
-                return Ok(());
-            }
-            push_gap(out, length)?;
-            push_register(out, registers, written)
-        }
+        _ => push_written(out, registers, written),
     }
 }

@@ -1,165 +1,136 @@
-//! The log of a run, a line for each commit before the next one is made.
-ghost use Rattle.std.specs.Prelude.{◌≡◌, ◌<◌, ◌+◌, ◌-◌, ◌^◌, ℕ, List, IfErr, IfOk, IsOk, OnErr, OnOk};
-ghost use Rattle.std.specs.Prelude.{replicate, string_bytes};
-ghost use Rattle.counted_io.specs.Counted.{failures_of, known_by, Gives};
-ghost use Rattle.inorder.specs.Runs.{end_of, end_state};
-ghost use Rattle.one_thread.specs.Changes.{registers_of, run_from};
-ghost use Rattle.command_line.specs.Exits.{IsOfWriting, failed_writes};
-ghost use Rattle.commit_log.specs.Lines.{commit_line as line_of};
-ghost use Rattle.commit_log.specs.Logs.{last_line as last_line_of, log};
-ghost use Rattle.commit_log.specs.Retirements.{HasLogged, IsBeginning, final_line, log_ahead};
+//! The log of a run, written in blocks while it runs.
+ghost use Rattle.std.specs.Prelude.{◌≡◌, ◌++◌, ◌-◌, ◌^◌, ◌<◌, [], IfOk, OnOk, string_bytes};
+ghost use Rattle.counted_io.specs.Counted.{failures_of};
+ghost use Rattle.counted_io.specs.Writes.{IsBeginning, Writes};
+ghost use Rattle.inorder.specs.Machine.{step as step_of};
+ghost use Rattle.commit_log.specs.Logs.{IsLogOfRun, line_of, log};
+ghost use Rattle.commit_log.specs.Steps.{HasLogged, HasLoggedRun, IsLoggedStep, end_ahead, log_ahead};
 
-use crate::line::{commit_line, stop_line};
-use crate::retiring::next_commit;
-use command_line::Refusal;
-use counted_io::{Counted, write_whole};
-use instructions::{Config, End, Ending, Predictor, Program};
-use one_thread::{Bench, Station};
+use crate::fetched::Fetched;
+use crate::line::{push_commit, push_hash, push_limit, push_stop};
+use command_line::Logged;
+use counted_io::{Counted, Fault, write_whole};
+use inorder::{Machine, Stepped};
+use instructions::{Ending, Program, Stop};
 use std::alloc::{AllocError, Global};
 use std::io::Write;
 
-// Writes a line, if there was room for it.
-fn write_line<W: Write>(
-    line: Result<String, AllocError>,
-    writer: &mut Counted<W>,
-) -> Result<(), Refusal>
-    requires { failures_of writer.old < 2 ^ 64 - 1 }
-    ensures says { OnOk result (IfOk line (λ text.
-        Gives W.contents writer.old writer.new (string_bytes text))) }
-    ensures quiet { OnOk result (failures_of writer.new ≡ failures_of writer.old) }
-    ensures there { OnOk result (IsOk line) }
-    ensures begun { OnErr result ((bytes : List ℕ) →
-        IfOk line (λ text. string_bytes text ≡ bytes) →
-        IsBeginning bytes (known_by W.contents writer.old) (known_by W.contents writer.new)) }
-    ensures err { IfErr result (λ refusal. IsOfWriting refusal) }
-    ensures write { IfErr result (λ refusal.
-        failures_of writer.new ≡ failures_of writer.old + failed_writes refusal) }
-{
-    let line = line?;
-    write_whole(writer, line.as_str().as_bytes())?;
-    Ok(())
-}
+/// A block is written once it has this many bytes.
+const BLOCK: usize = 65_536;
 
-// Writes the line of an instruction that has committed.
-fn log_commit<W: Write>(
-    alloc: Global,
-    station: &Station,
-    registers: &[u32; 34],
-    writer: &mut Counted<W>,
-) -> Result<(), Refusal>
-    requires { failures_of writer.old < 2 ^ 64 - 1 }
-    ensures says { OnOk result (Gives W.contents writer.old writer.new
-        (line_of station.now.pc station.now.instr registers.now)) }
-    ensures quiet { OnOk result (failures_of writer.new ≡ failures_of writer.old) }
-    ensures begun { OnErr result (IsBeginning
-        (line_of station.now.pc station.now.instr registers.now)
-        (known_by W.contents writer.old) (known_by W.contents writer.new)) }
-    ensures err { IfErr result (λ refusal. IsOfWriting refusal) }
-    ensures write { IfErr result (λ refusal.
-        failures_of writer.new ≡ failures_of writer.old + failed_writes refusal) }
-{
-    let instr = station.instr.to_instr();
-    let line = commit_line(alloc, station.pc, &instr, registers);
-    write_line(line, writer)
-}
+/// More than a line has.
+const LINE: usize = 256;
 
-// Turns until the unit has ended, or its count has reached a limit, and writes the line of each commit.
-fn log_each_commit<P: Predictor + Drop, W: Write>(
-    alloc: Global,
-    bench: &mut Bench<'_, P>,
-    registers: &mut [u32; 34],
-    limit: u64,
-    writer: &mut Counted<W>,
-) -> Result<(), Refusal>
-    requires room { failures_of writer.old < 2 ^ 64 - 1 }
-    requires registers { registers.old ≡ registers_of bench.old.pipeline }
-    ensures ends { OnOk result
-        (run_from bench.new.pipeline limit ≡ run_from bench.old.pipeline limit) }
-    ensures logged { OnOk result (HasLogged (log_ahead bench.old.pipeline limit)
-        (final_line (run_from bench.old.pipeline limit))
-        (known_by W.contents writer.old) (known_by W.contents writer.new)) }
-    ensures quiet { OnOk result (failures_of writer.new ≡ failures_of writer.old) }
-    ensures begun { OnErr result (IsBeginning (log_ahead bench.old.pipeline limit)
-        (known_by W.contents writer.old) (known_by W.contents writer.new)) }
-    ensures err { IfErr result (λ refusal. IsOfWriting refusal) }
-    ensures write { IfErr result (λ refusal.
-        failures_of writer.new ≡ failures_of writer.old + failed_writes refusal) }
+// Adds the line that is asked for of an instruction that was run, if one is.
+fn push_line(
+    out: &mut String,
+    asked: &Logged<'_>,
+    fetched: &Fetched,
+    machine: &Machine<'_>,
+) -> Result<(), AllocError>
+    ensures { OnOk result (string_bytes out.new ≡ string_bytes out.old
+        ++ line_of asked.now fetched.now.pc fetched.now.instr fetched.now.address machine.now.state) }
 {
-    'commits: while let Some(station) = next_commit(bench, registers, limit) {
-        log_commit(alloc, &station, registers, writer)?;
+    let count = machine.count();
+    if count < asked.from {
+        return Ok(());
+    }
+    if asked.hash == 0 {
+        return push_commit(out, asked.text, fetched, machine.registers());
+    }
+    if count % asked.hash == 0 {
+        return push_hash(out, machine);
     }
     Ok(())
 }
 
-// Writes the last line of a run that ended by a stop.
-fn log_stop<W: Write>(alloc: Global, end: &End, writer: &mut Counted<W>) -> Result<(), Refusal>
-    requires { failures_of writer.old < 2 ^ 64 - 1 }
-    ensures says { OnOk result (Gives W.contents writer.old writer.new
-        (last_line_of end.now.outcome end.now.pc)) }
-    ensures quiet { OnOk result (failures_of writer.new ≡ failures_of writer.old) }
-    ensures begun { OnErr result (IsBeginning (last_line_of end.now.outcome end.now.pc)
-        (known_by W.contents writer.old) (known_by W.contents writer.new)) }
-    ensures err { IfErr result (λ refusal. IsOfWriting refusal) }
-    ensures write { IfErr result (λ refusal.
-        failures_of writer.new ≡ failures_of writer.old + failed_writes refusal) }
+// Runs the next instruction and adds its line, or adds that of the stop. The result is the stop.
+fn push_step(
+    out: &mut String,
+    asked: &Logged<'_>,
+    program: &Program,
+    machine: &mut Machine<'_>,
+) -> Result<Option<Stop>, AllocError>
+    requires program { machine.old.program ≡ program.now }
+    requires below { machine.old.state.count < 2 ^ 64 - 1 }
+    ensures { IfOk result (λ stop. IsLoggedStep asked.now machine.old machine.new
+        (string_bytes out.old) (string_bytes out.new) stop
+        (step_of machine.old.program machine.old.state)) }
 {
-    match end.outcome {
-        Ending::Limit => Ok(()),
-        Ending::Stop(stop) => {
-            let line = stop_line(alloc, end.pc, stop);
-            write_line(line, writer)
+    let pc = machine.pc();
+    let Some(instr) = program.fetch(pc) else {
+        push_stop(out, pc, Stop::BadPc, 0)?;
+        return Ok(Some(Stop::BadPc));
+    };
+    let address = machine.register(instr.first()).wrapping_add(instr.number());
+    let fetched = Fetched { pc, instr, address };
+    match machine.step() {
+        Stepped::Ran => {
+            push_line(out, asked, &fetched, machine)?;
+            Ok(None)
+        }
+        Stepped::Stopped(stop) => {
+            push_stop(out, pc, stop, address)?;
+            Ok(Some(stop))
         }
     }
 }
 
-// Runs a unit that starts up to a limit, and writes the log of its run.
-fn log_to_end<P: Predictor + Drop, W: Write>(
-    alloc: Global,
-    bench: Bench<'_, P>,
-    limit: u64,
-    writer: &mut Counted<W>,
-) -> Result<Ending, Refusal>
-    requires room { failures_of writer.old < 2 ^ 64 - 1 }
-    requires starts { replicate 34 0 ≡ registers_of bench.pipeline }
-    ensures end { IfOk result (λ ending. ending ≡ (run_from bench.entry.pipeline limit).0) }
-    ensures says { OnOk result (Gives W.contents writer.old writer.new
-        (log_ahead bench.entry.pipeline limit)) }
-    ensures quiet { OnOk result (failures_of writer.new ≡ failures_of writer.old) }
-    ensures begun { OnErr result (IsBeginning (log_ahead bench.entry.pipeline limit)
-        (known_by W.contents writer.old) (known_by W.contents writer.new)) }
-    ensures err { IfErr result (λ refusal. IsOfWriting refusal) }
-    ensures write { IfErr result (λ refusal.
-        failures_of writer.new ≡ failures_of writer.old + failed_writes refusal) }
+// Writes a block, if it is full, and begins another.
+fn write_full<W: Write>(block: &mut String, writer: &mut Counted<W>) -> Result<(), Fault>
+    requires { failures_of writer.old < 2 ^ 64 - 1 }
+    ensures { Writes W.contents writer.old writer.new
+        (λ _. HasLogged (string_bytes block.old) (string_bytes block.new))
+        (IsBeginning (string_bytes block.old)) result }
 {
-    let mut bench = bench;
-    let mut registers = [0; 34];
-    log_each_commit(alloc, &mut bench, &mut registers, limit, writer)?;
-    let end = bench.run(limit);
-    log_stop(alloc, &end, writer)?;
-    Ok(end.outcome)
+    if block.len() < BLOCK {
+        return Ok(());
+    }
+    write_whole(writer, block.as_str().as_bytes())?;
+    block.clear();
+    Ok(())
 }
 
-/// Runs a program on the one-thread unit, up to the limit of the configuration, and writes the log of its commits while
-/// it runs. Kept beside the unit are the registers alone.
-pub(crate) fn log_run<P: Predictor + Drop, W: Write>(
-    alloc: Global,
+// Runs a machine to its end or its limit, and writes its log, but for the last block.
+fn log_blocks<W: Write>(
+    block: &mut String,
+    asked: &Logged<'_>,
     program: &Program,
-    config: &Config,
-    predictor: P,
+    machine: &mut Machine<'_>,
     writer: &mut Counted<W>,
-) -> Result<Ending, Refusal>
-    requires { failures_of writer.old < 2 ^ 64 - 1 }
-    ensures end { IfOk result (λ ending. ending ≡ (end_of program.now config.now.limit).0) }
-    ensures says { OnOk result (Gives W.contents writer.old writer.new
-        (log program.now config.now.limit)) }
-    ensures quiet { OnOk result (failures_of writer.new ≡ failures_of writer.old) }
-    ensures begun { OnErr result (IsBeginning (log program.now config.now.limit)
-        (known_by W.contents writer.old) (known_by W.contents writer.new)) }
-    ensures err { IfErr result (λ refusal. IsOfWriting refusal) }
-    ensures write { IfErr result (λ refusal.
-        failures_of writer.new ≡ failures_of writer.old + failed_writes refusal) }
+) -> Result<Ending, Fault>
+    requires program { machine.old.program ≡ program.now }
+    requires empty { string_bytes block.old ≡ [] }
+    requires room { failures_of writer.old < 2 ^ 64 - 1 }
+    ensures { Writes W.contents writer.old writer.new
+        (HasLoggedRun (log_ahead asked.now machine.old) (string_bytes block.new)
+        (end_ahead asked.now machine.old))
+        (IsBeginning (log_ahead asked.now machine.old)) result }
 {
-    let bench = Bench::new(alloc, program, config, predictor)?;
-    let limit = u64::from(config.limit());
-    log_to_end(alloc, bench, limit, writer)
+    'steps: while machine.count() < asked.limit {
+        match push_step(block, asked, program, machine)? {
+            None => write_full(block, writer)?,
+            Some(stop) => return Ok(Ending::Stop(stop)),
+        }
+    }
+    push_limit(block, machine.pc())?;
+    Ok(Ending::Limit)
+}
+
+/// Runs a program in order up to the limit, and writes its log. The result is how it has ended.
+pub(crate) fn log_run<W: Write>(
+    alloc: Global,
+    asked: &Logged<'_>,
+    program: &Program,
+    writer: &mut Counted<W>,
+) -> Result<Ending, Fault>
+    requires { failures_of writer.old < 2 ^ 64 - 1 }
+    ensures { Writes W.contents writer.old writer.new
+        (IsLogOfRun asked.now program.now) (IsBeginning (log asked.now program.now)) result }
+{
+    let mut machine = Machine::new(alloc, program)?;
+    let mut block = String::with_capacity(alloc, BLOCK + LINE)?;
+    let ending = log_blocks(&mut block, asked, program, &mut machine, writer)?;
+    write_whole(writer, block.as_str().as_bytes())?;
+    Ok(ending)
 }

@@ -4,15 +4,18 @@
 mod answering;
 mod change;
 mod digits;
+mod fetched;
+mod hash;
 mod laws;
 mod line;
 mod logging;
-mod retiring;
+mod pipe;
 mod word;
 
 use answering::log_commits;
-use command_line::{REFUSED, Watched, committed, end, is_standard_input, refuse, words};
+use command_line::{Exit, Line, Logged, REFUSED, committed, end, is_standard_input, refuse, words};
 use counted_io::{ClosedStreams, Counted};
+use pipe::Pipe;
 use std::fs::File;
 use std::io::Read;
 use std::process::ExitCode;
@@ -24,7 +27,7 @@ fn main(rt: HostRuntime) -> ExitCode {
     }
 }
 
-// Logs the run that the words ask for.
+// Writes the log that the words ask for.
 fn log_asked(rt: &HostRuntime) -> ExitCode {
     let words = match words(rt) {
         Ok(words) => words,
@@ -36,15 +39,26 @@ fn log_asked(rt: &HostRuntime) -> ExitCode {
     }
 }
 
-fn log(rt: &HostRuntime, asked: &Watched<'_>) -> ExitCode {
+fn log(rt: &HostRuntime, asked: &Logged<'_>) -> ExitCode {
     if is_standard_input(asked.file) {
         return log_from(rt, asked, Some(rt.stdin()));
     }
     log_from(rt, asked, File::open(rt, asked.file).ok())
 }
 
-fn log_from<R: Read + Drop>(rt: &HostRuntime, asked: &Watched<'_>, input: Option<R>) -> ExitCode {
-    let reader = input.map(Counted::new);
-    let mut writer = Counted::new(rt.stdout());
-    end(rt, log_commits(rt.alloc(), asked, reader, &mut writer))
+// Nothing is told where nobody reads any more.
+fn log_from<R: Read + Drop>(rt: &HostRuntime, asked: &Logged<'_>, input: Option<R>) -> ExitCode {
+    let mut reader = input.map(Counted::new);
+    let mut writer = Counted::new(Pipe::new(rt.stdout()));
+    let exit = log_commits(rt.alloc(), asked, &mut reader, &mut writer);
+    if writer.into_inner().is_gone() {
+        return end(
+            rt,
+            Exit {
+                line: Line::Nothing,
+                ..exit
+            },
+        );
+    }
+    end(rt, exit)
 }

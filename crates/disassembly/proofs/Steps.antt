@@ -1,9 +1,9 @@
 -- One word more.
-use Rattle.std.proofs.Common.{◌≡◌, ℕ, zero, suc, ◌+◌, ◌<◌, ◌≤◌, inl, inr, List, [], Ok, Err, refl, arith, ap, ◌∙◌, sym, add-one, length}
+use Rattle.std.proofs.Common.{◌≡◌, ℕ, zero, suc, ◌+◌, ◌<◌, ◌≤◌, inl, inr, List, [], ◌++◌, Ok, Err, refl, arith, ap, ◌∙◌, sym, add-one, length}
 use Rattle.std.proofs.lemmas.Bool.{cases_lt}
 use Rattle.instructions.specs.declared.instr.Instr.{Instr}
 use Rattle.disassembly.specs.declared.refusal.Refusal.{Refusal}
-use Rattle.disassembly.specs.Meaning.{appended, meant, with_next, meant_up_to}
+use Rattle.disassembly.specs.Meaning.{appended, meant, with_next, meant_up_to, refusal_list, refusals_up_to}
 
 pub meant_none : (words : List ℕ) → meant_up_to words 0 ≡ Ok []
 unfolding meant_up_to
@@ -33,3 +33,11 @@ pub refused_by_one : (words : List ℕ) (n : ℕ) (is : List Instr) (refusal : R
 refused_by_one words n is refusal less before fault =
     stays words (length words) (n + 1) refusal (omega arith)
     (meant_next words n is before ∙ ap (appended is) fault)
+
+pub refusals_none : (words : List ℕ) → refusals_up_to words 0 ≡ []
+unfolding refusals_up_to
+refusals_none words = refl
+
+pub refusals_next : (words : List ℕ) (n : ℕ) → refusals_up_to words (n + 1) ≡ refusals_up_to words n ++ refusal_list (meant words n)
+unfolding refusals_up_to
+refusals_next words n = rw add-one refl

@@ -65,3 +65,13 @@ with_next words k (Err refusal) = Err refusal
 unfoldable pub meant_up_to : List ℕ → ℕ → Result (List Instr) Refusal
 meant_up_to words zero = Ok []
 meant_up_to words (suc n) = with_next words n (meant_up_to words n)
+
+-- the refusal of a word, if it is refused
+abbrev pub refusal_list : Result Instr Refusal → List Refusal
+refusal_list (Ok i) = []
+refusal_list (Err refusal) = refusal ∷ []
+
+-- the refusals of the first n words of a text, in their order
+unfoldable pub refusals_up_to : List ℕ → ℕ → List Refusal
+refusals_up_to words zero = []
+refusals_up_to words (suc n) = refusals_up_to words n ++ refusal_list (meant words n)

@@ -12,4 +12,5 @@ mod writing;
 
 pub use conversion::listing_of;
 pub use foreign::Foreign;
+pub use meaning::{instructions, refusals};
 pub use refusal::Refusal;

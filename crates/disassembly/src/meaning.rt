@@ -1,14 +1,14 @@
 //! The instructions that the words of a text mean.
-ghost use Rattle.std.specs.Prelude.{◌≡◌, ◌≢◌, ◌<◌, ◌≤◌, Ok, Err, IfOk, IfErr, length};
+ghost use Rattle.std.specs.Prelude.{◌≡◌, ◌≢◌, ◌<◌, ◌≤◌, ◌++◌, Ok, Err, IfOk, IfErr, OnOk, length};
 ghost use Rattle.instructions.specs.Programs.{address as address_at};
 ghost use Rattle.disassembly.specs.Writing.{AllSound};
-ghost use Rattle.disassembly.specs.Meaning.{has_slot as has_slot_of, is_inside as is_inside_of, checked as checked_by, meant as meant_by, meant_up_to};
+ghost use Rattle.disassembly.specs.Meaning.{has_slot as has_slot_of, is_inside as is_inside_of, checked as checked_by, meant as meant_by, meant_up_to, refusal_list, refusals_up_to};
 
 use crate::Refusal;
 use crate::foreign::foreign_word;
 use encoding::decode;
 use instructions::{Instr, Kind, Op, Program};
-use std::alloc::Global;
+use std::alloc::{AllocFailed, Global};
 
 /// The address of word `k`.
 pub fn address_of(k: usize) -> u32
@@ -96,4 +96,30 @@ pub fn instructions(alloc: Global, code: &[u32]) -> Result<Vec<Instr>, Refusal>
         found.push(instr)?;
     }
     Ok(found)
+}
+
+// Adds the refusal of a word, if it was refused.
+fn push_refusal(
+    all: &mut Vec<Refusal>,
+    found: Result<Instr, Refusal>,
+) -> Result<(), AllocFailed<Refusal>>
+    ensures { OnOk result (all.new.items ≡ all.old.items ++ refusal_list found) }
+{
+    match found {
+        Ok(_) => Ok(()),
+        Err(refusal) => all.push(refusal),
+    }
+}
+
+/// The refusals of all words of a text, in their order.
+#[tactic(auto, using(crate::proofs::Steps::refusals_none, crate::proofs::Steps::refusals_next))]
+pub fn refusals(alloc: Global, code: &[u32]) -> Result<Vec<Refusal>, AllocFailed<Refusal>>
+    requires { length code.now ≤ 16384 }
+    ensures { IfOk result (λ all. all.items ≡ refusals_up_to code.now (length code.now)) }
+{
+    let mut all = Vec::new(alloc);
+    'words: for k in 0..code.len() {
+        push_refusal(&mut all, meant(code, k))?;
+    }
+    Ok(all)
 }

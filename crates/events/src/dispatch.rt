@@ -1,5 +1,7 @@
 //! Dispatch.
-ghost use Rattle.std.specs.Prelude.{◌<◌, ◌^◌, IfSome, IsTrue, length};
+ghost use Rattle.std.specs.Prelude.{◌≡◌, ◌<◌, ◌^◌, IfErr, IfOk, IfSome, IsTrue, OnOk, [], length};
+ghost use Rattle.events.specs.Following.{Follows};
+ghost use Rattle.events.specs.Told.{Lets, Refuses};
 ghost use Rattle.replay.specs.Lets.{IsFit};
 
 use crate::judge::Judge;
@@ -24,10 +26,22 @@ fn index_at(program: &Program, pc: u32) -> Option<usize>
     }
 }
 
+// What the log says, if it says it, is where the path goes on.
+fn goes_on_at(pc: Option<u32>, front: u32) -> bool
+    ensures { IsTrue result → IfSome pc (λ x. x ≡ front) }
+{
+    match pc {
+        Some(pc) => pc == front,
+        None => true,
+    }
+}
+
 impl<'a> Judge<'a> {
     // A known misprediction after which nothing is in flight is mended, where the log goes on at its real next pc. Where
     // the log does not say at which pc it goes on, it goes on there.
-    fn mend_towards(&mut self, pc: Option<u32>) {
+    fn mend_towards(&mut self, pc: Option<u32>)
+        ensures { Follows self.old.unit [] self.new.unit }
+    {
         let Some(youngest) = self.youngest() else {
             return;
         };
@@ -43,6 +57,7 @@ impl<'a> Judge<'a> {
     // The predicted next pc of the next instruction: the only one there is, what the log says, or a guess.
     fn predicted(&self, front: Front, index: usize, next: Option<u32>, guess: Option<u32>) -> u32
         requires { index < length self.now.unit.program.now.code }
+        ensures { IfSome next (λ x. x ≡ result) }
     {
         match next {
             Some(next) => next,
@@ -71,10 +86,13 @@ impl<'a> Judge<'a> {
         pc: Option<u32>,
         next: Option<u32>,
         guess: Option<u32>,
-    ) -> Result<Result<(), Why>, AllocError> {
+    ) -> Result<Result<(), Why>, AllocError>
+        ensures ok { IfOk result (λ answer. OnOk answer (Lets self.old.unit pc next self.new.unit)) }
+        ensures err { IfOk result (λ answer. IfErr answer (λ why. Refuses self.old.unit why self.new.unit)) }
+    {
         self.mend_towards(pc);
         let front = self.unit.front();
-        if pc.is_some_and(|pc| pc != front.pc) {
+        if !goes_on_at(pc, front.pc) {
             return Ok(Err(Why::Let(NoLet::OtherPc(front.pc))));
         }
         let Some(index) = index_at(self.unit.program, front.pc) else {

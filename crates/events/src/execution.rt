@@ -1,4 +1,10 @@
 //! Execution.
+ghost use Rattle.std.specs.Prelude.{◌≡◌, ℕ, IfErr, IfSome, OnOk, List, [], ◌∷◌};
+ghost use Rattle.events.specs.Following.{Follows};
+ghost use Rattle.events.specs.Told.{Executes, HasOutcome, IsExecution, IsTrueOf, Refuses};
+ghost use Rattle.replay.specs.declared.step.Step.TheVariants.{On};
+ghost use Rattle.replay.specs.declared.acting.Deed.TheVariants.{Claim, Finish};
+
 use crate::judge::Judge;
 use crate::stated::is_value;
 use crate::why::Why;
@@ -7,24 +13,37 @@ use replay::{Deed, Fate};
 
 impl<'a> Judge<'a> {
     /// Its execution begins.
-    pub(crate) fn begin(&mut self, who: usize) -> Result<(), Why> {
+    pub(crate) fn begin(&mut self, who: usize) -> Result<(), Why>
+        ensures ok { OnOk result (Follows self.old.unit (On who Claim ∷ []) self.new.unit) }
+        ensures err { IfErr result (λ why. Refuses self.old.unit why self.new.unit) }
+    {
         self.act(who, Deed::Claim)
     }
 
     // Its execution ends, and its result is delivered.
-    fn finish(&mut self, who: usize) -> Result<(), Why> {
+    fn finish(&mut self, who: usize) -> Result<(), Why>
+        ensures ok { OnOk result (Follows self.old.unit (On who Finish ∷ []) self.new.unit) }
+        ensures err { IfErr result (λ why. Refuses self.old.unit why self.new.unit) }
+    {
         self.act(who, Deed::Finish)?;
         self.broadcast(who);
         Ok(())
     }
 
     /// Its execution ends with the outcome that is said.
-    pub(crate) fn end(&mut self, who: usize, said: Option<u32>) -> Result<(), Why> {
+    pub(crate) fn end(&mut self, who: usize, said: Option<u32>) -> Result<(), Why>
+        ensures ok { OnOk result (Follows self.old.unit (On who Finish ∷ []) self.new.unit) }
+        ensures value { OnOk result (IfSome said (HasOutcome self.new.unit.tenants.items who)) }
+        ensures err { IfErr result (λ why. Refuses self.old.unit why self.new.unit) }
+    {
         self.finish(who)?;
         self.has_outcome(who, said)
     }
 
-    fn begin_if_open(&mut self, who: usize) -> Result<(), Why> {
+    fn begin_if_open(&mut self, who: usize) -> Result<(), Why>
+        ensures ok { OnOk result (Executes self.old.unit who self.new.unit) }
+        ensures err { IfErr result (λ why. Refuses self.old.unit why self.new.unit) }
+    {
         match self.unit.tenant(who).map(|t| t.fate) {
             Some(Fate::Open) => self.begin(who),
             _ => Ok(()),
@@ -32,33 +51,54 @@ impl<'a> Judge<'a> {
     }
 
     /// Its execution begins, if it has not, and ends with the outcome that is said.
-    pub(crate) fn execute(&mut self, who: usize, said: Option<u32>) -> Result<(), Why> {
+    pub(crate) fn execute(&mut self, who: usize, said: Option<u32>) -> Result<(), Why>
+        ensures ok { OnOk result (Executes self.old.unit who self.new.unit) }
+        ensures value { OnOk result (IfSome said (HasOutcome self.new.unit.tenants.items who)) }
+        ensures err { IfErr result (λ why. Refuses self.old.unit why self.new.unit) }
+    {
         self.begin_if_open(who)?;
         self.end(who, said)
     }
 
     /// The load could have its value now.
-    pub(crate) fn read(&mut self, who: usize, said: Option<u32>) -> Result<(), Why> {
-        let Some(before) = self.unit.tenant(who) else {
-            return Err(Why::NotLet(who));
-        };
-        self.act(who, Deed::Load)?;
-        let answer = self.has_outcome(who, said);
-        if who < self.unit.tenants.len() {
-            self.unit.put(who, before);
+    pub(crate) fn read(&self, who: usize, said: Option<u32>) -> Result<(), Why>
+        ensures { IfErr result (IsTrueOf self.now.unit) }
+    {
+        match self.unit.read(who) {
+            Ok(value) => is_value(who, Some(value), said),
+            Err(refusal) => Err(Why::Act(who, Deed::Load, refusal)),
         }
-        answer
+    }
+
+    // How a load gets its value: a stated one that it has not now is a guess, where loads guess.
+    fn loading(&self, who: usize, said: Option<u32>) -> Deed
+        ensures { IsExecution who (On who result) }
+    {
+        match said {
+            Some(value) if self.guesses && self.unit.read(who).ok() != Some(value) => {
+                Deed::Guess(value)
+            }
+            _ => Deed::Load,
+        }
     }
 
     /// The load has its value, which is delivered.
-    pub(crate) fn load(&mut self, who: usize, said: Option<u32>) -> Result<(), Why> {
-        self.act(who, Deed::Load)?;
+    pub(crate) fn load(&mut self, who: usize, said: Option<u32>) -> Result<(), Why>
+        ensures ok { OnOk result (Executes self.old.unit who self.new.unit) }
+        ensures value { OnOk result (IfSome said (HasOutcome self.new.unit.tenants.items who)) }
+        ensures err { IfErr result (λ why. Refuses self.old.unit why self.new.unit) }
+    {
+        self.act(who, self.loading(who, said))?;
         self.broadcast(who);
         self.has_outcome(who, said)
     }
 
     /// All that is left of its execution.
-    pub(crate) fn complete(&mut self, who: usize, said: Option<u32>) -> Result<(), Why> {
+    pub(crate) fn complete(&mut self, who: usize, said: Option<u32>) -> Result<(), Why>
+        ensures ok { OnOk result (Executes self.old.unit who self.new.unit) }
+        ensures value { OnOk result (IfSome said (HasOutcome self.new.unit.tenants.items who)) }
+        ensures err { IfErr result (λ why. Refuses self.old.unit why self.new.unit) }
+    {
         self.begin_if_open(who)?;
         let Some(tenant) = self.unit.tenant(who) else {
             return Err(Why::NotLet(who));
@@ -71,7 +111,11 @@ impl<'a> Judge<'a> {
     }
 
     // The execution of a load ends, and it has its value unless its address stops it.
-    fn complete_load(&mut self, who: usize, said: Option<u32>) -> Result<(), Why> {
+    fn complete_load(&mut self, who: usize, said: Option<u32>) -> Result<(), Why>
+        ensures ok { OnOk result (Executes self.old.unit who self.new.unit) }
+        ensures value { OnOk result (IfSome said (HasOutcome self.new.unit.tenants.items who)) }
+        ensures err { IfErr result (λ why. Refuses self.old.unit why self.new.unit) }
+    {
         self.finish(who)?;
         match self.unit.tenant(who).map(|t| t.fate) {
             Some(Fate::Addr(_)) => self.load(who, said),

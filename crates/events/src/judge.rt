@@ -1,4 +1,12 @@
 //! A judge: the unit as the events before have left it.
+ghost use Rattle.std.specs.Prelude.{◌≡◌, ℕ, IfErr, IfOk, IfSome, IsTrue, OnErr, OnOk, [], ◌∷◌, length};
+ghost use Rattle.inorder.specs.declared.history.Step.TheVariants.{On as UnitOn};
+ghost use Rattle.events.specs.Following.{Follows, IsUntold};
+ghost use Rattle.events.specs.Told.{Refuses, Tells};
+ghost use Rattle.replay.specs.declared.step.Step.TheVariants.{On};
+ghost use Rattle.replay.specs.Lets.{sizes_of};
+ghost use Rattle.replay.specs.Reasons.{act_of};
+
 use crate::event::Event;
 use crate::why::Why;
 use instructions::Program;
@@ -9,30 +17,38 @@ use std::alloc::{AllocError, Global};
 #[derive(Drop)]
 pub struct Judge<'a> {
     pub unit: Unit<'a>,
+    /// A load may take a value ahead of older stores, if that is its value once it retires.
+    pub guesses: bool,
+    /// The youngest may be squashed without a misprediction.
+    pub flushes: bool,
 }
 
 impl<'a> Judge<'a> {
     /// The unit of a program before its first event, with `ring` stations and at most `queue` loads and stores in flight.
-    pub fn new(alloc: Global, program: &'a Program, ring: usize, queue: usize) -> Judge<'a> {
-        Judge {
-            unit: Unit {
-                program,
-                ring,
-                queue,
-                first_tag: 1,
-                tenants: Vec::new(alloc),
-            },
-        }
+    pub fn new(
+        alloc: Global,
+        program: &'a Program,
+        ring: usize,
+        queue: usize,
+    ) -> Result<Judge<'a>, AllocError>
+        ensures tenants { IfOk result (λ j. j.unit.tenants.items ≡ []) }
+        ensures program { IfOk result (λ j. j.unit.program.now ≡ program.now) }
+        ensures sizes { IfOk result (λ j. sizes_of j.unit ≡ record { ring = ring; queue = queue; first_tag = 1 }) }
+    {
+        Ok(Judge {
+            unit: Unit::new(alloc, program, ring, queue)?,
+            guesses: false,
+            flushes: false,
+        })
     }
 
     /// Takes an event, if it is legal. Where a predictor is asked and the event says no next pc, `guess` is the predicted one, and
     /// without it the next pc in order.
     /// After a refusal the unit has made those steps of the event that stand before the one that is refused.
-    pub fn event(
-        &mut self,
-        event: Event,
-        guess: Option<u32>,
-    ) -> Result<Result<(), Why>, AllocError> {
+    pub fn event(&mut self, event: Event, guess: Option<u32>) -> Result<Result<(), Why>, AllocError>
+        ensures ok { IfOk result (λ answer. OnOk answer (Tells self.old.unit event self.new.unit)) }
+        ensures err { IfOk result (λ answer. IfErr answer (λ why. Refuses self.old.unit why self.new.unit)) }
+    {
         match event {
             Event::Let(pc, next) => self.dispatch(pc, next, guess),
             Event::From(who, producer) => Ok(self.comes_from(who, producer)),
@@ -50,7 +66,10 @@ impl<'a> Judge<'a> {
     }
 
     // Does it to a tenant, if it is allowed.
-    pub(crate) fn act(&mut self, who: usize, deed: Deed) -> Result<(), Why> {
+    pub(crate) fn act(&mut self, who: usize, deed: Deed) -> Result<(), Why>
+        ensures ok { OnOk result (Follows self.old.unit (On who deed ∷ []) self.new.unit) }
+        ensures err { IfErr result (λ why. Refuses self.old.unit why self.new.unit) }
+    {
         match self.unit.act(who, deed) {
             Ok(()) => Ok(()),
             Err(refusal) => Err(Why::Act(who, deed, refusal)),
@@ -58,7 +77,10 @@ impl<'a> Judge<'a> {
     }
 
     // Does what no event says to a tenant, if it is allowed.
-    pub(crate) fn act_unsaid(&mut self, who: usize, deed: Deed) {
+    pub(crate) fn act_unsaid(&mut self, who: usize, deed: Deed)
+        requires { IsUntold (UnitOn who (act_of deed)) }
+        ensures { Follows self.old.unit [] self.new.unit }
+    {
         match self.unit.act(who, deed) {
             Ok(()) => {}
             Err(_) => {}
@@ -67,7 +89,7 @@ impl<'a> Judge<'a> {
 
     /// The oldest in flight.
     pub fn oldest(&self) -> Option<usize> {
-        for q in 0..self.unit.tenants.len() {
+        for q in self.unit.settled.upto..self.unit.tenants.len() {
             if is_live(self.unit.tenant(q)) {
                 return Some(q);
             }
@@ -78,7 +100,7 @@ impl<'a> Judge<'a> {
     /// The youngest in flight.
     pub fn youngest(&self) -> Option<usize> {
         let n = self.unit.tenants.len();
-        for back in 0..n {
+        for back in 0..n - self.unit.settled.upto {
             let q = n - 1 - back;
             if is_live(self.unit.tenant(q)) {
                 return Some(q);

@@ -1,4 +1,10 @@
 //! Retirement and recovery.
+ghost use Rattle.std.specs.Prelude.{◌≡◌, ◌<◌, ℕ, IfErr, IfOk, IfSome, OnOk, Some, [], ◌∷◌};
+ghost use Rattle.events.specs.Following.{Follows};
+ghost use Rattle.events.specs.Told.{Confirms, Recovers, Refuses, Retires, Squashes, SquashesOne};
+ghost use Rattle.replay.specs.declared.step.Step.TheVariants.{On};
+ghost use Rattle.replay.specs.declared.acting.Deed.TheVariants.{Mend};
+
 use crate::judge::Judge;
 use crate::stated::is_value;
 use crate::why::Why;
@@ -6,21 +12,65 @@ use replay::{Deed, Fate};
 
 impl<'a> Judge<'a> {
     /// A misprediction is mended before it retires, where no younger one is in flight.
-    fn mend_late(&mut self, who: usize) {
+    fn mend_late(&mut self, who: usize)
+        ensures { Follows self.old.unit [] self.new.unit }
+    {
         match self.unit.tenant(who).map(|t| t.fate) {
             Some(Fate::Miss(_)) => self.act_unsaid(who, Deed::Mend),
             _ => {}
         }
     }
 
+    // What the oldest has guessed is confirmed before it retires.
+    fn confirm_late(&mut self, who: usize) -> Result<(), Why>
+        ensures ok { OnOk result (Confirms self.old.unit who self.new.unit) }
+        ensures err { IfErr result (λ why. Refuses self.old.unit why self.new.unit) }
+    {
+        match self.unit.tenant(who).map(|t| t.fate) {
+            Some(Fate::Guessed(_)) if self.unit.live_before(who).is_none() => {
+                self.act(who, Deed::Confirm)
+            }
+            _ => Ok(()),
+        }
+    }
+
+    // A misprediction is mended, and a guess is confirmed.
+    fn ready(&mut self, who: usize) -> Result<(), Why>
+        ensures ok { OnOk result (Confirms self.old.unit who self.new.unit) }
+        ensures err { IfErr result (λ why. Refuses self.old.unit why self.new.unit) }
+    {
+        self.mend_late(who);
+        self.confirm_late(who)
+    }
+
+    // Retires a tenant that may be a known misprediction or a guess.
+    fn depart(&mut self, who: usize) -> Result<(), Why>
+        ensures ok { OnOk result (Retires self.old.unit (Some who) self.new.unit) }
+        ensures err { IfErr result (λ why. Refuses self.old.unit why self.new.unit) }
+    {
+        self.ready(who)?;
+        self.act(who, Deed::Retire)
+    }
+
+    // Retires a tenant, and delivers its value.
+    fn leave(&mut self, who: usize) -> Result<(), Why>
+        ensures ok { OnOk result (Retires self.old.unit (Some who) self.new.unit) }
+        ensures err { IfErr result (λ why. Refuses self.old.unit why self.new.unit) }
+    {
+        self.depart(who)?;
+        self.broadcast(who);
+        Ok(())
+    }
+
     /// The oldest retires, with the value that is said.
-    pub(crate) fn retire(&mut self, who: Option<usize>, said: Option<u32>) -> Result<(), Why> {
+    pub(crate) fn retire(&mut self, who: Option<usize>, said: Option<u32>) -> Result<(), Why>
+        ensures ok { OnOk result (Retires self.old.unit who self.new.unit) }
+        ensures err { IfErr result (λ why. Refuses self.old.unit why self.new.unit) }
+    {
         let Some(who) = who.or(self.oldest()) else {
             return Err(Why::Nobody);
         };
-        self.mend_late(who);
-        self.act(who, Deed::Retire)?;
-        self.broadcast(who);
+        self.leave(who)?;
         match self.unit.tenant(who) {
             Some(tenant) => is_value(who, self.left_value(&tenant), said),
             None => Err(Why::NotLet(who)),
@@ -28,20 +78,34 @@ impl<'a> Judge<'a> {
     }
 
     /// The youngest is squashed.
-    pub(crate) fn squash(&mut self, who: Option<usize>) -> Result<(), Why> {
+    pub(crate) fn squash(&mut self, who: Option<usize>) -> Result<(), Why>
+        ensures ok { OnOk result (Squashes self.old.unit who self.new.unit) }
+        ensures err { IfErr result (λ why. Refuses self.old.unit why self.new.unit) }
+    {
         let Some(who) = who.or(self.youngest()) else {
             return Err(Why::Nobody);
         };
-        self.act(who, Deed::Squash)
+        let deed = if self.flushes && self.unit.miss_before(who).is_none() {
+            Deed::Flush
+        } else {
+            Deed::Squash
+        };
+        self.act(who, deed)
     }
 
     /// A misprediction is mended.
-    pub(crate) fn mend(&mut self, who: usize) -> Result<(), Why> {
+    pub(crate) fn mend(&mut self, who: usize) -> Result<(), Why>
+        ensures ok { OnOk result (Follows self.old.unit (On who Mend ∷ []) self.new.unit) }
+        ensures err { IfErr result (λ why. Refuses self.old.unit why self.new.unit) }
+    {
         self.act(who, Deed::Mend)
     }
 
     // The youngest is squashed, where it is younger than a tenant; whether there was one.
-    fn squash_younger(&mut self, who: usize) -> Result<bool, Why> {
+    fn squash_younger(&mut self, who: usize) -> Result<bool, Why>
+        ensures ok { IfOk result (λ _. SquashesOne self.old.unit who self.new.unit) }
+        ensures err { IfErr result (λ why. Refuses self.old.unit why self.new.unit) }
+    {
         match self.youngest() {
             Some(youngest) if who < youngest => {
                 self.act(youngest, Deed::Squash)?;
@@ -51,13 +115,29 @@ impl<'a> Judge<'a> {
         }
     }
 
-    /// All younger ones are squashed, and the misprediction is mended.
-    pub(crate) fn recover(&mut self, who: usize) -> Result<(), Why> {
-        for _ in 0..self.unit.tenants.len() {
-            if !self.squash_younger(who)? {
-                break;
+    // All younger ones are squashed.
+    fn squash_all(&mut self, who: usize) -> Result<(), Why>
+        ensures ok { OnOk result (SquashesOne self.old.unit who self.new.unit) }
+        ensures err { IfErr result (λ why. Refuses self.old.unit why self.new.unit) }
+    {
+        for _turn in 0..self.unit.tenants.len() {
+            let more = match self.squash_younger(who) {
+                Ok(more) => more,
+                Err(why) => return Err(why),
+            };
+            if !more {
+                return Ok(());
             }
         }
+        Ok(())
+    }
+
+    /// All younger ones are squashed, and the misprediction is mended.
+    pub(crate) fn recover(&mut self, who: usize) -> Result<(), Why>
+        ensures ok { OnOk result (Recovers self.old.unit who self.new.unit) }
+        ensures err { IfErr result (λ why. Refuses self.old.unit why self.new.unit) }
+    {
+        self.squash_all(who)?;
         self.mend(who)
     }
 }

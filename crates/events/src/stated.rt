@@ -1,19 +1,27 @@
 //! What an event says of producers and values.
+ghost use Rattle.std.specs.Prelude.{◌≡◌, IfErr, IfSome, OnOk, Some};
+ghost use Rattle.events.specs.Told.{ComesFrom, HasOutcome, IsOfValues, IsTrueOf, outcome_of};
+
 use crate::judge::Judge;
 use crate::why::Why;
 use instructions::Kind;
 use replay::{Fate, Tenant};
 
 // What the execution of a tenant has ended with: its result, next pc or address.
-pub(crate) fn outcome_value(tenant: &Tenant) -> Option<u32> {
+pub(crate) fn outcome_value(tenant: &Tenant) -> Option<u32>
+    ensures { result ≡ outcome_of tenant.now.fate }
+{
     match tenant.fate {
-        Fate::Done(v) | Fate::Miss(v) | Fate::Addr(v) => Some(v),
+        Fate::Done(v) | Fate::Miss(v) | Fate::Addr(v) | Fate::Guessed(v) => Some(v),
         _ => None,
     }
 }
 
 // A value that is said is the one that there is.
-pub(crate) fn is_value(who: usize, is: Option<u32>, said: Option<u32>) -> Result<(), Why> {
+pub(crate) fn is_value(who: usize, is: Option<u32>, said: Option<u32>) -> Result<(), Why>
+    ensures ok { OnOk result (IfSome said (λ v. is ≡ Some v)) }
+    ensures err { IfErr result (IsOfValues) }
+{
     match (said, is) {
         (None, _) => Ok(()),
         (Some(_), None) => Err(Why::NoValue(who)),
@@ -32,7 +40,10 @@ impl<'a> Judge<'a> {
     }
 
     // The outcome of the tenant at a position is what is said.
-    pub(crate) fn has_outcome(&self, who: usize, said: Option<u32>) -> Result<(), Why> {
+    pub(crate) fn has_outcome(&self, who: usize, said: Option<u32>) -> Result<(), Why>
+        ensures ok { OnOk result (IfSome said (HasOutcome self.now.unit.tenants.items who)) }
+        ensures err { IfErr result (IsTrueOf self.now.unit) }
+    {
         match self.unit.tenant(who) {
             Some(tenant) => is_value(who, outcome_value(&tenant), said),
             None => Err(Why::NotLet(who)),
@@ -40,7 +51,10 @@ impl<'a> Judge<'a> {
     }
 
     /// One of its sources comes from this producer.
-    pub(crate) fn comes_from(&self, who: usize, producer: usize) -> Result<(), Why> {
+    pub(crate) fn comes_from(&self, who: usize, producer: usize) -> Result<(), Why>
+        ensures ok { OnOk result (ComesFrom self.now.unit.tenants.items who producer) }
+        ensures err { IfErr result (IsTrueOf self.now.unit) }
+    {
         let Some(tenant) = self.unit.tenant(who) else {
             return Err(Why::NotLet(who));
         };

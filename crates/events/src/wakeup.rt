@@ -1,4 +1,7 @@
 //! What no event says: links and deliveries, each as soon as it is due.
+ghost use Rattle.std.specs.Prelude.{[]};
+ghost use Rattle.events.specs.Following.{Follows};
+
 use crate::judge::{Judge, is_live};
 use inorder::history::Source;
 use replay::{Deed, Operand, Tenant, Way};
@@ -21,12 +24,16 @@ fn waits_for(tenant: Option<Tenant>, k: Source, producer: usize) -> bool {
 
 impl<'a> Judge<'a> {
     /// The sources of a new tenant that wait are linked.
-    pub(crate) fn link(&mut self, who: usize) {
+    pub(crate) fn link(&mut self, who: usize)
+        ensures { Follows self.old.unit [] self.new.unit }
+    {
         self.link_source(who, Source::First);
         self.link_source(who, Source::Second);
     }
 
-    fn link_source(&mut self, who: usize, k: Source) {
+    fn link_source(&mut self, who: usize, k: Source)
+        ensures { Follows self.old.unit [] self.new.unit }
+    {
         let Some(tenant) = self.unit.tenant(who) else {
             return;
         };
@@ -37,14 +44,18 @@ impl<'a> Judge<'a> {
     }
 
     /// The value of a tenant is delivered to each source that waits for it.
-    pub(crate) fn broadcast(&mut self, who: usize) {
+    pub(crate) fn broadcast(&mut self, who: usize)
+        ensures { Follows self.old.unit [] self.new.unit }
+    {
         for q in who..self.unit.tenants.len() {
             self.deliver_source(q, Source::First, who);
             self.deliver_source(q, Source::Second, who);
         }
     }
 
-    fn deliver_source(&mut self, who: usize, k: Source, producer: usize) {
+    fn deliver_source(&mut self, who: usize, k: Source, producer: usize)
+        ensures { Follows self.old.unit [] self.new.unit }
+    {
         if waits_for(self.unit.tenant(who), k, producer) {
             self.act_unsaid(who, Deed::Deliver(k));
         }

@@ -52,4 +52,19 @@ impl<R: Read + Drop> Lines<R> {
     pub fn text(&self) -> &[u8] {
         self.line.as_slice()
     }
+
+    /// The line that was read last, and all after it; none where that is more than `most` bytes.
+    pub fn whole(mut self, most: usize) -> Result<Option<Vec<u8>>, Fault> {
+        for _ in 0..u64::MAX {
+            if self.line.len() > most {
+                return Ok(None);
+            }
+            match self.reader.read_until(b'\n', &mut self.line) {
+                Ok(0) => break,
+                Ok(_) => {}
+                Err(error) => return Err(fault_of(error.kind())),
+            }
+        }
+        Ok(Some(self.line))
+    }
 }

@@ -1,11 +1,14 @@
 //! Judging a log: each event once it is known what was predicted.
-use crate::asked::Asked;
+use crate::asked::{Asked, Wanted};
 use crate::lines::Lines;
-use crate::verdict::{legal_text, refused_text, unread_text};
+use crate::stages::{format_of, judged_stages};
+use crate::verdict::{legal_text, push_event, refused_text, unread_text};
 use counted_io::Fault;
 use events::{Event, Judge, Unread, event_in};
+use grading::stations_compared;
 use instructions::Program;
 use lexical::{before_comment, cut};
+use sheets::Held;
 use std::alloc::{AllocError, AllocFailed, Global};
 use std::io::Read;
 
@@ -16,16 +19,17 @@ pub struct Ended {
     pub status: u8,
 }
 
-const LEGAL: u8 = 0;
+pub const LEGAL: u8 = 0;
 
-const REFUSED: u8 = 1;
+pub const REFUSED: u8 = 1;
 
-const UNREAD: u8 = 4;
+pub const UNREAD: u8 = 4;
 
-/// An event, with its line in the log.
+/// An event, with its line in the log, and its cycle where the log has cycles.
 #[derive(Clone, Copy)]
 pub struct Item {
     pub line: u64,
+    pub cycle: Option<u64>,
     pub event: Event,
 }
 
@@ -53,16 +57,55 @@ fn guessed(pc: Option<u32>, mended: bool) -> Option<u32> {
     }
 }
 
-// The judge, and what it has not judged yet.
+/// The judge, and what it has not judged yet.
 #[derive(Drop)]
-struct Judging<'a> {
+pub struct Judging<'a> {
     alloc: Global,
     judge: Judge<'a>,
     waiting: Waiting,
     judged: u64,
+    /// The text of the events, where that is wanted in place of a verdict.
+    events: Option<String>,
+    /// The last cycle, or line of a text, that is taken.
+    after: Option<u64>,
+    /// The stations that are compared with those of the unit at the end, and the position of each row of a schedule.
+    held: Option<Vec<Held>>,
+    pub rows: Vec<usize>,
 }
 
 impl<'a> Judging<'a> {
+    pub fn new(
+        alloc: Global,
+        program: &'a Program,
+        asked: &Asked<'_>,
+        held: Option<Vec<Held>>,
+    ) -> Result<Judging<'a>, AllocError> {
+        let mut judge = Judge::new(alloc, program, asked.ring, asked.queue)?;
+        judge.guesses = asked.guesses;
+        judge.flushes = asked.flushes;
+        Ok(Judging {
+            alloc,
+            judge,
+            waiting: Waiting {
+                items: Vec::new(alloc),
+            },
+            judged: 0,
+            events: match asked.wanted {
+                Wanted::Events => Some(String::new(alloc)),
+                _ => None,
+            },
+            after: asked.after,
+            held,
+            rows: Vec::new(alloc),
+        })
+    }
+
+    // The event is after those that are wanted.
+    fn is_past(&self, item: &Item) -> bool {
+        let at = item.cycle.unwrap_or(item.line);
+        self.after.is_some_and(|after| after < at)
+    }
+
     // Judges one event; how the program ends, if it is refused.
     fn judge_one(&mut self, item: Item, guess: Option<u32>) -> Result<Option<Ended>, Fault> {
         match self.judge.event(item.event, guess)? {
@@ -93,8 +136,15 @@ impl<'a> Judging<'a> {
         Ok(None)
     }
 
-    // The next event of the log.
-    fn take(&mut self, item: Item) -> Result<Option<Ended>, Fault> {
+    /// The next event of the log.
+    pub fn take(&mut self, item: Item) -> Result<Option<Ended>, Fault> {
+        if self.is_past(&item) {
+            return Ok(None);
+        }
+        if let Some(events) = &mut self.events {
+            push_item(events, &item)?;
+            return Ok(None);
+        }
         if let Event::Let(pc, next) = item.event {
             if let Some(ended) = self.settle(pc)? {
                 return Ok(Some(ended));
@@ -117,8 +167,8 @@ impl<'a> Judging<'a> {
         }
     }
 
-    // A line that is not read ends the log, once the events before it are judged.
-    fn refuse_line(&mut self, line: u64, why: Unread) -> Result<Ended, Fault> {
+    /// A line that is not read ends the log, once the events before it are judged.
+    pub fn refuse_line(&mut self, line: u64, why: Unread) -> Result<Ended, Fault> {
         if let Some(ended) = self.settle(None)? {
             return Ok(ended);
         }
@@ -128,15 +178,48 @@ impl<'a> Judging<'a> {
         })
     }
 
-    // The end of the log.
-    fn end(&mut self) -> Result<Ended, Fault> {
+    /// The end of the log.
+    pub fn end(&mut self) -> Result<Ended, Fault> {
+        if let Some(text) = self.events.take() {
+            return Ok(Ended {
+                text,
+                status: LEGAL,
+            });
+        }
         if let Some(ended) = self.settle(None)? {
             return Ok(ended);
         }
+        match &self.held {
+            Some(held) => self.compared(held.as_slice()),
+            None => Ok(Ended {
+                text: legal_text(self.alloc, &self.judge, self.judged)?,
+                status: LEGAL,
+            }),
+        }
+    }
+
+    // The stations of a table beside those of the unit.
+    fn compared(&self, held: &[Held]) -> Result<Ended, Fault> {
+        let found = stations_compared(self.alloc, &self.judge.unit, held, self.rows.as_slice())?;
+        let status = if found.right == found.stations {
+            LEGAL
+        } else {
+            REFUSED
+        };
         Ok(Ended {
-            text: legal_text(self.alloc, &self.judge, self.judged)?,
-            status: LEGAL,
+            text: found.text,
+            status,
         })
+    }
+}
+
+// Adds an event, and in a comment where it is from.
+fn push_item(out: &mut String, item: &Item) -> Result<(), AllocError> {
+    push_event(out, item.event)?;
+    let line = item.line;
+    match item.cycle {
+        Some(cycle) => write!(out, " # line {line} cycle {cycle}\n"),
+        None => write!(out, " # line {line}\n"),
     }
 }
 
@@ -147,30 +230,31 @@ fn code_of(line: &[u8]) -> &[u8] {
     before_comment(line)
 }
 
-/// Judges the log of a reader.
+/// Judges the log of a reader, or compares stations with those of the unit after it.
 pub fn judged<R: Read + Drop>(
     alloc: Global,
     program: &Program,
     asked: &Asked<'_>,
+    held: Option<Vec<Held>>,
     log: R,
 ) -> Result<Ended, Fault> {
     let mut lines = Lines::new(alloc, log)?;
-    let mut judging = Judging {
-        alloc,
-        judge: Judge::new(alloc, program, asked.ring, asked.queue),
-        waiting: Waiting {
-            items: Vec::new(alloc),
-        },
-        judged: 0,
-    };
+    let mut judging = Judging::new(alloc, program, asked, held)?;
     for _ in 0..u64::MAX {
         if !lines.advance()? {
             break;
         }
         let line = lines.number;
+        if let (1, Some(format)) = (line, format_of(lines.text())) {
+            return judged_stages(alloc, program, asked, format, judging, lines);
+        }
         let ended = match event_in(code_of(lines.text()), asked.issue) {
             Ok(None) => None,
-            Ok(Some(event)) => judging.take(Item { line, event })?,
+            Ok(Some(event)) => judging.take(Item {
+                line,
+                cycle: None,
+                event,
+            })?,
             Err(why) => Some(judging.refuse_line(line, why)?),
         };
         if let Some(ended) = ended {

@@ -2,17 +2,23 @@
 #![tactic(auto)]
 
 mod asked;
+mod grades;
 mod lines;
 mod log;
+mod options;
 mod reasons;
+mod stages;
 mod tenants;
 mod verdict;
 
 use answers::read_listing;
-use asked::{Asked, Request, USAGE, VERSION, requested};
+use asked::{Asked, NoJudging, Wanted, requested};
 use counted_io::{ClosedStreams, Counted, Fault, write_whole};
+use grades::graded;
 use instructions::Program;
 use log::{Ended, judged};
+use sheets::Held;
+use stages::stations_in;
 use std::env;
 use std::fs::File;
 use std::io::Read;
@@ -34,26 +40,22 @@ fn main(rt: HostRuntime) -> ExitCode {
             Ok(words) => words,
             Err(_) => return refuse(&rt, "memory"),
         },
-        Err(_) => return mistaken(&rt, "a word is no UTF-8"),
+        Err(_) => return mistaken(&rt, "error: a word is no UTF-8\n"),
     };
-    match requested(words.as_slice()) {
-        Ok(Request::Help) => told(&rt, USAGE),
-        Ok(Request::Version) => told(&rt, VERSION),
-        Ok(Request::Judge(asked)) => judge(&rt, &asked),
-        Err(why) => mistaken(&rt, why),
+    match requested(rt.alloc(), words.as_slice()) {
+        Ok(asked) => judge(&rt, &asked),
+        Err(NoJudging::Told(text)) => {
+            let _ = print!(rt; "{text}");
+            ExitCode::from(0)
+        }
+        Err(NoJudging::Mistaken(text)) => mistaken(&rt, text.as_str()),
+        Err(NoJudging::Memory) => refuse(&rt, "memory"),
     }
 }
 
 // A failure to print changes no status, here and below.
-fn told(rt: &HostRuntime, text: &str) -> ExitCode {
-    let _ = print!(rt; "{text}");
-    ExitCode::from(0)
-}
-
-fn mistaken(rt: &HostRuntime, why: &str) -> ExitCode {
-    let _ = eprint!(rt;
-        "error: {why}\n\nUsage: ruu judge [OPTIONS] <LISTING> <LOG>\n\nFor more information, try '--help'.\n"
-    );
+fn mistaken(rt: &HostRuntime, text: &str) -> ExitCode {
+    let _ = eprint!(rt; "{text}");
     ExitCode::from(USED_WRONG)
 }
 
@@ -71,13 +73,13 @@ fn word_of(fault: Fault) -> &'static str {
     }
 }
 
-// Reads the listing, and then judges the log.
+// Reads the listing, and then judges the logs, one after another.
 fn judge(rt: &HostRuntime, asked: &Asked<'_>) -> ExitCode {
     let Ok(listing) = File::open(rt, asked.listing) else {
         return refuse(rt, "open");
     };
     match read_listing(rt.alloc(), &mut Counted::new(listing)) {
-        Ok(Ok(program)) => judge_log(rt, asked, &program),
+        Ok(Ok(program)) => judge_logs(rt, asked, &program),
         Ok(Err(line)) => {
             let _ = print!(rt; "{line}");
             ExitCode::from(NO_LISTING)
@@ -86,13 +88,45 @@ fn judge(rt: &HostRuntime, asked: &Asked<'_>) -> ExitCode {
     }
 }
 
-fn judge_log(rt: &HostRuntime, asked: &Asked<'_>, program: &Program) -> ExitCode {
-    if asked.log == "-" {
-        return judge_from(rt, asked, program, rt.stdin());
+// The status is the greatest of those of the logs.
+fn judge_logs(rt: &HostRuntime, asked: &Asked<'_>, program: &Program) -> ExitCode {
+    let mut status = 0;
+    for log in asked.logs.iter() {
+        match judge_log(rt, asked, program, log) {
+            Ok(found) => status = found.max(status),
+            Err(what) => {
+                let _ = eprintln!(rt; "ruu: {what}");
+                status = REFUSED;
+            }
+        }
     }
-    match File::open(rt, asked.log) {
-        Ok(log) => judge_from(rt, asked, program, log),
-        Err(_) => refuse(rt, "open"),
+    ExitCode::from(status)
+}
+
+// Judges a log; its status, or what failed.
+fn judge_log(
+    rt: &HostRuntime,
+    asked: &Asked<'_>,
+    program: &Program,
+    log: &str,
+) -> Result<u8, &'static str> {
+    if log == "-" {
+        return judge_from(rt, asked, program, log, rt.stdin());
+    }
+    match File::open(rt, log) {
+        Ok(file) => judge_from(rt, asked, program, log, file),
+        Err(_) => Err("open"),
+    }
+}
+
+// The stations of a file, or how the program ends.
+fn held(rt: &HostRuntime, file: &str) -> Result<Result<Vec<Held>, Ended>, &'static str> {
+    match File::open(rt, file) {
+        Ok(table) => match stations_in(rt.alloc(), table) {
+            Ok(found) => Ok(found),
+            Err(fault) => Err(word_of(fault)),
+        },
+        Err(_) => Err("open"),
     }
 }
 
@@ -100,16 +134,25 @@ fn judge_from<R: Read + Drop>(
     rt: &HostRuntime,
     asked: &Asked<'_>,
     program: &Program,
-    log: R,
-) -> ExitCode {
-    match judged(rt.alloc(), program, asked, log) {
+    log: &str,
+    reader: R,
+) -> Result<u8, &'static str> {
+    let ended = match asked.wanted {
+        Wanted::Verdict | Wanted::Events => judged(rt.alloc(), program, asked, None, reader),
+        Wanted::Stations => match held(rt, asked.stations.unwrap_or("-"))? {
+            Ok(held) => judged(rt.alloc(), program, asked, Some(held), reader),
+            Err(ended) => Ok(ended),
+        },
+        Wanted::Grades | Wanted::GradesAsCells => graded(rt.alloc(), program, asked, log, reader),
+    };
+    match ended {
         Ok(Ended { text, status }) => {
             let mut writer = Counted::new(rt.stdout());
             match write_whole(&mut writer, text.as_str().as_bytes()) {
-                Ok(()) => ExitCode::from(status),
-                Err(_) => refuse(rt, "write"),
+                Ok(()) => Ok(status),
+                Err(_) => Err("write"),
             }
         }
-        Err(fault) => refuse(rt, word_of(fault)),
+        Err(fault) => Err(word_of(fault)),
     }
 }

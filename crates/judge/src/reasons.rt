@@ -212,6 +212,19 @@ fn push_refusal(
         ),
         Refusal::NotMissed => push_of(out, unit, who, " is not known to be mispredicted"),
         Refusal::Older(older) => push_of(out, unit, older, " is older, and retires first"),
+        Refusal::NotGuessed => push_of(out, unit, who, " has guessed no value"),
+        Refusal::BadAddress => push_of(
+            out,
+            unit,
+            who,
+            " has guessed a value, and stops at its address",
+        ),
+        Refusal::NotSure(store) => push_not_sure(out, unit, who, store),
+        Refusal::OtherValue(is) => {
+            push_of(out, unit, who, " has guessed another value than it has: ")?;
+            let is = Hexadecimal(is);
+            write!(out, "{is}")
+        }
         Refusal::NotDone => push_not_done(out, unit, who),
         Refusal::Ended(stop, code) => {
             write!(out, "the program has ended by {code}: ")?;
@@ -239,6 +252,22 @@ fn push_no_address(out: &mut String, unit: &Unit<'_>, who: usize) -> Result<(), 
             write!(out, " has no value: it stops the program by {code}")
         }
         _ => push_of(out, unit, who, " has no address yet"),
+    }
+}
+
+// A store before a load that has guessed can still change its value.
+fn push_not_sure(
+    out: &mut String,
+    unit: &Unit<'_>,
+    who: usize,
+    store: Option<usize>,
+) -> Result<(), AllocError> {
+    match store {
+        Some(store) => {
+            push_of(out, unit, who, " has guessed a value, and ")?;
+            push_of(out, unit, store, " has no address yet")
+        }
+        None => push_no_byte(out, unit, who),
     }
 }
 

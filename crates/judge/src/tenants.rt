@@ -64,6 +64,7 @@ fn fate_text(fate: Fate) -> &'static str {
         Fate::Done(_) => "done",
         Fate::Miss(_) => "mispredicted",
         Fate::Stops(_) => "stops",
+        Fate::Guessed(_) => "has guessed its value",
     }
 }
 

@@ -105,7 +105,11 @@ pub fn refused_text(
     why: Why,
 ) -> Result<String, Fault> {
     let line = item.line;
-    let mut out = format!(in alloc; "refused line {line}: ")?;
+    let mut out = format!(in alloc; "refused line {line}")?;
+    if let Some(cycle) = item.cycle {
+        write!(&mut out, " cycle {cycle}")?;
+    }
+    out.push_str(": ")?;
     push_event(&mut out, item.event)?;
     out.push_str("\n")?;
     push_reason(&mut out, &judge.unit, why)?;
@@ -119,8 +123,8 @@ pub fn unread_text(alloc: Global, line: u64, why: Unread) -> Result<String, Faul
     Ok(format!(in alloc; "unread line {line}: {why}\n")?)
 }
 
-// An event as the log has it, in the judge's words.
-fn push_event(out: &mut String, event: Event) -> Result<(), AllocError> {
+/// Adds an event as the log has it, in the judge's words.
+pub fn push_event(out: &mut String, event: Event) -> Result<(), AllocError> {
     match event {
         Event::Let(pc, next) => {
             out.push_str("let")?;

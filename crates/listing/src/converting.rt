@@ -14,11 +14,13 @@ use std::io::{Read, Write};
 const MOST_TAKEN: usize = 16_777_217;
 
 /// Reads an executable to its end and writes its listing: what `parse` makes of it is exactly the
-/// program that the words and bytes of the executable mean. A device that failed is not tried again.
+/// program that the words and bytes of the executable mean. A device that failed is not tried again. The bytes of the
+/// executable are kept, for who tells more of it.
 pub fn convert<R: Read, W: Write>(
     alloc: Global,
     reader: &mut Counted<R>,
     writer: &mut Counted<W>,
+    kept: &mut Vec<u8>,
 ) -> Result<(), NoListing>
     requires reader_room { failures_of reader.old < 2 ^ 64 - 1 }
     requires writer_room { failures_of writer.old < 2 ^ 64 - 1 }
@@ -30,7 +32,8 @@ pub fn convert<R: Read, W: Write>(
         reader.old reader.new writer.old writer.new) }
 {
     let file = read_up_to(alloc, reader, MOST_TAKEN)?;
-    let text = listing(alloc, file.as_slice())?;
+    *kept = file;
+    let text = listing(alloc, kept.as_slice())?;
     write_whole(writer, text.as_str().as_bytes())?;
     Ok(())
 }

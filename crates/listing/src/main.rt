@@ -7,6 +7,9 @@ ghost use Rattle.listing.specs.Statuses.{status_without_listing};
 
 mod converting;
 mod no_listing;
+mod remedies;
+mod telling;
+mod unset;
 
 use converting::convert;
 use counted_io::{ClosedStreams, Counted};
@@ -15,12 +18,21 @@ use std::env;
 use std::fs::File;
 use std::io::{ErrorKind, Read};
 use std::process::ExitCode;
+use telling::{tell, warn};
 
 const USAGE: &str = "\
 Writes the listing of an ELF32 executable for little endian MIPS: docs/COMPILING.md tells how to
 make one.
 
-Usage: ruu listing FILE, where - is standard input
+Usage: ruu listing [--all] FILE, where - is standard input
+
+Options:
+      --all      Tell each word that is refused, 200 at most, and not the first alone
+  -h, --help     Print help
+  -V, --version  Print version
+
+A refusal tells the function, and the flag or change that avoids it. Where $gp is read and nothing
+sets it, a warning tells so.
 
 Exit status: 0 the listing was written, 2 the file has none, 3 a mistake on the command line,
 5 no memory, or a file could not be opened, read or written.
@@ -29,40 +41,55 @@ Exit status: 0 the listing was written, 2 the file has none, 3 a mistake on the 
 /// The version, and on a line of its own the kit by which it is proved: that of `ruu`.
 const VERSION: &str = "ruu 1.0.0\nrattle-kit-13f logic dac8208d650f15bf\n";
 
+// A listing that is asked for.
+#[derive(Clone, Copy)]
+struct Asked<'a> {
+    file: &'a str,
+    /// Each refusal is wanted, and not the first alone.
+    all: bool,
+}
+
 // What the command line asks for.
 enum Request<'a> {
     Help,
     Version,
-    Listing(&'a str),
+    Listing(Asked<'a>),
 }
 
-// What the words ask for, of which the first is the program's name. No file's name begins with a dash, but behind `--`.
+// What the words ask for, of which the first is the program's name. No file's name begins with a dash, but after `--`.
 fn requested(words: &[String]) -> Option<Request<'_>> {
-    let word = words.get(1)?.as_str();
-    match (words.len(), word) {
-        (2, "-h" | "--help") => Some(Request::Help),
-        (2, "-V" | "--version") => Some(Request::Version),
-        (2, "-") => Some(Request::Listing(word)),
-        (2, _) if !word.starts_with('-') => Some(Request::Listing(word)),
-        (3, "--") => Some(Request::Listing(words.get(2)?.as_str())),
-        _ => None,
+    let mut file = None;
+    let mut all = false;
+    let mut names = false;
+    for word in words.iter().skip(1) {
+        let word = word.as_str();
+        match word {
+            "--" if !names => names = true,
+            "-h" | "--help" if !names => return Some(Request::Help),
+            "-V" | "--version" if !names => return Some(Request::Version),
+            "--all" if !names => all = true,
+            _ if file.is_some() || (!names && word != "-" && word.starts_with('-')) => return None,
+            _ => file = Some(word),
+        }
     }
+    Some(Request::Listing(Asked { file: file?, all }))
 }
 
 // A failure to print changes no status.
-fn refuse(rt: &HostRuntime, file: &str, why: &NoListing) -> ExitCode
+fn refuse(rt: &HostRuntime, asked: Asked<'_>, why: &NoListing, file: &[u8]) -> ExitCode
     ensures { exit_status result ≡ status_without_listing why.now }
 {
-    let _ = eprintln!(rt; "ruu: {file}: {why}");
+    tell(rt, asked.file, asked.all, why, file);
     ExitCode::from(why.status())
 }
 
-fn write_listing(rt: &HostRuntime, file: &str) -> ExitCode {
+fn write_listing(rt: &HostRuntime, asked: Asked<'_>) -> ExitCode {
+    let file = asked.file;
     if file == "-" {
-        return write_listing_of(rt, file, rt.stdin());
+        return write_listing_of(rt, asked, rt.stdin());
     }
     match File::open(rt, file) {
-        Ok(executable) => write_listing_of(rt, file, executable),
+        Ok(executable) => write_listing_of(rt, asked, executable),
         Err(reason) => {
             let _ = eprintln!(rt; "ruu: {file}: {reason}");
             ExitCode::from(REFUSED)
@@ -70,12 +97,16 @@ fn write_listing(rt: &HostRuntime, file: &str) -> ExitCode {
     }
 }
 
-fn write_listing_of<R: Read + Drop>(rt: &HostRuntime, file: &str, input: R) -> ExitCode {
+fn write_listing_of<R: Read + Drop>(rt: &HostRuntime, asked: Asked<'_>, input: R) -> ExitCode {
     let mut reader = Counted::new(input);
     let mut writer = Counted::new(rt.stdout());
-    match convert(rt.alloc(), &mut reader, &mut writer) {
-        Ok(()) => ExitCode::from(0),
-        Err(why) => refuse(rt, file, &why),
+    let mut file = Vec::new(rt.alloc());
+    match convert(rt.alloc(), &mut reader, &mut writer, &mut file) {
+        Ok(()) => {
+            warn(rt, asked.file, file.as_slice());
+            ExitCode::from(0)
+        }
+        Err(why) => refuse(rt, asked, &why, file.as_slice()),
     }
 }
 
@@ -112,7 +143,7 @@ fn main(rt: HostRuntime) -> ExitCode {
             let _ = print!(rt; "{VERSION}");
             ExitCode::from(0)
         }
-        Some(Request::Listing(file)) => write_listing(&rt, file),
+        Some(Request::Listing(asked)) => write_listing(&rt, asked),
         None => {
             let _ = eprint!(rt; "{USAGE}");
             ExitCode::from(3)

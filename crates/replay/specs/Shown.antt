@@ -1,13 +1,13 @@
 -- The unit that is shown by a list of tenants, the oldest first.
-use Rattle.std.specs.Prelude.{ℕ, List, [], ◌∷◌, Option, Some, None}
+use Rattle.std.specs.Prelude.{List, [], ◌∷◌, Option, Some, None}
 use Rattle.inorder.specs.Memory.{Stored}
 use Rattle.replay.specs.declared.tenant.Store.{Store}
-use Rattle.inorder.specs.Tenants.{Addr, AtLet, Busy, Done, Fate, Linked, Live, Miss, Open, Operand, Retired, Squashed, Standing, Stopped, Tenant, Unlinked, Way}
+use Rattle.inorder.specs.Tenants.{Addr, AtLet, Busy, Done, Fate, Guessed, Linked, Live, Miss, Open, Operand, Retired, Squashed, Standing, Stopped, Tenant, Unlinked, Way}
 use Rattle.replay.specs.declared.tenant.Way.{Way as HeldWay}
 use Rattle.replay.specs.declared.tenant.Way.TheVariants.{AtLet as HeldAtLet, Unlinked as HeldUnlinked, Linked as HeldLinked}
 use Rattle.replay.specs.declared.tenant.Operand.{Operand as HeldOperand}
 use Rattle.replay.specs.declared.tenant.Fate.{Fate as HeldFate}
-use Rattle.replay.specs.declared.tenant.Fate.TheVariants.{Open as HeldOpen, Busy as HeldBusy, Addr as HeldAddr, Done as HeldDone, Miss as HeldMiss, Stops as HeldStops}
+use Rattle.replay.specs.declared.tenant.Fate.TheVariants.{Open as HeldOpen, Busy as HeldBusy, Addr as HeldAddr, Done as HeldDone, Miss as HeldMiss, Stops as HeldStops, Guessed as HeldGuessed}
 use Rattle.replay.specs.declared.tenant.Standing.{Standing as HeldStanding}
 use Rattle.replay.specs.declared.tenant.Standing.TheVariants.{Live as HeldLive, Retired as HeldRetired, Squashed as HeldSquashed}
 use Rattle.replay.specs.declared.tenant.Tenant.{Tenant as Held}
@@ -30,6 +30,7 @@ fate_of (HeldAddr a) = Addr a
 fate_of (HeldDone v) = Done v
 fate_of (HeldMiss x) = Miss x
 fate_of (HeldStops c) = Stopped c
+fate_of (HeldGuessed v) = Guessed v
 
 -- Whether it has left
 abbrev pub standing_of : HeldStanding → Standing

@@ -1,10 +1,10 @@
 //! Dispatch.
-ghost use Rattle.std.specs.Prelude.{◌≡◌, ◌≢◌, ◌<◌, ◌≤◌, ◌+◌, ◌*◌, ◌%◌, ◌^◌, ◌++◌, ◌∷◌, [], IfOk, IfErr, IfSome, IsTrue, OnOk, OnErr, Some, length, suc};
+ghost use Rattle.std.specs.Prelude.{◌≡◌, ◌≢◌, ◌<◌, ◌≤◌, ◌+◌, ◌*◌, ◌%◌, ◌^◌, ◌==◌, ◌++◌, ◌∷◌, [], IfOk, IfErr, IfSome, IsTrue, OnOk, OnErr, Some, length, suc};
 ghost use Rattle.instructions.specs.Instruction.{first_of, fixed_next as fixed_next_by, second_of};
 ghost use Rattle.instructions.specs.Programs.{address, instr_of};
 ghost use Rattle.inorder.specs.Steps.{MayLet, MaySupply, new_tenant};
 ghost use Rattle.inorder.specs.Tenants.{made_at_let as made_at_let_by};
-ghost use Rattle.inorder.specs.Unit.{creator as creator_by, front_half, front_pc, next_station, next_tag, recent};
+ghost use Rattle.inorder.specs.Unit.{creator as creator_by, front_half, front_pc, how_many, next_station, next_tag, recent};
 ghost use Rattle.replay.specs.Lets.{HasNoSupply, HasRoom, IsFit, IsNoLet, source_of, sizes_of, supply_of, unit_of};
 ghost use Rattle.replay.specs.Shown.{shown, tenant_of};
 
@@ -66,7 +66,50 @@ impl<'a> Unit<'a> {
         requires station { station ≡ next_station (sizes_of self.now) (recent (unit_of self.now)) }
         ensures { result ≡ next_tag (sizes_of self.now) (recent (unit_of self.now)) }
     {
-        self.first_tag + self.count(Test::HasStation(station)) as u64
+        self.first_tag + self.uses_of(station)
+    }
+
+    // How many tenants a station has had.
+    fn uses_of(&self, station: usize) -> u64
+        requires { length self.now.tenants.items < 2 ^ 62 }
+        ensures value { result ≡ how_many (λ t. t.station == station) (shown self.now.tenants.items) }
+        ensures small { result < 2 ^ 62 }
+    {
+        match self.uses.as_slice().get(station) {
+            Some(uses) => *uses,
+            None => 0,
+        }
+    }
+
+    // One tenant more.
+    fn add(&mut self, tenant: Tenant) -> Result<(), AllocError>
+        requires { length self.old.tenants.items < 2 ^ 62 }
+        ensures ok { OnOk result (self.new.tenants.items ≡ self.old.tenants.items ++ tenant ∷ []) }
+        ensures err { OnErr result (self.new.tenants.items ≡ self.old.tenants.items) }
+        ensures program { self.new.program ≡ self.old.program }
+        ensures sizes { sizes_of self.new ≡ sizes_of self.old }
+    {
+        self.know(tenant.station)?;
+        let uses = self.uses_of(tenant.station);
+        self.tenants.push(tenant)?;
+        self.uses[tenant.station] = uses + 1;
+        Ok(())
+    }
+
+    // A station has its count.
+    fn know(&mut self, station: usize) -> Result<(), AllocError>
+        ensures known { OnOk result (station < length self.new.uses.items) }
+        ensures tenants { self.new.tenants ≡ self.old.tenants }
+        ensures program { self.new.program ≡ self.old.program }
+        ensures sizes { sizes_of self.new ≡ sizes_of self.old }
+    {
+        if station < self.uses.len() {
+            return Ok(());
+        }
+        match station.checked_add(1) {
+            Some(n) => self.uses.resize(n, 0),
+            None => Err(AllocError),
+        }
     }
 
     // There is room for an instruction, and the path goes on with it.
@@ -169,7 +212,7 @@ impl<'a> Unit<'a> {
             Err(k) => Ok(Err(NoLet::NoSupply(k))),
             Ok(supplies) => {
                 let tenant = self.newcomer(index, predicted, station, supplies);
-                self.tenants.push(tenant)?;
+                self.add(tenant)?;
                 Ok(Ok(supplies))
             }
         }

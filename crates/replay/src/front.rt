@@ -2,12 +2,12 @@
 ghost use Rattle.std.specs.Prelude.{◌≡◌, ◌<◌, ◌≤◌, ◌^◌, Some, cond, length};
 ghost use Rattle.inorder.specs.Tenants.{destination_of, is_first, on_path};
 ghost use Rattle.inorder.specs.Unit.{creator as creator_by, half_after, last_writer};
-ghost use Rattle.replay.specs.Fronts.{front_after, front_of, writes};
+ghost use Rattle.replay.specs.Fronts.{front_of, writes};
 ghost use Rattle.replay.specs.Shown.{shown, tenant_of};
 
 use crate::tenant::{Standing, Tenant};
 use crate::unit::Unit;
-use instructions::{Half, Program, Reg};
+use instructions::{Half, Reg};
 
 /// Where the path goes on, and the half that comes there.
 #[derive(Clone, Copy)]
@@ -22,16 +22,9 @@ fn is_on_path(tenant: &Tenant) -> bool
     !matches!(tenant.standing, Standing::Squashed)
 }
 
-// The last writer, where one more tenant writes or not.
-fn writer_behind(before: Option<usize>, writes: bool, q: usize) -> Option<usize>
-    ensures { result ≡ cond writes (Some q) before }
-{
-    if writes { Some(q) } else { before }
-}
-
 impl<'a> Unit<'a> {
-    // The half that comes after a tenant.
-    fn half_behind(&self, tenant: &Tenant) -> Half
+    /// The half that comes after a tenant.
+    pub(crate) fn half_behind(&self, tenant: &Tenant) -> Half
         ensures { result ≡ half_after (is_first self.now.program.now (tenant_of tenant.now)) }
     {
         if self.instr(tenant).is_first_half(tenant.half) {
@@ -41,35 +34,21 @@ impl<'a> Unit<'a> {
         }
     }
 
-    // Where the path goes on after a tenant, where it went on at `before`.
-    fn front_behind(&self, tenant: &Tenant, before: Front) -> Front
-        ensures { result ≡ front_after self.now.program.now (tenant_of tenant.now) before }
-    {
-        if is_on_path(tenant) {
-            Front {
-                pc: tenant.next,
-                half: self.half_behind(tenant),
-            }
-        } else {
-            before
-        }
-    }
-
     /// Where the path goes on.
     pub fn front(&self) -> Front
         ensures { result ≡ front_of self.now.program.now (shown self.now.tenants.items) }
     {
-        let mut front = Front {
-            pc: Program::START,
-            half: Half::Low,
-        };
-        for q in 0..self.tenants.len() {
-            let Some(tenant) = self.tenant(q) else {
-                return front;
-            };
-            front = self.front_behind(&tenant, front);
+        let n = self.tenants.len();
+        for back in 0..n - self.settled.upto {
+            let tenant = self.there(n - 1 - back);
+            if is_on_path(tenant) {
+                return Front {
+                    pc: tenant.next,
+                    half: self.half_behind(tenant),
+                };
+            }
         }
-        front
+        self.settled.front
     }
 
     fn writes(&self, tenant: &Tenant, r: Reg) -> bool
@@ -82,14 +61,14 @@ impl<'a> Unit<'a> {
     fn last_writer(&self, r: Reg) -> Option<usize>
         ensures { result ≡ last_writer self.now.program.now (shown self.now.tenants.items) r }
     {
-        let mut writer = None;
-        for q in 0..self.tenants.len() {
-            let Some(tenant) = self.tenant(q) else {
-                return writer;
-            };
-            writer = writer_behind(writer, self.writes(&tenant, r), q);
+        let n = self.tenants.len();
+        for back in 0..n - self.settled.upto {
+            let q = n - 1 - back;
+            if self.writes(self.there(q), r) {
+                return Some(q);
+            }
         }
-        writer
+        self.settled.writers[r.number() as usize]
     }
 
     /// Who makes the newest value of a register.

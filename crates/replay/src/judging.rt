@@ -36,13 +36,7 @@ pub fn judge(
     ensures { IfOk result (IsVerdict program.now (record { ring = ring; queue = queue; first_tag = 1 }) steps.now) }
 {
     one_thread_unit_is_right();
-    let mut unit = Unit {
-        program,
-        ring,
-        queue,
-        first_tag: 1,
-        tenants: Vec::new(alloc),
-    };
+    let mut unit = Unit::new(alloc, program, ring, queue)?;
     for n in 0..steps.len() {
         match unit.take(step_at(steps, n))? {
             Ok(()) => {}

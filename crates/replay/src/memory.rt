@@ -1,6 +1,7 @@
 //! Memory as the stores before a tenant leave it.
 ghost use Rattle.std.specs.Prelude.{◌≡◌, ◌<◌, ◌≤◌, ◌+◌, ◌-◌, ◌^◌, IfSome, length, slice_index, take};
-ghost use Rattle.inorder.specs.Memory.{byte_after as byte_after_by, byte_at, stored as stored_by};
+ghost use Rattle.inorder.specs.Memory.{byte_after as byte_after_by, lacks_address, stored as stored_by};
+ghost use Rattle.replay.specs.Bytes.{byte_by, byte_more};
 ghost use Rattle.lsq.specs.Bytes.{byte_of as byte_of_by, joined as joined_by, little_endian_if_there};
 ghost use Rattle.replay.specs.Shown.{shown, store_of, tenant_of};
 
@@ -52,8 +53,8 @@ fn joined(low: Option<u8>, high: Option<u32>) -> Option<u32>
 }
 
 impl<'a> Unit<'a> {
-    // What a tenant stores, once its address is known.
-    fn stored(&self, tenant: &Tenant) -> Option<Store>
+    /// What a tenant stores, once its address is known.
+    pub(crate) fn stored(&self, tenant: &Tenant) -> Option<Store>
         ensures value { store_of result ≡ stored_by self.now.program.now (tenant_of tenant.now) }
         ensures small { IfSome result (λ s. s.width ≤ 4) }
     {
@@ -71,90 +72,123 @@ impl<'a> Unit<'a> {
         }
     }
 
-    // The byte at `x` of the start memory.
-    fn first_byte(&self, x: usize) -> u8
-        ensures { result ≡ slice_index self.now.program.now.bytes x }
+    // The byte at `x` as the settled tenants leave it.
+    fn settled_byte(&self, x: usize) -> u8
+        ensures { result ≡ slice_index self.now.settled.memory.items x }
     {
-        if x < self.program.size() as usize {
-            self.program.byte(x)
-        } else {
-            0
+        match self.settled.memory.as_slice().get(x) {
+            Some(byte) => *byte,
+            None => 0,
         }
     }
 
-    // The byte at `x` after the first tenants.
-    fn byte_before(&self, who: usize, x: usize) -> Option<u8>
-        requires { who ≤ length self.now.tenants.items }
-        ensures { result ≡ byte_at self.now.program.now (shown (take who self.now.tenants.items)) x }
+    // A store in flight without an address.
+    fn lacks_address(&self, tenant: &Tenant) -> bool
+        ensures { result ≡ lacks_address self.now.program.now (tenant_of tenant.now) }
     {
-        let mut byte = Some(self.first_byte(x));
-        for q in 0..who {
-            let Some(tenant) = self.tenant(q) else {
-                return None;
-            };
-            byte = byte_after(self.stored(&tenant), x, byte);
+        match (tenant.standing, self.kind(tenant), tenant.fate) {
+            (Standing::Live, Kind::Stores, Fate::Addr(_)) => false,
+            (Standing::Live, Kind::Stores, _) => true,
+            _ => false,
+        }
+    }
+
+    // The byte at `x` after one tenant more; none where it is to be sure, and the tenant can still change it.
+    fn byte_with(&self, tenant: &Tenant, x: usize, before: Option<u8>, sure: bool) -> Option<u8>
+        ensures { result ≡ byte_more sure self.now.program.now (tenant_of tenant.now) x before }
+    {
+        if sure && self.lacks_address(tenant) {
+            None
+        } else {
+            byte_after(self.stored(tenant), x, before)
+        }
+    }
+
+    // The byte at `x` after the first tenants; none where it is to be sure, and one of them can still change it.
+    fn byte_before(&self, who: usize, x: usize, sure: bool) -> Option<u8>
+        requires who { who ≤ length self.now.tenants.items }
+        requires settled { self.now.settled.upto ≤ who }
+        ensures { result ≡ byte_by sure self.now.program.now (shown (take who self.now.tenants.items)) x }
+    {
+        let mut byte = Some(self.settled_byte(x));
+        for q in self.settled.upto..who {
+            byte = self.byte_with(self.there(q), x, byte, sure);
         }
         byte
     }
 
     // The number in a byte from an address on, after the first tenants.
-    fn raw_1(&self, who: usize, at: usize) -> Option<u32>
+    fn raw_1(&self, who: usize, at: usize, sure: bool) -> Option<u32>
         requires who { who ≤ length self.now.tenants.items }
+        requires settled { self.now.settled.upto ≤ who }
         requires at { at < 2 ^ 40 }
         ensures value { result ≡ little_endian_if_there
-            (byte_at self.now.program.now (shown (take who self.now.tenants.items))) at 1 }
+            (byte_by sure self.now.program.now (shown (take who self.now.tenants.items))) at 1 }
         ensures small { IfSome result (λ n. n < 256) }
     {
-        joined(self.byte_before(who, at), Some(0))
+        joined(self.byte_before(who, at, sure), Some(0))
     }
 
     // The number in two bytes from an address on, after the first tenants.
-    fn raw_2(&self, who: usize, at: usize) -> Option<u32>
+    fn raw_2(&self, who: usize, at: usize, sure: bool) -> Option<u32>
         requires who { who ≤ length self.now.tenants.items }
+        requires settled { self.now.settled.upto ≤ who }
         requires at { at < 2 ^ 40 - 1 }
         ensures value { result ≡ little_endian_if_there
-            (byte_at self.now.program.now (shown (take who self.now.tenants.items))) at 2 }
+            (byte_by sure self.now.program.now (shown (take who self.now.tenants.items))) at 2 }
         ensures small { IfSome result (λ n. n < 65536) }
     {
-        joined(self.byte_before(who, at), self.raw_1(who, at + 1))
+        joined(
+            self.byte_before(who, at, sure),
+            self.raw_1(who, at + 1, sure),
+        )
     }
 
     // The number in three bytes from an address on, after the first tenants.
-    fn raw_3(&self, who: usize, at: usize) -> Option<u32>
+    fn raw_3(&self, who: usize, at: usize, sure: bool) -> Option<u32>
         requires who { who ≤ length self.now.tenants.items }
+        requires settled { self.now.settled.upto ≤ who }
         requires at { at < 2 ^ 40 - 2 }
         ensures value { result ≡ little_endian_if_there
-            (byte_at self.now.program.now (shown (take who self.now.tenants.items))) at 3 }
+            (byte_by sure self.now.program.now (shown (take who self.now.tenants.items))) at 3 }
         ensures small { IfSome result (λ n. n < 16777216) }
     {
-        joined(self.byte_before(who, at), self.raw_2(who, at + 1))
+        joined(
+            self.byte_before(who, at, sure),
+            self.raw_2(who, at + 1, sure),
+        )
     }
 
     // The number in four bytes from an address on, after the first tenants.
-    fn raw_4(&self, who: usize, at: usize) -> Option<u32>
+    fn raw_4(&self, who: usize, at: usize, sure: bool) -> Option<u32>
         requires who { who ≤ length self.now.tenants.items }
+        requires settled { self.now.settled.upto ≤ who }
         requires at { at < 2 ^ 40 - 3 }
         ensures value { result ≡ little_endian_if_there
-            (byte_at self.now.program.now (shown (take who self.now.tenants.items))) at 4 }
+            (byte_by sure self.now.program.now (shown (take who self.now.tenants.items))) at 4 }
         ensures small { IfSome result (λ n. n < 4294967296) }
     {
-        joined(self.byte_before(who, at), self.raw_3(who, at + 1))
+        joined(
+            self.byte_before(who, at, sure),
+            self.raw_3(who, at + 1, sure),
+        )
     }
 
     /// The number in `width` bytes from an address on, after the first tenants.
-    pub(crate) fn raw_before(&self, who: usize, at: usize, width: usize) -> Option<u32>
+    pub(crate) fn raw_before(&self, who: usize, at: usize, width: usize, sure: bool) -> Option<u32>
         requires who { who ≤ length self.now.tenants.items }
+        requires settled { self.now.settled.upto ≤ who }
         requires at { at < 2 ^ 32 }
         requires width { width ≤ 4 }
         ensures { result ≡ little_endian_if_there
-            (byte_at self.now.program.now (shown (take who self.now.tenants.items))) at width }
+            (byte_by sure self.now.program.now (shown (take who self.now.tenants.items))) at width }
     {
         match width {
             0 => Some(0),
-            1 => self.raw_1(who, at),
-            2 => self.raw_2(who, at),
-            3 => self.raw_3(who, at),
-            _ => self.raw_4(who, at),
+            1 => self.raw_1(who, at, sure),
+            2 => self.raw_2(who, at, sure),
+            3 => self.raw_3(who, at, sure),
+            _ => self.raw_4(who, at, sure),
         }
     }
 }

@@ -41,6 +41,14 @@ pub enum Refusal {
     NotMissed,
     /// An older one is in flight.
     Older(usize),
+    /// The load has guessed nothing that is to be confirmed.
+    NotGuessed,
+    /// What the sources of the load give is no address.
+    BadAddress,
+    /// An older store can still change the bytes of the load: the oldest one without an address, or one without its data.
+    NotSure(Option<usize>),
+    /// The load has another value.
+    OtherValue(u32),
     /// The tenant is not done.
     NotDone,
     /// A stop has retired.

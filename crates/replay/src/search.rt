@@ -62,7 +62,7 @@ impl<'a> Unit<'a> {
         ensures before { IfSome result (λ q. q < who) }
         ensures none { IfNone result ((q : ℕ) → q < who → ¬ IsHeldLive (held self.now.tenants.items q)) }
     {
-        for q in 0..who {
+        for q in self.settled.upto..who {
             if is_live(self.tenant(q)) {
                 return Some(q);
             }
@@ -76,7 +76,7 @@ impl<'a> Unit<'a> {
         ensures before { IfSome result (λ q. q < who) }
         ensures none { IfNone result ((q : ℕ) → q < who → ¬ IsHeldMiss (held self.now.tenants.items q)) }
     {
-        for q in 0..who {
+        for q in self.settled.upto..who {
             if is_miss(self.tenant(q)) {
                 return Some(q);
             }
@@ -90,7 +90,7 @@ impl<'a> Unit<'a> {
         ensures before { IfSome result (λ q. q < who) }
         ensures none { IfNone result ((q : ℕ) → q < who → ¬ IsHeldUnaddressed self.now.program.now (held self.now.tenants.items q)) }
     {
-        for q in 0..who {
+        for q in self.settled.upto..who {
             if self.is_unaddressed(self.tenant(q)) {
                 return Some(q);
             }
@@ -119,7 +119,7 @@ impl<'a> Unit<'a> {
         ensures before { IfSome result (λ s. s.0 < who) }
         ensures none { IfNone result ((q : ℕ) (c : Stop) → q < who → ¬ IsHeldStop (held self.now.tenants.items q) c) }
     {
-        for q in 0..who {
+        for q in self.settled.upto..who {
             if let Some(code) = stop_of(self.tenant(q)) {
                 return Some((q, code));
             }

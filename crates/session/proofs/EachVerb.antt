@@ -2,13 +2,13 @@
 use Rattle.std.proofs.Common.{◌≡◌, ℕ, ◌<◌, List, [], ◌∷◌, get_or, refl, arith}
 use Rattle.session.specs.declared.verbs.Verb.{Verb}
 use Rattle.session.specs.declared.verbs.Verb.TheVariants.{Turn, Recover, Claim, Finish, Refresh, Commit, Show, Take, Learn, Look, Creator, Touched, Info, Operand}
-use Rattle.session.specs.declared.verbs.Verb.TheVariants.{Link, Station, Ring, Rest, Meet, Report, Renew, Table, Queue, Step, Until, Help, List as Listing, Quit}
+use Rattle.session.specs.declared.verbs.Verb.TheVariants.{Link, Station, Ring, Rest, Meet, Report, Renew, Table, Queue, Step, Until, Undo, Help, List as Listing, Quit}
 
 abbrev pub verbs : List Verb
 verbs = Turn ∷ Recover ∷ Claim ∷ Finish ∷ Refresh ∷ Commit ∷ Show ∷ Take ∷ Learn ∷ Look ∷ Creator ∷ Touched ∷ Info ∷ Operand
-    ∷ Link ∷ Station ∷ Ring ∷ Rest ∷ Meet ∷ Report ∷ Renew ∷ Table ∷ Queue ∷ Step ∷ Until ∷ Help ∷ Listing ∷ Quit ∷ []
+    ∷ Link ∷ Station ∷ Ring ∷ Rest ∷ Meet ∷ Report ∷ Renew ∷ Table ∷ Queue ∷ Step ∷ Until ∷ Undo ∷ Help ∷ Listing ∷ Quit ∷ []
 
-pub place_of : (v : Verb) → (k : ℕ) × (k < 28) × (get_or verbs k Turn ≡ v)
+pub place_of : (v : Verb) → (k : ℕ) × (k < 29) × (get_or verbs k Turn ≡ v)
 place_of Turn = (0, omega arith, refl)
 place_of Recover = (1, omega arith, refl)
 place_of Claim = (2, omega arith, refl)
@@ -34,6 +34,7 @@ place_of Table = (21, omega arith, refl)
 place_of Queue = (22, omega arith, refl)
 place_of Step = (23, omega arith, refl)
 place_of Until = (24, omega arith, refl)
-place_of Help = (25, omega arith, refl)
-place_of Listing = (26, omega arith, refl)
-place_of Quit = (27, omega arith, refl)
+place_of Undo = (25, omega arith, refl)
+place_of Help = (26, omega arith, refl)
+place_of Listing = (27, omega arith, refl)
+place_of Quit = (28, omega arith, refl)

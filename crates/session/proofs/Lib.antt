@@ -13,3 +13,4 @@ pub mod Looks
 pub mod Played
 pub mod Advancing
 pub mod EachVerb
+pub mod Undone

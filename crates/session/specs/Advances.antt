@@ -1,16 +1,22 @@
 -- Turns in the order of the unit on one thread: each is the first command that does something.
-use Rattle.std.specs.Prelude.{◌≡◌, ◌⊎◌, ℕ, zero, suc, ◌+◌, ◌==◌, nat_le, not, is_some, Bool, true, false, List, [], ◌∷◌, ◌++◌}
+use Rattle.std.specs.Prelude.{◌≡◌, ◌⊎◌, ℕ, zero, suc, ◌+◌, ◌==◌, nat_le, not, is_some, Bool, true, false, List, [], ◌∷◌, ◌++◌, Option, Some, None, if◌then◌else◌}
 use Rattle.back.specs.Backs.{back_state}
 use Rattle.back.specs.declared.answers.Commit.TheVariants.{Half, Retired as RetiredOne}
 use Rattle.back.specs.declared.answers.Refresh.{Refresh}
-use Rattle.back.specs.declared.answers.Refresh.TheVariants.{Loaded}
+use Rattle.back.specs.declared.answers.Refresh.TheVariants.{Blocked, Loaded}
 use Rattle.front.specs.declared.answers.Recovery.TheVariants.{Mended}
 use Rattle.front.specs.declared.answers.Turn.TheVariants.{Let}
 use Rattle.instructions.specs.Programs.{Program, instr_at}
+use Rattle.ruu_words.specs.declared.station.StationState.{StationState}
+use Rattle.ruu_words.specs.declared.station.StationState.TheVariants.{Miss}
+use Rattle.station.specs.declared.answers.Finish.{Finish}
+use Rattle.station.specs.declared.answers.Finish.TheVariants.{Finished, Stale}
 use Rattle.session.specs.declared.advance.Progress.{Progress}
 use Rattle.session.specs.declared.advance.Progress.TheVariants as progress
 use Rattle.session.specs.declared.commands.Command.{Command}
 use Rattle.session.specs.declared.commands.Command.TheVariants as ask
+use Rattle.session.specs.declared.events.Event.{Event}
+use Rattle.session.specs.declared.events.Event.TheVariants as event
 use Rattle.session.specs.declared.reading.Goal.{Goal}
 use Rattle.session.specs.declared.reading.Goal.TheVariants as goal
 use Rattle.session.specs.declared.replies.Reply.{Reply}
@@ -20,25 +26,53 @@ use Rattle.session.specs.Order.{IsOldestAsked, IsTurnOrder}
 use Rattle.session.specs.Sessions.{IsReplied, TheSession}
 use Rattle.session.specs.Texts.{IsLineOf}
 
--- A load got its value
-abbrev pub has_loaded : Refresh → Bool
-has_loaded (Loaded station tag value) = true
-has_loaded refresh = false
+-- A load is blocked
+abbrev pub is_blocked : Refresh → Bool
+is_blocked (Blocked load store) = true
+is_blocked refresh = false
 
--- The answer says that something was done
-abbrev pub has_moved : Reply → Bool
-has_moved (say.Turn (Let station tag pc) info) = true
-has_moved (say.Recovery (Mended station squashed)) = true
-has_moved (say.Claim (Job held) from) = true
-has_moved (say.Finish finished) = true
-has_moved (say.Refresh refreshed) = has_loaded refreshed.answer
-has_moved reply = false
+-- The station shows a misprediction after a finish
+abbrev pub is_miss : Finish → StationState → Bool
+is_miss Finished Miss = true
+is_miss other state = false
 
--- What a turn comes to, by the answer of its commit
-abbrev pub progress_by : Reply → Progress
-progress_by (say.Commit (RetiredOne pc n) oldest) = progress.Retired
-progress_by (say.Commit (Half pc) oldest) = progress.Moved
-progress_by reply = progress.Over
+-- The result is of a squashed instruction
+abbrev pub is_stale : Finish → Bool
+is_stale Stale = true
+is_stale other = false
+
+-- The answer shows the event
+abbrev pub shows : Event → Reply → Bool
+shows event.Blocked (say.Refresh refreshed) = is_blocked refreshed.answer
+shows event.Misprediction (say.Finish finished) = is_miss finished.answer finished.seen.state
+shows event.Stale (say.Finish finished) = is_stale finished.answer
+shows e reply = false
+
+-- What a refresh has done
+abbrev pub change_of : Refresh → Progress
+change_of (Loaded station tag value) = progress.Moved
+change_of refresh = progress.Over
+
+-- What an answer says that was done
+abbrev pub change_by : Reply → Progress
+change_by (say.Turn (Let station tag pc) info) = progress.Moved
+change_by (say.Recovery (Mended station squashed)) = progress.Moved
+change_by (say.Claim (Job held) from) = progress.Moved
+change_by (say.Finish finished) = progress.Moved
+change_by (say.Refresh refreshed) = change_of refreshed.answer
+change_by (say.Commit (RetiredOne pc n) oldest) = progress.Retired
+change_by (say.Commit (Half pc) oldest) = progress.Moved
+change_by reply = progress.Over
+
+-- What a command comes to, by its answer
+abbrev pub progress_by : Option Event → Reply → Progress
+progress_by None reply = change_by reply
+progress_by (Some e) reply = if shows e reply then progress.Met else change_by reply
+
+-- Nothing was done
+abbrev pub is_over : Progress → Bool
+is_over progress.Over = true
+is_over come = false
 
 -- A text was added of which this is true
 pub record HasAddedText (Fact : List ℕ → Type 0) (before after : List ℕ) : Type 0 where
@@ -47,55 +81,64 @@ pub record HasAddedText (Fact : List ℕ → Type 0) (before after : List ℕ) :
   pub written : after ≡ before ++ text
 
 -- A command was tried, and nothing was done
-pub record WasTried (old new : TheSession) (command : Command) : Type 0 where
+pub record WasTried (sought : Option Event) (old new : TheSession) (command : Command) : Type 0 where
   pub reply : Reply
   pub replied : IsReplied old new command reply
-  pub nothing : has_moved reply ≡ false
+  pub nothing : is_over (progress_by sought reply) ≡ true
 
--- A command has done something, which is told
-pub record HasToldMove (old new : TheSession) (number : ℕ) (command : Command) (text : List ℕ) : Type 0 where
+-- A command was answered, which is told
+pub record HasTold (sought : Option Event) (old new : TheSession) (number : ℕ) (command : Command)
+    (come : Progress) (text : List ℕ) : Type 0 where
   pub reply : Reply
   pub replied : IsReplied old new command reply
-  pub moves : has_moved reply ≡ true
+  pub come_is : come ≡ progress_by sought reply
   pub text_is : IsLineOf number reply text
 
 -- A commit, whose answer is told in any case
-pub record HasToldCommit (old new : TheSession) (number : ℕ) (come : Progress) (text : List ℕ) : Type 0 where
-  pub reply : Reply
-  pub replied : IsReplied old new ask.Commit reply
-  pub come_is : come ≡ progress_by reply
-  pub text_is : IsLineOf number reply text
+abbrev pub HasToldCommit : Option Event → TheSession → TheSession → (number : ℕ) → Progress → List ℕ → Type 0
+HasToldCommit sought old new number come text = HasTold sought old new number ask.Commit come text
 
--- These commands were tried, up to the first that did something, and a commit where none of them did
-abbrev pub TurnComesTo : List Command → TheSession → TheSession → (number : ℕ) → Progress → List ℕ → Type 0
-TurnComesTo [] old new number come text = HasToldCommit old new number come text
-TurnComesTo (command ∷ more) old new number come text =
-    (HasToldMove old new number command text × (come ≡ progress.Moved))
-    ⊎ ((middle : TheSession) × WasTried old middle command × TurnComesTo more middle new number come text)
+-- These commands were tried, up to the first that did something or was answered as sought, and a commit where none was
+abbrev pub TurnComesTo : Option Event → List Command → TheSession → TheSession → (number : ℕ) → Progress → List ℕ
+    → Type 0
+TurnComesTo sought [] old new number come text = HasToldCommit sought old new number come text
+TurnComesTo sought (command ∷ more) old new number come text =
+    (HasTold sought old new number command come text × (is_over come ≡ false))
+    ⊎ ((middle : TheSession) × WasTried sought old middle command
+    × TurnComesTo sought more middle new number come text)
 
 -- A turn, which is told
-pub record HasAdvanced (old new : TheSession) (number : ℕ) (come : Progress) (text : List ℕ) : Type 0 where
+pub record HasAdvanced (sought : Option Event) (old new : TheSession) (number : ℕ) (come : Progress)
+    (text : List ℕ) : Type 0 where
   pub asked : TheSession
   pub oldest : ℕ
   pub oldest_is : IsOldestAsked old asked oldest
   pub commands : List Command
   pub order : IsTurnOrder asked oldest commands
-  pub goes : TurnComesTo commands asked new number come text
+  pub goes : TurnComesTo sought commands asked new number come text
 
 -- The goal is met, where so many instructions have retired in the turns
 abbrev pub is_met : Goal → TheSession → (retired : ℕ) → Bool
 is_met (goal.Retired count) s retired = nat_le count retired
 is_met (goal.Next pc) s retired = (back_state s.commits).pc == pc
+is_met (goal.Event e) s retired = false
 
 -- How many instructions have retired in a turn
 abbrev pub retired_in : Progress → ℕ
 retired_in progress.Retired = 1
 retired_in come = 0
 
--- The turn was the last one
-abbrev pub is_over : Progress → Bool
-is_over progress.Over = true
-is_over come = false
+-- The turn is the last one
+abbrev pub is_last : Progress → Bool
+is_last progress.Met = true
+is_last progress.Over = true
+is_last come = false
+
+-- The event that a turn may end with, after this number of turns: a load may have been blocked since before the first
+abbrev pub sought_in : Goal → (taken : ℕ) → Option Event
+sought_in (goal.Event event.Blocked) taken = if taken == 0 then None else Some event.Blocked
+sought_in (goal.Event e) taken = Some e
+sought_in goal taken = None
 
 -- So many turns were taken, in which so many instructions have retired
 abbrev pub AreTurnsTaken : Goal → (number : ℕ) → TheSession → (count retired : ℕ) → List ℕ → TheSession → Type 0
@@ -104,8 +147,8 @@ AreTurnsTaken goal number first (suc n) retired text last =
     (middle : TheSession) × (before told : List ℕ) × (earlier : ℕ) × (come : Progress)
     × AreTurnsTaken goal number first n earlier before middle
     × (is_met goal middle earlier ≡ false)
-    × HasAdvanced middle last number come told
-    × (is_over come ≡ false)
+    × HasAdvanced (sought_in goal n) middle last number come told
+    × (is_last come ≡ false)
     × (retired ≡ earlier + retired_in come)
     × (text ≡ before ++ told)
 
@@ -116,12 +159,14 @@ pub record IsEnough (goal : Goal) (count retired : ℕ) (middle new : TheSession
   pub same : new ≡ middle
   pub text_is : text ≡ before
 
--- The last turn: the run has ended, or nothing is possible
-pub record IsLastTurn (goal : Goal) (number retired : ℕ) (middle new : TheSession) (before text : List ℕ) :
+-- The last turn: the answer is as sought, the run has ended, or nothing is possible
+pub record IsLastTurn (goal : Goal) (number count retired : ℕ) (middle new : TheSession) (before text : List ℕ) :
     Type 0 where
   pub unmet : is_met goal middle retired ≡ false
   pub told : List ℕ
-  pub turn : HasAdvanced middle new number progress.Over told
+  pub come : Progress
+  pub over : is_last come ≡ true
+  pub turn : HasAdvanced (sought_in goal count) middle new number come told
   pub text_is : text ≡ before ++ told
 
 -- Turns were taken up to the goal, or as long as there is something to do
@@ -132,12 +177,12 @@ pub record HasTurnedUpTo (goal : Goal) (number : ℕ) (old new : TheSession) (te
   pub before : List ℕ
   pub turns : AreTurnsTaken goal number old count retired before middle
   pub ends : IsEnough goal count retired middle new before text
-      ⊎ IsLastTurn goal number retired middle new before text
+      ⊎ IsLastTurn goal number count retired middle new before text
 
 -- No instruction is at the pc of a goal
 abbrev pub is_nowhere : Program → Goal → Bool
 is_nowhere P (goal.Next pc) = not (is_some (instr_at P pc))
-is_nowhere P (goal.Retired count) = false
+is_nowhere P goal = false
 
 -- Turns up to a goal; none where no instruction is at its pc, which is told
 pub record TurnsSay (goal : Goal) (number : ℕ) (old new : TheSession) (text : List ℕ) : Type 0 where

@@ -1,5 +1,5 @@
 -- The commands that make one call, and the texts that stand for them.
-use Rattle.std.specs.Prelude.{◌==◌, ◌&&◌, ℕ, Bool, not, List, length, codes, Option, Some, None, Result, Ok, Err, if◌then◌else◌}
+use Rattle.std.specs.Prelude.{◌==◌, ◌&&◌, ℕ, Bool, not, List, codes, Option, Some, None, Result, Ok, Err, if◌then◌else◌}
 use Rattle.std.specs.Option.{option_map, option_or}
 use Rattle.std.specs.Str.{bytes_eq}
 use Rattle.isa.specs.RegisterNames.{register}
@@ -7,14 +7,16 @@ use Rattle.isa.specs.declared.listing.fault.FaultKind.{FaultKind}
 use Rattle.lexical.specs.Number.{decimal_in, number_in}
 use Rattle.session.specs.declared.commands.Command.{Command}
 use Rattle.session.specs.declared.commands.Command.TheVariants as call
+use Rattle.session.specs.declared.events.Event.{Event}
+use Rattle.session.specs.declared.events.Event.TheVariants as event
 use Rattle.session.specs.declared.verbs.Verb.{Verb}
-use Rattle.session.specs.declared.verbs.Verb.TheVariants.{Claim, Commit, Creator, Finish, Help, Info, Learn, Link, List as Listing, Look, Meet, Operand, Queue, Quit, Recover, Refresh, Renew, Report, Rest, Ring, Show, Station, Step, Table, Take, Touched, Turn, Until}
+use Rattle.session.specs.declared.verbs.Verb.TheVariants.{Claim, Commit, Creator, Finish, Help, Info, Learn, Link, List as Listing, Look, Meet, Operand, Queue, Quit, Recover, Refresh, Renew, Report, Rest, Ring, Show, Station, Step, Table, Take, Touched, Turn, Undo, Until}
 use Rattle.inorder.specs.declared.history.Source.{Source}
 use Rattle.inorder.specs.declared.history.Source.TheVariants.{First, Second}
 use Rattle.session.specs.declared.parties.Party.{Party}
 use Rattle.session.specs.declared.parties.Party.TheVariants as party
 use Rattle.session.specs.Units.{unit_named}
-use Rattle.session.specs.Words.{Texts}
+use Rattle.session.specs.Words.{Texts, is_empty}
 
 -- The word of a command
 abbrev pub verb_name : Verb → List ℕ
@@ -43,13 +45,10 @@ verb_name Table = codes "table"
 verb_name Queue = codes "queue"
 verb_name Step = codes "step"
 verb_name Until = codes "until"
+verb_name Undo = codes "undo"
 verb_name Help = codes "help"
 verb_name Listing = codes "list"
 verb_name Quit = codes "quit"
-
--- No character
-abbrev pub is_empty : List ℕ → Bool
-is_empty text = length text == 0
 
 -- The line has one operand
 abbrev pub has_one : Texts → Bool
@@ -87,6 +86,17 @@ only_register w = if has_one w then register_of w.first else None
 -- The pc that is the only operand
 abbrev pub only_pc : Texts → Option ℕ
 only_pc w = if has_one w then number_in 0 4294967295 w.first else None
+
+-- The event of this name
+abbrev pub event_named : List ℕ → Option Event
+event_named name =
+    if bytes_eq name (codes "blocked") then Some event.Blocked
+    else if bytes_eq name (codes "misprediction") then Some event.Misprediction
+    else if bytes_eq name (codes "stale") then Some event.Stale else None
+
+-- The event that is the only operand
+abbrev pub only_event : Texts → Option Event
+only_event w = if has_one w then event_named w.first else None
 
 -- A turn, and its guess where one is given
 abbrev pub turn_of : Texts → Option Command
@@ -158,6 +168,7 @@ command_of Table w = None
 command_of Queue w = None
 command_of Step w = None
 command_of Until w = None
+command_of Undo w = None
 command_of Help w = None
 command_of Listing w = None
 command_of Quit w = None

@@ -16,6 +16,8 @@ pub mod Order
 pub mod Advances
 pub mod Tables
 pub mod Help
+pub mod Telling
+pub mod Undoing
 pub mod Transcripts
 pub mod Scripts
 pub mod Plays

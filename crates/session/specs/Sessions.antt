@@ -21,6 +21,7 @@ use Rattle.session.specs.declared.commands.Command.{Command}
 use Rattle.session.specs.declared.commands.Command.TheVariants as ask
 use Rattle.session.specs.declared.parties.Party.{Party}
 use Rattle.session.specs.declared.parties.Party.TheVariants as party
+use Rattle.session.specs.declared.reading.Line.{Line}
 use Rattle.session.specs.declared.replies.Refusal.{Refusal}
 use Rattle.session.specs.declared.replies.Refusal.TheVariants as no
 use Rattle.session.specs.declared.replies.Reply.{Reply}
@@ -37,8 +38,8 @@ use Rattle.session.specs.Workers.{AreWorkers, HasClaimedTold, UnitHasFinished, H
 
 -- A session: its core, the one history that its seats have seen together, its units, its back, the
 -- greatest count of its snapper, the mark that was shown last, what the front has seen, what its create
--- vector has touched, how many tenants there were when it last rested, and whether it has not turned or
--- recovered since
+-- vector has touched, how many tenants there were when it last rested, whether it has not turned or
+-- recovered since, what it began with, and the lines since that may have changed something
 pub record TheSession : Type 0 where
   pub core : TheCore
   pub seen : List Entry
@@ -50,6 +51,8 @@ pub record TheSession : Type 0 where
   pub touched : ℕ
   pub told : ℕ
   pub rested : Bool
+  pub config : Settings
+  pub lines : List Line
 
 -- Its parts are of one core, and it knows when its front is at a rest
 pub record IsOneCore (P : Program) (core : TheCore) (program : Program) (all : Caller)
@@ -79,6 +82,8 @@ pub record IsStartOfSession (P : Program) (config : Settings) (s : TheSession) :
   pub rested : s.rested ≡ false
   pub going : s.commits.ended ≡ None
   pub state : back_state s.commits ≡ start P
+  pub config_is : s.config ≡ config
+  pub lines : s.lines ≡ []
 
 -- A snapshot of the machine in order, behind every mark and every snapshot before it
 pub record HasTaken (old new : TheSession) (snap : Snap) : Type 0 where

@@ -6,17 +6,13 @@ use Rattle.instructions.specs.declared.op.Half.{Half}
 use Rattle.instructions.specs.declared.op.Half.TheVariants.{High, Low}
 use Rattle.inorder.specs.declared.history.Source.{Source}
 use Rattle.inorder.specs.declared.history.Source.TheVariants.{First, Second}
-use Rattle.back.specs.declared.answers.Commit.{Commit}
 use Rattle.back.specs.declared.answers.Commit.TheVariants as commit
 use Rattle.back.specs.declared.answers.Refresh.{Refresh}
 use Rattle.back.specs.declared.answers.Refresh.TheVariants as refresh
-use Rattle.front.specs.declared.answers.Made.{Made}
 use Rattle.front.specs.declared.answers.Made.TheVariants as made
-use Rattle.front.specs.declared.answers.Recovery.{Recovery}
 use Rattle.front.specs.declared.answers.Recovery.TheVariants as recovery
 use Rattle.front.specs.declared.answers.Rest.{Rest}
 use Rattle.front.specs.declared.answers.Rest.TheVariants as rest
-use Rattle.front.specs.declared.answers.Turn.{Turn}
 use Rattle.front.specs.declared.answers.Turn.TheVariants as turn
 use Rattle.ruu_words.specs.declared.station.StationState.{StationState}
 use Rattle.ruu_words.specs.declared.station.StationState.TheVariants as state
@@ -31,7 +27,6 @@ use Rattle.session.specs.declared.replies.Refusal.{Refusal}
 use Rattle.session.specs.declared.replies.Refusal.TheVariants as no
 use Rattle.session.specs.declared.replies.Reply.{Reply}
 use Rattle.session.specs.declared.replies.Reply.TheVariants as say
-use Rattle.session.specs.declared.units.Claimed.{Claimed}
 use Rattle.session.specs.declared.units.Claimed.TheVariants as claimed
 use Rattle.session.specs.declared.units.Held.{Held}
 

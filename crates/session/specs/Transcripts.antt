@@ -1,72 +1,17 @@
 -- Transcripts: what is told of the lines of a script.
-use Rattle.std.specs.Prelude.{◌≡◌, ℕ, suc, Bool, true, false, List, [], ◌∷◌, ◌++◌, length, codes, decimal}
+use Rattle.std.specs.Prelude.{◌≡◌, ℕ, suc, Bool, true, false, List, [], ◌∷◌, ◌++◌, length, codes}
 use Rattle.isa.specs.Report.{newline}
-use Rattle.session.specs.declared.commands.Command.{Command}
 use Rattle.session.specs.declared.reading.Line.{Line}
-use Rattle.session.specs.declared.reading.Line.TheVariants.{Asks, Help, List as AsksList, Nothing, Queue, Quit, Table, Turns, Unknown, Wants}
-use Rattle.session.specs.declared.verbs.Verb.{Verb}
-use Rattle.session.specs.declared.verbs.Verb.TheVariants as verb
-use Rattle.session.specs.declared.replies.Reply.{Reply}
-use Rattle.session.specs.Advances.{TurnsSay}
-use Rattle.session.specs.Help.{help_text}
-use Rattle.session.specs.Tables.{IsTable}
-use Rattle.session.specs.Commands.{verb_name}
-use Rattle.session.specs.Lines.{IsLine}
-use Rattle.session.specs.Sessions.{IsReplied, OnlyLooked, TheSession}
-use Rattle.session.specs.Texts.{IsLineOf}
+use Rattle.session.specs.Lines.{IsLine, times_of}
+use Rattle.session.specs.Sessions.{TheSession}
+use Rattle.session.specs.Undoing.{ComesTo}
 use Rattle.session.specs.Words.{words_of}
-
--- The text that names the operands of a command
-abbrev pub operands_of_verb : Verb → List ℕ
-operands_of_verb verb.Turn = codes "no operand, or a pc"
-operands_of_verb verb.Refresh = codes "no operand, or a station"
-operands_of_verb verb.Step = codes "a number of instructions"
-operands_of_verb verb.Until = codes "a pc"
-operands_of_verb verb.Claim = codes "a unit, A to Z or AA to BL, and a station"
-operands_of_verb verb.Finish = codes "a unit, A to Z or AA to BL, and a station"
-operands_of_verb verb.Look = codes "a station"
-operands_of_verb verb.Info = codes "a station"
-operands_of_verb verb.Station = codes "a station"
-operands_of_verb verb.Operand = codes "a station and a source, 1 or 2"
-operands_of_verb verb.Link = codes "a station and a source, 1 or 2"
-operands_of_verb verb.Creator = codes "a register, as $t0, $8 or 8"
-operands_of_verb verb.Meet = codes "two of front, back and units"
-operands_of_verb _ = codes "no operand"
-
--- The text for a line whose first word is none of a command
-abbrev pub unknown_text : ℕ → List ℕ
-unknown_text number = codes "line " ++ (decimal number ++ codes ": unknown word; help lists the commands\n")
-
--- The text for a line whose operands are none of its command
-abbrev pub wants_text : ℕ → Verb → List ℕ
-wants_text number v =
-    codes "line " ++ (decimal number ++ (codes ": " ++ (verb_name v ++ (codes " takes "
-    ++ (operands_of_verb v ++ newline)))))
-
--- A command was answered, and this is the line of its reply
-pub record IsAnswered (old new : TheSession) (number : ℕ) (command : Command) (text : List ℕ) : Type 0 where
-  pub reply : Reply
-  pub replied : IsReplied old new command reply
-  pub text_is : IsLineOf number reply text
-
--- The text of what a line of this number comes to. A line that makes no call changes nothing
-abbrev pub LineSays : TheSession → TheSession → ℕ → Line → List ℕ → Type 0
-LineSays old new number Nothing text = (text ≡ []) × (new ≡ old)
-LineSays old new number Unknown text = (text ≡ unknown_text number) × (new ≡ old)
-LineSays old new number (Wants v) text = (text ≡ wants_text number v) × (new ≡ old)
-LineSays old new number (Asks command) text = IsAnswered old new number command text
-LineSays old new number Table text = IsTable old new text
-LineSays old new number Queue text = OnlyLooked old new
-LineSays old new number (Turns goal) text = TurnsSay goal number old new text
-LineSays old new number Help text = (text ≡ help_text) × (new ≡ old)
-LineSays old new number AsksList text = new ≡ old
-LineSays old new number Quit text = (text ≡ []) × (new ≡ old)
 
 -- The text of what the bytes of a line come to
 pub record IsToldOfLine (old new : TheSession) (number : ℕ) (bytes text : List ℕ) : Type 0 where
   pub line : Line
   pub line_is : IsLine (words_of bytes) line
-  pub says : LineSays old new number line text
+  pub says : ComesTo (times_of (words_of bytes) line) old new number line text
 
 -- A line as it is told before its answer, where that is wanted
 abbrev pub echo_text : Bool → List ℕ → List ℕ

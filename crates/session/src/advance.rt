@@ -1,9 +1,10 @@
 //! A turn in the order of the unit on one thread, told by the command that it comes to.
 ghost use Rattle.std.specs.Prelude.{◌≡◌, IfOk, OnOk, string_bytes};
-ghost use Rattle.session.specs.Advances.{HasAddedText, HasAdvanced, HasToldCommit, TurnComesTo, has_loaded, has_moved, progress_by};
+ghost use Rattle.session.specs.Advances.{HasAddedText, HasAdvanced, HasToldCommit, TurnComesTo, change_by, change_of, is_over, progress_by};
 ghost use Rattle.session.specs.Texts.{IsLineOf};
 
 use crate::commands::Command;
+use crate::events::{Event, shows};
 use crate::oldest::oldest;
 use crate::replies::Reply;
 use crate::session::Session;
@@ -15,45 +16,57 @@ use instructions::{Predictor, Program};
 use std::alloc::{AllocError, Global};
 use std::sync::Wait;
 
-/// What a turn comes to.
+/// What a command of a turn comes to.
 #[derive(Clone, Copy)]
 pub enum Progress {
     /// Something was done.
     Moved,
     /// An instruction has retired.
     Retired,
-    /// The run has ended, or nothing is possible.
+    /// The answer is the one that turns are taken up to.
+    Met,
+    /// Nothing was done.
     Over,
 }
 
-fn has_loaded(refresh: &Refresh) -> bool
-    ensures { result ≡ has_loaded refresh.now }
+fn is_over(progress: Progress) -> bool
+    ensures { result ≡ is_over progress }
 {
-    matches!(refresh, Refresh::Loaded { .. })
+    matches!(progress, Progress::Over)
 }
 
-// The answer says that something was done.
-fn has_moved(reply: &Reply) -> bool
-    ensures { result ≡ has_moved reply.now }
+fn change_of(refresh: &Refresh) -> Progress
+    ensures { result ≡ change_of refresh.now }
 {
-    match reply {
-        Reply::Turn(Turn::Let { .. }, _) => true,
-        Reply::Recovery(Recovery::Mended { .. }) => true,
-        Reply::Claim(Claimed::Job(_), _) => true,
-        Reply::Finish(_) => true,
-        Reply::Refresh(refreshed) => has_loaded(&refreshed.answer),
-        _ => false,
+    match refresh {
+        Refresh::Loaded { .. } => Progress::Moved,
+        _ => Progress::Over,
     }
 }
 
-// What a turn comes to, by the answer of its commit.
-fn progress_by(reply: &Reply) -> Progress
-    ensures { result ≡ progress_by reply.now }
+// What an answer says that was done.
+fn change_by(reply: &Reply) -> Progress
+    ensures { result ≡ change_by reply.now }
 {
     match reply {
+        Reply::Turn(Turn::Let { .. }, _) => Progress::Moved,
+        Reply::Recovery(Recovery::Mended { .. }) => Progress::Moved,
+        Reply::Claim(Claimed::Job(_), _) => Progress::Moved,
+        Reply::Finish(_) => Progress::Moved,
+        Reply::Refresh(refreshed) => change_of(&refreshed.answer),
         Reply::Commit(Commit::Retired { .. }, _) => Progress::Retired,
         Reply::Commit(Commit::Half { .. }, _) => Progress::Moved,
         _ => Progress::Over,
+    }
+}
+
+// What a command comes to, by its answer.
+fn progress_by(sought: Option<Event>, reply: &Reply) -> Progress
+    ensures { result ≡ progress_by sought reply.now }
+{
+    match sought {
+        Some(event) if shows(event, reply) => Progress::Met,
+        _ => change_by(reply),
     }
 }
 
@@ -78,37 +91,42 @@ fn commit<P: Predictor + Drop, J: Naming, R: Wait>(
     alloc: Global,
     session: &mut Session<'_, P, J>,
     number: u64,
+    sought: Option<Event>,
     out: &mut String,
 ) -> Result<Progress, AllocError>
-    ensures { IfOk result (λ come. HasAddedText (HasToldCommit session.old session.new number come)
+    ensures { IfOk result (λ come.
+        HasAddedText (HasToldCommit sought session.old session.new number come)
         (string_bytes out.old) (string_bytes out.new)) }
 {
     let reply = session.answer(wait, alloc, Command::Commit);
     push_reply(out, alloc, session.program(), number, &reply)?;
-    Ok(progress_by(&reply))
+    Ok(progress_by(sought, &reply))
 }
 
-// Tries commands up to the first that does something, and a commit where none of them does, and tells that.
+// Tries commands up to the first that does something or is answered as sought, and a commit where none is, and tells
+// that.
 fn go<P: Predictor + Drop, J: Naming, R: Wait>(
     wait: &R,
     alloc: Global,
     session: &mut Session<'_, P, J>,
     number: u64,
+    sought: Option<Event>,
     commands: &[Command],
     out: &mut String,
 ) -> Result<Progress, AllocError>
     ensures { IfOk result (λ come.
-        HasAddedText (TurnComesTo commands.now session.old session.new number come)
+        HasAddedText (TurnComesTo sought commands.now session.old session.new number come)
         (string_bytes out.old) (string_bytes out.new)) }
 {
     for at in 0..commands.len() {
         let reply = session.answer(wait, alloc, commands[at]);
-        if has_moved(&reply) {
+        let come = progress_by(sought, &reply);
+        if !is_over(come) {
             push_reply(out, alloc, session.program(), number, &reply)?;
-            return Ok(Progress::Moved);
+            return Ok(come);
         }
     }
-    commit(wait, alloc, session, number, out)
+    commit(wait, alloc, session, number, sought, out)
 }
 
 /// Takes a turn, and adds what is told of it: the first that does something of the finish of a job that a unit holds,
@@ -118,12 +136,14 @@ pub(crate) fn advance<P: Predictor + Drop, J: Naming, R: Wait>(
     alloc: Global,
     session: &mut Session<'_, P, J>,
     number: u64,
+    sought: Option<Event>,
     out: &mut String,
 ) -> Result<Progress, AllocError>
-    ensures { IfOk result (λ come. HasAddedText (HasAdvanced session.old session.new number come)
+    ensures { IfOk result (λ come.
+        HasAddedText (HasAdvanced sought session.old session.new number come)
         (string_bytes out.old) (string_bytes out.new)) }
 {
     let oldest = oldest(wait, alloc, session);
     let order = session.order(alloc, oldest)?;
-    go(wait, alloc, session, number, order.as_slice(), out)
+    go(wait, alloc, session, number, sought, order.as_slice(), out)
 }

@@ -1,8 +1,9 @@
 //! Turns up to a goal, in the order of the unit on one thread.
 ghost use Rattle.std.specs.Prelude.{◌≡◌, IfOk, string_bytes};
-ghost use Rattle.session.specs.Advances.{HasTurnedUpTo, is_met};
+ghost use Rattle.session.specs.Advances.{HasTurnedUpTo, is_met, sought_in};
 
 use crate::advance::{Progress, advance};
+use crate::events::Event;
 use crate::reading::Goal;
 use crate::session::Session;
 use back::Naming;
@@ -13,7 +14,7 @@ use std::sync::Wait;
 /// The most turns that one line takes.
 const MOST_TURNS: u32 = 1_000_000;
 
-// The goal is met, where so many instructions have retired in the turns.
+// The goal is met, where this number of instructions have retired in the turns.
 fn is_met<P: Predictor + Drop, J: Naming>(
     session: &Session<'_, P, J>,
     goal: Goal,
@@ -24,6 +25,19 @@ fn is_met<P: Predictor + Drop, J: Naming>(
     match goal {
         Goal::Retired(count) => count <= retired,
         Goal::Next(pc) => session.next_retired() == pc,
+        Goal::Event(_) => false,
+    }
+}
+
+// The event that the turn after this number of turns may end with. The first turn ends with no blocked load: it may
+// have been blocked since before.
+fn sought_in(goal: Goal, taken: u32) -> Option<Event>
+    ensures { result ≡ sought_in goal taken }
+{
+    match goal {
+        Goal::Event(Event::Blocked) if taken == 0 => None,
+        Goal::Event(event) => Some(event),
+        _ => None,
     }
 }
 
@@ -40,13 +54,15 @@ pub(crate) fn advances<P: Predictor + Drop, J: Naming, R: Wait>(
 {
     let mut out = String::new(alloc);
     let mut retired = 0;
-    for _ in 0..MOST_TURNS {
+    for taken in 0..MOST_TURNS {
         if is_met(session, goal, retired) {
             return Ok(out);
         }
-        match advance(wait, alloc, session, number, &mut out)? {
+        let sought = sought_in(goal, taken);
+        match advance(wait, alloc, session, number, sought, &mut out)? {
             Progress::Moved => {}
             Progress::Retired => retired += 1,
+            Progress::Met => return Ok(out),
             Progress::Over => return Ok(out),
         }
     }

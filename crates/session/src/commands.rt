@@ -128,6 +128,6 @@ pub(crate) fn command_in(verb: Verb, words: &Words<'_>) -> Option<Command>
         Verb::Report => bare(words, Command::Report),
         Verb::Renew => bare(words, Command::Renew),
         Verb::Table | Verb::Queue | Verb::Step | Verb::Until => None,
-        Verb::Help | Verb::List | Verb::Quit => None,
+        Verb::Undo | Verb::Help | Verb::List | Verb::Quit => None,
     }
 }

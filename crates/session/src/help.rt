@@ -25,6 +25,9 @@ ring          the oldest tenant's station, the next one's, and the next pc
 queue         the loads and stores in flight: address, data, and what blocks a load
 step N        turns of the one-thread unit, until N instructions have retired, 1000000 turns at most
 until PC      turns, until the instruction at PC is the next to retire
+until EVENT   turns, up to the next EVENT: blocked (a load), misprediction or stale (a result)
+N COMMAND     the command N times, at most 1000
+undo          takes back the last command that is no question
 table         a line for each station that is not free, the create vector, the ring
 report        the committed state, as a run reports it
 show          the back shows a snapshot

@@ -1,7 +1,8 @@
 //! What is told of a line of a script.
 ghost use Rattle.std.specs.Prelude.{◌≡◌, true, false, IfOk, string_bytes};
 ghost use Rattle.session.specs.Advances.{HasTurnedUpTo, is_nowhere};
-ghost use Rattle.session.specs.Transcripts.{LineSays, operands_of_verb, unknown_text, wants_text};
+ghost use Rattle.session.specs.Telling.{LineSays, miscounted_text, operands_of_verb, unknown_text, wants_text};
+ghost use Rattle.session.specs.Undoing.{LineIsDone};
 
 use crate::advances::advances;
 use crate::help::help;
@@ -23,7 +24,7 @@ fn operands(verb: Verb) -> &'static str
         Verb::Turn => "no operand, or a pc",
         Verb::Refresh => "no operand, or a station",
         Verb::Step => "a number of instructions",
-        Verb::Until => "a pc",
+        Verb::Until => "a pc, blocked, misprediction or stale",
         Verb::Claim | Verb::Finish => "a unit, A to Z or AA to BL, and a station",
         Verb::Look | Verb::Info | Verb::Station => "a station",
         Verb::Operand | Verb::Link => "a station and a source, 1 or 2",
@@ -39,6 +40,12 @@ fn unknown(alloc: Global, number: u64) -> Result<String, AllocError>
     format!(in alloc; "line {number}: unknown word; help lists the commands\n")
 }
 
+fn miscounted(alloc: Global, number: u64) -> Result<String, AllocError>
+    ensures { IfOk result (λ text. string_bytes text ≡ miscounted_text number) }
+{
+    format!(in alloc; "line {number}: a count is at most 1000\n")
+}
+
 fn wants(alloc: Global, number: u64, verb: Verb) -> Result<String, AllocError>
     ensures { IfOk result (λ text. string_bytes text ≡ wants_text number verb) }
 {
@@ -52,7 +59,7 @@ fn is_nowhere(program: &Program, goal: Goal) -> bool
 {
     match goal {
         Goal::Next(pc) => program.fetch(pc).is_none(),
-        Goal::Retired(_) => false,
+        _ => false,
     }
 }
 
@@ -75,9 +82,9 @@ fn turns<P: Predictor + Drop, J: Naming, R: Wait>(
     advances(wait, alloc, session, number, goal)
 }
 
-/// Does what the line of this number asks for, and gives the text for it. A line without a command
-/// has an empty text, and so has one that ends the script.
-pub fn told<P: Predictor + Drop, J: Naming, R: Wait>(
+// Does what the line of this number asks for, and gives the text for it. A line without a command has an empty text, and
+// so has one that ends the script. An undo stands apart.
+fn said<P: Predictor + Drop, J: Naming, R: Wait>(
     wait: &R,
     alloc: Global,
     session: &mut Session<'_, P, J>,
@@ -88,8 +95,9 @@ pub fn told<P: Predictor + Drop, J: Naming, R: Wait>(
         LineSays session.old session.new number line (string_bytes text)) }
 {
     match line {
-        Line::Nothing | Line::Quit => Ok(String::new(alloc)),
+        Line::Nothing | Line::Undo | Line::Quit => Ok(String::new(alloc)),
         Line::Unknown => unknown(alloc, number),
+        Line::Miscounted => miscounted(alloc, number),
         Line::Wants(verb) => wants(alloc, number, verb),
         Line::Asks(command) => {
             let reply = session.answer(wait, alloc, command);
@@ -101,4 +109,20 @@ pub fn told<P: Predictor + Drop, J: Naming, R: Wait>(
         Line::Help => help(alloc),
         Line::List => list(alloc, session.program()),
     }
+}
+
+/// Does what the line of this number asks for, but for an undo, notes it, and gives the text for it.
+pub fn told<P: Predictor + Drop, J: Naming, R: Wait>(
+    wait: &R,
+    alloc: Global,
+    session: &mut Session<'_, P, J>,
+    number: u64,
+    line: Line,
+) -> Result<String, AllocError>
+    ensures { IfOk result (λ text.
+        LineIsDone session.old session.new number line (string_bytes text)) }
+{
+    let text = said(wait, alloc, session, number, line)?;
+    session.note(line)?;
+    Ok(text)
 }

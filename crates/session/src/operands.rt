@@ -1,8 +1,9 @@
 //! The operands of commands.
 ghost use Rattle.std.specs.Prelude.{◌≡◌};
-ghost use Rattle.session.specs.Commands.{has_one, has_two, whole_number, only_number, only_pc, only_register, source_of, station_and_source, two_parties, unit_and_number, without_operands};
+ghost use Rattle.session.specs.Commands.{has_one, has_two, whole_number, only_event, only_number, only_pc, only_register, source_of, station_and_source, two_parties, unit_and_number, without_operands};
 ghost use Rattle.session.specs.Words.{texts_of};
 
+use crate::events::{Event, event_in};
 use crate::names::{register_in, unit_in};
 use crate::parties::{Party, party_in};
 use crate::words::Words;
@@ -66,6 +67,17 @@ pub(crate) fn only_pc(words: &Words<'_>) -> Option<u32>
 {
     if has_one(words) {
         lexical::number_in(words.first, 0, 0xffff_ffff)
+    } else {
+        None
+    }
+}
+
+/// The event that is the only operand.
+pub(crate) fn only_event(words: &Words<'_>) -> Option<Event>
+    ensures { result ≡ only_event (texts_of words.now) }
+{
+    if has_one(words) {
+        event_in(words.first)
     } else {
         None
     }

@@ -44,7 +44,7 @@ fn chosen<P: Predictor + Drop, J: Naming>(
 }
 
 // Adds what is written for a line of this number.
-fn push_line<P: Predictor + Drop, J: Naming, R: Wait>(
+fn push_line<P: Predictor + Copy + Drop, J: Naming, R: Wait>(
     wait: &R,
     alloc: Global,
     session: &mut Session<'_, P, J>,
@@ -60,7 +60,7 @@ fn push_line<P: Predictor + Drop, J: Naming, R: Wait>(
 }
 
 // Adds what is written for so many chosen commands, or for fewer where the run ends, and gives how many there were.
-fn push_lines<P: Predictor + Drop, J: Naming, R: Wait>(
+fn push_lines<P: Predictor + Copy + Drop, J: Naming, R: Wait>(
     wait: &R,
     alloc: Global,
     session: &mut Session<'_, P, J>,
@@ -89,7 +89,7 @@ fn push_lines<P: Predictor + Drop, J: Naming, R: Wait>(
 
 /// Answers so many commands that a seed chooses of those that make sense, each behind the command itself, or fewer where
 /// the run has ended; and then a table and a report. Gives the transcript.
-pub(crate) fn play<P: Predictor + Drop, J: Naming, R: Wait>(
+pub(crate) fn play<P: Predictor + Copy + Drop, J: Naming, R: Wait>(
     wait: &R,
     alloc: Global,
     session: &mut Session<'_, P, J>,
@@ -108,7 +108,7 @@ pub(crate) fn play<P: Predictor + Drop, J: Naming, R: Wait>(
 }
 
 /// Writes the transcript of a session that a seed drives.
-pub fn write_play<P: Predictor + Drop, J: Naming, R: Wait, W: Write>(
+pub fn write_play<P: Predictor + Copy + Drop, J: Naming, R: Wait, W: Write>(
     wait: &R,
     alloc: Global,
     session: &mut Session<'_, P, J>,

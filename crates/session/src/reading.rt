@@ -1,20 +1,27 @@
 //! Lines of a script, by what they ask for.
 ghost use Rattle.std.specs.Prelude.{◌≡◌};
-ghost use Rattle.session.specs.Lines.{IsLine, ends_script, is_command, line_by};
+ghost use Rattle.session.specs.Lines.{IsLine, ends_script, goal_of, is_command, is_question, is_undo, line_by, may_change, times_named, times_of};
 ghost use Rattle.session.specs.Words.{texts_of, words_of};
 
 use crate::commands::{Command, command_in};
-use crate::operands::{bare, only_number, only_pc};
+use crate::events::Event;
+use crate::operands::{bare, only_event, only_number, only_pc};
 use crate::verbs::{Verb, verb_in};
 use crate::words::{Words, words_in};
+use lexical::decimal_in;
+
+/// The greatest count before a command.
+const MOST_TIMES: u32 = 1000;
 
 /// Where turns come to an end.
 #[derive(Clone, Copy)]
 pub enum Goal {
-    /// So many instructions have retired.
+    /// This number of instructions have retired.
     Retired(u32),
     /// The next instruction to retire is the one at this pc.
     Next(u32),
+    /// A turn is answered so.
+    Event(Event),
 }
 
 /// A line of a script, by what it asks for.
@@ -24,6 +31,8 @@ pub enum Line {
     Nothing,
     /// The line begins with no command.
     Unknown,
+    /// The count before a command is too great.
+    Miscounted,
     /// The line has operands that this command does not take.
     Wants(Verb),
     Asks(Command),
@@ -33,12 +42,24 @@ pub enum Line {
     Queue,
     /// Turns in the order of the unit on one thread.
     Turns(Goal),
+    /// The last command that may have changed something is taken back.
+    Undo,
     /// The commands that there are.
     Help,
     /// The instructions of the program.
     List,
     /// The end of the script.
     Quit,
+}
+
+// The event or the pc up to which turns are taken.
+fn goal_in(words: &Words<'_>) -> Option<Goal>
+    ensures { result ≡ goal_of (texts_of words.now) }
+{
+    match only_event(words) {
+        Some(event) => Some(Goal::Event(event)),
+        None => Some(Goal::Next(only_pc(words)?)),
+    }
 }
 
 // The line of a word and its operands.
@@ -49,7 +70,8 @@ fn line_by(verb: Verb, words: &Words<'_>) -> Option<Line>
         Verb::Table => bare(words, Line::Table),
         Verb::Queue => bare(words, Line::Queue),
         Verb::Step => Some(Line::Turns(Goal::Retired(only_number(words)?))),
-        Verb::Until => Some(Line::Turns(Goal::Next(only_pc(words)?))),
+        Verb::Until => Some(Line::Turns(goal_in(words)?)),
+        Verb::Undo => bare(words, Line::Undo),
         Verb::Help => bare(words, Line::Help),
         Verb::List => bare(words, Line::List),
         Verb::Quit => bare(words, Line::Quit),
@@ -57,7 +79,18 @@ fn line_by(verb: Verb, words: &Words<'_>) -> Option<Line>
     }
 }
 
-/// Reads a line: a command, its operands between blanks, and a comment from a `#` on.
+// How often a command is asked for, by the count before it.
+fn times_named(words: &Words<'_>) -> Option<u32>
+    ensures { result ≡ times_named (texts_of words.now) }
+{
+    if words.count.is_empty() {
+        Some(1)
+    } else {
+        decimal_in(words.count, MOST_TIMES)
+    }
+}
+
+/// Reads a line: a command after a count or none, its operands between blanks, and a comment from a `#` on.
 pub fn line_in(line: &[u8]) -> Line
     ensures { IsLine (words_of line.now) result }
 {
@@ -68,6 +101,9 @@ pub fn line_in(line: &[u8]) -> Line
     let Some(verb) = verb_in(words.verb) else {
         return Line::Unknown;
     };
+    if times_named(&words).is_none() {
+        return Line::Miscounted;
+    }
     match line_by(verb, &words) {
         Some(line) => line,
         None => Line::Wants(verb),
@@ -78,7 +114,49 @@ pub fn line_in(line: &[u8]) -> Line
 pub(crate) fn is_command(line: Line) -> bool
     ensures { result ≡ is_command line }
 {
-    !matches!(line, Line::Unknown | Line::Wants(_))
+    !matches!(line, Line::Unknown | Line::Miscounted | Line::Wants(_))
+}
+
+/// How often a line is done. Of one that is no command is told once.
+pub(crate) fn times_in(line: &[u8], asked: Line) -> u32
+    ensures { result ≡ times_of (words_of line.now) asked }
+{
+    if !is_command(asked) {
+        return 1;
+    }
+    match times_named(&words_in(line)) {
+        Some(times) => times,
+        None => 1,
+    }
+}
+
+fn is_question(command: Command) -> bool
+    ensures { result ≡ is_question command }
+{
+    match command {
+        Command::Look(_) | Command::Creator(_) | Command::Touched | Command::Info(_) => true,
+        Command::Operand(_, _) | Command::Link(_, _) | Command::Station(_) => true,
+        Command::Ring | Command::Report => true,
+        _ => false,
+    }
+}
+
+/// The line may change more than what was seen.
+pub(crate) fn may_change(line: Line) -> bool
+    ensures { result ≡ may_change line }
+{
+    match line {
+        Line::Asks(command) => !is_question(command),
+        Line::Turns(_) => true,
+        _ => false,
+    }
+}
+
+/// The line takes a command back.
+pub(crate) fn is_undo(line: Line) -> bool
+    ensures { result ≡ is_undo line }
+{
+    matches!(line, Line::Undo)
 }
 
 /// The line ends its script.

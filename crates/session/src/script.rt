@@ -7,9 +7,9 @@ ghost use Rattle.session.specs.Words.{words_of};
 ghost use Rattle.session.specs.Transcripts.{IsWrittenOfLine, echo_text};
 ghost use Rattle.session.specs.Scripts.{HasBroken, HasDriven, HasTold, LineIsCut, LineIsTold, NothingWasLeft, write_failures, line_of};
 
-use crate::lines::told;
-use crate::reading::{Line, ends_script, is_command, line_in};
+use crate::reading::{Line, ends_script, is_command, line_in, times_in};
 use crate::session::Session;
+use crate::undo::push_told;
 use back::Naming;
 use counted_io::{Counted, Fault, write_whole};
 use instructions::Predictor;
@@ -48,7 +48,7 @@ fn push_echo(out: &mut Vec<u8>, echo: bool, line: &[u8]) -> Result<(), AllocErro
 }
 
 /// Does what a line of this number asks for, and gives what is written for it.
-pub(crate) fn written<P: Predictor + Drop, J: Naming, R: Wait>(
+pub(crate) fn written<P: Predictor + Copy + Drop, J: Naming, R: Wait>(
     wait: &R,
     alloc: Global,
     session: &mut Session<'_, P, J>,
@@ -63,13 +63,13 @@ pub(crate) fn written<P: Predictor + Drop, J: Naming, R: Wait>(
 {
     let mut out = Vec::new(alloc);
     push_echo(&mut out, echo, line)?;
-    let text = told(wait, alloc, session, number, asked)?;
-    out.extend_from_slice(text.as_str().as_bytes())?;
+    let times = times_in(line, asked);
+    push_told(wait, alloc, session, number, asked, times, &mut out)?;
     Ok(out)
 }
 
 // Reads the line of this number, tells what is told of it, and gives the line. There is none at the end of the script.
-fn tell_line<P: Predictor + Drop, J: Naming, R: Wait, I: BufRead, W: Write>(
+fn tell_line<P: Predictor + Copy + Drop, J: Naming, R: Wait, I: BufRead, W: Write>(
     wait: &R,
     alloc: Global,
     session: &mut Session<'_, P, J>,
@@ -122,7 +122,7 @@ fn is_each(each: bool, line: Line) -> bool
 
 /// Answers the lines of a script, up to its end or a line that ends it, each behind the line itself where that is wanted.
 /// What is written is the transcript. Gives whether each line was a command.
-pub fn drive<P: Predictor + Drop, J: Naming, R: Wait, I: BufRead, W: Write>(
+pub fn drive<P: Predictor + Copy + Drop, J: Naming, R: Wait, I: BufRead, W: Write>(
     wait: &R,
     alloc: Global,
     session: &mut Session<'_, P, J>,

@@ -9,8 +9,10 @@ mod renewing;
 mod reporting;
 mod resting;
 mod showing;
+mod undoing;
 
 use crate::commands::Command;
+use crate::reading::Line;
 use crate::replies::Reply;
 use crate::units::{Worker, end_units, no_units};
 use back::{Back, Mark, Naming, Snapper};
@@ -20,6 +22,14 @@ use station::{Core, UnitSeat};
 use std::alloc::Global;
 use std::marker::Model;
 use std::sync::Wait;
+
+/// What a session began with, and the commands since that may have changed something, the oldest first.
+#[derive(Drop)]
+pub(crate) struct Past<P> {
+    config: Config,
+    predictor: P,
+    lines: Vec<Line>,
+}
 
 /// A core, its front, its back with a snapper, and its units, each made at its first claim. One more
 /// seat meets each caller before and after its call, so that all of them have seen one history.
@@ -35,6 +45,7 @@ pub struct Session<'a, P: Predictor + Drop, J: Naming> {
     // the front has answered that nobody is live, and has not turned or recovered since
     rested: bool,
     units: Vec<Option<Worker>>,
+    past: Past<P>,
 }
 
 impl<'a, P: Predictor + Drop, J: Naming> Model for Session<'a, P, J> {
@@ -54,19 +65,17 @@ impl<'a, P: Predictor + Drop, J: Naming> Model for Session<'a, P, J> {
       touched = s.front.touched;
       told = s.front.told;
       rested = s.rested;
+      config = s.past.config;
+      lines = s.past.lines.items;
     } };
 
     ghost invariant = { λ s. IsOneCore J.program s.core s.program.now s.all s.front.core s.front.rested s.rested s.back
         s.units.items (vec_len s.units) };
 }
 
-impl<'a, P: Predictor + Drop, J: Naming> Session<'a, P, J> {
-    ghost use Rattle.std.specs.Prelude.{◌≡◌, ◌≤◌, IfOk};
-    ghost use Rattle.session.specs.Moments.{GrowsLegally};
-    ghost use Rattle.back.specs.Backs.{back_state};
-    ghost use Rattle.back.specs.Ends.{EndIsInOrder, ending_of};
-    ghost use Rattle.inorder.specs.Runs.{state_in};
-    ghost use Rattle.session.specs.Sessions.{Answers, IsStartOfSession, after_command};
+impl<'a, P: Predictor + Copy + Drop, J: Naming> Session<'a, P, J> {
+    ghost use Rattle.std.specs.Prelude.{◌≡◌, IfOk};
+    ghost use Rattle.session.specs.Sessions.{IsStartOfSession};
 
     /// A session at the start of a program. No unit is made yet.
     pub fn new(
@@ -92,6 +101,11 @@ impl<'a, P: Predictor + Drop, J: Naming> Session<'a, P, J> {
                 mark: None,
                 rested: false,
                 units,
+                past: Past {
+                    config: *config,
+                    predictor,
+                    lines: Vec::new(alloc),
+                },
             }),
             Err((memory, _)) => {
                 end_units(units);
@@ -99,12 +113,18 @@ impl<'a, P: Predictor + Drop, J: Naming> Session<'a, P, J> {
             }
         }
     }
+}
+
+impl<'a, P: Predictor + Drop, J: Naming> Session<'a, P, J> {
+    ghost use Rattle.std.specs.Prelude.{◌≡◌, ◌≤◌};
+    ghost use Rattle.back.specs.Backs.{back_state};
+    ghost use Rattle.back.specs.Ends.{EndIsInOrder, ending_of};
+    ghost use Rattle.inorder.specs.Runs.{state_in};
+    ghost use Rattle.session.specs.Sessions.{IsReplied};
 
     /// Makes the call that a command asks for, if that is allowed. The core stays, unless it is renewed.
     pub fn answer<R: Wait>(&mut self, wait: &R, alloc: Global, command: Command) -> Reply
-        ensures grows { GrowsLegally self.old.core self.old.seen self.new.seen }
-        ensures kept { self.new ≡ after_command command self.old self.new }
-        ensures reply { Answers self.old self.new command result }
+        ensures { IsReplied self.old self.new command result }
     {
         match command {
             Command::Turn(given) => self.turn(given),
@@ -165,6 +185,7 @@ impl<'a, P: Predictor + Drop, J: Naming> Session<'a, P, J> {
             mark: _,
             rested: _,
             units,
+            past: _,
         } = self;
         end_units(units);
         back.end(wait)

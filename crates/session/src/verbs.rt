@@ -32,12 +32,13 @@ pub enum Verb {
     Queue,
     Step,
     Until,
+    Undo,
     Help,
     List,
     Quit,
 }
 
-static VERBS: [Verb; 28] = [
+static VERBS: [Verb; 29] = [
     Verb::Turn,
     Verb::Recover,
     Verb::Claim,
@@ -63,15 +64,16 @@ static VERBS: [Verb; 28] = [
     Verb::Queue,
     Verb::Step,
     Verb::Until,
+    Verb::Undo,
     Verb::Help,
     Verb::List,
     Verb::Quit,
 ];
 
-static WORDS: [&'static str; 28] = [
+static WORDS: [&'static str; 29] = [
     "turn", "recover", "claim", "finish", "refresh", "commit", "show", "take", "learn", "look",
     "creator", "touched", "info", "operand", "link", "station", "ring", "rest", "meet", "report",
-    "renew", "table", "queue", "step", "until", "help", "list", "quit",
+    "renew", "table", "queue", "step", "until", "undo", "help", "list", "quit",
 ];
 
 /// The word of a command.

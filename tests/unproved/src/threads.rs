@@ -1,4 +1,5 @@
 //! Runs on threads, and what their gates are told; a core by hand, where nobody has met another.
+mod raced;
 mod seen;
 mod shaken;
 mod told;

@@ -99,7 +99,7 @@ fn with_address(alloc: Global, statement: &Statement<'_>) -> Result<Option<Vec<u
     let [_, second, _] = statement.operands;
     let other = if is_name(second) {
         (
-            "Data has no labels: write the number of the byte, from 0 on, as ",
+            "Data has no labels: write the number of the byte, from 0 on, as for byte 4 in ",
             "@0 @1,4($zero)",
         )
     } else {

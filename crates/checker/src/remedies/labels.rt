@@ -12,6 +12,7 @@ fn standing<'a>(sentence: &'static str, name: &'a [u8], line: u64) -> Remedy<'a>
     Remedy {
         sentence,
         text: name,
+        other: b"",
         numbers: [line.cast_signed(), 0],
     }
 }

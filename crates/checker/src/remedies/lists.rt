@@ -16,7 +16,7 @@ pub(crate) fn row_of(table: &[Row], word: &[u8]) -> Option<&'static str> {
 }
 
 /// The remedies of words for which no instruction with their operands is written.
-pub(crate) static SENTENCES: [Row; 36] = [
+pub(crate) static SENTENCES: [Row; 44] = [
     ("ret", "Write jr $ra."),
     ("halt", "Write break."),
     ("exit", "Write break."),
@@ -62,6 +62,11 @@ pub(crate) static SENTENCES: [Row; 36] = [
         "A listing is one file: copy the other file here.",
     ),
     (".macro", "There are no macros: write the instructions out."),
+    (".endm", "There are no macros: write the instructions out."),
+    (
+        ".end_macro",
+        "There are no macros: write the instructions out.",
+    ),
     (".eqv", "There are no names for numbers: write the number."),
     (".equ", "There are no names for numbers: write the number."),
     (
@@ -90,6 +95,15 @@ pub(crate) static SENTENCES: [Row; 36] = [
         "syscall",
         "There is no system: a run ends by break, and its report has the registers and the memory.",
     ),
+    (
+        "ecall",
+        "There is no system: a run ends by break, and its report has the registers and the memory.",
+    ),
+    ("ebreak", "Write break."),
+    ("eret", "There is no system: leave it out."),
+    ("lwc1", "There is no floating point."),
+    ("swc1", "There is no floating point."),
+    ("mtc1", "There is no floating point."),
     (
         "ulw",
         "There are no unaligned accesses: put the word together from bytes, by lbu, sll and or.",
@@ -120,13 +134,14 @@ macro_rules! instead {
 }
 
 /// The instructions to write in place of operations of other assemblers, or of operations with other operands.
-pub(crate) static INSTEAD: [Instead; 54] = [
+pub(crate) static INSTEAD: [Instead; 55] = [
     instead!("move", 2, "addu @1,@2,$zero"),
     instead!("mov", 2, "addu @1,@2,$zero"),
     instead!("clear", 1, "addu @1,$zero,$zero"),
     instead!("inc", 1, "addiu @1,@1,1"),
     instead!("dec", 1, "addiu @1,@1,-1"),
     instead!("not", 2, "nor @1,@2,$zero"),
+    instead!("abs", 2, "sra $at,@2,31\nxor @1,$at,@2\nsubu @1,@1,$at"),
     instead!("neg", 2, "sub @1,$zero,@2"),
     instead!("negu", 2, "subu @1,$zero,@2"),
     instead!("b", 1, "beq $zero,$zero,@1"),

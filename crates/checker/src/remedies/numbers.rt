@@ -68,6 +68,7 @@ fn space(number: &[u8]) -> Option<Remedy<'static>> {
     Some(Remedy {
         sentence: "Write .space @6.",
         text: b"",
+        other: b"",
         numbers: [i64::from(whole), 0],
     })
 }

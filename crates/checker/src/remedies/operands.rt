@@ -3,8 +3,9 @@
 use super::super::forms::takes_label;
 use super::super::statements::Statement;
 use super::registers::without_dollar;
-use super::sentences::{Remedy, said};
-use lexical::parenthesized;
+use super::sentences::{Remedy, naming, said};
+use isa::register_in;
+use lexical::{begins_number, parenthesized};
 
 // The remedy of an operand that is no register, number or address.
 fn operand<'a>(operand: &'a [u8]) -> Option<Remedy<'a>> {
@@ -12,6 +13,7 @@ fn operand<'a>(operand: &'a [u8]) -> Option<Remedy<'a>> {
         return Some(Remedy {
             sentence: "A character is written by its number: @6.",
             text: b"",
+            other: b"",
             numbers: [i64::from(*letter), 0],
         });
     }
@@ -19,6 +21,15 @@ fn operand<'a>(operand: &'a [u8]) -> Option<Remedy<'a>> {
         return Some(said("The register of an address stands in parentheses, as 4($sp)."));
     }
     let register = match parenthesized(operand) {
+        Some((front, number)) if register_in(front).is_ok() && begins_number(number) => {
+            return Some(Remedy {
+                other: number,
+                ..naming(
+                    "The number stands before the register: write @8(@4).",
+                    front,
+                )
+            });
+        }
         Some((_, register)) => register,
         None => operand,
     };
@@ -34,8 +45,14 @@ fn operand<'a>(operand: &'a [u8]) -> Option<Remedy<'a>> {
 pub(crate) fn odd_operand<'a>(statement: &Statement<'a>) -> Option<Remedy<'a>> {
     let operands = statement.operands;
     for at in 0..operands.len() {
+        let is_label = takes_label(statement.word, statement.count, at);
+        if is_label && begins_number(operands[at]) {
+            return Some(said(
+                "A branch or a jump goes to a label: write its name, and the label there.",
+            ));
+        }
         let found = operand(operands[at]);
-        if found.is_some() && !takes_label(statement.word, statement.count, at) {
+        if found.is_some() && !is_label {
             return found;
         }
     }

@@ -3,7 +3,7 @@
 use super::super::statements::Statement;
 use super::sentences::{Remedy, naming, said};
 use isa::register_in;
-use lexical::is_name;
+use lexical::{decimal_in, is_name};
 
 // The most bytes of a register's name behind its `$`.
 const MOST_BYTES: usize = 4;
@@ -29,7 +29,29 @@ pub(crate) fn without_dollar(operand: &[u8]) -> Option<Remedy<'_>> {
     if is_name(operand) && is_named(operand, false) {
         return Some(naming("A register begins with $: write $@4.", operand));
     }
-    None
+    match operand {
+        [b'r' | b'R', number @ ..] if decimal_in(number, 31).is_some() => {
+            Some(naming("A register begins with $: write $@4.", number))
+        }
+        [b'x', number @ ..] if decimal_in(number, 31).is_some() => Some(naming(
+            "@4 is a register of RISC-V: here are $0 to $31, and their names.",
+            operand,
+        )),
+        _ => None,
+    }
+}
+
+// The registers of the kind that a name with a number is of.
+fn range_of(name: &[u8]) -> Option<&'static str> {
+    match name {
+        [b'0'..=b'9', ..] => Some("Registers are $0 to $31, and have names."),
+        [b't', b'0'..=b'9', ..] => Some("These registers are $t0 to $t9."),
+        [b's', b'0'..=b'9', ..] => Some("These registers are $s0 to $s8."),
+        [b'a', b'0'..=b'9', ..] => Some("These registers are $a0 to $a3."),
+        [b'v', b'0'..=b'9', ..] => Some("These registers are $v0 and $v1."),
+        [b'k', b'0'..=b'9', ..] => Some("These registers are $k0 and $k1."),
+        _ => None,
+    }
 }
 
 /// The remedy of a register that there is not.
@@ -40,6 +62,9 @@ pub(crate) fn bad_register<'a>(statement: &Statement<'a>) -> Option<Remedy<'a>> 
         };
         if is_named(name, true) && register_in(text).is_err() {
             return Some(naming("Names of registers are in lower case: write @5.", text));
+        }
+        if register_in(text).is_err() && range_of(name).is_some() {
+            return Some(said(range_of(name)?));
         }
         if name.starts_with(b"f") && !name.eq_ignore_ascii_case(b"fp") {
             return Some(said("There are no registers of floating point."));

@@ -10,11 +10,12 @@ const MOST_QUOTED: usize = 60;
 const MISSING: &[u8] = b"..";
 
 /// A remedy: a sentence in which `@` and a digit stand for what is known. The word of the statement is 0, its operands
-/// are 1 to 3, the text is 4, also in lower case as 5, and the numbers are 6 and 7.
+/// are 1 to 3, the text is 4, also in lower case as 5, the numbers are 6 and 7, and the other text is 8.
 #[derive(Clone, Copy)]
 pub(crate) struct Remedy<'a> {
     pub sentence: &'static str,
     pub text: &'a [u8],
+    pub other: &'a [u8],
     pub numbers: [i64; 2],
 }
 
@@ -28,6 +29,7 @@ pub(crate) fn naming<'a>(sentence: &'static str, text: &'a [u8]) -> Remedy<'a> {
     Remedy {
         sentence,
         text,
+        other: b"",
         numbers: [0, 0],
     }
 }
@@ -40,6 +42,7 @@ fn text_of<'a>(remedy: &Remedy<'a>, statement: &Statement<'a>, digit: u8) -> &'a
         b'1' => first,
         b'2' => second,
         b'3' => third,
+        b'8' => remedy.other,
         _ => remedy.text,
     };
     if text.is_empty() || text.len() > MOST_QUOTED {
@@ -57,7 +60,7 @@ fn push_known(
     statement: &Statement<'_>,
     digit: u8,
 ) -> Result<(), AllocError> {
-    if digit >= b'6' {
+    if digit == b'6' || digit == b'7' {
         let number = remedy.numbers[if digit == b'6' { 0 } else { 1 }];
         let digits = format!(in alloc; "{number}")?;
         return said.extend_from_slice(digits.as_bytes());

@@ -73,6 +73,7 @@ fn lines_before<'a>(
     Some(Remedy {
         sentence,
         text,
+        other: b"",
         numbers,
     })
 }
@@ -93,6 +94,7 @@ pub(crate) fn tried<'a>(
     let behind = Remedy {
         sentence: lines,
         text,
+        other: b"",
         numbers,
     };
     let mut all = filled(alloc, &before, statement)?;

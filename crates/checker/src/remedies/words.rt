@@ -50,24 +50,52 @@ pub(crate) fn is_one_away(one: &[u8], other: &[u8]) -> bool {
     }
 }
 
-// Whether a word is that of an operation or a directive.
-fn is_known(word: &[u8]) -> bool {
+/// Whether a word is that of an operation or a directive.
+pub(crate) fn is_known(word: &[u8]) -> bool {
     directive_text(word).is_some() || !matches!(form_of(word, 0), Err(FaultKind::UnknownOp))
 }
 
-// A word of the language that is one edit away.
-fn nearest(word: &[u8]) -> Option<&'static str> {
+// The longest operation that a word is, but for one letter at its end.
+fn begun(word: &[u8]) -> Option<&'static str> {
+    let [front @ .., _] = word else {
+        return None;
+    };
     for form in forms() {
-        if is_one_away(form.word.as_bytes(), word) {
+        if form.word.as_bytes().eq_ignore_ascii_case(front) {
+            return Some(form.word);
+        }
+    }
+    None
+}
+
+// The first word of the language that is one edit away, and is not another one.
+fn near(word: &[u8], but: &str) -> Option<&'static str> {
+    for form in forms() {
+        if form.word != but && is_one_away(form.word.as_bytes(), word) {
             return Some(form.word);
         }
     }
     for directive in [".space", ".word"] {
-        if is_one_away(directive.as_bytes(), word) {
+        if directive != but && is_one_away(directive.as_bytes(), word) {
             return Some(directive);
         }
     }
     None
+}
+
+// The words that may be meant: the operation with which a word begins, or two that are one edit away.
+fn nearest(word: &[u8]) -> Option<Remedy<'static>> {
+    if let Some(operation) = begun(word) {
+        return Some(naming("Is @4 meant?", operation.as_bytes()));
+    }
+    let first = near(word, "")?;
+    Some(match near(word, first) {
+        None => naming("Is @4 meant?", first.as_bytes()),
+        Some(other) => Remedy {
+            other: other.as_bytes(),
+            ..naming("Is @4 or @8 meant?", first.as_bytes())
+        },
+    })
 }
 
 // The sentence for a label that is no name, or a colon that is missing behind a label.
@@ -86,10 +114,11 @@ fn label(code: &[u8], statement: &Statement<'_>) -> Option<&'static str> {
 
 // The word that may be meant, or a label that it may be.
 fn meant(statement: &Statement<'_>) -> Option<Remedy<'static>> {
-    if let Some(word) = nearest(statement.word) {
-        return Some(naming("Is @4 meant?", word.as_bytes()));
+    let found = nearest(statement.word);
+    if found.is_some() {
+        return found;
     }
-    if statement.count > 0 || !is_name(statement.word) {
+    if statement.count > 0 || !is_name(statement.word) || statement.word.starts_with(b".") {
         return None;
     }
     Some(said("If it is a label, a colon stands behind it: write @0:."))
@@ -105,6 +134,10 @@ pub(crate) fn unknown<'a>(code: &[u8], statement: &Statement<'a>) -> Option<Reme
             None if is_load => Some(said("Write addiu @1,$zero,n with n from -32768 to 32767.")),
             _ => found,
         };
+    }
+    let [first, _, _] = statement.operands;
+    if first.starts_with(b"=") {
+        return Some(said("There are no names for numbers: write the number."));
     }
     match label(code, statement) {
         Some(sentence) => Some(said(sentence)),

@@ -1,19 +1,15 @@
 #!/usr/bin/env python3
 """The first line in which two logs of commits differ, after three lines in which they agree: first_difference.py OURS THEIRS.
-The texts of instructions are passed over, so that a simulator need not write them."""
+The texts of instructions, which begin with `#`, are passed over, so that a simulator need not write them."""
 import collections
 import itertools
-import re
 
 from ending import run
-
-TEXT = re.compile(r"(core   0: 3 0x\w{8} \(\S{10}\)) *(?:[a-z]+(?: \S+)?)??(?: +((?:x\d+|lo|hi|mem) +0x.*))?")
 
 
 def bare(line):
     """A line without its text."""
-    found = TEXT.fullmatch(line)
-    return " ".join(filter(None, found.groups())) if found else line
+    return line.partition("#")[0].rstrip()
 
 
 def main(words):

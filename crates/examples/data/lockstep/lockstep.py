@@ -28,7 +28,7 @@ def step(simulator):
     try:
         simulator.step()
     except Stop as stop:
-        return str(stop)
+        return str(stop).split()[0]
     return None
 
 

@@ -22,7 +22,7 @@ RUU = os.path.join(os.path.dirname(os.path.dirname(os.path.dirname(os.path.abspa
 NAMES = [*(f"${n}" for n in range(32)), "LO", "HI"]
 STATE = re.compile(r"pc=0x(\w+) HI=0x(\w+) LO=0x(\w+)")
 LINE = re.compile(r"core   0: 3 0x(\w{8}) (?:\(0x(\w{8})\)(.*)|stop|limit)")
-WRITTEN = re.compile(r" (x\d+|lo|hi) +0x(\w{8})")
+WRITTEN = re.compile(r" [xc](\d+)(?:_lo|_hi)? +0x(\w{8})")
 
 
 def aligned(text, memory):
@@ -45,10 +45,9 @@ def machine(executable, folder):
         for line in log.stdout:
             pc, word, change = LINE.match(line).groups()
             yield int(pc, 16), registers, written, word == "00000000"
-            for name, value in WRITTEN.findall((change or "").split(" mem ")[0]):
-                register = 32 + (name == "hi") if name in ("lo", "hi") else int(name[1:])
-                registers[register] = int(value, 16)
-                written.add(register)
+            for number, value in WRITTEN.findall(change or ""):
+                registers[int(number)] = int(value, 16)
+                written.add(int(number))
 
 
 def qemu(executable, text, memory, folder):

@@ -2,10 +2,12 @@
 """A small simulator of the machine, with a mistake that was planted: `sb` clears the byte behind its own.
 
 simulator.py FILE.elf           runs an executable that examples/c/compile.sh made, and writes a line for each instruction,
-                                as `./ruu commits` does, but without the instruction's text
+                                as `./ruu commits` does
 simulator.py --right FILE.elf   the same without the mistake
+simulator.py --hash N FILE.elf  writes a hash after each N instructions in place of the lines, as `./ruu commits --hash N` does
 
 lockstep.py runs it beside the library."""
+import itertools
 import struct
 
 from ending import run
@@ -81,14 +83,14 @@ class Simulator:
 
     def access(self, op, rt, address, width, b):
         if address % width:
-            raise Stop("unaligned")
+            raise Stop(f"unaligned 0x{address:08x}")
         if address + width > len(self.memory):
-            raise Stop("range")
+            raise Stop(f"range 0x{address:08x}")
         if op >= 40:
             size = width if self.is_right else max(width, 2)
             return {"address": address, "width": width, "bytes": (b & (1 << 8 * width) - 1).to_bytes(size, "little")}
         value = int.from_bytes(self.memory[address : address + width], "little")
-        return written(rt, signed(value, 8 * width) if op < 35 else value)
+        return written(rt, signed(value, 8 * width) if op < 35 else value) | {"loaded": address}
 
     def special(self, word, a, b):
         rd, amount, function = word >> 11 & 31, word >> 6 & 31, word & 63
@@ -138,21 +140,35 @@ def quotient(function, a, b):
 
 def told(change):
     """The end of a line of the log."""
-    parts = [f"{ {LO: 'lo', HI: 'hi'}.get(r, f'x{r}') :3} 0x{value:08x}" for r, value in change.get("registers", [])]
+    parts = [f"{ {LO: 'c32_lo', HI: 'c33_hi'}.get(r, f'x{r}') :3} 0x{value:08x}" for r, value in change.get("registers", [])]
+    if "loaded" in change:
+        parts.append(f"mem 0x{change['loaded']:08x}")
     if "address" in change:
         value = int.from_bytes(change["bytes"], "little")
-        parts = [f"mem 0x{change['address']:08x} 0x{value:0{2 * change['width']}x}"]
-    return " ".join(parts)
+        parts.append(f"mem 0x{change['address']:08x} 0x{value:0{2 * change['width']}x}")
+    return "".join(f" {part}" for part in parts)
+
+
+def hash_of(registers, memory):
+    """The hash of a state: FNV-1a in 64 bits, over the 34 registers, LO and HI last, and the words of data memory."""
+    h = 0xCBF29CE484222325
+    for word in [*registers, *struct.unpack(f"<{len(memory) // 4}I", memory)]:
+        h = (h ^ word) * 0x100000001B3 % 2**64
+    return h
 
 
 def main(words):
     simulator = Simulator(*load(words[-1]), is_right="--right" in words)
+    each = int(words[words.index("--hash") + 1]) if "--hash" in words else 0
     try:
-        while True:
+        for count in itertools.count(1):
             pc = simulator.pc
             change = simulator.step()
             word = simulator.text[(pc - START) // 4]
-            print(f"core   0: 3 0x{pc:08x} (0x{word:08x}) {told(change)}".rstrip())
+            if not each:
+                print(f"core   0: 3 0x{pc:08x} (0x{word:08x}){told(change)}")
+            elif count % each == 0:
+                print(f"core   0: 3 0x{simulator.pc:08x} count {count} hash 0x{hash_of(simulator.registers, simulator.memory):016x}")
     except Stop as stop:
         print(f"core   0: 3 0x{simulator.pc:08x} stop {stop}")
     return 0

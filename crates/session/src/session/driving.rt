@@ -10,15 +10,11 @@ use back::Naming;
 use instructions::Predictor;
 
 impl<'a, P: Predictor + Drop, J: Naming> Session<'a, P, J> {
-    ghost use Rattle.std.specs.Prelude.{◌≡◌};
-    ghost use Rattle.session.specs.Moments.{GrowsLegally};
-    ghost use Rattle.session.specs.Sessions.{Answers, after_command};
+    ghost use Rattle.session.specs.Sessions.{IsReplied};
     ghost use Rattle.session.specs.declared.commands.Command.TheVariants.{Claim, Commit, Finish, Recover, Refresh, RefreshAt, Turn};
 
     pub(super) fn turn(&mut self, given: Option<u32>) -> Reply
-        ensures grows { GrowsLegally self.old.core self.old.seen self.new.seen }
-        ensures kept { self.new ≡ after_command (Turn given) self.old self.new }
-        ensures reply { Answers self.old self.new (Turn given) result }
+        ensures { IsReplied self.old self.new (Turn given) result }
     {
         self.rested = false;
         let (core, all, back) = (&self.core, &mut self.all, &mut self.back);
@@ -27,18 +23,14 @@ impl<'a, P: Predictor + Drop, J: Naming> Session<'a, P, J> {
     }
 
     pub(super) fn recover(&mut self) -> Reply
-        ensures grows { GrowsLegally self.old.core self.old.seen self.new.seen }
-        ensures kept { self.new ≡ after_command Recover self.old self.new }
-        ensures reply { Answers self.old self.new Recover result }
+        ensures { IsReplied self.old self.new Recover result }
     {
         self.rested = false;
         Reply::Recovery(front_calls::recover(&self.core, &mut self.all, &mut self.front))
     }
 
     pub(super) fn claim(&mut self, unit: usize, station: u32) -> Reply
-        ensures grows { GrowsLegally self.old.core self.old.seen self.new.seen }
-        ensures kept { self.new ≡ after_command (Claim unit station) self.old self.new }
-        ensures reply { Answers self.old self.new (Claim unit station) result }
+        ensures { IsReplied self.old self.new (Claim unit station) result }
     {
         let ring = self.core.ring();
         if UNITS <= unit {
@@ -57,9 +49,7 @@ impl<'a, P: Predictor + Drop, J: Naming> Session<'a, P, J> {
     }
 
     pub(super) fn finish(&mut self, unit: usize, station: u32) -> Reply
-        ensures grows { GrowsLegally self.old.core self.old.seen self.new.seen }
-        ensures kept { self.new ≡ after_command (Finish unit station) self.old self.new }
-        ensures reply { Answers self.old self.new (Finish unit station) result }
+        ensures { IsReplied self.old self.new (Finish unit station) result }
     {
         let (units, ring) = (&self.units, self.core.ring());
         if units.len() <= unit {
@@ -78,17 +68,13 @@ impl<'a, P: Predictor + Drop, J: Naming> Session<'a, P, J> {
     }
 
     pub(super) fn refresh(&mut self) -> Reply
-        ensures grows { GrowsLegally self.old.core self.old.seen self.new.seen }
-        ensures kept { self.new ≡ after_command Refresh self.old self.new }
-        ensures reply { Answers self.old self.new Refresh result }
+        ensures { IsReplied self.old self.new Refresh result }
     {
         Reply::Refresh(calls::refresh(&self.core, &mut self.all, &mut self.back))
     }
 
     pub(super) fn refresh_at(&mut self, station: u32) -> Reply
-        ensures grows { GrowsLegally self.old.core self.old.seen self.new.seen }
-        ensures kept { self.new ≡ after_command (RefreshAt station) self.old self.new }
-        ensures reply { Answers self.old self.new (RefreshAt station) result }
+        ensures { IsReplied self.old self.new (RefreshAt station) result }
     {
         if self.core.ring() <= station as usize {
             return Reply::Refused(Refusal::NoStation);
@@ -98,9 +84,7 @@ impl<'a, P: Predictor + Drop, J: Naming> Session<'a, P, J> {
     }
 
     pub(super) fn commit(&mut self) -> Reply
-        ensures grows { GrowsLegally self.old.core self.old.seen self.new.seen }
-        ensures kept { self.new ≡ after_command Commit self.old self.new }
-        ensures reply { Answers self.old self.new Commit result }
+        ensures { IsReplied self.old self.new Commit result }
     {
         if self.back.n() == u64::MAX {
             return Reply::Refused(Refusal::NoCount);

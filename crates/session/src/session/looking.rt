@@ -1,6 +1,4 @@
 //! What a session reads, of words and of the create vector.
-ghost use Rattle.std.specs.Prelude.{◌≡◌};
-
 use super::Session;
 use crate::names::register_of;
 use crate::replies::{Refusal, Reply};
@@ -10,15 +8,11 @@ use instructions::Predictor;
 use station::Source;
 
 impl<'a, P: Predictor + Drop, J: Naming> Session<'a, P, J> {
-    ghost use Rattle.std.specs.Prelude.{◌≡◌};
-    ghost use Rattle.session.specs.Moments.{GrowsLegally};
-    ghost use Rattle.session.specs.Sessions.{Answers, after_command};
+    ghost use Rattle.session.specs.Sessions.{IsReplied};
     ghost use Rattle.session.specs.declared.commands.Command.TheVariants.{Creator, Info, Link, Look, Operand, Ring, Station, Touched};
 
     pub(super) fn look(&mut self, station: u32) -> Reply
-        ensures grows { GrowsLegally self.old.core self.old.seen self.new.seen }
-        ensures kept { self.new ≡ after_command (Look station) self.old self.new }
-        ensures reply { Answers self.old self.new (Look station) result }
+        ensures { IsReplied self.old self.new (Look station) result }
     {
         if self.core.ring() <= station as usize {
             return Reply::Refused(Refusal::NoStation);
@@ -28,9 +22,7 @@ impl<'a, P: Predictor + Drop, J: Naming> Session<'a, P, J> {
     }
 
     pub(super) fn creator(&mut self, register: u32) -> Reply
-        ensures grows { GrowsLegally self.old.core self.old.seen self.new.seen }
-        ensures kept { self.new ≡ after_command (Creator register) self.old self.new }
-        ensures reply { Answers self.old self.new (Creator register) result }
+        ensures { IsReplied self.old self.new (Creator register) result }
     {
         let core = &self.core;
         let Some(named) = register_of(register) else {
@@ -40,17 +32,13 @@ impl<'a, P: Predictor + Drop, J: Naming> Session<'a, P, J> {
     }
 
     pub(super) fn touched(&mut self) -> Reply
-        ensures grows { GrowsLegally self.old.core self.old.seen self.new.seen }
-        ensures kept { self.new ≡ after_command Touched self.old self.new }
-        ensures reply { Answers self.old self.new Touched result }
+        ensures { IsReplied self.old self.new Touched result }
     {
         Reply::Touched(self.front.touched())
     }
 
     pub(super) fn info(&mut self, station: u32) -> Reply
-        ensures grows { GrowsLegally self.old.core self.old.seen self.new.seen }
-        ensures kept { self.new ≡ after_command (Info station) self.old self.new }
-        ensures reply { Answers self.old self.new (Info station) result }
+        ensures { IsReplied self.old self.new (Info station) result }
     {
         if self.core.ring() <= station as usize {
             return Reply::Refused(Refusal::NoStation);
@@ -60,9 +48,7 @@ impl<'a, P: Predictor + Drop, J: Naming> Session<'a, P, J> {
     }
 
     pub(super) fn operand(&mut self, station: u32, k: Source) -> Reply
-        ensures grows { GrowsLegally self.old.core self.old.seen self.new.seen }
-        ensures kept { self.new ≡ after_command (Operand station k) self.old self.new }
-        ensures reply { Answers self.old self.new (Operand station k) result }
+        ensures { IsReplied self.old self.new (Operand station k) result }
     {
         if self.core.ring() <= station as usize {
             return Reply::Refused(Refusal::NoStation);
@@ -73,9 +59,7 @@ impl<'a, P: Predictor + Drop, J: Naming> Session<'a, P, J> {
     }
 
     pub(super) fn link(&mut self, station: u32, k: Source) -> Reply
-        ensures grows { GrowsLegally self.old.core self.old.seen self.new.seen }
-        ensures kept { self.new ≡ after_command (Link station k) self.old self.new }
-        ensures reply { Answers self.old self.new (Link station k) result }
+        ensures { IsReplied self.old self.new (Link station k) result }
     {
         if self.core.ring() <= station as usize {
             return Reply::Refused(Refusal::NoStation);
@@ -85,9 +69,7 @@ impl<'a, P: Predictor + Drop, J: Naming> Session<'a, P, J> {
     }
 
     pub(super) fn station(&mut self, station: u32) -> Reply
-        ensures grows { GrowsLegally self.old.core self.old.seen self.new.seen }
-        ensures kept { self.new ≡ after_command (Station station) self.old self.new }
-        ensures reply { Answers self.old self.new (Station station) result }
+        ensures { IsReplied self.old self.new (Station station) result }
     {
         if self.core.ring() <= station as usize {
             return Reply::Refused(Refusal::NoStation);
@@ -97,9 +79,7 @@ impl<'a, P: Predictor + Drop, J: Naming> Session<'a, P, J> {
     }
 
     pub(super) fn ring_told(&mut self) -> Reply
-        ensures grows { GrowsLegally self.old.core self.old.seen self.new.seen }
-        ensures kept { self.new ≡ after_command Ring self.old self.new }
-        ensures reply { Answers self.old self.new Ring result }
+        ensures { IsReplied self.old self.new Ring result }
     {
         let (core, all, back) = (&self.core, &mut self.all, &mut self.back);
         let (head, ahead) = rows::ring(core, all, &mut self.front, back);

@@ -23,7 +23,7 @@ fn is_nobody(party: Party) -> bool
 impl<'a, P: Predictor + Drop, J: Naming> Session<'a, P, J> {
     ghost use Rattle.std.specs.Prelude.{◌≡◌};
     ghost use Rattle.session.specs.Moments.{GrowsLegally};
-    ghost use Rattle.session.specs.Sessions.{Answers, HasToldAll, IsSomebody, after_command};
+    ghost use Rattle.session.specs.Sessions.{HasToldAll, IsReplied, IsSomebody, after_command};
     ghost use Rattle.session.specs.declared.commands.Command.TheVariants.{Meet};
 
     // One of them learns all that was seen, and tells what it has seen.
@@ -44,9 +44,7 @@ impl<'a, P: Predictor + Drop, J: Naming> Session<'a, P, J> {
 
     // They meet by the seat that has seen all: it meets the first, the other, and the first again.
     pub(super) fn meet(&mut self, one: Party, other: Party) -> Reply
-        ensures grows { GrowsLegally self.old.core self.old.seen self.new.seen }
-        ensures kept { self.new ≡ after_command (Meet one other) self.old self.new }
-        ensures reply { Answers self.old self.new (Meet one other) result }
+        ensures { IsReplied self.old self.new (Meet one other) result }
     {
         let _ = &self.core;
         if is_nobody(one) || is_nobody(other) {

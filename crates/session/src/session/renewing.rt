@@ -1,5 +1,5 @@
 //! A session whose core is renewed.
-use super::Session;
+use super::{Past, Session};
 use crate::renewal::{Stage, renew};
 use crate::replies::{Refusal, Reply};
 use crate::units::{Worker, forget_units};
@@ -11,9 +11,8 @@ use std::alloc::Global;
 
 impl<'a, P: Predictor + Drop, J: Naming> Session<'a, P, J> {
     ghost use Rattle.std.specs.Prelude.{◌≡◌, None, false, true, vec_len};
-    ghost use Rattle.session.specs.Moments.{GrowsLegally};
     ghost use Rattle.session.specs.Renewals.{SeatsAreAt};
-    ghost use Rattle.session.specs.Sessions.{Answers, after_command};
+    ghost use Rattle.session.specs.Sessions.{IsReplied};
     ghost use Rattle.session.specs.Units.{unit_count};
     ghost use Rattle.session.specs.Workers.{AreWorkers};
     ghost use Rattle.session.specs.declared.commands.Command.TheVariants.{Renew};
@@ -26,6 +25,7 @@ impl<'a, P: Predictor + Drop, J: Naming> Session<'a, P, J> {
         snapper: Snapper<J>,
         mark: Option<Mark>,
         units: Vec<Option<Worker>>,
+        past: Past<P>,
     ) -> Self
         requires named { stage.0.program ≡ J.program }
         requires program { program.now ≡ stage.0.program }
@@ -43,6 +43,8 @@ impl<'a, P: Predictor + Drop, J: Naming> Session<'a, P, J> {
           touched = stage.entry.2.touched;
           told = stage.entry.2.told;
           rested = false;
+          config = past.config;
+          lines = past.lines.items;
         } }
         ensures legal { IsLegal stage.entry.0.program stage.entry.0.sizes stage.entry.1.seen }
     {
@@ -58,6 +60,7 @@ impl<'a, P: Predictor + Drop, J: Naming> Session<'a, P, J> {
             mark,
             rested: false,
             units,
+            past,
         }
     }
 
@@ -65,9 +68,7 @@ impl<'a, P: Predictor + Drop, J: Naming> Session<'a, P, J> {
     fn renewed(self, alloc: Global) -> (Self, Reply)
         requires rested { self.rested ≡ true }
         requires not_ended { self.commits.ended ≡ None }
-        ensures grows { GrowsLegally self.entry.core self.entry.seen result.0.seen }
-        ensures kept { result.0 ≡ after_command Renew self.entry result.0 }
-        ensures reply { Answers self.entry result.0 Renew result.1 }
+        ensures { IsReplied self.entry result.0 Renew result.1 }
     {
         let Session {
             core,
@@ -79,24 +80,23 @@ impl<'a, P: Predictor + Drop, J: Naming> Session<'a, P, J> {
             mark,
             rested: _,
             mut units,
+            past,
         } = self;
         match renew(alloc, program, core, all, front, back) {
             Ok(stage) => {
                 forget_units(&mut units);
-                let session = Self::at(stage, program, snapper, mark, units);
+                let session = Self::at(stage, program, snapper, mark, units, past);
                 (session, Reply::Renewed)
             }
             Err(stage) => {
-                let session = Self::at(stage, program, snapper, mark, units);
+                let session = Self::at(stage, program, snapper, mark, units, past);
                 (session, Reply::Memory)
             }
         }
     }
 
     pub(super) fn renew(&mut self, alloc: Global) -> Reply
-        ensures grows { GrowsLegally self.old.core self.old.seen self.new.seen }
-        ensures kept { self.new ≡ after_command Renew self.old self.new }
-        ensures reply { Answers self.old self.new Renew result }
+        ensures { IsReplied self.old self.new Renew result }
     {
         if !self.rested {
             return Reply::Refused(Refusal::NoRest);

@@ -7,15 +7,11 @@ use instructions::Predictor;
 use std::sync::Wait;
 
 impl<'a, P: Predictor + Drop, J: Naming> Session<'a, P, J> {
-    ghost use Rattle.std.specs.Prelude.{◌≡◌};
-    ghost use Rattle.session.specs.Moments.{GrowsLegally};
-    ghost use Rattle.session.specs.Sessions.{Answers, after_command};
+    ghost use Rattle.session.specs.Sessions.{IsReplied};
     ghost use Rattle.session.specs.declared.commands.Command.TheVariants.{Learn, Show, Take};
 
     pub(super) fn show<R: Wait>(&mut self, wait: &R) -> Reply
-        ensures grows { GrowsLegally self.old.core self.old.seen self.new.seen }
-        ensures kept { self.new ≡ after_command Show self.old self.new }
-        ensures reply { Answers self.old self.new Show result }
+        ensures { IsReplied self.old self.new Show result }
     {
         match calls::show(wait, &self.core, &mut self.all, &mut self.back) {
             Ok(mark) => {
@@ -27,9 +23,7 @@ impl<'a, P: Predictor + Drop, J: Naming> Session<'a, P, J> {
     }
 
     pub(super) fn take(&mut self) -> Reply
-        ensures grows { GrowsLegally self.old.core self.old.seen self.new.seen }
-        ensures kept { self.new ≡ after_command Take self.old self.new }
-        ensures reply { Answers self.old self.new Take result }
+        ensures { IsReplied self.old self.new Take result }
     {
         match self.snapper.take() {
             Ok(snap) => Reply::Taken(snap),
@@ -38,9 +32,7 @@ impl<'a, P: Predictor + Drop, J: Naming> Session<'a, P, J> {
     }
 
     pub(super) fn learn(&mut self) -> Reply
-        ensures grows { GrowsLegally self.old.core self.old.seen self.new.seen }
-        ensures kept { self.new ≡ after_command Learn self.old self.new }
-        ensures reply { Answers self.old self.new Learn result }
+        ensures { IsReplied self.old self.new Learn result }
     {
         match self.mark {
             Some(mark) => {

@@ -49,7 +49,7 @@ fn a_unit_to_drive_may_choose_its_commands(rt: HostRuntime) -> Result<(), Fail> 
         "drive",
         "double.s",
         "--echo",
-        "--seed",
+        "--shuffle",
         "9",
         "--steps=7",
     ];

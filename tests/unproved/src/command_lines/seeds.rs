@@ -60,24 +60,33 @@ fn takes_a_chart_and_a_log(rt: HostRuntime) {
 
 #[test]
 fn takes_a_log_of_commits(rt: HostRuntime) {
-    let words = [
-        "ruu",
-        "commits",
-        "sum.s",
-        "--limit",
-        "9",
-        "--ruu-size=4",
-        "--seed=2",
+    let cases: [(&[&str], u64, u64, u64, bool); 3] = [
+        (&["ruu", "commits", "sum.s"], 1_000_000, 1, 0, false),
+        (
+            &["ruu", "commits", "sum.s", "--limit", "9", "--text"],
+            9,
+            1,
+            0,
+            true,
+        ),
+        (
+            &["ruu", "commits", "--from=7", "--hash", "100", "sum.s"],
+            1_000_000,
+            7,
+            100,
+            false,
+        ),
     ];
-    match committed(rt.alloc(), words.as_slice()) {
-        Ok(committed) => {
-            assert_eq!(rt; committed.file, "sum.s");
-            assert_eq!(rt; committed.config.limit(), 9);
-            assert_eq!(rt; committed.config.ring(), 4);
-            assert_eq!(rt; committed.config.units(), 2);
-            assert_eq!(rt; committed.seed, Some(2));
-            assert!(rt; committed.predictor == BranchPredictor::Bimod);
-        },
-        Err(_no_run) => assert!(rt; false, "a log of commits"),
+    for (words, limit, from, hash, text) in cases {
+        match committed(rt.alloc(), words) {
+            Ok(committed) => {
+                assert_eq!(rt; committed.file, "sum.s");
+                assert_eq!(rt; committed.limit, limit, "{words:?}");
+                assert_eq!(rt; committed.from, from, "{words:?}");
+                assert_eq!(rt; committed.hash, hash, "{words:?}");
+                assert_eq!(rt; committed.text, text, "{words:?}");
+            },
+            Err(_no_run) => assert!(rt; false, "{words:?}"),
+        }
     }
 }

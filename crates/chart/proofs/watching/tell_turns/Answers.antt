@@ -11,12 +11,12 @@ returns-in_err-tell_turn-clause-begun g c =
     let turned = c.turn_by-answer in
     let part = c.in_err-tell_turn.ensures.part in
     let less : c.turns.bench.pipeline.committed.count < c.args.limit = omega (arith, c.count.ensures.value, c.turns-test.true) in
-    on_err c.from_residual.result (λ Q D first start s. stood_part g.P.Predictor.Predicts g.P.Predictor.Learns g.C.Chooser.Chooses c.args.format Q D c.args.limit
+    on_err c.from_residual.result (λ f Q D first start s. stood_part g.P.Predictor.Predicts g.P.Predictor.Learns g.C.Chooser.Chooses f Q D c.args.limit
     first start c.turns.bench turned.new.self c.turns.order turned.new.chooser (kept c.turns.books) turned.result _ _ part.n turned.ensures.turn turned.ensures.same
-    part.inside part.gives less (c.turns.invariant.goes_on Q D first start s))
+    part.inside part.gives less (c.turns.invariant.goes_on f Q D first start s))
 
 pub returns-in-Over-clause-through : goal.returns-in-Over-clause-through
-returns-in-Over-clause-through g c Q D first start s =
+returns-in-Over-clause-through g c f Q D first start s =
     let b = c.turns.bench in
     let turned = c.turn_by-answer in
     let later = turned.new.self in
@@ -24,15 +24,15 @@ returns-in-Over-clause-through g c Q D first start s =
     let moves = moves_by g.P.Predictor.Predicts g.P.Predictor.Learns g.C.Chooser.Chooses b later c.turns.order turned.new.chooser _ c.in-Over.ensures.turn in
     let less : b.pipeline.committed.count < c.args.limit = omega (arith, c.count.ensures.value, c.turns-test.true) in
     let ends = is_over c.args.limit b.pipeline later.pipeline c.in-Over.field-0 c.count.ensures.unit moves c.in-Over.ensures.same less c.in-Over.ensures.falls in
-    through_next g.P.Predictor.Predicts g.P.Predictor.Learns g.C.Chooser.Chooses c.args.format Q D c.args.limit first start b later c.turns.order
+    through_next g.P.Predictor.Predicts g.P.Predictor.Learns g.C.Chooser.Chooses f Q D c.args.limit first start b later c.turns.order
     turned.new.chooser (kept c.turns.books) _ turned.result _ _ turned.ensures.turn turned.ensures.same told.kept told.says less c.in-Over.field-0 c.in-Over.is
-    ends (c.turns.invariant.goes_on Q D first start s)
+    ends (c.turns.invariant.goes_on f Q D first start s)
 
 pub returns-clause-through : goal.returns-clause-through
-returns-clause-through g c Q D first start s =
+returns-clause-through g c f Q D first start s =
     let full : c.args.limit ≤ c.turns.bench.pipeline.committed.count = omega (arith, c.count.ensures.value, c.turns-test.false) in
-    through_limit g.P.Predictor.Predicts g.P.Predictor.Learns g.C.Chooser.Chooses c.args.format Q D c.args.limit first start c.turns.bench c.turns.order
-    (kept c.turns.books) _ full (c.turns.invariant.goes_on Q D first start s)
+    through_limit g.P.Predictor.Predicts g.P.Predictor.Learns g.C.Chooser.Chooses f Q D c.args.limit first start c.turns.bench c.turns.order
+    (kept c.turns.books) _ full (c.turns.invariant.goes_on f Q D first start s)
 
 pub returns-in-Over-clause-stays : goal.returns-in-Over-clause-stays
 returns-in-Over-clause-stays g c =
@@ -61,7 +61,7 @@ turns-preserved g c =
       quiet = told.quiet ∙ c.turns.invariant.quiet;
       ends = goes_on c.args.limit b.pipeline later.pipeline turned.result c.count.ensures.unit moves turned.ensures.same less
           c.in_default.not-Over turned.ensures.falls ∙ c.turns.invariant.ends;
-      goes_on = λ Q D first start s. goes_next g.P.Predictor.Predicts g.P.Predictor.Learns g.C.Chooser.Chooses c.args.format Q D c.args.limit first start
+      goes_on = λ f Q D first start s. goes_next g.P.Predictor.Predicts g.P.Predictor.Learns g.C.Chooser.Chooses f Q D c.args.limit first start
           b later c.turns.order turned.new.chooser (kept c.turns.books) _ turned.result _ _ turned.ensures.turn turned.ensures.same told.kept told.says less
-          c.in_default.not-Over turned.ensures.falls (c.turns.invariant.goes_on Q D first start s);
+          c.in_default.not-Over turned.ensures.falls (c.turns.invariant.goes_on f Q D first start s);
     }

@@ -4,6 +4,7 @@ use Rattle.instructions.specs.Programs.{Program}
 use Rattle.inorder.specs.Unit.{Sizes}
 use Rattle.one_thread.specs.Changes.{run_from}
 use Rattle.one_thread.proofs.Ends.{left}
+use Rattle.chart.specs.declared.telling.Style.{Style}
 use Rattle.chart.specs.Rows.{kept}
 use Rattle.chart.specs.Watched.{GoesOn, Guides}
 use Rattle.chart.proofs.watching.tell_turns.Given as goal
@@ -13,10 +14,10 @@ abbrev pub invariant-turns : goal.invariant-turns
 invariant-turns g l = record {
   quiet : failures_of l.writer ≡ failures_of l.fn.writer;
   ends : run_from l.bench.pipeline l.limit ≡ run_from l.fn.bench.pipeline l.limit;
-  goes_on : (Q : Program) (D : Sizes) (first : Guides g.row.P.Denot g.row.C.Denot) (start : Option (List ℕ)) →
-      GoesOn g.P.Predictor.Predicts g.P.Predictor.Learns g.C.Chooser.Chooses l.format Q D l.limit l.fn.bench l.fn.order (kept l.fn.books) first start
+  goes_on : (f : Style) (Q : Program) (D : Sizes) (first : Guides g.row.P.Denot g.row.C.Denot) (start : Option (List ℕ)) →
+      GoesOn g.P.Predictor.Predicts g.P.Predictor.Learns g.C.Chooser.Chooses f Q D l.limit l.fn.bench l.fn.order (kept l.fn.books) first start
       (known_by g.W.Write.contents l.fn.writer) →
-      GoesOn g.P.Predictor.Predicts g.P.Predictor.Learns g.C.Chooser.Chooses l.format Q D l.limit l.bench l.order (kept l.books) first start
+      GoesOn g.P.Predictor.Predicts g.P.Predictor.Learns g.C.Chooser.Chooses f Q D l.limit l.bench l.order (kept l.books) first start
       (known_by g.W.Write.contents l.writer);
 }
 

@@ -15,4 +15,6 @@ returns-in_err-run-clause-err c =
       run = odd_values rows c.in_ok-values.values c.in_ok-values.ensures.ok odd;
       log = text_behind c.in_ok-log.log;
       is_log = c.in_ok-log.ensures.ok;
+      count = c.in_ok-rows.rows;
+      is_count = c.in_ok-rows.ensures.ok;
     }))

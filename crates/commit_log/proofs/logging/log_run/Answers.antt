@@ -1,28 +1,18 @@
-use Rattle.std.proofs.Common.{◌≡◌, rules, subst}
-use Rattle.std.specs.Prelude.{IfOk, OnErr, OnOk}
-use Rattle.counted_io.specs.Counted.{Gives, known_by}
-use Rattle.commit_log.specs.Retirements.{IsBeginning}
-use Rattle.commit_log.proofs.LogKept.{first_log, first_run}
+use Rattle.std.proofs.Common.{◌∙◌}
+use Rattle.std.proofs.lemmas.Result.{err_from_is_err_and}
+use Rattle.commit_log.proofs.LogKept.{all_written, last_broken}
 use Rattle.commit_log.proofs.logging.log_run.Goals as goal
 
-pub returns-clause-end : goal.returns-clause-end
-returns-clause-end g c =
-    let made = c.in_ok-bench.ensures in
-    subst (λ run. IfOk c.log_to_end.result (λ ending. ending ≡ run.0))
-    (first_run c.in_ok-bench.bench.pipeline c.args.program.now c.from-limit.result c.args.config.now.limit made.program made.start (search rules))
-    c.log_to_end.ensures.end
+pub returns-in_err-write_whole : goal.returns-in_err-write_whole
+returns-in_err-write_whole g c =
+    let left = c.from_residual-in_err-write_whole in
+    let p = err_from_is_err_and left.result left.ensures.1 in
+    last_broken g.W.Write.contents c.args.writer.now c.log_blocks.new.writer c.write_whole.new.writer c.args.asked.now c.args.program.now _ _ _ _
+    c.in_ok-machine.ensures c.in_ok-ending.ensures (c.as_bytes.ensures.value ∙ c.as_str.ensures.value) left.result p.0 p.1 p.2
+    c.in_err-write_whole.ensures.err c.in_err-write_whole.ensures.failed
 
-pub returns-clause-says : goal.returns-clause-says
-returns-clause-says g c =
-    let made = c.in_ok-bench.ensures in
-    subst (λ text. OnOk c.log_to_end.result (Gives g.W.Write.contents c.args.writer.now c.log_to_end.new.writer text))
-    (first_log c.in_ok-bench.bench.pipeline c.args.program.now c.from-limit.result c.args.config.now.limit made.program made.start (search rules))
-    c.log_to_end.ensures.says
-
-pub returns-clause-begun : goal.returns-clause-begun
-returns-clause-begun g c =
-    let made = c.in_ok-bench.ensures in
-    subst (λ text. OnErr c.log_to_end.result (IsBeginning text
-    (known_by g.W.Write.contents c.args.writer.now) (known_by g.W.Write.contents c.log_to_end.new.writer)))
-    (first_log c.in_ok-bench.bench.pipeline c.args.program.now c.from-limit.result c.args.config.now.limit made.program made.start (search rules))
-    c.log_to_end.ensures.begun
+pub returns : goal.returns
+returns g c =
+    all_written g.W.Write.contents c.args.writer.now c.log_blocks.new.writer c.write_whole.new.writer c.args.asked.now c.args.program.now _ _ _ _
+    c.in_ok-machine.ensures c.in_ok-ending.ensures (c.as_bytes.ensures.value ∙ c.as_str.ensures.value) c.in_ok-write_whole.ensures.ok
+    c.in_ok-write_whole.ensures.quiet

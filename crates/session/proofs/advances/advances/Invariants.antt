@@ -3,8 +3,8 @@ use Rattle.session.specs.Advances.{AreTurnsTaken}
 use Rattle.session.proofs.advances.advances.Given as goal
 
 -- so many turns were taken
-abbrev pub invariant-loop : goal.invariant-loop
-invariant-loop g l = record {
-  taken : AreTurnsTaken l.goal l.number l.fn.session l.counter l.retired (string_bytes l.out) l.session;
-  few : l.retired ≤ l.counter;
+abbrev pub invariant-loop-taken : goal.invariant-loop-taken
+invariant-loop-taken g l = record {
+  taken : AreTurnsTaken l.goal l.number l.fn.session l.taken l.retired (string_bytes l.out) l.session;
+  few : l.retired ≤ l.taken;
 }

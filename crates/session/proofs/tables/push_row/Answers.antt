@@ -11,7 +11,7 @@ returns g c =
       text = string_bytes c.in_ok-row.row;
       row = record {
         reply = one.result;
-        replied = record { grows = one.ensures.grows; says = one.ensures.reply; kept = one.ensures.kept };
+        replied = one.ensures;
         none = c.in_ok-row.ensures.none;
         some = c.in_ok-row.ensures.some;
       };

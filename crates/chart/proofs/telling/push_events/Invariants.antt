@@ -1,9 +1,0 @@
-use Rattle.std.proofs.Common.{◌≡◌, ◌++◌, drop, string_bytes}
-use Rattle.chart.specs.Telling.{events_text}
-use Rattle.chart.proofs.telling.push_events.Given as goal
-
--- the text so far, and what is to come
-abbrev pub invariant-loop-event : goal.invariant-loop-event
-invariant-loop-event l =
-    string_bytes l.out ++ events_text l.format l.turn (drop l.event-index l.events)
-    ≡ string_bytes l.fn.out ++ events_text l.format l.turn l.events

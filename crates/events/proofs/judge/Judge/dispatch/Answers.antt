@@ -1,0 +1,30 @@
+use Rattle.std.proofs.Common.{◌≡◌, ◌∷◌, [], ap, refl, ◌∙◌, subst}
+use Rattle.std.specs.Prelude.{IfSome}
+use Rattle.replay.specs.declared.front.Front.{Front}
+use Rattle.replay.specs.declared.step.Step.TheVariants.{Let}
+use Rattle.events.proofs.Follow.{entered, then_untold, told_once, untold_then}
+use Rattle.events.proofs.judge.Judge.dispatch.Goals as goal
+
+pub returns-in-Ok-clause-ok : goal.returns-in-Ok-clause-ok
+returns-in-Ok-clause-ok c =
+    let u = c.args.self.now.unit in
+    let m = c.mend_towards.new.self.unit in
+    let e = c.enter.new.self in
+    let l = c.link.new.self.unit in
+    let step = Let c.in-Some.index c.predicted-predicted.result in
+    let may = rw c.in-Ok.is at c.in_ok-reason.ensures.ok in
+    let done = rw c.in-Ok.is at c.in_ok-reason.ensures.done in
+    let one = rw c.in-Ok.is at c.in_ok-reason.ensures.one in
+    let taken = entered m e c.in-Some.index c.predicted-predicted.result c.in-Ok.field-0 may done one in
+    let told = told_once m e step taken (ap (λ p. p.now) c.in_ok-reason.ensures.program) c.in_ok-reason.ensures.sizes in
+    record {
+      told = step ∷ [];
+      follows = untold_then u m l (step ∷ []) c.mend_towards.ensures (then_untold m e l (step ∷ []) told c.link.ensures);
+      is = record {
+        index = c.in-Some.index;
+        predicted = c.predicted-predicted.result;
+        is = refl;
+        at = subst (λ n. IfSome c.args.pc (λ x. x ≡ n)) (ap (λ (f : Front). f.pc) c.front-front.ensures ∙ may.pc) (c.if-not-goes_on_at.ensures refl);
+        goes = c.predicted-predicted.ensures;
+      };
+    }

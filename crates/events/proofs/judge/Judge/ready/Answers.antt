@@ -1,0 +1,13 @@
+use Rattle.std.proofs.Common.{[]}
+use Rattle.events.proofs.Follow.{confirms_later, if_err, on_ok, refuses_after}
+use Rattle.events.proofs.judge.Judge.ready.Goals as goal
+
+pub returns-clause-ok : goal.returns-clause-ok
+returns-clause-ok c =
+    on_ok c.confirm_late.result _ _ (λ f. confirms_later c.args.self.now.unit c.mend_late.new.self.unit c.confirm_late.new.self.unit c.args.who c.mend_late.ensures f)
+    c.confirm_late.ensures.ok
+
+pub returns-clause-err : goal.returns-clause-err
+returns-clause-err c =
+    if_err c.confirm_late.result _ _
+    (λ why r. refuses_after c.args.self.now.unit c.mend_late.new.self.unit c.confirm_late.new.self.unit [] why c.mend_late.ensures r) c.confirm_late.ensures.err

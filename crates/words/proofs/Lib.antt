@@ -1,0 +1,3 @@
+mod DataLines
+mod Faithful
+mod Padding
