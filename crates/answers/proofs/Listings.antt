@@ -1,4 +1,4 @@
--- What a listing comes to, of which so much was taken as is enough.
+-- The outcome of a listing of which enough was taken.
 use Rattle.std.proofs.Common.{◌≡◌, ◌∙◌, ℕ, List, take, ap, sym, subst, Option, Some, None, IfSome, Result}
 use Rattle.isa.specs.declared.listing.fault.FaultKind.{FaultKind}
 use Rattle.isa.specs.Listing.{listing}

@@ -20,7 +20,7 @@ most_taken = 4194305
 abbrev pub report_of_run : Ending × State → List ℕ
 report_of_run e = report e.0 e.1.count e.1.pc e.1.registers e.1.memory
 
--- the text for a program that may run so many instructions, or for the fault of a listing
+-- the text for a program that may run n instructions, or for the fault of a listing
 abbrev pub text_for : (limit : ℕ) → Result Program (ℕ × FaultKind) → List ℕ
 text_for limit (Ok P) = report_of_run (end_of P limit)
 text_for limit (Err f) = fault_line f.0 f.1
@@ -42,7 +42,7 @@ status_number Stopped = 1
 status_number TextFault = 2
 status_number Limit = 4
 
--- the status for a program that may run so many instructions, or for the fault of a listing
+-- the status for a program that may run n instructions, or for the fault of a listing
 abbrev pub status_for : (limit : ℕ) → Result Program (ℕ × FaultKind) → Status
 status_for limit (Ok P) = ending_status (end_of P limit).0
 status_for limit (Err f) = TextFault

@@ -1,4 +1,4 @@
--- One byte more than a listing may have is enough to know what it comes to.
+-- One byte more than a listing may have is enough to know its outcome.
 use Rattle.std.proofs.Common.{◌≡◌, ℕ, List, length, take, refl, ap, arith, inl, inr}
 use Rattle.std.proofs.lemmas.Bool.{cases_lt, lt-ltb}
 use Rattle.std.proofs.lemmas.List.{length-take, take_all}

@@ -1,4 +1,4 @@
--- What a listing comes to that is read and parsed: its program, or the line of its first fault.
+-- The outcome of a listing that is read and parsed: its program, or the line of its first fault.
 use Rattle.std.specs.Prelude.{◌≡◌, ℕ, List, Result, Ok, Err, String, string_bytes}
 use Rattle.std.specs.declared.alloc.Global.{Global}
 use Rattle.isa.specs.declared.listing.fault.FaultKind.{FaultKind}

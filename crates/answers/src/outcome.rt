@@ -1,4 +1,4 @@
-//! What a listing comes to.
+//! The outcome of a listing.
 ghost use Rattle.std.specs.Prelude.{◌≡◌};
 ghost use Rattle.answers.specs.Answer.{ending_status, status_number};
 

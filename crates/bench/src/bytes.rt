@@ -39,7 +39,7 @@ pub fn alone<R: Read, W: Write, P: Predictor + Drop>(
     Ok(status)
 }
 
-// What a listing comes to, and the text for it: the report of its run, or the line of its fault.
+// The outcome of a listing, and the text for it: the report of its run, or the line of its fault.
 #[tactic(auto, unfolding(answers::specs::Answer::text_of, answers::specs::Answer::status_of))]
 fn answer<P: Predictor + Drop>(
     alloc: Global,

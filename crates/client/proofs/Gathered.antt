@@ -1,4 +1,4 @@
--- What the meetings of the first unit with all others come to.
+-- The result of the meetings of the first unit with all others.
 use Rattle.std.proofs.Common.{◌≡◌, ℕ, List, [], ◌++◌, map, ap, ◌∙◌, subst}
 use Rattle.instructions.specs.Programs.{Program}
 use Rattle.inorder.specs.declared.history.Entry.{Entry}

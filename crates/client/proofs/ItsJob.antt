@@ -1,4 +1,4 @@
--- What the job of a tenant that was let with its values says, and what it comes to.
+-- What the job of a tenant that was let with its values says, and its outcome.
 use Rattle.std.proofs.Common.{◌≡◌, ℕ, cond, length, Some, sym, ap, ◌∙◌, subst}
 use Rattle.std.specs.Prelude.{unwrap_or}
 use Rattle.instructions.specs.Instruction.{first_of, kind, second_of}
@@ -74,7 +74,7 @@ has_its_fields {P} {t} {values} {tag} {pc} {answer} {j} i is = subst (HasItsFiel
 one_value : (v w : ℕ) → Some v ≡ Some w → v ≡ w
 one_value v w e = cc e
 
--- and so it comes to what the definitions say
+-- and so its outcome is what the definitions say
 pub is_right : {P : Program} {C : Sizes} {U : UpdateUnit} {t : NewTenant} {values : HasBothValues t} {named : ℕ} {j : Job} (w : Worked) → MayLetOut P C U t →
     HasItsFields P t values named (front_pc U.tenants) j → IsOfJob P j w → IsWorkedRight P U t w
 is_right {P} {C} {U} {t} {values} {named} {j} w may f worked = record {

@@ -1,4 +1,4 @@
--- The second of two tenants asks for its source, and what the first makes comes to it along the link.
+-- The second of two tenants asks for its source, and what the first makes reaches it along the link.
 use Rattle.std.proofs.Common.{◌≡◌, ◌≢◌, ◌⊎◌, ℕ, ◌<◌, true, is_none, List, [], ◌∷◌, ◌++◌, map, Some, None, refl, sym, ap, ◌∙◌, subst, inl, inr, ⊎_elim}
 use Rattle.std.specs.List.{AllByRecursion}
 use Rattle.instructions.specs.Programs.{Program}

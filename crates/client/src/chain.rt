@@ -59,7 +59,7 @@ fn work_at(core: &Core, program: &Program, seats: &mut Seats, station: usize) ->
 }
 
 /// The outcome of a program's second instruction, by a unit of a new core. It is let and asks for its
-/// source before the first is claimed, so that the value comes to it along a link.
+/// source before the first is claimed, so that the value reaches it along a link.
 pub fn second_outcome(alloc: Global, program: &Program, config: &Config) -> Result<Outcome, Memory>
     requires { IsChain program.now }
     ensures { IfOk result (λ found. IsSecondOutcome program.now found) }

@@ -1,6 +1,6 @@
 //! How a caller from outside drives the seats of a core: an instruction is let, claimed and finished
 //! by public calls alone, and its values are proved from their clauses and from public laws alone. A
-//! second one waits for the first one's value, which comes to it along a link. The core may be renewed in
+//! second one waits for the first one's value, which reaches it along a link. The core may be renewed in
 //! between: then all seats are in one hand again, and the next instruction gets a first tag.
 #![tactic(auto)]
 

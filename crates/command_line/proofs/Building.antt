@@ -1,4 +1,4 @@
--- What the building of the command line comes to.
+-- The result of building the command line.
 use Rattle.std.proofs.Common.{◌≡◌, ◌∙◌, ◌+◌, ◌<◌, ℕ, zero, suc, List, [], ◌∷◌, ap, ap₂, true, false, ◌||◌, refl, sym, length, map, drop, slice_index_or, subst, arith, codes}
 use Rattle.clap.specs.Words.{AddsArg, AddsSubcommand, App, Rule, Text, app_of, new_app, with_rule, with_subcommand}
 use Rattle.clap.specs.Faults.{is_simple_and_free}

@@ -1,4 +1,4 @@
--- The commit thread goes on: its back has seen more, committed, loaded, or come to another core.
+-- The commit thread goes on: its back has seen more, committed, loaded, or gone on to another core.
 use Rattle.std.proofs.Common.{◌≡◌, ℕ, ◌+◌, ◌<◌, ◌≤◌, List, None, Option, sym, ap, subst, ◌∙◌, arith}
 use Rattle.atomic_table.specs.Seated.{TableId}
 use Rattle.back.specs.Backs.{TheBack, back_state}

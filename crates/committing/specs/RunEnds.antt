@@ -44,7 +44,7 @@ pub record HasRun (P : Program) (config : Settings) (run : Run) : Type 0 where
   pub within : IsWithinLimit config.limit run
   pub turns : TakesTurns config.turns run
 
--- The tally has so many renewals
+-- The tally has n renewals
 abbrev pub TellsRenewals : (times : ℕ) → Run → Type 0
 TellsRenewals times (Ended end tally) = tally.renewals ≡ times % 2 ^ 64
 TellsRenewals times (LimitReached end tally) = tally.renewals ≡ times % 2 ^ 64

@@ -14,7 +14,7 @@ use std::marker::Model;
 use std::sync::Wait;
 use workers::{Bounds, RunState, Turns};
 
-/// After so many fruitless turns a thread lets another one run.
+/// After this number of fruitless turns a thread lets another one run.
 pub const PATIENCE: u32 = 4;
 
 /// The commit side of a run: the back, the seat that it counts with, its turns, and what the run would be refused for.

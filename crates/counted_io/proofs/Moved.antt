@@ -9,7 +9,7 @@ use Rattle.counted_io.specs.declared.counted.Counted.{Counted}
 use Rattle.counted_io.specs.declared.fault.Fault.{Fault}
 use Rattle.counted_io.specs.declared.fault.Fault.TheVariants.{Memory, Read, Write}
 
--- some bytes, and then up to so many more
+-- some bytes, and then up to n more
 consumes_then_up_to : (most more : ℕ) (a b c : Option (List ℕ)) (bytes : List ℕ)
     → length bytes + more ≤ most → Consumes a b bytes
     → (rest : List ℕ) × (length rest ≤ more) × Consumes b c rest

@@ -16,12 +16,12 @@ abbrev pub HasTextFor : (known : Option (List ℕ)) → (IsText : (input text : 
     → (List ℕ → Type 0) → Type 0
 HasTextFor known IsText P = IfSome known (λ input. HasText (IsText input) P)
 
--- the first so many bytes of the input were taken, and no call of the reader failed
+-- the first n bytes of the input were taken, and no call of the reader failed
 pub record HasRead {R : Type 0} (remaining : R → Option (List ℕ)) (most : ℕ) (old new : Counted R) : Type 0 where
   pub taken : IfSome (known_by remaining old) (λ input. Takes remaining old new (take most input))
   pub quiet : failures_of new ≡ failures_of old
 
--- only a beginning of the input was taken, and so many calls failed
+-- only a beginning of the input was taken, and n calls failed
 pub record HasBegunToRead {R : Type 0} (failed : ℕ) (remaining : R → Option (List ℕ)) (most : ℕ)
     (old new : Counted R) : Type 0 where
   pub taken : TakesUpTo most remaining old new
@@ -49,7 +49,7 @@ pub record HasReplyBegun {R W : Type 0} (remaining : R → Option (List ℕ)) (c
   pub part : HasTextFor (known_by remaining reader) IsText (GivesPart contents writer writer_new)
   pub failed : failures_of writer_new ≡ failures_of writer + 1
 
--- nothing was written, and so many calls of the reader failed
+-- nothing was written, and n calls of the reader failed
 pub record HasNoReply {R W : Type 0} (failed : ℕ) (remaining : R → Option (List ℕ)) (most : ℕ)
     (reader reader_new : Counted R) (writer writer_new : Counted W) : Type 0 where
   pub read : HasBegunToRead failed remaining most reader reader_new

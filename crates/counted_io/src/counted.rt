@@ -92,7 +92,7 @@ impl<W: Write> Write for Counted<W> {
     }
 }
 
-// Whether a write of so many bytes failed: an error, or none taken of some.
+// Whether a write of n bytes failed: an error, or none taken of some.
 fn has_failed(outcome: &io::Result<usize>, len: usize) -> bool
     ensures { result ≡ write_fails outcome.now len }
 {

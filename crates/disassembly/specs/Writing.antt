@@ -140,7 +140,7 @@ pub record LinesSay (lines : Lines) (code : List Instr) (names : List (List ℕ 
   pub labels_are : table 0 lines ≡ names
   pub bytes_are : memory lines ≡ bytes
 
--- a text of at most so many bytes has such lines
+-- a text of at most n bytes has such lines
 pub record IsText (text : List ℕ) (code : List Instr) (names : List (List ℕ × ℕ))
     (bytes : List ℕ) (most : ℕ) : Type 0 where
   pub lines : Lines
@@ -169,12 +169,12 @@ row_line at row =
     (replicate 8 32 ++ with_operands_text (codes ".word") (row_words row))
     ++ (codes " # " ++ hexadecimal at)
 
--- the line that asks for so many bytes of memory
+-- the line that asks for n bytes of memory
 abbrev pub space_line : ℕ → List ℕ
 space_line count =
     replicate 8 32 ++ with_operands_text (codes ".space") (decimal count ∷ [])
 
--- the line that asks for so many bytes of memory; none where these are 0
+-- the line that asks for n bytes of memory; none where these are 0
 abbrev pub space_lines : ℕ → Lines
 space_lines count = if count == 0 then [] else space_line count ∷ []
 

@@ -34,7 +34,7 @@ fn push_row(out: &mut String, at: u32, row: &[u8]) -> Result<(), AllocError>
     )
 }
 
-// Adds the line of so many bytes of 0.
+// Adds the line of n bytes of 0.
 #[tactic(auto, using(crate::proofs::DataSteps::space_added))]
 fn push_space(out: &mut String, count: usize) -> Result<(), AllocError>
     ensures { OnOk result (string_bytes out.new

@@ -14,7 +14,7 @@ use instructions::{Instr, Program};
 use std::alloc::{AllocError, Global};
 use std::str;
 
-// The number of the instruction at an address, among so many.
+// The number of the instruction at an address, among n.
 fn index_of(len: usize, at: u32) -> Option<usize>
     requires { len ≤ 16384 }
     ensures inside { IfSome result (λ k. k < len) }

@@ -9,7 +9,7 @@ half_at file at = slice_index file at + slice_index file (at + 1) * 2 ^ 8
 abbrev pub word_at : List ℕ → ℕ → ℕ
 word_at file at = half_at file at + half_at file (at + 2) * 2 ^ 16
 
--- so many words, one after the other
+-- n words, one after the other
 unfoldable pub words : List ℕ → ℕ → ℕ → List ℕ
 words file at zero = []
 words file at (suc n) = words file at n ++ word_at file (at + 4 * n) ∷ []

@@ -10,7 +10,7 @@ pub record Loaded : Type 0 where
 abbrev pub data_size : ℕ
 data_size = 65536
 
--- so many bytes that are 0
+-- n bytes that are 0
 unfoldable pub zeros : ℕ → List ℕ
 zeros count = replicate count 0
 

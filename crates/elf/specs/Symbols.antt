@@ -20,7 +20,7 @@ section_of file at = record {
   link = word_at file (at + 24);
 }
 
--- a table of symbols inside the file, with its names in one of so many sections
+-- a table of symbols inside the file, with its names in one of n sections
 abbrev pub is_symbols : List ℕ → ℕ → Section → Bool
 is_symbols file count s =
     (s.kind == 2) && (nat_lt s.link count && not (nat_lt (length file) (s.offset + s.size)))
@@ -38,7 +38,7 @@ abbrev pub symbols_or : Option Symbols → List ℕ → (at count : ℕ) → Sec
 symbols_or others file at count s =
     if is_symbols file count s then Some (symbols_of file at s) else others
 
--- the last table of symbols among the first n of so many sections
+-- the last table of symbols among the first n of all sections
 unfoldable pub symbols_up_to : List ℕ → (at count n : ℕ) → Option Symbols
 symbols_up_to file at count zero = None
 symbols_up_to file at count (suc n) =

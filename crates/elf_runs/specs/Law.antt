@@ -7,7 +7,7 @@ use Rattle.inorder.specs.Machine.{start}
 use Rattle.inorder.specs.Runs.{end_of}
 use Rattle.lockstep.specs.Law.{end_over}
 
--- Of a file that loads words and bytes, and a text that parses to the program that they mean: so many steps over the words, from
+-- Of a file that loads words and bytes, and a text that parses to the program that they mean: n steps over the words, from
 -- the registers 0 and these bytes, end as the program does that may make as many
 abbrev pub ARunOfAnExecutable : Type 0
 ARunOfAnExecutable =

@@ -139,7 +139,7 @@ fn end_in_order(alloc: Global, program: &Program, limit: u64) -> io::Result<End>
     }
 }
 
-// Runs a machine up to a limit, and gives the end that it comes to.
+// Runs a machine up to a limit, and gives its end.
 fn end_of(alloc: Global, machine: &mut Machine<'_>, limit: u64) -> Result<End, AllocError> {
     let outcome = match machine.run(limit) {
         Ended::Stopped(stop) => Ending::Stop(stop),

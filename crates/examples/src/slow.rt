@@ -4,7 +4,7 @@ use snapshots::Snap;
 use std::sync::atomic::AtomicU64;
 use std::sync::atomic::Ordering::SeqCst;
 
-/// Holds a unit between claim and finish for so many questions, whoever asks them.
+/// Holds a unit between claim and finish for a number of questions, whoever asks them.
 const QUESTIONS: u64 = 16;
 
 /// Lets each sixteenth question pass. A unit that holds a job waits meanwhile, and others are called.

@@ -42,7 +42,7 @@ struct Shape {
     longer: u64,
 }
 
-// Has each unit take so many nanoseconds longer.
+// Has each unit take n nanoseconds longer.
 #[derive(Drop)]
 struct Slow<'a, R: Clock> {
     clock: &'a R,
@@ -60,7 +60,7 @@ impl<'a, R: Clock> Gate for Slow<'a, R> {
     fn counted(&self, _tally: &Tally) {}
 }
 
-// Returns after so many nanoseconds: each look at the clock takes more than one.
+// Returns after n nanoseconds: each look at the clock takes more than one.
 fn take<R: Clock>(clock: &R, nanos: u64) {
     let Ok(started) = Instant::now(clock) else {
         return;

@@ -44,7 +44,7 @@ last_there xs x =
     at_end [] x = refl
     at_end (y ∷ ys) x = at_end ys x
 
--- where the kept tenants stand: of the path let since the last renewal, so many are before them
+-- where the kept tenants stand: of the path let since the last renewal, this number are before them
 pub record ArePlacedNow (C : Sizes) (U : UpdateUnit) (notes : List Note) : Type 0 where
   pub before : ℕ
   pub placed : ArePlacedFrom C.ring before notes

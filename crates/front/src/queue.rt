@@ -30,7 +30,7 @@ fn access_before(records: &Records, younger: usize) -> Option<Record>
     None
 }
 
-/// The instruction is a load or store, and as many are live as the queue takes: the oldest of so many has not left. One
+/// The instruction is a load or store, and as many are live as the queue takes: the oldest of these has not left. One
 /// look at it is enough, since tenants leave in order.
 pub fn queue_is_full(core: &Core, seat: &mut FrontSeat, path: &Path, instr: &Instr) -> bool
     requires core { seat.old.core ≡ core.now }

@@ -30,7 +30,7 @@ impl<J: Ring> Model for Hints<J> {
 }
 
 impl<J: Ring> Hints<J> {
-    /// A queue for a ring of so many stations, with no hint.
+    /// A queue for a ring of n stations, with no hint.
     pub fn new(alloc: Global, ring: usize) -> Result<Hints<J>, AllocError>
         requires some { 0 < ring }
         requires most { ring ≤ 32 }

@@ -7,7 +7,7 @@ use inorder::one_thread_unit_is_right;
 use instructions::{End, Ending, Memory, Program};
 use std::alloc::Global;
 
-/// Runs a program in the unit, for at most so many instructions. Memory is wanting only where the
+/// Runs a program in the unit, for at most `limit` instructions. Memory is wanting only where the
 /// data memory of the program can't be had.
 pub fn run(alloc: Global, program: &Program, limit: u64) -> Result<End, Memory>
     ensures { IfOk result (IsInOrderEnd program.now limit) }

@@ -119,7 +119,7 @@ done_stores P t v e =
     ap (λ f. stored_by (on_path t) (kind_of P t) f (width (instr P t).op) t.second.value) e
     ∙ stored_done (on_path t) (kind_of P t) v (width (instr P t).op) t.second.value
 
--- what a tenant comes to, from a state at its pc
+-- the outcome of a tenant, from a state at its pc
 module _ (P : Program) (t : Tenant) (s : State) (e : s.pc ≡ t.pc) (single : is_first P t ≡ false)
     (low : t.half ≡ Low) where
   pub after_same : pc_plus_4 s.pc ≡ pc_plus_4 t.pc

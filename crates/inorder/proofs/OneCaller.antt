@@ -1,4 +1,4 @@
--- What several steps of one caller come to.
+-- The result of several steps of one caller.
 pub mod Middle
 pub mod Sequences
 pub mod Alike

@@ -89,7 +89,7 @@ pub sound_tail : (P : Program) (t : Tenant) (ts ys : List Tenant) → IsSound P 
 sound_tail P t ts [] s = s.1
 sound_tail P t ts (y ∷ ys) s = sound_tail P t ts ys s.1
 
--- so many tenants are before a position
+-- n tenants are before a position
 pub older_length : (ts : List Tenant) (p : ℕ) (t : Tenant) → at ts p ≡ Some t → length (older ts p) ≡ p
 older_length [] p t e = absurd (cc)
 older_length (u ∷ us) p t e = go (eqb p (length us)) refl e (older_length us p t)

@@ -70,7 +70,7 @@ after_pair s i low high =
       count = suc s.count;
     }
 
--- what a step comes to: the next state, or a stop
+-- the result of a step: the next state, or a stop
 pub data Ran : Type 0 where
   Goes : State → Ran
   Halts : Stop → Ran

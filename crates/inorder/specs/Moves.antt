@@ -64,7 +64,7 @@ abbrev pub IsDeliver : Step → Type 0
 IsDeliver (On p (Deliver k)) = ⊤
 IsDeliver _ = ⊥
 
--- What several steps of one caller come to, from a unit that is reached: so is the unit to which
+-- The result of several steps of one caller, from a unit that is reached: so is the unit to which
 -- they lead, and it has committed the same, unless one of them is a retirement
 pub record SeveralLead (P : Program) (C : Sizes) (by : ℕ) : Type 0 where
   pub reached : (U V : UpdateUnit) (steps : List Step) → IsReached P C U →

@@ -50,7 +50,7 @@ abbrev pub end_from : Program → ℕ → State → Ending × State
 end_from P zero s = (ByLimit, s)
 end_from P (suc k) s = end_after (end_from P k) s (step P s)
 
--- how and where a program ends that may make so many steps
+-- how and where a program ends that may make n steps
 abbrev pub end_of : Program → ℕ → Ending × State
 end_of P limit = end_from P limit (start P)
 

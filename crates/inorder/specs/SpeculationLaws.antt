@@ -1,4 +1,4 @@
--- What speculation comes to in every unit, and that nobody of a shared unit speculates.
+-- What follows of speculation in every unit, and that nobody of a shared unit speculates.
 use Rattle.std.specs.Prelude.{◌≡◌, ◌≢◌, ℕ, true, List, Some}
 use Rattle.instructions.specs.Operations.{loaded}
 use Rattle.instructions.specs.Programs.{Program}

@@ -1,4 +1,4 @@
--- No lost wake: what the marks of a legal history come to.
+-- No lost wake: what follows of the marks of a legal history.
 use Rattle.std.specs.Prelude.{◌≡◌, ◌≢◌, ℕ, List, ◌∷◌, ◌++◌, Some}
 use Rattle.instructions.specs.Programs.{Program}
 use Rattle.instructions.specs.declared.op.Kind.TheVariants.{Links}

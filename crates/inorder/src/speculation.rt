@@ -1,4 +1,4 @@
-//! What speculation comes to, and that nobody of a shared unit speculates, as laws.
+//! What follows of speculation, and that nobody of a shared unit speculates, as laws.
 ghost use Rattle.std.specs.Prelude.{List};
 ghost use Rattle.instructions.specs.Programs.{Program};
 ghost use Rattle.inorder.specs.Unit.{Sizes};

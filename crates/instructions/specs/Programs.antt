@@ -21,7 +21,7 @@ unfoldable pub instr_at : Program → ℕ → Option Instr
 instr_at P pc =
     if address ((pc - text_start) / 4) == pc then slice_get P.code ((pc - text_start) / 4) else None
 
--- instruction k of a program that has so many
+-- instruction k of a program that has n
 abbrev pub instr_of : Program → ℕ → Instr
 instr_of P k =
     slice_index_or P.code k (record { op = Break; target = 0; first = 0; second = 0; number = 0 })

@@ -33,7 +33,7 @@ impl Program {
     /// The address at which the text begins.
     pub const START: u32 = 0x0040_0000;
 
-    /// Whether a program can have so many instructions, and data memory so many bytes: at most 16,384 and 65,536, and
+    /// Whether a program can have these numbers of instructions and of bytes of data memory: at most 16,384 and 65,536, and
     /// the bytes are whole words.
     pub fn fits(instructions: usize, bytes: usize) -> bool
         ensures { IsTrue result ↔ (instructions ≤ 16384) × ((bytes ≤ 65536) × (bytes % 4 ≡ 0)) }

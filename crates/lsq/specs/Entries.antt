@@ -15,7 +15,7 @@ bytes Byte = 1
 bytes Half = 2
 bytes Word = 4
 
--- so many bytes from an address on
+-- n bytes from an address on
 pub record Access : Type 0 where
   pub address : ℕ
   pub width : ℕ

@@ -65,7 +65,7 @@ by_lacking (Some (place, e)) older address width = Blocked place
 by_lacking None older address width =
     by_overlap (youngest (overlaps address width) older) address width
 
--- the answer for a load of so many bytes from an address on, over the entries older than it
+-- the answer for a load of n bytes from an address on, over the entries older than it
 abbrev pub answer_over : List Entry → ℕ → ℕ → Answer
 answer_over older address width = by_lacking (youngest lacks_address older) older address width
 

@@ -30,14 +30,14 @@ pub data IsEndOfThreads (limit : ℕ) (P : Program) (ending : Ending) (state : S
   AsAlone : ◌≡◌ {A = Ending × State} (ending, state) (end_of P limit) → IsEndOfThreads limit P ending state
   Early : EndedEarly limit P ending state → IsEndOfThreads limit P ending state
 
--- how and where a run ends: on one thread as the machine in order does that may make so many steps; on several
--- threads, each of which has so many turns, as above
+-- how and where a run ends: on one thread as the machine in order does that may make n steps; on several
+-- threads, each of which has a number of turns, as above
 abbrev pub IsRunEnd : (is_alone : Bool) → Settings → Program → Ending → State → Type 0
 IsRunEnd true config P ending state = ◌≡◌ {A = Ending × State} (ending, state) (end_of P config.limit)
 IsRunEnd false config P ending state =
     IsEndOfThreads config.limit P ending state × (state.count ≤ config.turns)
 
--- the line that comes with a report of so many instructions
+-- the line that comes with a report of n instructions
 abbrev pub IsLineWith : (is_alone : Bool) → (count : ℕ) → Line → Type 0
 IsLineWith true count line = line ≡ Nothing
 IsLineWith false count Nothing = ⊥

@@ -12,9 +12,9 @@ use std::sync::atomic::Ordering::SeqCst;
 // How far a unit is in its stream. Its own thread alone asks for it, so that no two change it at a time.
 #[derive(Drop)]
 struct Holds {
-    // so many holds were drawn
+    // how many holds were drawn
     drawn: AtomicU64,
-    // the hold that was drawn last ends with so many more questions; with none of them the next is drawn
+    // the hold that was drawn last ends after this number of questions; with none left the next is drawn
     questions: AtomicU64,
 }
 
@@ -35,7 +35,7 @@ impl Model for Shaker {
 }
 
 impl Shaker {
-    /// A shaker of so many units.
+    /// A shaker of n units.
     pub(crate) fn new(alloc: Global, seed: u64, units: u32) -> Result<Shaker, AllocError>
         ensures { IfOk result (λ s. s ≡ seed) }
     {

@@ -78,7 +78,7 @@ module _ (x later : Pipeline) (flow : Flow) (i : Instr) (predicted from : ℕ) (
   pub entered_room : (length flow.ring.completed < x.ring) × (length flow.ring.stores < 32) × (flow.accesses ≤ 32)
   entered_room = grind (arith, common_steps, stations_long, stores_few, accesses_most)
 
-  -- so many can be as they were let, with it
+  -- this number can be as they were let, with it
   open_with : (y : Station) → as_let y ≡ enters_as flow i predicted → StandsForSome (with_reopened from (filled later (all ++ y ∷ [])))
   open_with y same =
       reopened_let b (filled later (all ++ y ∷ [])) next predicted from y h.reopens.inside h.reopens.unit h.flows.flowing.goes_on

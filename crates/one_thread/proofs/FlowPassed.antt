@@ -74,7 +74,7 @@ passed_comes b later w d is e =
     let p = passed b later w d is e in
     retire_comes b later (answer_by (is_first_half w.instr.op w.half)) d.unit d.goes_on p.settles p.to
 
--- What the run comes to is as before
+-- The result of the run is as before
 
 runs_by : (h : Bool) (b later : Pipeline) → StandsForSome b → Comes b (answer_by h) later → Moves b (answer_by h) later → (limit : ℕ) → b.committed.count < limit → run_from later limit ≡ run_from b limit
 runs_by h b later u s m limit less = grind (arith, common_steps, ends_same)

@@ -98,7 +98,7 @@ set_long xs k v = Rattle.std.proofs.Common.length-set xs k v
 pub retires_keeps : (b later : Pipeline) (answer : Turn) → RetiresTo b (slice_get b.window 0) answer later → IsKept b later
 retires_keeps b later answer to = grind (arith, common_steps, set_long)
 
--- what any turn comes to
+-- the result of any turn
 pub record Comes (b : Pipeline) (answer : Turn) (later : Pipeline) : Type 0 where
   pub falls : Falls answer b later
   pub unit : StandsForSome later

@@ -37,8 +37,8 @@ pub record AwaitsMending (b : Pipeline) (flow : Flow) (predicted : ℕ) (d : Don
   pub completes : Completes next.placed.before flow next.instr predicted operands (Some d)
   pub misses : d.next ≢ predicted
 
--- Some were let behind these stations and the next one, so that there are so many, with so many accesses, and the path
--- goes on here with this half
+-- Some were let after these stations and the next one, so that there are n of them, with this number of accesses, and the
+-- path goes on here with this half
 pub record IsAstray (b : Pipeline) (W : List Station) (w : Station) (pc : ℕ) (half : Half) (used count : ℕ) : Type 0 where
   pub behind : List Station
   pub all : List Station

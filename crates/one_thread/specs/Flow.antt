@@ -46,7 +46,7 @@ abbrev pub load_of : List Entry → List ℕ → Op → Outcome → Option ℕ
 load_of es memory op (Address a) = loaded_behind (kind op) es memory op a
 load_of es memory op _ = None
 
--- What a station comes to by its outcome and what that loads, where it is the only one that has not completed:
+-- The result at a station, by its outcome and what that loads, where it is the only one that has not completed:
 -- a miss is mended
 abbrev pub completed_by : Station → Outcome → Option ℕ → Station
 completed_by w (Next x) value = record w { stage = IsDone; next = x }
@@ -188,7 +188,7 @@ enters_as flow i predicted = let_at i flow.half flow.future.pc predicted
 abbrev pub outcome_in : Pipeline → Flow → Instr → Operands → Outcome
 outcome_in b flow i o = outcome_of i flow.half flow.future.pc o.a o.b (length b.program.now.bytes)
 
--- The station that the next instruction comes to
+-- The station of the next instruction
 abbrev pub comes_to : Pipeline → Flow → Instr → ℕ → Operands → Station
 comes_to b flow i predicted o =
     completed_by (enters_as flow i predicted) (outcome_in b flow i o)
@@ -228,7 +228,7 @@ pub record IsLeftOpen (b : Pipeline) (flow after : Flow) (n : ℕ) : Type 0 wher
   pub restores : CanRestore (in_order b after) after n
   pub same : length after.ring.completed ≡ length flow.ring.completed
 
--- An instruction has entered, and so many have completed for good, or it is left as it was let
+-- An instruction has entered, and this number have completed for good, or it is left as it was let
 abbrev pub HasEntered : Pipeline → (flow after : Flow) → ℕ → Option ℕ → Type 0
 HasEntered b flow after n (Some closed) = HasCompletedIn b flow after closed
 HasEntered b flow after n None = IsLeftOpen b flow after n

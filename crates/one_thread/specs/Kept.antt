@@ -30,7 +30,7 @@ abbrev pub told_if : Bool → ℕ → ℕ → Option Leaver
 told_if true pc next = Some (record { pc = pc; next = next })
 told_if false pc next = None
 
--- An instruction leaves with so many accesses, and nothing to do but to count it, and perhaps to tell a predictor
+-- An instruction leaves with its number of accesses, and nothing to do but to count it, and perhaps to tell a predictor
 pub record LeavesCounted (n : ℕ) (tells : Bool) (i : Instr) : Type 0 where
   pub none : is_store (kind i.op) ≡ false
   pub whole : is_pair i.op ≡ false
@@ -51,7 +51,7 @@ LeavesUntold Load = ⊤
 LeavesUntold Told = ⊥
 LeavesUntold Any = ⊥
 
--- The oldest of these leaves with so many accesses and goes on there, and there is nothing to do but to count it and
+-- The oldest of these leaves with its number of accesses and goes on there, and there is nothing to do but to count it and
 -- to tell a predictor this
 pub record OldestIsCounted (cs : List Completed) (n next : ℕ) (told : Option Leaver) : Type 0 where
   pub oldest : Completed

@@ -70,14 +70,14 @@ fn unused() -> Completed {
     }
 }
 
-// Whether so many stations are a power of two.
+// Whether a number of stations is a power of two.
 fn is_power(size: usize) -> bool
     ensures { IsTrue result → IsPowerOfTwo size }
 {
     matches!(size, 2 | 4 | 8 | 16 | 32)
 }
 
-// The entries without the first `past`: one that leaves would move those behind it, so many leave at once.
+// The entries without the first `past`: each that leaves moves those after it, so `past` of them leave at once.
 #[cold]
 #[inline(never)]
 fn forget(stores: &mut ArrayVec<Entry, 32>, past: usize)
@@ -92,7 +92,7 @@ fn forget(stores: &mut ArrayVec<Entry, 32>, past: usize)
 }
 
 impl CompletedRing {
-    /// A ring of so many stations without an instruction; the next enters this one. There is none where the stations are no
+    /// A ring of n stations without an instruction; the next enters this one. There is none where the stations are no
     /// power of two; those of a `Config` are.
     #[inline(always)]
     pub fn new(size: usize, oldest: usize) -> Option<CompletedRing>

@@ -27,7 +27,7 @@ impl<'a> Pipeline<'a> {
         retire(&mut self.committed, &mut self.low, flow, instr, &oldest)
     }
 
-    // Retires the oldest instruction, which is no half: it leaves with so many accesses and goes on at `next`. Answers
+    // Retires the oldest instruction, which is no half: it leaves with its number of accesses and goes on at `next`. Answers
     // what a predictor is to be told.
     #[inline(always)]
     fn departs_counted(

@@ -140,7 +140,7 @@ impl Flow {
         }
     }
 
-    /// The oldest instruction leaves, without its entry, where it counts for so many accesses.
+    /// The oldest instruction leaves, without its entry, where it counts for this number of accesses.
     #[inline(always)]
     pub fn leaves(&mut self, accesses: usize)
         requires some { 0 < length self.old.ring.completed }

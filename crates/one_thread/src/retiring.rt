@@ -139,7 +139,7 @@ pub fn retire(
     leaver_of(instr, oldest.half, oldest.pc, oldest.next)
 }
 
-/// The oldest instruction leaves, with so many accesses, and is counted, where nothing waits for LO.
+/// The oldest instruction leaves, with its number of accesses, and is counted, where nothing waits for LO.
 #[inline(always)]
 pub fn retire_counted(committed: &mut Committed, flow: &mut Flow, accesses: usize, next: u32)
     requires count { committed.old.count < 2 ^ 64 - 1 }

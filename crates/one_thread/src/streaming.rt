@@ -2,7 +2,7 @@
 //! then, unless it was mispredicted, stops or is blocked; no station is searched for it.
 //!
 //! Nearly always one station is free, so that one instruction more fills the ring. That is the only one that can be
-//! claimed, and what it comes to stands before anything else is let: a miss squashes nobody and is mended in place, and
+//! claimed, and its outcome stands before anything else is let: a miss squashes nobody and is mended in place, and
 //! the oldest tenant retires. Where more can be let before any is claimed, each runs as it is let, and behind a miss the
 //! predicted path is let as far as it goes, and squashed. Should one of them not complete then, or be a miss that may
 //! wait for a load, all of these are again as they were let. So what stands in the stations behind each retirement, and
@@ -187,7 +187,7 @@ impl<'a> Pipeline<'a> {
         self.oldest = flow.ring.station();
     }
 
-    // The registers and the window are what a flow leaves, of which so many have completed for good.
+    // The registers and the window are what a flow leaves, of which this number have completed for good.
     fn restores(&mut self, flow: &Flow, from: usize)
         requires code { IsDecoded self.old.code.items self.old.program.now }
         requires flow { CanRestore (in_order self.old flow.now) flow.now from }

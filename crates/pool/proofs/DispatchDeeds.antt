@@ -42,7 +42,7 @@ let_done P C old new station tag pc predicted w total =
     let no_first = asked_done total _ _ w.first w.first_asked w.asks_first in
     omega (arith, more, all, first, one, none, no_first)
 
--- one more of so many
+-- one more of them
 one_and : (b : Bool) (k : ℕ) → (if b then 1 else 0) + (if b then k else 0) ≡ (if b then suc k else 0)
 one_and true k = omega arith
 one_and false k = refl

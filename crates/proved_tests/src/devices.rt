@@ -3,7 +3,7 @@ use crate::same::same;
 use counted_io::{Counted, Fault, WriteFailed, read_up_to, write_whole};
 use std::io::{self, ErrorKind, Read, Write};
 
-/// Gives so many bytes, one a call, and then fails.
+/// Gives n bytes, one a call, and then fails.
 #[derive(Drop)]
 struct FailingReader {
     left: u32,
@@ -23,7 +23,7 @@ impl Read for FailingReader {
     }
 }
 
-/// Takes so many bytes, two a call at most, and then fails or takes none.
+/// Takes n bytes, two a call at most, and then fails or takes none.
 #[derive(Drop)]
 struct FailingWriter {
     room: usize,

@@ -29,7 +29,7 @@ impl Read for FailingReader {
     }
 }
 
-/// Takes so many bytes, as many a call as it is said, and then fails or takes none.
+/// Takes a number of bytes, as many a call as it is said, and then fails or takes none.
 #[derive(Drop)]
 pub(crate) struct FailingWriter {
     pub(crate) room: usize,

@@ -178,7 +178,7 @@ pub fn back_at<J: Naming>(
 /// A core, and who works on it by hand: the front, the back, a snapper and a unit.
 pub type Hands<'a, J> = (Core, Front<'a, NotTaken>, Back<J>, Snapper<J>, UnitSeat);
 
-/// The core of so many stations that the configuration has. Its front has taken these turns.
+/// The core, with the stations that the configuration has. Its front has taken these turns.
 pub fn by_hand<'a, J: Naming>(
     rt: &impl Abort,
     setup: &'a Setup,

@@ -10,7 +10,7 @@ struct Noting {
     flushes: u64,
 }
 
-// How a call goes after so many others.
+// How a call goes after n others.
 fn turn(before: u64) -> io::Result<()> {
     if before % 2 == 1 {
         return Err(io::Error::from(ErrorKind::TimedOut));

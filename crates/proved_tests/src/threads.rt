@@ -66,7 +66,7 @@ fn run_listing<R: Threads + Wait + Sync, G: Gate + Sync>(
     Ok(run(wait, alloc, &program, &config, NotTaken, gate))
 }
 
-// The end of a run of so many units, with turns enough for a gate that holds them.
+// The end of a run of n units, with turns enough for a gate that holds them.
 fn end_of_held<R: Threads + Wait + Sync, G: Gate + Sync>(
     wait: &R,
     alloc: Global,

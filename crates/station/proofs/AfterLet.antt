@@ -53,7 +53,7 @@ module _ (P : Program) (C : Sizes) where
       MayComeFrom P U (next_station C (recent U)) (creator P U.tenants (register k (instr_of P t.index)))
   comes_from U t k a g m is = subst (λ z. MaySupply P U (next_station C (recent U)) (creator P U.tenants (register k (instr_of P t.index))) (supply_of z)) is (its_supply U t k m)
 
-  -- right behind the let
+  -- just after the let
   asked_now : (h : List Entry) (t : NewTenant) (k : Source) (a g q : ℕ) → IsLegal P C (entry front (let_of t) ∷ h) → MayLetOut P C (unit_of P C h) t → supply k t ≡ From a g
       → creator P (unit_of P C h).tenants (register k (instr_of P t.index)) ≡ Some q → IsNamed (unit_of P C h) q a g
       → MayAsk P C (entry front (let_of t) ∷ h) (next_station C (recent (unit_of P C h))) (next_tag C (recent (unit_of P C h))) k a g

@@ -31,7 +31,7 @@ module _ (P : Program) (C : Sizes) where
   abbrev U : List Entry → UpdateUnit
   U h = unit_of P C h
 
-  -- the word of a needed source, and what it comes to
+  -- the word of a needed source, and what follows of it
   pub source_answers : (by : ℕ) (v w : View) (s g : ℕ) (k : Source) (needed : Bool) (n : ℕ) (x : Grows P C by v w (ReadsSource P C s g k n)) (r : Result ℕ Answer) → SourceSays n g k r →
       needed ≡ true → SourceAnswers P C by v.seen w.seen s g k needed r
   source_answers by v w s g k needed n x (Ok value) says is = ⊎_elim

@@ -38,7 +38,7 @@ same_outcome Links i half pc a b size = refl
 same_outcome Loads i half pc a b size = refl
 same_outcome Stores i half pc a b size = refl
 
--- so a job has what its tenant comes to
+-- so a job has the outcome of its tenant
 pub is_job : (P : Program) (by : ℕ) (j : Job) (o : Outcome) (t : Tenant) → IsJob P by j t → o ≡ job_outcome P j → HasJob P by j.predicted o t
 is_job P by j o t is e = record {
   held = is.held;

@@ -1,7 +1,7 @@
 //! The backoff of a thread that finds nothing to do.
 use std::thread::yield_now;
 
-/// Lets another thread run at a fruitless turn before which so many others in a row were fruitless.
+/// Lets another thread run at a fruitless turn before which this number of others in a row were fruitless.
 #[derive(Clone, Copy)]
 pub struct Backoff {
     after: u32,
@@ -9,7 +9,7 @@ pub struct Backoff {
 }
 
 impl Backoff {
-    /// Lets another thread run at the fruitless turn that follows so many others.
+    /// Lets another thread run at the fruitless turn that follows this number of others.
     pub fn after(turns: u32) -> Backoff {
         Backoff {
             after: turns,

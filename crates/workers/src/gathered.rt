@@ -7,7 +7,7 @@ ghost use Rattle.workers.specs.Gathering.{CountsMore, CountsNoMore, HasGatheredN
 
 use counts::{Counts, Total, WorkerSeat};
 
-// A thread adds with the count that follows so many others.
+// A thread adds with the count that follows this number of others.
 const ADDED_EACH: u32 = 64;
 
 /// A seat to count with, and how much was counted since it last added to the totals. `end` alone takes it apart, so
@@ -44,7 +44,7 @@ impl Gathered {
         }
     }
 
-    /// Counts so many of a total more.
+    /// Counts k more of a total.
     pub fn count(&mut self, counts: &Counts, total: Total, k: u64)
         requires seat { self.old.seat.of ≡ counts.now }
         requires other { is_kept (position_of total) ≡ false }
@@ -59,7 +59,7 @@ impl Gathered {
         }
     }
 
-    // Gathers so many of a total, or adds them to a total that is not gathered.
+    // Gathers k of a total, or adds them to a total that is not gathered.
     fn gather(&mut self, counts: &Counts, total: Total, k: u64)
         requires seat { self.old.seat.of ≡ counts.now }
         requires other { is_kept (position_of total) ≡ false }

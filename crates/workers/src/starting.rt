@@ -16,7 +16,7 @@ use std::thread::{Scope, Threads, available_parallelism};
 // The most units that a run has.
 const MOST_UNITS: u64 = 64;
 
-// How many units are active at once on so many processors, beside the threads that dispatch and commit.
+// How many units are active at once on n processors, beside the threads that dispatch and commit.
 fn units_on(processors: u64) -> u64
     ensures one { processors ≤ 3 → result ≡ 1 }
     ensures beside { 3 ≤ processors → processors ≤ MOST_UNITS + 2 → result + 2 ≡ processors }

@@ -26,7 +26,7 @@ pub struct RunState<K: Bounds + Ring> {
     news: AtomicU64,
     // units up to this number are active, and those beyond it are parked
     active: AtomicU64,
-    // so many are active at once at the most, where there is work for them
+    // at most this number are active at once, where there is work for them
     most_active: AtomicU64,
     // the turns of each unit, which its threads take one term after another
     unit_turns: Vec<Mutex<Turns>>,
@@ -35,7 +35,7 @@ pub struct RunState<K: Bounds + Ring> {
     ghost each: { length unit_turns.items ≡ units },
 }
 
-// The turns of so many units, none of which has taken one.
+// The turns of n units, none of which has taken one.
 fn unit_turns(alloc: Global, units: u32, turns: u32) -> Result<Vec<Mutex<Turns>>, Memory>
     ensures { IfOk result (λ all. length all.items ≡ units) }
 {
@@ -76,7 +76,7 @@ impl<K: Bounds + Ring> RunState<K> {
         })
     }
 
-    /// Begins another term. One unit is active, and where there is work for more of them so many at once.
+    /// Begins another term. One unit is active, and where there is work for more of them `most_active` at once.
     pub fn begin_term(&self, most_active: u64) {
         self.term_ended.store(false, Release);
         self.most_active.store(most_active, Release);

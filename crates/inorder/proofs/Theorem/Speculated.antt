@@ -1,4 +1,4 @@
--- What speculation comes to, and that nobody of a shared unit speculates.
+-- What follows of speculation, and that nobody of a shared unit speculates.
 use Rattle.std.proofs.Common.{◌≡◌, ℕ, List, ◌∷◌, Some, ap, ◌∙◌, subst}
 use Rattle.std.specs.List.{AllByRecursion}
 use Rattle.instructions.specs.Programs.{Program}

@@ -23,7 +23,7 @@ fn scarce(units: u64) -> Shape {
     }
 }
 
-// Each listing has its report, and so many renewals at least and at most.
+// Each listing has its report, and at least and at most these numbers of renewals.
 fn check<R: Threads + Wait + Sync + Abort>(
     rt: &R,
     alloc: Global,

@@ -54,7 +54,7 @@ fn a_held_unit_is_let_go_once_another_works(rt: HostRuntime) -> Result<(), Fail>
     Ok(())
 }
 
-/// Holds each unit until another one asks, or for so many questions, and notes which have asked.
+/// Holds each unit until another one asks, or for a number of questions, and notes which have asked.
 #[derive(Drop)]
 pub(super) struct Passing {
     last: AtomicU64,

@@ -21,7 +21,7 @@ behind-requires c = ap (λ s. length s.registers) c.ahead.ensures ∙ registers_
 pub loop-i-init : goal.loop-i-init
 loop-i-init c = grind (arith, common_steps, set_zero, zero_held, begun, rules)
 
--- so many have joined
+-- this number have joined
 among : (c : After-operands-content) → let flow = c.loop-i.flow in (length flow.ring.completed ≡ c.loop-i.i) × (length flow.ring.stores < 32) × (flow.accesses ≤ 32)
 among c =
     let b = c.args.self.now in
