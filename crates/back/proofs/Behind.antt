@@ -1,4 +1,4 @@
--- A back enters behind a renewal, and where one was refused.
+-- A back enters after a renewal, and where one was refused.
 use Rattle.std.proofs.Common.{◌≡◌, [], ap, ◌∙◌, subst}
 use Rattle.std.proofs.Math.Nat.{zero-mod}
 use Rattle.inorder.specs.History.{back, unit_of}

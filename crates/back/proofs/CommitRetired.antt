@@ -188,7 +188,7 @@ module _ {P : Program} {old : TheBack} {core : TheCore} {seat : Caller} {state :
   pub is_inside : StoreIsInside (length state.memory) i last
   is_inside = subst (λ n. StoreIsInside n i last) (sym (ap (λ (z : State). length z.memory) k.unit.state_is ∙ length_memory P (unit_in seat.core seat.seen).tenants)) did.inside
 
-  -- The fields behind the retirement, and the answers in them
+  -- The fields after the retirement, and the answers in them
 
   pub kept_behind : {state' : State} {low' : Option ℕ} {head' ring : ℕ} {ended' : Option Stop} → state' ≡ state_behind i half last low state → low' ≡ low_in i half last →
       head' ≡ (head + 1) % ring → ring ≡ core.sizes.ring → ended' ≡ stop_in last → BackIsKept P seat' state' low' head' ended' shown

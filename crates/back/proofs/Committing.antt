@@ -44,7 +44,7 @@ module _ (P : Program) (t : Tenant) (n : ℕ) (s : State) (pc : t.pc ≡ s.pc) (
   none_stored v e = ap (λ o. with_stored o s.memory) (ap (λ f. stored_by true (kind_of P t) f (width (instr P t).op) t.second.value) e ∙
       stored_done true (kind_of P t) v (width (instr P t).op) t.second.value)
 
-  -- behind itself, in both
+  -- after itself, in both
   behind : pc_plus_4 t.pc ≡ pc_plus_4 s.pc
   behind = ap pc_plus_4 pc
 

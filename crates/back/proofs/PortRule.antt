@@ -146,7 +146,7 @@ module _ (P : Program) (C : Sizes) (U : UpdateUnit) (ok : IsSound P U.tenants) (
   found_at T o j x s e h = found_in P T before x.q x.tenant (outer x.q x.tenant x.is x.before_it) (store_live P x.tenant x.alive s) e
       (λ r v lt is b. let z = inner r v is in h r v z.0 (access_live P v b) z.1 lt)
 
-  -- a younger one stands further behind
+  -- a younger one stands further from the head
   rank_after : (j : ℕ) (x : Older j) (r : ℕ) (v : Tenant) → at us r ≡ Some v → x.q < r → j < rank us r
   rank_after j x r v is lt = let g = rank_grows us x.q r x.tenant v x.is x.alive is lt in let e = x.rank_of in omega (arith, g, e)
 

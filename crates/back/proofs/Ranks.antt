@@ -1,4 +1,4 @@
--- Where the live tenants of a ring stand: one behind the other, from the oldest one on.
+-- Where the live tenants of a ring stand: one after the other, from the oldest one on.
 use Rattle.std.proofs.Common.{◌≡◌, ℕ, zero, suc, ◌+◌, ◌%◌, ◌<◌, ◌≤◌, Bool, true, false, cond, eq-eqb, ◌-◌, List, [], ◌∷◌, length, Some, refl, sym, ap, ◌∙◌, subst, inl, inr, ⊎_elim, arith}
 use Rattle.std.proofs.lemmas.Bool.{cases_lt}
 use Rattle.std.proofs.Math.Nat.{add-mod_right, mod-add-mod, mod-eq_of_lt}
@@ -171,7 +171,7 @@ in_ring P C h legal = record {
   gone = old_are_gone P C h legal;
 }
 
--- a live tenant stands as far behind the head as live ones are before it
+-- a live tenant stands as far from the head as live ones are before it
 pub stands_at : (P : Program) (C : Sizes) (U : UpdateUnit) → IsSound P U.tenants → InRing C U → (p : ℕ) (t : Tenant) → at U.tenants p ≡ Some t → t.standing ≡ Live
     → t.station ≡ (head_station C U + rank U.tenants p) % C.ring
 stands_at P C U ok ring p t is live =

@@ -1,4 +1,4 @@
--- What a retirement did, as its caller sees it behind the call.
+-- What a retirement did, as its caller sees it after the call.
 use Rattle.std.proofs.Common.{◌≡◌, ℕ, Option, ◌+◌, ◌%◌, true, List, [], ◌∷◌, ◌++◌, length, Some, None, refl, sym, ap, ◌∙◌, subst, ⊎_elim, append_assoc}
 use Rattle.std.proofs.lemmas.Option.{same_Some}
 use Rattle.instructions.specs.Instruction.{is_first_half, kind}

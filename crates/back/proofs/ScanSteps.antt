@@ -1,4 +1,4 @@
--- A scan of the port, station by station: what is so behind each try, and at its end.
+-- A scan of the port, station by station: what is so after each try, and at its end.
 use Rattle.std.proofs.Common.{◌≡◌, ◌+◌, ◌%◌, ◌<◌, ◌≤◌, ℕ, Option, Some, None, refl, sym, ap, ◌∙◌, subst, arith}
 use Rattle.inorder.specs.Callers.{head_station}
 use Rattle.inorder.specs.History.{back}
@@ -16,7 +16,7 @@ use Rattle.back.proofs.Scanning.{held_first, held_more, passed_on}
 use Rattle.back.proofs.Seeing.{same_on}
 use Rattle.back.proofs.Wakings.{nobody_on, woken_behind}
 
--- The stations before the k-th behind the head were tried, and no load got its value
+-- The stations before the k-th after the head were tried, and no load got its value
 pub record IsScanned (d : TheCore) (old cur : Caller) (head k : ℕ) (blocked : Option (ℕ × ℕ)) : Type 0 where
   pub kept : IsSameSeat old cur
   pub scanned : Scanned d.program d.sizes back old.seen cur.seen head d.sizes.ring k blocked
@@ -29,7 +29,7 @@ module _ {d : TheCore} {old cur : Caller} {head k : ℕ} {blocked : Option (ℕ 
   pub state_there : {x : State} → x ≡ committed_in d old.seen → x ≡ committed_in d cur.seen
   state_there e = e ∙ sym (state_now d.program d.sizes old.seen cur.seen head d.sizes.ring k blocked s.scanned)
 
-  -- Behind a try
+  -- After a try
 
   module _ {new : Caller} (by : old.by ≡ back) (same : IsSameSeat cur new) where
     abbrev NobodyWoken : Type 0

@@ -1,4 +1,4 @@
--- Where the loads of a call stand, which were live when it began: behind the head, by their age.
+-- Where the loads of a call stand, which were live when it began: after the head, by their age.
 use Rattle.std.proofs.Common.{◌≡◌, ℕ, ◌+◌, ◌%◌, ◌<◌, ◌≤◌, List, Some, refl, sym, ap, ◌∙◌, subst, arith}
 use Rattle.std.specs.List.{AllByRecursion}
 use Rattle.std.proofs.lemmas.Option.{same_Some}
@@ -77,7 +77,7 @@ module _ (P : Program) (C : Sizes) (old new : List Entry) (events : List Event) 
   pub place_in : (q : ℕ) → Has (unit_of P C old) q (IsLiveLoad P) → rank_of q < C.ring
   place_in q h = stands_inside P C old old_legal head head_is q h.tenant h.is h.fact.live
 
-  -- A load stood there at a moment of the call: then no older one that stands at its place or behind it waits
+  -- A load stood there at a moment of the call: then no older one that stands at its place or after it waits
   pub none_behind : (place p : ℕ) → place < C.ring → WasOnce P C old new (λ U. Has U p (IsLoadAt P (station_behind head C.ring place))) → (o : ℕ) → o < p → Has (unit_of P C old) o (IsLiveLoad P)
       → place ≤ rank_of o → WasNotWaiting P C old new o
   none_behind place p bound once o less h behind_it = record {

@@ -16,7 +16,7 @@ use Rattle.back.specs.declared.port.Load.{Load}
 use Rattle.back.proofs.Settling.{asked_late, came_late, did_load, has_gone, holds_back, may_settle, named_late}
 use Rattle.back.proofs.Wakings.{nobody_late, nobody_on, nobody_still, still_after, woken_behind}
 
--- The station found by a wrap is that behind the head
+-- The station found by a wrap is that after the head
 pub place_of : (h k : ℕ) {n r ring : ℕ} → n ≡ (h + k) % r → r ≡ ring → n ≡ (h + k) % ring
 place_of h k is ring_is = is ∙ ap (λ z. (h + k) % z) ring_is
 

@@ -38,7 +38,7 @@ pub record IsRetiredHalf (P : Program) (pc : ℕ) (t : Tenant) : Type 0 where
   pub first : is_first P t ≡ true
   pub pc_is : t.pc ≡ pc
 
--- A tenant retired and committed: the instruction at the pc was run, and n is the count behind it
+-- A tenant retired and committed: the instruction at the pc was run, and n is the count after it
 pub record HasCommitted (old new : TheBack) (pc n : ℕ) : Type 0 where
   pub went_on : WentOn old
   pub not_ended : new.ended ≡ None

@@ -40,7 +40,7 @@ shown_address _ = None
 abbrev pub seen_as : Instr → StationState → ℕ → QueueEntry
 seen_as i state value = access_entry i.op (address_in state value) None
 
--- The k-th station behind the head's
+-- The k-th station after the head's
 abbrev pub station_behind : ℕ → ℕ → ℕ → ℕ
 station_behind head ring k = (head + k) % ring
 

@@ -23,7 +23,7 @@ goes_on_at Jumps pc v = v
 goes_on_at Links pc v = v
 goes_on_at _ pc v = pc_plus_4 pc
 
--- The state behind an instruction that is done with v
+-- The state after an instruction that is done with v
 abbrev pub with_done : Instr → Half → ℕ → State → State
 with_done i half v s =
     record {
@@ -33,7 +33,7 @@ with_done i half v s =
       count = suc s.count;
     }
 
--- The state behind a store of its data
+-- The state after a store of its data
 abbrev pub with_store : Instr → Half → ℕ → ℕ → State → State
 with_store i half address content s =
     record {
@@ -43,7 +43,7 @@ with_store i half address content s =
       count = suc s.count;
     }
 
--- The state behind an instruction that retired whole; a stop leaves it
+-- The state after an instruction that retired whole; a stop leaves it
 abbrev pub behind_last : Instr → Half → Last → State → State
 behind_last i half (Done v) s = with_done i half v s
 behind_last i half (Stored address content) s = with_store i half address content s
@@ -54,17 +54,17 @@ abbrev pub waiting_low : Bool → Last → Option ℕ
 waiting_low true (Done v) = Some v
 waiting_low _ _ = None
 
--- The low value that waits behind a retired tenant, if one does
+-- The low value that waits after a retired tenant, if one does
 abbrev pub low_in : Instr → Half → Last → Option ℕ
 low_in i half last = waiting_low (is_first_half i.op half) last
 
--- The state behind a retired tenant: a first half, whose value waits now, leaves it as it is; with
+-- The state after a retired tenant: a first half, whose value waits now, leaves it as it is; with
 -- any other its instruction is whole, and what waited for it is written first
 abbrev pub state_behind_by : (waits : Option ℕ) → Instr → Half → Last → (waited : Option ℕ) → State → State
 state_behind_by (Some v) i half last waited s = s
 state_behind_by None i half last waited s = behind_last i half last (ahead_by waited s)
 
--- The state behind a retired tenant, by its instruction and half
+-- The state after a retired tenant, by its instruction and half
 abbrev pub state_behind : Instr → Half → Last → Option ℕ → State → State
 state_behind i half last waited s = state_behind_by (low_in i half last) i half last waited s
 

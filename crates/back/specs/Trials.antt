@@ -113,7 +113,7 @@ StationAnswers P C by old new station Passed = HasPassed P C by old new station
 StationAnswers P C by old new station (Blocked s) = HasHeldBack P C by old new station s
 StationAnswers P C by old new station (Loaded tag value) = DidLoad P C by old new station tag value
 
--- The answer about the k-th station behind the head's
+-- The answer about the k-th station after the head's
 abbrev pub TriedAnswers : TheCore → ℕ → List Entry → List Entry → (head k : ℕ) → Tried → Type 0
 TriedAnswers core by old new head k tried =
     StationAnswers core.program core.sizes by old new (station_behind head core.sizes.ring k) tried

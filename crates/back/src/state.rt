@@ -14,7 +14,7 @@ impl<J: Naming> Back<J> {
         self.committed.pc()
     }
 
-    /// The committed registers, register 0 first; behind the general ones stand LO and HI.
+    /// The committed registers, register 0 first; after the general ones stand LO and HI.
     pub fn registers(&self) -> &[u32; 34]
         ensures { result.now ≡ (back_state self.now).registers }
     {

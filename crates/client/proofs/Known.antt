@@ -30,7 +30,7 @@ longer : (xs ys : List Entry) → length (xs ++ ys) ≡ length ys → xs ≡ []
 longer [] ys e = refl
 longer (x ∷ xs) ys e = let l = length-append xs ys in absurd (omega arith)
 
--- so a history that goes on from another has these entries behind it, and no others
+-- so a history that goes on from another has these entries after it, and no others
 pub exactly : (by : ℕ) (old new : List Entry) (events : List Event) → StartsWith new old → ((n : ℕ) → n ≢ by → own n new ≡ own n old) → own by new ≡ map (entry by) events ++ own by old
     → new ≡ map (entry by) events ++ old
 exactly by old new events s alone mine =
@@ -42,7 +42,7 @@ legal_before : (P : Rattle.instructions.specs.Programs.Program) (C : Rattle.inor
 legal_before P C [] h l = l
 legal_before P C (e ∷ more) h l = legal_before P C more h l.0
 
--- One caller's call, and two meetings of all behind it
+-- One caller's call, and two meetings of all after it
 
 -- this caller has come to see a history, and the others stand still
 pub record Moves (by : ℕ) (seen : List Entry) (v w : Caller) : Type 0 where

@@ -20,7 +20,7 @@ use Rattle.station.specs.Seats.{TheCore}
 use Rattle.station.specs.Writeback.{FinishAnswers}
 use Rattle.client.specs.declared.seats.Seats.{Seats}
 
--- This is all that was done, behind that with which the core opened: each caller has seen it, and has
+-- This is all that was done, after that with which the core opened: each caller has seen it, and has
 -- done nothing since
 pub record HaveDone (core : TheCore) (s : Seats) (all : List Entry) : Type 0 where
   pub opened : StartsWith all core.opening
@@ -47,7 +47,7 @@ pub record GoesOnAlone (core : TheCore) (s : Seats) (by : ℕ) (old : List Entry
 abbrev pub CallLeads : TheCore → Seats → Seats → ℕ → (List Entry → List Entry → Type 0) → Type 0
 CallLeads core s t by Reply = (all : List Entry) → HaveDone core s all → GoesOnAlone core t by all Reply
 
--- The unit behind all of it
+-- The unit after all of it
 abbrev pub unit_after : TheCore → List Entry → UpdateUnit
 unit_after core all = unit_of core.program core.sizes all
 

@@ -67,7 +67,7 @@ pub record HaveHeard (core : TheCore) (s t : Seats) : Type 0 where
   pub to_front : StartsWith t.front.seen s.one.seen
   pub to_back : StartsWith t.back.seen s.one.seen
   pub to_other : StartsWith t.other.seen s.one.seen
-  -- in all of it there is no entry of a unit that has no seat, behind those with which the core opened
+  -- in all of it there is no entry of a unit that has no seat, after those with which the core opened
   pub no_more_of_one : (n : ℕ) → IsSpare t.one.spare n → own n t.one.seen ≡ own n core.opening
   pub no_more_of_other : (n : ℕ) → IsSpare t.other.spare n → own n t.other.seen ≡ own n core.opening
 

@@ -48,7 +48,7 @@ refusal_line Thread = codes "thread"
 refusal_line Write = codes "write"
 refusal_line Trace = codes "trace"
 
--- each number of a tally behind its name
+-- each number of a tally after its name
 abbrev pub totals_text : Totals → List ℕ
 totals_text t =
     codes "lets " ++ (decimal t.lets ++ (codes " claims " ++ (decimal t.claims
@@ -57,7 +57,7 @@ totals_text t =
     ++ (codes " squashes " ++ (decimal t.squashes ++ (codes " mends " ++ (decimal t.mends
     ++ (codes " hints " ++ (decimal t.hints ++ (codes " renewals " ++ decimal t.renewals))))))))))))))))))
 
--- the line behind a run
+-- the line after a run
 abbrev pub tally_text : Totals → List ℕ
 tally_text totals = codes "tally " ++ totals_text totals
 

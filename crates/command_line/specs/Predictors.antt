@@ -7,7 +7,7 @@ use Rattle.command_line.specs.declared.chosen.Chosen.{Chosen}
 use Rattle.command_line.specs.declared.request.BranchPredictor.{BranchPredictor}
 use Rattle.command_line.specs.declared.request.BranchPredictor.TheVariants.{NotTaken, Taken, Bimod}
 
--- the pc behind an instruction, as it is predicted
+-- the pc after an instruction, as it is predicted
 abbrev pub answer_of : BranchPredictor → (counters : List ℕ) → (pc : ℕ) → Instr → ℕ
 answer_of NotTaken counters pc i = pc_plus_4 pc
 answer_of Taken counters pc i = taken_target pc i

@@ -22,7 +22,7 @@ pub record HasWritten {R W : Type 0} (remaining : R → Option (List ℕ)) (cont
   pub text : HoldsOfInput remaining reader (λ input. HasText (IsText input) (Gives contents writer writer_new))
   pub quiet : failures_of writer_new ≡ failures_of writer
 
--- one call of the writer failed, behind a proper beginning of such a text
+-- one call of the writer failed, after a proper beginning of such a text
 pub record HasWrittenPart {R W : Type 0} (remaining : R → Option (List ℕ)) (contents : W → Option (List ℕ))
     (reader : Option (Counted R)) (writer writer_new : Counted W)
     (IsText : (input text : List ℕ) → Type 0) : Type 0 where

@@ -5,7 +5,7 @@ ghost use Rattle.command_line.specs.Exits.{totals_text};
 use counts::Tally;
 use std::fmt;
 
-/// The numbers of a tally. Their `Display` tells each behind its name.
+/// The numbers of a tally. Their `Display` tells each after its name.
 #[derive(Drop)]
 pub(crate) struct Totals {
     pub tally: Tally,

@@ -4,7 +4,7 @@ ghost use Rattle.command_line.specs.Tool.{spelling_of, rule_of_argument, rules_o
 
 use crate::arguments::Argument;
 
-/// The word of a program, which stands behind `ruu`.
+/// The word of a program, which stands after `ruu`.
 #[derive(Clone, Copy)]
 pub(crate) enum Word {
     Run,

@@ -25,7 +25,7 @@ module _ {R : Type 0} (remaining : R → Option (List ℕ)) (most more : ℕ) (f
     failures = omega (arith, is.failures, quiet);
   }
 
-  -- a read that fails behind others leaves the reader as one that fails at once
+  -- a read that fails after others leaves the reader as one that fails at once
   pub unread_before : (fault : Fault) → IsUnread remaining more middle last fault → IsUnread remaining most first last fault
   unread_before Read is = begun_before 1 is
   unread_before Memory is = begun_before 0 is

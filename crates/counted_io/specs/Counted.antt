@@ -38,13 +38,13 @@ abbrev pub TakesUpTo : {R : Type 0} → (most : ℕ) → (R → Option (List ℕ
 TakesUpTo most remaining old new =
     (bytes : List ℕ) × (length bytes ≤ most) × Takes remaining old new bytes
 
--- what stands behind before in after is what the reader lost
+-- what stands after before in after is what the reader lost
 abbrev pub TakesOnto : {R : Type 0} → (R → Option (List ℕ)) → (old new : Counted R)
     → (before after : List ℕ) → Type 0
 TakesOnto remaining old new before after =
     (bytes : List ℕ) × Takes remaining old new bytes × (after ≡ before ++ bytes)
 
--- the writer's known bytes stay, and these stand behind them
+-- the writer's known bytes stay, and these stand after them
 abbrev pub Gives : {W : Type 0} → (W → Option (List ℕ)) → (old new : Counted W) → List ℕ → Type 0
 Gives contents old new text = Appends (known_by contents old) (known_by contents new) text
 

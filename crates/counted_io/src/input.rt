@@ -36,7 +36,7 @@ fn read_some<R: Read>(
     Ok(n)
 }
 
-/// The bytes up to the end of the input, but no more than `most` of them: none behind those is
+/// The bytes up to the end of the input, but no more than `most` of them: none after those is
 /// taken from the reader.
 pub fn read_up_to<R: Read>(
     alloc: Global,

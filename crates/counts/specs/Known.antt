@@ -16,7 +16,7 @@ adds_at at a = if a.at == at then a.k else 0
 abbrev pub total_at : ℕ → List Addition → ℕ
 total_at at history = sum_by (adds_at at) history
 
--- The seat has added: the last entry that it has seen is its addition, behind all that it had seen at the call
+-- The seat has added: the last entry that it has seen is its addition, after all that it had seen at the call
 pub record HasAddedAt (at k : ℕ) (old new : List Addition) : Type 0 where
   pub before : List Addition
   pub behind : StartsWith before old

@@ -34,15 +34,15 @@ all_parts = each (λ _. everything)
 abbrev pub no_parts : Shares
 no_parts = each (λ _. nothing)
 
--- A share behind an addition of its seat
+-- A share after an addition of its seat
 abbrev pub plus : ℕ → Share → Share
 plus k s = record { added = s.added + k; parts = s.parts; halvings = s.halvings }
 
--- A seat's shares behind its addition to the total at a position
+-- A seat's shares after its addition to the total at a position
 abbrev pub raised_at : ℕ → ℕ → Shares → Shares
 raised_at at k v = each (λ i. if i == at then plus k (share i v) else share i v)
 
--- A seat's shares behind its addition to a total
+-- A seat's shares after its addition to a total
 abbrev pub added_to : Total → ℕ → Shares → Shares
 added_to total k v = raised_at (position_of total) k v
 

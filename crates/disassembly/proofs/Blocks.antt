@@ -93,7 +93,7 @@ spoken_read i w = record {
   ];
 }
 
--- ---- the lines of an instruction, behind those of k instructions
+-- ---- the lines of an instruction, after those of k instructions
 
 pub more_room : (text : List ℕ) (code : List Instr) (names : List (List ℕ × ℕ)) (bytes : List ℕ) (most more : ℕ) → most ≤ more
     → IsText text code names bytes most → IsText text code names bytes more

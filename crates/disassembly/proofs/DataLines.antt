@@ -23,7 +23,7 @@ use Rattle.disassembly.specs.Writing.{printable, row_word, row_words, row_line, 
 use Rattle.disassembly.proofs.Printed.{code_printable, inner_printable}
 use Rattle.disassembly.proofs.HexNumbers.{hex_part, hex_number}
 
--- ---- a line of code with blanks and a comment behind it
+-- ---- a line of code with blanks and a comment after it
 
 last_blank : (xs : List ℕ) → get_or (xs ++ 32 ∷ []) (length xs) 0 ≡ 32
 last_blank [] = refl
@@ -57,7 +57,7 @@ starts_longer : (xs ys : List ℕ) → Starts xs → Starts (xs ++ ys)
 starts_longer [] ys h = absurd h
 starts_longer (x ∷ xs) ys h = h
 
--- the code of a line that has a comment behind a blank
+-- the code of a line that has a comment after a blank
 module _ (text comment : List ℕ) (code : IsCode text) where
   front_bytes : Of in_code (replicate 8 32 ++ (text ++ 32 ∷ []))
   front_bytes = of_append in_code (replicate 8 32) (text ++ 32 ∷ []) (indent_in_code 8) (of_append in_code text (32 ∷ []) code.bytes (refl, tt))

@@ -43,7 +43,7 @@ all_zero (x ∷ xs) h =
     let first : x ≡ 0 = eqb-true x 0 both.0 in
     rw first (ap (λ (l : List ℕ). 0 ∷ l) (all_zero xs both.1))
 
--- the zeros behind what was said
+-- the zeros after what was said
 flushed : (now new : List ℕ) (zeros : ℕ) (said : List ℕ) (n : ℕ) (bytes : List ℕ) → said ++ replicate zeros 0 ≡ take n bytes → zeros % 16 ≡ 0 → length bytes ≤ 65536
     → new ≡ now ++ unlines (space_lines zeros) → (code : List Instr) (names : List (List ℕ × ℕ)) (most : ℕ) → length code ≤ 16384 → IsText now code names said most
     → IsText new code names (said ++ replicate zeros 0) (most + 30)
@@ -97,7 +97,7 @@ module _ (bytes : List ℕ) (all : length bytes ≡ 65536) (old now : List ℕ) 
         (row_bare at row) (row_read at row row_length fits) few size);
   }
 
--- all rows, and the zeros behind them
+-- all rows, and the zeros after them
 pub rows_all : (bytes old now new : List ℕ) (k zeros : ℕ) → length bytes ≡ 65536 → k ≡ 4096 → RowsSoFar bytes old now k zeros → new ≡ now ++ unlines (space_lines zeros) → AddsData bytes old new
 rows_all bytes old now new k zeros all last so_far spaced code names most few before =
     let whole : take (16 * k) bytes ≡ bytes = take_all (16 * k) bytes (omega (arith, all, last)) in

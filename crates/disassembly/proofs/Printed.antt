@@ -1,4 +1,4 @@
--- Printable lines, one behind the other, are the lines of their text.
+-- Printable lines, one after the other, are the lines of their text.
 use Rattle.std.proofs.Common.{◌≡◌, ℕ, zero, suc, ◌+◌, ◌<◌, Bool, true, false, not, ◌==◌, eqb, List, [], ◌∷◌, ◌++◌, length, get_or, take, map, refl, ap, ◌∙◌, arith, append_assoc, inl, inr}
 use Rattle.std.specs.List.{list_all, slice_split, prefix_len}
 use Rattle.std.specs.Str.Lines.{strip_carriage_return}

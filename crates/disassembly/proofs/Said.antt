@@ -71,7 +71,7 @@ pub text_begun : (marks : List Bool) (code : List Instr) → IsText [] (take 0 c
 unfolding marked
 text_begun marks code = text_nothing
 
--- behind the last instruction
+-- after the last instruction
 pub text_ended : (marks : List Bool) (code : List Instr) (bytes out head new : List ℕ) (k : ℕ) → length marks ≡ length code → length code ≤ 16384 → length bytes ≡ 65536
     → k ≡ length code → IsText out (take k code) (marked marks k) [] (200 * k) → head ≡ out ++ codes "\n# data\n" → AddsData bytes head new
     → AllSound (length code) code → AllMarked marks (length code) code → listing new ≡ Ok (record { code = code; bytes = bytes })

@@ -44,7 +44,7 @@ fn read(rt: &HostRuntime, name: &str, kind: &str) -> io::Result<Vec<u8>> {
     fs::read(rt, path.as_str())
 }
 
-/// The names of the listings of a folder in order, without what stands behind the dot.
+/// The names of the listings of a folder in order, without what stands after the dot.
 pub fn names(rt: &HostRuntime, folder: &str, begin: &str) -> io::Result<Vec<String>> {
     let mut names = unordered_names(rt, folder, begin)?;
     names.sort()?;

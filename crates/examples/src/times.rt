@@ -73,7 +73,7 @@ fn take<R: Clock>(clock: &R, nanos: u64) {
     }
 }
 
-/// Times what the words behind `time` ask for, and gives the exit status.
+/// Times what the words after `time` ask for, and gives the exit status.
 pub fn time<R: Clock + Eprint + Threads + Wait + Sync>(
     rt: &HostRuntime,
     wait: &R,

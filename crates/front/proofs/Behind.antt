@@ -1,4 +1,4 @@
--- A front enters behind a renewal, and where one was refused.
+-- A front enters after a renewal, and where one was refused.
 use Rattle.std.proofs.Common.{◌≡◌, ℕ, [], refl, ap, ◌∙◌, subst}
 use Rattle.std.proofs.Math.Nat.{zero-mod}
 use Rattle.instructions.specs.Programs.{Program}

@@ -1,4 +1,4 @@
--- What the front knows behind a squash and a mending of its own.
+-- What the front knows after a squash and a mending of its own.
 use Rattle.std.proofs.Common.{◌≡◌, ◌≢◌, ℕ, ◌+◌, ◌<◌, true, List, [], ◌∷◌, ◌++◌, length, Some, refl, sym, ap, ◌∙◌, subst, ⊎_elim, arith, length-append, append_assoc, true≢false, ◌≤◌}
 use Rattle.std.proofs.lemmas.Bool.{cases_lt}
 use Rattle.std.specs.List.{AllByRecursion}
@@ -113,7 +113,7 @@ module _ (P : Program) (C : Sizes) (U : UpdateUnit) (ok : IsSound P U.tenants) (
   pub can_mend : (next : ℕ) → Has U x.at (IsMissing next) → CanMend U x.at next
   can_mend next m = record { miss = m; youngest = youngest_last }
 
-  -- the list behind an act on it
+  -- the list after an act on it
   pub act_list : (by p : ℕ) (act : Act) → (a : Allowed P C U by (On p act)) → IsThisOne p a.tenant t ts → (applied P C U by (On p act)).tenants ≡ o.ys ++ changed P by act t ts ∷ ts
   act_list by p act a one =
       let us = U.tenants in

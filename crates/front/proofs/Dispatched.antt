@@ -48,13 +48,13 @@ module _ {P : Program} {C : Sizes} {old : List Entry} {records : List Record} {b
   may_ask_first = may_ask P C new f.station tag First first _ (small_creator d (first_of f.instr) d.first_small first d.first_is)
       (λ a g e. let pends = first_pends d new adds tag tag_is a g e in (pends.q, pends.pending))
 
-  -- its place in the unit, behind its let
+  -- its place in the unit, after its let
   named_after : IsNamed (unit_of P C new) p f.station tag
   named_after =
       subst (λ z. IsNamed (unit_of P C z) p f.station tag) (sym here.is) (named_stays P C p f.station tag here.after (let_entry ∷ here.point) here.legal
       (sym (ap renewals here.is) ∙ here.since) (named_new d new adds tag tag_is))
 
-  -- behind the first question
+  -- after the first question
   module _ (mid : List Entry) (asks_first : Asks P C new mid f.station tag First first) where
     pub may_ask_second : MayAskFor P C mid f.station tag Second second
     may_ask_second = may_ask P C mid f.station tag Second second _ (small_creator d (second_of f.instr) d.second_small second d.second_is)
@@ -66,7 +66,7 @@ module _ {P : Program} {C : Sizes} {old : List Entry} {records : List Record} {b
     named_mid : IsNamed (unit_of P C mid) p f.station tag
     named_mid = named_on P C front p f.station tag one.events new mid one.adds named_after
 
-    -- behind both
+    -- after both
     module _ (end : List Entry) (asks_second : Asks P C mid end f.station tag Second second) where
       two : HasAsked P C mid end p Second second
       two = has_asked P C mid end one.adds.legal p f.station tag Second second named_mid asks_second

@@ -1,4 +1,4 @@
--- Behind a let: what the front knows, and which questions are to be asked.
+-- After a let: what the front knows, and which questions are to be asked.
 use Rattle.std.proofs.Common.{◌≡◌, ℕ, ◌<◌, ◌≤◌, false, List, [], ◌∷◌, ◌++◌, length, Option, refl, sym, ap, ◌∙◌, subst, ⊎_elim, arith}
 use Rattle.std.specs.Prelude.{is_none}
 use Rattle.instructions.specs.Instruction.{destination, first_of, fixed_next, is_access, is_first_half, kind, second_of}
@@ -116,7 +116,7 @@ module _ {P : Program} {C : Sizes} {old : List Entry} {records : List Record} {b
       stays_behind P C (λ V. FrontKnows P C V (records ++ record_for f tag predicted ∷ []) base) (knows_stable P C (records ++ record_for f tag predicted ∷ []) base) old new (let_of tenant) [] l
       (subst (λ z. FrontKnows P C (applied P C M front let_step) (records ++ z ∷ []) base) kept_of there)
 
-  -- behind the first ones all are recent
+  -- after the first ones all are recent
   new_behind : (p : ℕ) → rested_at base ≤ p → is_old (applied P C M front let_step) p ≡ false
   new_behind p le = old_more M new_one p ∙ kept_new P C M records base _ ready.stands p le
 

@@ -85,7 +85,7 @@ module _ {core : TheCore} {v : Caller} {path : Path} {last : Option Record} (by_
   rests_free {w} {seat} {youngest} same adds is seen sees free here = subst (HasSeen core path v) (sym here)
       (seen_free core v w same path k (subst (λ i. Adds core.program core.sizes i v.seen w.seen []) by_is adds) youngest (sym last_is ∙ is) seen sees free)
 
--- Behind the fold of all records, which adds nothing
+-- After the fold of all records, which adds nothing
 module _ {core : TheCore} {path : Path} {v w : Caller} (s : HasSeen core path v w) (x : Caller) (more : Adds core.program core.sizes front w.seen x.seen []) where
   pub rested_adds : Adds core.program core.sizes front v.seen x.seen []
   rested_adds = adds_on core.program core.sizes front v.seen w.seen x.seen [] [] s.adds more

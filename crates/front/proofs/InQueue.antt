@@ -75,7 +75,7 @@ queue_room P C h legal =
     subst (λ z. how_many_accesses P (unit_of P C z) ≤ C.queue) whole
     (unit_lasts P C (λ U. how_many_accesses P U ≤ C.queue) (λ U by s a ok q. fewer_under P C U by s a ok q) h [] (subst (IsLegal P C) (sym whole) legal) (least C.queue))
 
--- a tenant of the path behind a live one is live
+-- a tenant of the path after a live one is live
 pub live_behind : (P : Program) (us : List Tenant) → IsSound P us → (p q : ℕ) (t u : Tenant) → p < q → at us p ≡ Some t → t.standing ≡ Live → at us q ≡ Some u → on_path u ≡ true → u.standing ≡ Live
 live_behind P us ok p q t u lt is live is' on =
     let split = split_at us q u is' in

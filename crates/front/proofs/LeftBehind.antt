@@ -82,7 +82,7 @@ module _ (P : Program) (C : Sizes) where
   squashes_let_none [] = tt
   squashes_let_none (p ∷ ps) = (tt, squashes_let_none ps)
 
--- A path that ends with a tenant behind which all have left it
+-- A path that ends with a tenant after which all have left it
 
 pc_off : (ys zs : List Tenant) → AllByRecursion IsOff ys → front_pc (ys ++ zs) ≡ front_pc zs
 pc_off [] zs h = refl
@@ -100,7 +100,7 @@ writer_off P (y ∷ ys) zs r h =
 creator_off : (P : Program) (ys zs : List Tenant) (r : ℕ) → AllByRecursion IsOff ys → creator P (ys ++ zs) r ≡ creator P zs r
 creator_off P ys zs r h = ap (λ c. cond (can_be_written r) c None) (writer_off P ys zs r h)
 
--- A mend, and what was before and behind it
+-- A mend, and what was before and after it
 pub recoveries_leave : RecoveriesLeave
 recoveries_leave P C old new station squashed m =
     let p = m.p in

@@ -27,7 +27,7 @@ use Rattle.front.proofs.Resting.{left_path}
 use Rattle.front.proofs.Trained.{went_on}
 use Rattle.front.proofs.Trails.{trail_off, trail_on}
 
--- Tellings, one behind the other
+-- Tellings, one after the other
 
 module _ {S : Type 0} (Learns : S → ℕ → ℕ → S → Type 0) where
   pub tells_more : (xs : List Record) (x : Record) (a b c : S) → TellsRecords Learns xs a b → IsTold Learns (leaver_if x.guessed x.pc x.next) b c → TellsRecords Learns (xs ++ x ∷ []) a c

@@ -1,4 +1,4 @@
--- What the front knows behind a let of its own.
+-- What the front knows after a let of its own.
 use Rattle.std.proofs.Common.{◌≡◌, ◌≢◌, ℕ, ◌<◌, List, [], ◌∷◌, ◌++◌, length, refl, sym, ap, ◌∙◌, subst, ⊎_elim, arith, length-append, append_assoc, ◌≤◌, inl}
 use Rattle.std.specs.Prelude.{slice_index}
 use Rattle.instructions.specs.Programs.{Program}

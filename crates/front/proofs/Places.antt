@@ -51,7 +51,7 @@ pub record ArePlacedNow (C : Sizes) (U : UpdateUnit) (notes : List Note) : Type 
   pub count : how_many on_path (recent U) ≡ before + length notes
 
 module _ (P : Program) (C : Sizes) (U : UpdateUnit) (records : List Record) (base : Base) (Again : Note → Type 0) (k : Stands P C U records base Again) where
-  -- behind the first ones all are recent
+  -- after the first ones all are recent
   pub kept_new : (p : ℕ) → rested_at base ≤ p → is_old U p ≡ false
   kept_new p le = new_by U p (omega (arith, k.since, le))
 

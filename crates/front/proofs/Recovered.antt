@@ -54,7 +54,7 @@ module _ (P : Program) (C : Sizes) where
     pub knows : FrontKnows P C (unit_of P C new) rest base
     pub miss : IsMissAt P C new rest m
 
-  -- behind it
+  -- after it
   pub squash_done : (old new : List Entry) (rest : List Record) (one : Record) (base : Base) → FrontKnows P C (unit_of P C old) (rest ++ one ∷ []) base → (m : Missed)
       → IsMissAt P C old (rest ++ one ∷ []) m → m.at + 1 < length (rest ++ one ∷ []) → (station tag : ℕ) → WasSquashed P C front station tag old new → CutOne old new rest base m
   squash_done old new rest one base k m i lt station tag s =

@@ -1,4 +1,4 @@
--- The create vector behind the steps of a recovery.
+-- The create vector after the steps of a recovery.
 use Rattle.std.proofs.Common.{◌≡◌, ℕ, refl, List, [], ◌∷◌, ◌++◌, Some, sym, ap, ◌∙◌, subst, append_assoc, ◌≤◌}
 use Rattle.std.specs.List.{AllByRecursion}
 use Rattle.std.proofs.lemmas.Option.{same_Some}
@@ -69,7 +69,7 @@ module _ (P : Program) (C : Sizes) (old new : List Entry) (rest : List Record) (
       let behind = table_cut P C (unit_of P C l.point) front p Squash a ok (rested_at base) T T' before path last.one untold whole cut newest noted (subst (IsRestored T T') same restored) in
       stays_behind P C (λ U. HasTable P U (rested_at base) T') (table_stable P C (rested_at base) T') old new (Does (On p Squash)) [] l behind
 
-  -- behind a mending
+  -- after a mending
   pub mend_table : (p : ℕ) → Adds P C front old new (Does (On p Mend) ∷ []) → (next q : ℕ) → IsMissOf q one next (unit_of P C old) → (T : Table) → HasTable P (unit_of P C old) (rested_at base) T
       → HasTable P (unit_of P C new) (rested_at base) T
   mend_table p adds next q m T table =

@@ -44,7 +44,7 @@ less_not : (p q : ℕ) → p < q → p ≢ q
 less_not p q h e = absurd (omega (arith, h, e))
 
 module _ (P : Program) (C : Sizes) (old new : List Entry) (rest : List Record) (one : Record) (base : Base) (k : FrontKnows P C (unit_of P C old) (rest ++ one ∷ []) base) where
-  -- behind a squash
+  -- after a squash
   pub record SquashedOne (i : ℕ) (r : Record) (next q : ℕ) : Type 0 where
     pub knows : FrontKnows P C (unit_of P C new) rest base
     pub miss : IsMissOf q r next (unit_of P C new)

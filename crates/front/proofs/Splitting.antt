@@ -1,4 +1,4 @@
--- What a call of the front has added, taken apart: what others keep behind its last event, and what stays.
+-- What a call of the front has added, taken apart: what others keep after its last event, and what stays.
 use Rattle.std.proofs.Common.{◌≡◌, ℕ, List, [], ◌∷◌, sym, ap, ◌∙◌, subst}
 use Rattle.std.specs.List.{AllByRecursion}
 use Rattle.instructions.specs.Programs.{Program}

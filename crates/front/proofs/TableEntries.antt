@@ -34,7 +34,7 @@ entry_new told xs x r e = entry_more told xs x r ∙ ap (λ b. table_entry told 
 pub entry_else : (told : ℕ) (xs : List Note) (x : Note) (r : ℕ) → x.what.destination ≢ r → table_entry_in told (xs ++ x ∷ []) r ≡ table_entry_in told xs r
 entry_else told xs x r n = entry_more told xs x r ∙ ap (λ b. table_entry told (cond b (Some x) (newest_note None xs r))) (ne_eqb x.what.destination r n)
 
--- a tenant behind the first ones has an entry, and what has an entry is such a tenant
+-- a tenant after the first ones has an entry, and what has an entry is such a tenant
 pub entry_there : (told : ℕ) (x : Note) → told ≤ x.at → table_entry told (Some x) ≡ Some (maker_of x)
 entry_there told x le = ap (λ b. cond b (Some (maker_of x)) None) (le-leb told x.at le)
 

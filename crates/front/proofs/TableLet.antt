@@ -1,4 +1,4 @@
--- The create vector behind a let.
+-- The create vector after a let.
 use Rattle.std.proofs.Common.{◌≡◌, ◌≢◌, ◌⊎◌, ℕ, ◌<◌, ◌≤◌, List, [], ◌∷◌, ◌++◌, length, Some, refl, sym, ap, ◌∙◌, subst, inl, inr, ⊎_elim}
 use Rattle.std.proofs.Common.{arith, append_assoc}
 use mathlib.Core.Logic.{dite}

@@ -94,7 +94,7 @@ went_on P us ok p t is gone =
     go (Miss x) e c s = absurd (subst (CanRetire (kind_of P t) t.second.value) e c)
     go (Stopped c') e c s = away (Stops c') ((follows_from P (older us p) t s.own).fate.stop c' e) (λ x. stop_not c' x) s.own.goes_on
 
--- The last tenant of a station behind the first ones
+-- The last tenant of a station after the first ones
 
 pub record UntoldSpot (us : List Tenant) (told s : ℕ) (t : Tenant) : Type 0 where
   pub spot : LastSpot us s t

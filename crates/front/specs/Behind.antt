@@ -1,11 +1,11 @@
--- Registers behind a renewal, as the front tells them.
+-- Registers after a renewal, as the front tells them.
 use Rattle.std.specs.Prelude.{◌≡◌, ℕ}
 use Rattle.station.specs.Seats.{unit_seen, TheCore}
 use Rattle.station.specs.Renewals.{IsRenewed, Seats}
 use Rattle.front.specs.Creating.{IsCreatorAnswer}
 use Rattle.front.specs.declared.answers.Made.TheVariants.{Base}
 
--- A value that the front told of a register is the one that it tells behind the renewal, wherever it
+-- A value that the front told of a register is the one that it tells after the renewal, wherever it
 -- has rested
 abbrev pub RegistersStay : Type 0
 RegistersStay =

@@ -59,7 +59,7 @@ pub record Stands (P : Program) (C : Sizes) (U : UpdateUnit) (records : List Rec
   pub again : AllByRecursion Again gone
   pub newest : AllByRecursion (IsNewest U) notes
   pub past : rested_at base ≤ length U.tenants
-  -- nothing was renewed since: whoever was let behind those is recent
+  -- nothing was renewed since: whoever was let after those is recent
   pub since : length U.tenants ≤ rested_at base + U.fresh
   pub untold : AllByRecursion (λ n. rested_at base ≤ n.at) notes
   pub wide : length base.registers ≡ 34

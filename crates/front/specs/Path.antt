@@ -20,7 +20,7 @@ abbrev pub rested_at : Base → ℕ
 rested_at base =
     length (unit_of base.rested.value.core.program base.rested.value.core.sizes base.rested.value.seen).tenants
 
--- Where the path goes on behind a tenant, or without one
+-- Where the path goes on after a tenant, or without one
 abbrev pub pc_after : ℕ → Option Record → ℕ
 pc_after start None = start
 pc_after start (Some x) = x.next
@@ -29,7 +29,7 @@ pc_after start (Some x) = x.next
 abbrev pub pc_behind : Base → List Record → ℕ
 pc_behind base records = pc_after base.pc (youngest_record records)
 
--- The half that comes next behind a tenant, or without one
+-- The half that comes next after a tenant, or without one
 abbrev pub half_behind_last : Half → Option Record → Half
 half_behind_last start None = start
 half_behind_last start (Some x) = half_after x.first
@@ -38,7 +38,7 @@ half_behind_last start (Some x) = half_after x.first
 abbrev pub next_half : Base → List Record → Half
 next_half base records = half_behind_last base.half (youngest_record records)
 
--- The station behind that of a tenant on the ring, or the one to go on at
+-- The station after that of a tenant on the ring, or the one to go on at
 abbrev pub place_after : ℕ → ℕ → Option Record → ℕ
 place_after ring start None = start % ring
 place_after ring start (Some x) = (x.station + 1) % ring
@@ -61,7 +61,7 @@ pub record Released (left : ℕ) (old : Path) (x : Record) (new : Path) : Type 0
   pub records : old.records ≡ x ∷ new.records
   pub base : new.base ≡ with_left old.base x left
 
--- The base says where the path goes on behind its last tenant
+-- The base says where the path goes on after its last tenant
 abbrev pub GoesOnWith : ℕ → Path → Base → Type 0
 GoesOnWith ring path base =
     base ≡

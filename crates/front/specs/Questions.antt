@@ -1,4 +1,4 @@
--- The questions behind a let.
+-- The questions after a let.
 use Rattle.std.specs.Prelude.{⊤, ◌≡◌, ℕ, ◌<◌, List}
 use Rattle.instructions.specs.Programs.{Program}
 use Rattle.inorder.specs.declared.history.Entry.{Entry}

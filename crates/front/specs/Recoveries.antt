@@ -28,7 +28,7 @@ abbrev pub NoOlderMiss : UpdateUnit → ℕ → Type 0
 NoOlderMiss U p =
     (q x : ℕ) (t : Tenant) → q < p → at U.tenants q ≡ Some t → ¬ IsMissing x t
 
--- A miss was mended behind the squashes of all younger tenants, the last one first. It was the oldest at the
+-- A miss was mended after the squashes of all younger tenants, the last one first. It was the oldest at the
 -- beginning of the call
 pub record MissIsMended (P : Program) (C : Sizes) (old new : List Entry) (station squashed : ℕ) : Type 0 where
   pub p : ℕ
@@ -84,7 +84,7 @@ abbrev pub ScanFinds : Program → Sizes → List Entry → List Entry → List 
 ScanFinds P C old new records None = AllByRecursion (IsNoLiveMiss (unit_of P C old)) records
 ScanFinds P C old new records (Some m) = IsFound P C old new records m
 
--- All behind one of the tenants were squashed
+-- All after one of the tenants were squashed
 pub record IsCut (P : Program) (C : Sizes) (old new : List Entry) (squashed : ℕ) : Type 0 where
   pub squashes : List ℕ
   pub count : length squashes ≡ squashed

@@ -74,7 +74,7 @@ TellsRecords Learns [] old new = new ≡ old
 TellsRecords {S = S} Learns (x ∷ xs) old new =
     (middle : S) × (IsTold Learns (leaver_if x.guessed x.pc x.next) old middle × TellsRecords Learns xs middle new)
 
--- The predictor was told of the first of these records, and those that are left stand behind them
+-- The predictor was told of the first of these records, and those that are left stand after them
 pub record TellsFirst {S : Type 0} (Learns : S → ℕ → ℕ → S → Type 0) (all left : List Record) (old new : S) : Type 0 where
   pub done : List Record
   pub are : all ≡ done ++ left

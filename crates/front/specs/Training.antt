@@ -9,7 +9,7 @@ use Rattle.inorder.specs.Unit.{newest_of}
 use Rattle.front.specs.declared.path.record.Record.{Record}
 use Rattle.front.specs.Trail.{is_guessed}
 
--- The tenants behind the first `told`
+-- The tenants after the first `told`
 abbrev pub untold : ℕ → List Tenant → List Tenant
 untold told ts = newest_of (length ts - told) ts
 

@@ -117,7 +117,7 @@ impl<'a, P: Predictor + Drop> Front<'a, P> {
         )
     }
 
-    /// Looks for the oldest miss, squashes all tenants behind it, and mends it.
+    /// Looks for the oldest miss, squashes all tenants after it, and mends it.
     /// This is recovery from a misprediction, sim-outorder's `ruu_recover`.
     pub fn recover(&mut self, core: &Core) -> Recovery
         requires { self.old.core ≡ core.now }

@@ -1,4 +1,4 @@
-//! What holds of a front behind its calls, and between two cores. Each function is a law: it does nothing, and its
+//! What holds of a front after its calls, and between two cores. Each function is a law: it does nothing, and its
 //! contract is proved.
 ghost use Rattle.front.specs.Behind.{RegistersStay};
 ghost use Rattle.front.specs.Mended.{RecoveriesLeave};
@@ -11,13 +11,13 @@ pub fn a_front_enters_behind_a_renewal()
     ensures refused { RefusedFrontsEnter }
 {}
 
-/// Behind a recovery the path goes on where the miss was mended to, with a whole instruction, and each register is
+/// After a recovery the path goes on where the miss was mended to, with a whole instruction, and each register is
 /// created by whom it was among the tenants up to the miss.
 pub fn a_recovery_keeps_the_older()
     ensures { RecoveriesLeave }
 {}
 
-/// A value that `creator` tells of a register is the one that it tells behind a renewal.
+/// A value that `creator` tells of a register is the one that it tells after a renewal.
 pub fn registers_stay_behind_a_renewal()
     ensures { RegistersStay }
 {}

@@ -68,7 +68,7 @@ pub record ThreadKnows (puts takes : List Move) (thread : ℕ) (v : Hand) : Type
   pub put : v.put ≡ by_thread thread puts
   pub taken : v.taken ≡ by_thread thread takes
 
--- All puts in one order are all takes, and behind these the hints that the queue holds, each of which is a station;
+-- All puts in one order are all takes, and after these the hints that the queue holds, each of which is a station;
 -- and each thread has put and taken its own
 pub record Hinted (ring : ℕ) (items : List ℕ) (views : List Hand) : Type 0 where
   pub puts : List Move

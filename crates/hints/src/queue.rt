@@ -52,7 +52,7 @@ impl<J: Ring> Hints<J> {
         }
     }
 
-    /// Puts a hint behind all others. False where it is dropped: the queue was full.
+    /// Puts a hint after all others. False where it is dropped: the queue was full.
     pub fn push<R: Wait>(&self, wait: &R, hinter: &mut Hinter, station: u32) -> bool
         requires of { IsEndOf self.now hinter.old }
         requires station { station < self.now.ring }

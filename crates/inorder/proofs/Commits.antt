@@ -55,7 +55,7 @@ over_ahead P t u ts [] live s = refl
 over_ahead P t u ts (y ∷ ys) live s =
     ahead_if P y (ys ++ u ∷ ts) false (later P t u ts ys y live s.0) ∙ over_ahead P t u ts ys live s.1
 
--- what a retirement begins with: its tenant is live, all are sound, and those behind it leave the state ahead
+-- what a retirement begins with: its tenant is live, all are sound, and those after it leave the state ahead
 pub record IsRetiring (P : Program) (us : List Tenant) (p : ℕ) (t : Tenant) : Type 0 where
   pub live : t.standing ≡ Live
   pub sound : IsSound P (younger us p ++ t ∷ older us p)

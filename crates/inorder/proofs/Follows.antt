@@ -116,7 +116,7 @@ state_of P (t ∷ ts) s = go (completes P t) refl (state_of P ts s.1)
         subst Goal (sym (committed_if P t ts true c)) new
     go false c more = subst Goal (sym (committed_if P t ts false c)) more
 
--- a tenant behind one that retired is settled
+-- a tenant after one that retired is settled
 settled_at : (ts : List Tenant) (p : ℕ) (t : Tenant) → AllByRecursion IsSettled ts → at ts p ≡ Some t →
     IsSettled t
 settled_at [] p t h e = absurd (cc)

@@ -65,7 +65,7 @@ find_oldest (t ∷ ts) = ⊎_elim
     new none Retired e = inl ((λ live. let x = sym e ∙ live in cc x), none)
     new none Squashed e = inl ((λ live. let x = sym e ∙ live in cc x), none)
 
--- It stands behind those that have retired
+-- It stands after those that have retired
 
 -- before the oldest live tenant the path has retired
 path_retired : (ts : List Tenant) → AllByRecursion IsNotLive ts → how_many on_path ts ≡ how_many is_retired ts
@@ -81,7 +81,7 @@ path_retired (t ∷ ts) h = go t.standing refl (path_retired ts h.1)
         ap (λ s. cond (stands_on_path s) (suc (how_many on_path ts)) (how_many on_path ts)) e
         ∙ (r ∙ sym (ap (λ s. cond (stands_retired s) (suc (how_many is_retired ts)) (how_many is_retired ts)) e))
 
--- behind a live one none has retired
+-- after a live one none has retired
 pub none_behind : (t : Tenant) (ts ys : List Tenant) → t.standing ≡ Live → AreSettling (ys ++ t ∷ ts) → how_many is_retired (ys ++ t ∷ ts) ≡ how_many is_retired ts
 none_behind t ts [] live s = ap (λ z. cond (stands_retired z) (suc (how_many is_retired ts)) (how_many is_retired ts)) live
 none_behind t ts (y ∷ ys) live s = go y.standing refl (none_behind t ts ys live s.1)

@@ -59,7 +59,7 @@ older_replaced_after (x ∷ us) r p u le = go (eqb r (length us)) refl (eqb p (l
         ap (λ n. cond (eqb p n) (replaced us r u) (older (replaced us r u) p)) (length_replaced us r u)
         ∙ (ap (λ b. cond b (replaced us r u) (older (replaced us r u) p)) f ∙ (beyond us r u (omega arith) ∙ sym (ap (λ b. cond b us (older us p)) f)))
       where
-        -- behind the end nothing changes
+        -- after the end nothing changes
         beyond : (us : List Tenant) (r : ℕ) (u : Tenant) → length us ≤ r → replaced us r u ≡ us
         beyond [] r u h = refl
         beyond (y ∷ ys) r u h = ap (λ b. cond b (u ∷ ys) (y ∷ replaced ys r u)) (ne_eqb r (length ys) (omega arith)) ∙ ap (λ z. y ∷ z) (beyond ys r u (omega arith))

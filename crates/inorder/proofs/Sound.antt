@@ -52,7 +52,7 @@ abbrev pub FateIs : Program → Tenant → Fate → Type 0
 FateIs P t f =
     FateBy (kind_of P t) (computed P t) t.pc t.predicted t.next t.made t.first.value t.second.value t.standing f
 
--- only a jump goes on elsewhere than behind itself
+-- only a jump goes on elsewhere than after itself
 abbrev pub GoesOn : Kind → ℕ → ℕ → Type 0
 GoesOn Jumps after next = Unit {0}
 GoesOn Links after next = Unit {0}

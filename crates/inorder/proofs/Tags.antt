@@ -36,7 +36,7 @@ tagged_same C t t' ts (y ∷ ys) e f h = (
   tagged_same C t t' ts ys e f h.1,
 )
 
--- A place in the list of all tenants is behind the last renewal or not
+-- A place in the list of all tenants is after the last renewal or not
 
 -- the tenants let before the last renewal
 abbrev pub passed : ℕ → List Tenant → List Tenant

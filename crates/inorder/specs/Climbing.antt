@@ -27,7 +27,7 @@ has_miss (t ∷ ts) = if misses_by t.standing t.fate then true else has_miss ts
 abbrev pub digit_of : Sizes → List Tenant → Tenant → ℕ
 digit_of C ts t = (10 - tenant_work t) * 10 ^ (C.ring - suc (how_many is_live ts))
 
--- The number of the live tenants up to the first miss; those behind it count nothing
+-- The number of the live tenants up to the first miss; those after it count nothing
 abbrev pub height : Sizes → List Tenant → ℕ
 height C [] = 0
 height C (t ∷ ts) =

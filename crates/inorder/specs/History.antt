@@ -1,5 +1,5 @@
 -- Legal histories of a shared unit. A history is a list of entries, the last one first, so that
--- what was there before an entry is what is behind it in the list.
+-- what was there before an entry is what is after it in the list.
 use Rattle.std.specs.Prelude.{⊤, ◌≡◌, ◌⊎◌, ℕ, suc, ◌<◌, ◌≤◌, true, List, [], ◌∷◌, Some, ◌==◌, if◌then◌else◌}
 use Rattle.instructions.specs.Histories.{StartsWith}
 use Rattle.instructions.specs.Programs.{Program}
@@ -122,13 +122,13 @@ abbrev pub MayMark : UpdateUnit → ℕ → Mark → Type 0
 MayMark U by (Walked q) = IsUnitOrBack by × IsWalked U q
 MayMark U by (Asked p k) = (by ≡ front) × WasAskedFor U p k
 
--- An event of a caller is allowed behind this history
+-- An event of a caller is allowed after this history
 abbrev pub MayAdd : Program → Sizes → List Entry → ℕ → Event → Type 0
 MayAdd P C h by (Does s) = IsTheirs C (unit_of P C h) by s × Allowed P C (unit_of P C h) by s
 MayAdd P C h by (Refuses r) = MayRefuse P C h by r
 MayAdd P C h by (Marks m) = MayMark (unit_of P C h) by m
 
--- Each entry was allowed behind those before it
+-- Each entry was allowed after those before it
 abbrev pub IsLegal : Program → Sizes → List Entry → Type 0
 IsLegal P C [] = ⊤
 IsLegal P C (e ∷ h) = IsLegal P C h × MayAdd P C h e.by e.event

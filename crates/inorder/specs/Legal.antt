@@ -22,7 +22,7 @@ May P by Squash ys t ts = MaySquash ys t ts
 May P by Mend ys t ts = MayMend ys t
 May P by (Speculate s) ys t ts = MaySpeculate P s ys t ts
 
--- The tenant t behind an act, with ts before it
+-- The tenant t after an act, with ts before it
 abbrev pub changed : Program → ℕ → Act → Tenant → List Tenant → Tenant
 changed P by (Link k) t ts = linked ts t k
 changed P by (Deliver k) t ts = delivered ts t k

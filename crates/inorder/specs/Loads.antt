@@ -118,7 +118,7 @@ pub record IsAnsweredRight (P : Program) (ts : List Tenant) (p : ℕ) (t : Tenan
     pub blocked : (k : ℕ) → answer (queue_of P ts) (place_of P ts p) ≡ Blocked k →
         WaitsForStore P ts p a (width (instr P t).op) k
 
--- The rule for loads answers each live load with its address behind these steps, if each was allowed
+-- The rule for loads answers each live load with its address after these steps, if each was allowed
 abbrev pub LoadsAreAnswered : Program → Sizes → List Taken → Type 0
 LoadsAreAnswered P C history =
     (p : ℕ) (t : Tenant) (a : ℕ) → AreAllowed P C history →

@@ -28,7 +28,7 @@ stored P t = stored_by (on_path t) (kind_of P t) t.fate (width (instr P t).op) t
 abbrev pub covers : Stored → ℕ → Bool
 covers s x = nat_le s.at x && nat_lt x (s.at + s.width)
 
--- The byte at x behind a store, if there is one, where it was `before`
+-- The byte at x after a store, if there is one, where it was `before`
 abbrev pub byte_after : Option Stored → ℕ → Option ℕ → Option ℕ
 byte_after None x before = before
 byte_after (Some s) x before =
@@ -59,7 +59,7 @@ lacks_address_by st k f = false
 abbrev pub lacks_address : Program → Tenant → Bool
 lacks_address P t = lacks_address_by t.standing (kind_of P t) t.fate
 
--- The byte at x of the last store of the path to it, if its data is there and each live store behind
+-- The byte at x of the last store of the path to it, if its data is there and each live store after
 -- it has its address: none of the stores before can still change it
 abbrev pub sure_byte_at : Program → List Tenant → ℕ → Option ℕ
 sure_byte_at P [] x = Some (slice_index P.bytes x)

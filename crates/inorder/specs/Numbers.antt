@@ -30,7 +30,7 @@ pub record AreWords (t : Tenant) : Type 0 where
   pub made : IfSome t.made IsWord
   pub fate : FateIsWord t.fate
 
--- Each value, address and pc of each tenant is a word behind these steps, if each was allowed, for such
+-- Each value, address and pc of each tenant is a word after these steps, if each was allowed, for such
 -- a program
 abbrev pub ValuesAreWords : Program → Sizes → List Taken → Type 0
 ValuesAreWords P C history =

@@ -1,6 +1,6 @@
 -- The headline of a unit that callers share: all that its callers did and were told is one legal
 -- history. What a call answers is allowed at its point there, by the unit of what stands before;
--- whatever its caller had seen begins what it sees behind the call; and at each point what is
+-- whatever its caller had seen begins what it sees after the call; and at each point what is
 -- committed is the state of the machine in order. The contract of each call of the shared unit
 -- names what it adds; the law `one_legal_history` has what that means.
 use Rattle.std.specs.Prelude.{◌≡◌, ℕ, List, ◌∷◌, ◌++◌, map}

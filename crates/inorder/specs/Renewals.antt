@@ -45,7 +45,7 @@ pub record IsPast (U : UpdateUnit) : Type 0 where
   pub names : (p q : ℕ) (t u : Tenant) → at U.tenants p ≡ Some t → at U.tenants q ≡ Some u →
       is_old U p ≡ false → is_old U q ≡ false → t.station ≡ u.station → t.tag ≡ u.tag → p ≡ q
 
--- Behind a retired stop nothing is renewed
+-- After a retired stop nothing is renewed
 abbrev pub StopIsNotRenewed : Program → Sizes → List Taken → Type 0
 StopIsNotRenewed P C history =
     (by q : ℕ) (t : Tenant) (c : Stop) → at (reached P C history).tenants q ≡ Some t →

@@ -12,7 +12,7 @@ use Rattle.inorder.specs.Steps.{CanRetire, IsNoRetiredStop}
 use Rattle.inorder.specs.Tenants.{IsNotLive, IsThere, Linked, Live, Miss, Open, Retired, Squashed, Stopped, Tenant, is_live, kind_of, missing, needs, operand, operand_value}
 use Rattle.inorder.specs.Unit.{Sizes, UpdateUnit, at, front_pc, how_many, next_tag, older, recent}
 
--- No tenant gets this tag, so that the tag behind each tenant's has its bits too
+-- No tenant gets this tag, so that the tag after each tenant's has its bits too
 abbrev pub last_tag : ℕ
 last_tag = 2 ^ 28 - 1
 

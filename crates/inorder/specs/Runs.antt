@@ -11,7 +11,7 @@ use Rattle.inorder.specs.declared.machine.Stepped.TheVariants.{Ran as HasRan, St
 use Rattle.inorder.specs.declared.machine.Ended.{Ended}
 use Rattle.inorder.specs.declared.machine.Ended.TheVariants.{Stopped as EndedStopped, Limit}
 
--- the state behind a step, unless it stops
+-- the state after a step, unless it stops
 abbrev pub next_state : Ran → Option State
 next_state (Goes s) = Some s
 next_state (Halts c) = None

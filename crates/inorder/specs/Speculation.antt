@@ -65,7 +65,7 @@ MaySpeculate P (Guess v) ys t ts = MayGuess P t v
 MaySpeculate P Confirm ys t ts = MayConfirm P ts t
 MaySpeculate P Flush ys t ts = MayFlush ys t
 
--- The tenant t behind such an act; a flush leaves it as a squash does
+-- The tenant t after such an act; a flush leaves it as a squash does
 abbrev pub speculated : Speculation → Tenant → Tenant
 speculated (Guess v) t = guessed t v
 speculated Confirm t = confirmed t

@@ -143,16 +143,16 @@ computed P t =
     outcome_of (instr P t) t.half t.pc (operand_value t.first) (operand_value t.second)
     (length P.bytes)
 
--- The pc behind a tenant at pc: that of the second half behind a first half
+-- The pc after a tenant at pc: that of the second half after a first half
 abbrev pub behind_by : Bool → ℕ → ℕ
 behind_by true pc = pc
 behind_by false pc = pc_plus_4 pc
 
--- The pc behind it, where it does not jump
+-- The pc after it, where it does not jump
 abbrev pub behind : Program → Tenant → ℕ
 behind P t = behind_by (is_first P t) t.pc
 
--- The next pc of an outcome: that of a branch or jump, and of any other the one behind
+-- The next pc of an outcome: that of a branch or jump, and of any other the one after
 abbrev pub next_by : ℕ → Outcome → ℕ
 next_by after (Next x) = x
 next_by after _ = after

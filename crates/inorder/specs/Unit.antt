@@ -110,7 +110,7 @@ abbrev pub front_pc : List Tenant → ℕ
 front_pc [] = 0x00400000
 front_pc (t ∷ ts) = if on_path t then t.next else front_pc ts
 
--- The half that comes behind a tenant: behind a first half its second
+-- The half that comes after a tenant: after a first half its second
 abbrev pub half_after : Bool → Half
 half_after true = High
 half_after false = Low

@@ -23,21 +23,21 @@ pub record IsMadeByCall (P : Program) (U : UpdateUnit) (q : ℕ) : Type 0 where
   pub kind : kind_of P tenant ≢ Links
   pub fate : (code : Stop) → tenant.fate ≢ Stopped code
 
--- The mark was made behind this point
+-- The mark was made after this point
 pub record IsMarked (h : List Entry) (mark : Mark) : Type 0 where
   pub more : List Entry
   pub by : ℕ
   pub point : List Entry
   pub is : h ≡ more ++ entry by (Marks mark) ∷ point
 
--- The walk along q's links is marked behind the step that made q's value
+-- The walk along q's links is marked after the step that made q's value
 pub record IsWalkedBehind (P : Program) (C : Sizes) (h : List Entry) (q : ℕ) : Type 0 where
   pub mark : IsMarked h (Walked q)
   pub made : IsMadeByCall P (unit_of P C mark.point) q
 
 -- All that can be marked in this history is marked
 pub record AreMarked (P : Program) (C : Sizes) (h : List Entry) : Type 0 where
-  -- each finish or load that made a value has its mark behind it
+  -- each finish or load that made a value has its mark after it
   pub walked : (q : ℕ) → IsMadeByCall P (unit_of P C h) q → IsWalkedBehind P C h q
   -- each source that was let to come from its creator has its mark
   pub asked : (p : ℕ) (t : Tenant) (k : Source) → at (unit_of P C h).tenants p ≡ Some t →

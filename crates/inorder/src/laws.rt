@@ -58,7 +58,7 @@ pub fn what_is_past_is_past()
     ensures { (p : Program) (c : Sizes) (history : List Taken) → PastIsPast p c history }
 {}
 
-/// Behind a stop that has retired nothing is renewed.
+/// After a stop that has retired nothing is renewed.
 pub fn a_retired_stop_is_not_renewed()
     ensures { (p : Program) (c : Sizes) (history : List Taken) → StopIsNotRenewed p c history }
 {}

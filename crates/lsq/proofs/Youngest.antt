@@ -72,7 +72,7 @@ none_at test [] k e n h = absurd (cc h)
 none_at test (x ∷ xs) zero e n h = let same : e ≡ x = cc h in ap test same ∙ n.0
 none_at test (x ∷ xs) (suc k) e n h = none_at test xs k e n.1 h
 
--- behind the youngest that passes none does
+-- after the youngest that passes none does
 pub none_behind : (test : Entry → Bool) (xs ys : List Entry) (e : Entry) (k : ℕ) (other : Entry)
     → NonePasses test ys → length xs < k → slice_get (xs ++ e ∷ ys) k ≡ Some other → test other ≡ false
 none_behind test [] ys e zero other n less h = absurd (omega (arith, less))

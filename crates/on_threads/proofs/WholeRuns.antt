@@ -1,4 +1,4 @@
--- Where a run ends that was seen behind some of its steps.
+-- Where a run ends that was seen after some of its steps.
 use Rattle.std.proofs.Common.{◌≡◌, ◌∙◌, ◌+◌, ◌-◌, ◌<◌, ℕ, zero, suc, sym, ap, refl, arith, Option, Some, None}
 use Rattle.instructions.specs.declared.end.Ending.{Ending}
 use Rattle.instructions.specs.declared.end.Ending.TheVariants.{Limit, Stop as ByStop}

@@ -18,7 +18,7 @@ use Rattle.answers.specs.Answer.{status_number}
 use Rattle.on_threads.specs.declared.went.Went.{Went}
 use Rattle.on_threads.specs.Runs.{written_run}
 
--- a run on several threads that had no turn left: it says limit behind some steps of the machine in order, and
+-- a run on several threads that had no turn left: it says limit after some steps of the machine in order, and
 -- might have made more
 pub record EndedEarly (limit : ℕ) (P : Program) (ending : Ending) (state : State) : Type 0 where
   pub outcome : ending ≡ Limit

@@ -19,7 +19,7 @@ struct Holds {
 }
 
 /// Draws for each job of a unit how many questions that unit is held for, from a stream of its own: results then
-/// come late, behind those of younger tenants, and stale ones for stations that have another tenant by then.
+/// come late, after those of younger tenants, and stale ones for stations that have another tenant by then.
 #[derive(Drop)]
 pub(crate) struct Shaker {
     seed: u64,

@@ -38,7 +38,7 @@ over_is b later c h t e =
     let same : later.committed ≡ committed P n.unit.tenants = n.stands.committed ∙ ap (λ Q. committed Q n.unit.tenants) (ap (λ p. p.now) e.program) in
     ap (λ s. stop P s.count) same ∙ over_stop P (sizes b) h.unit n.unit c h.reached n.reached n.does
 
--- the state behind a turn is that of the machine in order
+-- the state after a turn is that of the machine in order
 state_next : (b later : Pipeline) (answer : Turn) → StandsForSome b → Moves b answer later → SizesStay b later → after b.program.now later.committed.count ≡ Some later.committed
 state_next b later answer h t e = grind (arith, common_steps, in_order, sound_of)
 

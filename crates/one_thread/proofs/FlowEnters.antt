@@ -64,7 +64,7 @@ module _ (b : Pipeline) (flow after : Flow) (predicted : ℕ) (d : Done) (h : Jo
     pub joins_order : in_order again after ≡ in_order again flow
     joins_order = joins_in_order again flow after i c h.operands.b (registers_of (in_order again flow)) have_kept h.joined is_there keeps
 
-    -- a miss, behind which these were let
+    -- a miss, after which these were let
     pub joins_mended : HasGoneAstray again flow predicted → d.next ≢ predicted → Flows again after
     joins_mended a misses =
         let x = in_order before flow in

@@ -158,7 +158,7 @@ module _ (x later : Pipeline) (flow : Flow) (i : Instr) (predicted from : ℕ) (
               two = omega (arith, h.flows.two, ring);
             }
 
-        -- a miss, behind which these were let
+        -- a miss, after which these were let
         pub entered_miss : (behind : List Station) → StandsForSome (filled again (all ++ enters_as flow i predicted ∷ behind)) → d.next ≢ predicted → IsFlow again after
         entered_miss behind unit n =
             let out = outcome_in x flow i o in

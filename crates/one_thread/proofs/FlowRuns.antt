@@ -1,4 +1,4 @@
--- The next instruction of a flow is let, perhaps others behind it, and is run as far as it comes.
+-- The next instruction of a flow is let, perhaps others after it, and is run as far as it comes.
 use Rattle.std.proofs.lemmas.Grind.{common_steps}
 use Rattle.std.proofs.Common.{◌≡◌, ◌<◌, ◌≤◌, ◌^◌, ℕ, ◌+◌, ◌%◌, Bool, true, false, cond, eqb, List, [], ◌∷◌, ◌++◌, length, Option, Some, None, refl, sym, ap, ◌∙◌, subst, arith, eqb-true, length-append}
 use Rattle.std.specs.Prelude.{IfSome, slice_get, slice_index, slice_set}
@@ -64,7 +64,7 @@ module _ (b : Pipeline) (f : Future) (es : List Entry) (next : Fetched) (predict
   abbrev pub last : Station
   last = let_at next.instr next.half next.pc predicted
 
-  -- with these behind it
+  -- with these after it
   abbrev pub let_with : List (Option Leaver) → List Station → Pipeline
   let_with leavers behind = record b { window = b.window ++ last ∷ behind; leavers = leavers }
 
@@ -146,7 +146,7 @@ module _ (b : Pipeline) (f : Future) (es : List Entry) (next : Fetched) (predict
       unit_next before later (Recovered to.i) (ran_behind leavers behind unit) (moves_as before later (Some (ToRecover to.i)) (Recovered to.i) (recovered_turn before later h.goes_on to refl))
       (same_rest before later later.window refl) unit.leavers
 
-  -- where it is a miss, what was let behind it is squashed
+  -- where it is a miss, what was let after it is squashed
 
   away : (x : ℕ) → outcome ≡ Next x → eqb x predicted ≡ false → ran ≡ record last { stage = Miss x }
   away x e q = ap (station_after last) e ∙ ap (λ t. record last { stage = cond t Done (Miss x) }) q

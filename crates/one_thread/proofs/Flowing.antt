@@ -43,7 +43,7 @@ completed_more W w h p k x e = ⊎_elim (λ q. h k x q) (λ q. rw (sym q.1) p) (
 pub completed_less : (w : Station) (W : List Station) → HaveCompleted (w ∷ W) → HaveCompleted W
 completed_less w W h k x e = h (suc k) x e
 
--- The half that comes next, behind a station
+-- The half that comes next, after a station
 
 pub half_end : (low : Option ℕ) (W : List Station) (w : Station) → half_in low (W ++ w ∷ []) ≡ half_after (is_first_half w.instr.op w.half)
 half_end low W w =

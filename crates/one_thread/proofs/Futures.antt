@@ -1,4 +1,4 @@
--- What the next tenant finds: where nobody is live, behind one station more, and where the oldest has left.
+-- What the next tenant finds: where nobody is live, after one station more, and where the oldest has left.
 use Rattle.std.proofs.lemmas.Grind.{common_steps}
 use Rattle.std.proofs.Common.{◌≡◌, ◌≢◌, ◌<◌, ◌≤◌, ℕ, suc, ◌-◌, true, List, [], ◌∷◌, ◌++◌, length, Option, Some, refl}
 use Rattle.std.proofs.Common.{sym, ap, ◌∙◌, arith, eq-eqb, ne_eqb, length-append, length-set, true≢false}
@@ -35,7 +35,7 @@ pub values_set : (registers values : List ℕ) (W : List Station) (w : Station) 
     source_in registers W r ≡ Some (slice_index values r) → source_in registers (W ++ w ∷ []) r ≡ Some (slice_index (slice_set values w.destination v) r)
 values_set registers values W w v r d s m l h = grind (arith, common_steps, get_or-set_other, source_by, register_end, cases_eq, eq-eqb, get_or-set_same, ne_eqb)
 
--- the path goes on behind it
+-- the path goes on after it
 pub path_end : (pc : ℕ) (W : List Station) (w : Station) → next_in pc (W ++ w ∷ []) ≡ w.next
 path_end pc W w = grind (arith, common_steps, length-append W (w ∷ []), get_end W [] w)
 

@@ -1,4 +1,4 @@
--- What was predicted behind a miss is let.
+-- What was predicted after a miss is let.
 use Rattle.std.proofs.lemmas.Grind.{common_steps}
 use Rattle.std.proofs.Common.{◌≡◌, ◌<◌, ◌^◌, ℕ, ◌+◌, ◌%◌, true, List, [], ◌∷◌, ◌++◌, length, Some, None, refl, sym, ap, ◌∙◌, subst, arith, append_assoc, length-append}
 use Rattle.std.specs.Prelude.{IfSome, slice_set}
@@ -51,7 +51,7 @@ goes_astray b flow predicted n half used count half_is uses counts =
       counts = omega (arith, counts, stations_long b.program.now flow.ring.completed, length-append W (w ∷ []));
     }
 
--- and one more is let behind them
+-- and one more is let after them
 pub more_astray : (b later : Pipeline) (W : List Station) (w : Station) (f : Fetched) (used count guess : ℕ) (half : Half) (more : ℕ) → IsAstray b W w f.pc f.half used count →
     b.over ≡ None → count < b.ring →
     instr_at b.program.now f.pc ≡ Some f.instr → (reaches_memory f.instr.op ≡ true → used < b.queue) → guess < 2 ^ 32 → IfSome (fixed_next f.instr f.half f.pc) (λ n. guess ≡ n) →

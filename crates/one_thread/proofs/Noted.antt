@@ -43,4 +43,4 @@ pub noted_more : (missed later : Bool) (n : ℕ) (W : List Station) (w : Station
     AreNoted later n (W ++ w ∷ [])
 noted_more missed later n W w s h = record { no_miss = λ e. let none = h e in none_more W w none.1 (s.no_miss none.0); are_settled = settled_more W n w s.are_settled }
 
--- The oldest miss and all behind it are gone
+-- The oldest miss and all after it are gone

@@ -33,7 +33,7 @@ use Rattle.one_thread.proofs.Windows.{window_if, window_length}
 
 -- Where each station gives something exactly if its tenant passes a test, the lists of steps are the same
 
--- so it is for a tenant behind these
+-- so it is for a tenant after these
 pub record IsAlike {X : Type 0} (give : List Station → Station → Option X) (test : List Tenant → Tenant → Bool) (P : Program) (ts : List Tenant)
     (t : Tenant) : Type 0 where
   pub live : is_live t ≡ true → is_some (give (window P ts) (station_of P t)) ≡ test ts t

@@ -44,7 +44,7 @@ rank_less (suc k) [] w zs [] h l = let m = mul-le-mul_right (7 ^ k) l in omega (
 rank_less (suc k) [] w zs (u ∷ us) h l = let m = mul-le-mul_right (7 ^ k) l in omega (arith, m, rank_bound k zs, suc-mul (digit w.stage) (7 ^ k))
 rank_less (suc k) (x ∷ xs) w zs us h l = let less : length xs < k = omega arith in let more = rank_less k xs w zs us less l in omega (arith, more)
 
--- one station gets a lower digit, whatever stands behind it
+-- one station gets a lower digit, whatever stands after it
 lower : (W W' zs : List Station) (i : ℕ) (w v : Station) → length W ≤ 32 → (p : Place W i w) → W' ≡ p.xs ++ v ∷ zs → suc (digit v.stage) ≤ digit w.stage → rank 32 W' < rank 32 W
 lower W W' zs i w v room p new less =
     let few : length p.xs < 32 = omega (arith, room, ap length p.is, length-append p.xs (w ∷ p.zs)) in

@@ -56,7 +56,7 @@ reopened_accesses : (n : ℕ) (W : List Station) (k : ℕ) → accesses (reopene
 reopened_accesses n W zero = refl
 reopened_accesses n W (suc k) = ap (λ x. x + access_at (slice_get (reopened n W) k)) (reopened_accesses n W k) ∙ ap (λ x. accesses W k + x) (reopened_same access_at (λ w. refl) n W k)
 
--- What can be let can be let behind them
+-- What can be let can be let after them
 
 reopened_lets : (b : Pipeline) (n : ℕ) (f : Fetched) → NextOf b (Some f) → NextOf (with_reopened n b) (Some f)
 reopened_lets b n f h =

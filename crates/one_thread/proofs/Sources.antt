@@ -27,7 +27,7 @@ pub source_passed : (r : ℕ) (v : Option ℕ) (W : List Station) (j : ℕ) (w :
     register_in r v (take j W) ≡ register_in r v (take (j - 1) W)
 source_passed r v W j w h e apart = grind (arith, common_steps, one_back, ne_eqb)
 
--- what a tenant with this register as its destination has made is read behind it
+-- what a tenant with this register as its destination has made is read after it
 pub source_made : (r : ℕ) (v : Option ℕ) (w : Station) → w.destination ≡ r → register_after r v (Some w) ≡ w.made
 source_made r v w same = grind (arith, common_steps, eq-eqb)
 
@@ -35,7 +35,7 @@ behind : (r : ℕ) (v : Option ℕ) (older younger : List Station) → register_
 behind r v [] younger = refl
 behind r v (w ∷ ws) younger = behind r (register_after r v (Some w)) ws younger
 
--- older tenants, and those behind them
+-- older tenants, and those after them
 pub source_behind : (registers : List ℕ) (W older younger : List Station) (r : ℕ) → r ≢ 0 → r < 34 → older ++ younger ≡ W →
     source_in registers W r ≡ register_in r (register_in r (Some (slice_index registers r)) older) younger
 source_behind registers W older younger r n l whole = source_by registers W r n l ∙ sym (ap (register_in r (Some (slice_index registers r))) whole) ∙ behind r (Some (slice_index registers r)) older younger

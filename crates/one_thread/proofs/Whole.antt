@@ -1,4 +1,4 @@
--- What comes behind a first half is its second: an instruction that is no pair finds nothing that waits for LO.
+-- What comes after a first half is its second: an instruction that is no pair finds nothing that waits for LO.
 use Rattle.std.proofs.lemmas.Grind.{common_steps}
 use Rattle.std.proofs.Common.{◌≡◌, ℕ, Bool, true, false, cond, List, [], ◌∷◌, Some, None, refl, sym, ap, ◌∙◌, subst, arith}
 use Rattle.std.specs.Prelude.{slice_get}

@@ -11,7 +11,7 @@ abbrev pub waiting_half : Option ℕ → Half
 waiting_half None = Low
 waiting_half (Some v) = High
 
--- What waits behind a tenant, by whether it commits, whether it is a first half, what it made, and
+-- What waits after a tenant, by whether it commits, whether it is a first half, what it made, and
 -- what waits before it
 abbrev pub low_after : Bool → Bool → Option ℕ → Option ℕ → Option ℕ
 low_after false first made before = before

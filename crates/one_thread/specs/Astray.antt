@@ -1,4 +1,4 @@
--- A miss in a flow, and the path that was predicted behind it.
+-- A miss in a flow, and the path that was predicted after it.
 use Rattle.std.specs.Prelude.{◌≡◌, ◌≢◌, ◌<◌, ◌^◌, ℕ, List, ◌∷◌, ◌++◌, length, Some, IfSome, slice_index}
 use Rattle.instructions.specs.Instruction.{first_of, fixed_next, second_of}
 use Rattle.instructions.specs.Programs.{instr_at}
@@ -13,7 +13,7 @@ use Rattle.one_thread.specs.declared.flow.Flow.{Flow}
 use Rattle.one_thread.specs.declared.pipeline.Pipeline.{Pipeline}
 use Rattle.one_thread.specs.declared.station.Station.{Station}
 
--- The next instruction can enter, and this is predicted behind it
+-- The next instruction can enter, and this is predicted after it
 pub record IsUpcoming (b : Pipeline) (flow : Flow) (predicted : ℕ) : Type 0 where
   pub placed : IsPlaced b flow
   pub instr : Instr
@@ -49,7 +49,7 @@ pub record IsAstray (b : Pipeline) (W : List Station) (w : Station) (pc : ℕ) (
   pub uses : used ≡ accesses all (length all)
   pub counts : count ≡ length all
 
--- The next instruction was let, and some behind it
+-- The next instruction was let, and some after it
 pub record HasGoneAstray (b : Pipeline) (flow : Flow) (predicted : ℕ) : Type 0 where
   pub instr : Instr
   pub is : instr_at b.program.now flow.future.pc ≡ Some instr

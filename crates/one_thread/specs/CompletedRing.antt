@@ -78,7 +78,7 @@ abbrev pub store_with : Station → ℕ → Option Entry
 store_with w content =
     if is_stored w then Some (access_entry w.instr.op (address_of w.stage) (Some content)) else None
 
--- The entries behind the oldest station, where that has left
+-- The entries after the oldest station, where that has left
 abbrev pub stores_behind : Station → List Entry → List Entry
 stores_behind w es = if is_stored w then drop 1 es else es
 

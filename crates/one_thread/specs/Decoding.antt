@@ -48,7 +48,7 @@ decode i =
       leaves = leaves_by (goes_of i.op) (kind i.op);
     }
 
--- The path goes on behind an instruction of this kind, if that is no jump
+-- The path goes on after an instruction of this kind, if that is no jump
 abbrev pub GoesAhead : Kind → Instr → Type 0
 GoesAhead Jumps i = ⊤
 GoesAhead Links i = ⊤
@@ -70,7 +70,7 @@ pub record IsDecoded (code : List Instr) (P : Program) : Type 0 where
   pub is : code ≡ P.code
   pub few : length code ≤ 16384
 
--- Where the instruction of an address stands among them: one that is no multiple of 4 comes far behind the last
+-- Where the instruction of an address stands among them: one that is no multiple of 4 comes far after the last
 abbrev pub text_index : ℕ → ℕ
 text_index pc = rotate_right w32 ((pc + 4290772992) % 4294967296) 2
 

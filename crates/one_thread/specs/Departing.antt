@@ -20,12 +20,12 @@ abbrev pub committed_by : Bool → Station → Option ℕ → State → State
 committed_by true w low s = s
 committed_by false w low s = with_station w (ahead_by low s)
 
--- What waits for LO behind it
+-- What waits for LO after it
 abbrev pub low_by : Bool → Station → Option ℕ
 low_by true w = Some (unwrap_or w.made 0)
 low_by false w = None
 
--- The memory behind a station that has kept this
+-- The memory after a station that has kept this
 abbrev pub memory_kept : Op → Stage → ℕ → List ℕ → List ℕ
 memory_kept op (Addr a) kept memory = store_bytes memory a (width op) kept
 memory_kept op _ kept memory = memory
@@ -36,7 +36,7 @@ passed_by true w kept s = s
 passed_by false w kept s =
     record s { memory = memory_kept w.instr.op w.stage kept s.memory; pc = w.next; count = suc s.count }
 
--- What LO holds behind it while a value waits: what a first half has kept
+-- What LO holds after it while a value waits: what a first half has kept
 abbrev pub held_by : Bool → ℕ → ℕ → ℕ
 held_by true kept held = kept
 held_by false kept held = held

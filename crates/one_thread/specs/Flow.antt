@@ -36,7 +36,7 @@ use Rattle.one_thread.specs.declared.pipeline.Pipeline.{Pipeline}
 use Rattle.one_thread.specs.declared.station.Stage.TheVariants.{Done as IsDone, Stops}
 use Rattle.one_thread.specs.declared.station.Station.{Station}
 
--- What a load of an address gets behind these stores, if none blocks it
+-- What a load of an address gets after these stores, if none blocks it
 abbrev pub loaded_behind : Kind → List Entry → List ℕ → Op → ℕ → Option ℕ
 loaded_behind LoadKind es memory op a = value_by (answer_over es a (width op)) memory op a
 loaded_behind _ es memory op a = None
@@ -217,7 +217,7 @@ pub record CanRestore (b : Pipeline) (flow : Flow) (n : ℕ) : Type 0 where
   pub all : length flow.future.values ≡ 34
   pub room : (w : Station) → flow.last ≡ Some w → length flow.ring.completed < 32
 
--- An instruction has entered and has completed, behind which all but the oldest n can also be taken to be let alone
+-- An instruction has entered and has completed, after which all but the oldest n can also be taken to be let alone
 pub record HasCompletedIn (b : Pipeline) (flow after : Flow) (n : ℕ) : Type 0 where
   pub flows : Flows b after
   pub reopens : Reopens (in_order b after) after n

@@ -2,7 +2,7 @@
 use Rattle.std.specs.Prelude.{◌≡◌, ◌<◌, ℕ, Bool, true, false, List, length, take, Option, Some, None, slice_get}
 use Rattle.one_thread.specs.declared.station.Station.{Station}
 
--- What a station gives behind the first i of a list
+-- What a station gives after the first i of a list
 abbrev pub given_at : {X : Type 0} → (List Station → Station → Option X) → List Station → Option Station → ℕ →
     Option X
 given_at give W None i = None

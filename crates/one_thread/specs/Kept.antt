@@ -66,7 +66,7 @@ pub record HasKept (i : Instr) (c : Completed) (registers : List ℕ) : Type 0 w
   pub kept : c.kept ≡ kept_of i c.half registers
   pub leaves : LeavesAs c.leaves i
 
--- The registers behind a completed instruction
+-- The registers after a completed instruction
 abbrev pub registers_with : Program → Completed → List ℕ → List ℕ
 registers_with P c registers = write registers (station_in P c).destination c.value
 

@@ -28,13 +28,13 @@ abbrev pub OldestHasEnded : ℕ → Option Station → Type 0
 OldestHasEnded size None = ⊤
 OldestHasEnded size (Some w) = HasEnded size w.instr w.stage
 
--- The memory behind a station: a store writes its data
+-- The memory after a station: a store writes its data
 abbrev pub memory_with : Instr → Stage → List ℕ → List ℕ → List ℕ
 memory_with i (Addr a) registers memory =
     store_bytes memory a (width i.op) (unwrap_or (source_in registers [] (second_of i)) 0)
 memory_with i _ registers memory = memory
 
--- The committed state behind a station
+-- The committed state after a station
 abbrev pub with_station : Station → State → State
 with_station w s =
     record {
@@ -52,20 +52,20 @@ shifted b =
       oldest = (b.oldest + 1) % b.ring;
     }
 
--- The fields behind a stop that retires
+-- The fields after a stop that retires
 abbrev pub ended : Pipeline → Stop → Pipeline
 ended b c = record (shifted b) { over = Some c }
 
--- Who has left each station, behind one that retires from the oldest
+-- Who has left each station, after one that retires from the oldest
 abbrev pub leavers_with : Pipeline → Station → List (Option Leaver)
 leavers_with b w = slice_set b.leavers b.oldest (told_at w)
 
--- The fields behind a first half that retires: what it made waits
+-- The fields after a first half that retires: what it made waits
 abbrev pub halved : Pipeline → Station → Pipeline
 halved b w =
     record (shifted b) { leavers = leavers_with b w; low = Some (unwrap_or w.made 0) }
 
--- The fields behind any other station that retires: what waited is committed with it
+-- The fields after any other station that retires: what waited is committed with it
 abbrev pub left : Pipeline → Station → Pipeline
 left b w =
     record (shifted b) {

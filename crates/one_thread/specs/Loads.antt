@@ -21,7 +21,7 @@ abbrev pub address_of : Stage → Option ℕ
 address_of (Addr a) = Some a
 address_of _ = None
 
--- What the queue holds of a memory instruction behind these stations
+-- What the queue holds of a memory instruction after these stations
 abbrev pub entry_behind : List ℕ → List Station → Station → Entry
 entry_behind registers ws w =
     access_entry w.instr.op (address_of w.stage)
@@ -62,7 +62,7 @@ abbrev pub loaded_over : List Entry → List ℕ → Op → Option ℕ → Optio
 loaded_over es memory op None = None
 loaded_over es memory op (Some a) = value_by (answer_over es a (width op)) memory op a
 
--- The value of a load behind these stations, if it is one with its address that is not blocked
+-- The value of a load after these stations, if it is one with its address that is not blocked
 abbrev pub load_in : List ℕ → List ℕ → List Station → Station → Option ℕ
 load_in registers memory ws w = loaded_over (entries registers ws (length ws)) memory w.instr.op (waits w)
 

@@ -121,7 +121,7 @@ pub data EndsHere (P : Program) (C : Sizes) (U V : UpdateUnit) (c : Stop) : Type
   Now : Retires P C U V → HasStopped V.tenants c → EndsHere P C U V c
   Nowhere : c ≡ BadPc → IsNowhere P U → V ≡ U → EndsHere P C U V c
 
--- What each answer of a turn says of the unit before it and behind it
+-- What each answer of a turn says of the unit before it and after it
 abbrev pub Does : Program → Sizes → UpdateUnit → UpdateUnit → Turn → Type 0
 Does P C U V (Recovered age) = Recovers P C age U V
 Does P C U V Let = Lets P C U V

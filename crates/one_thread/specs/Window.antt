@@ -47,17 +47,17 @@ abbrev pub window : Program → List Tenant → List Station
 window P [] = []
 window P (t ∷ ts) = if is_live t then window P ts ++ station_of P t ∷ [] else window P ts
 
--- What register r holds behind a station, where it held v before it; none while its writer has made nothing
+-- What register r holds after a station, where it held v before it; none while its writer has made nothing
 abbrev pub register_after : ℕ → Option ℕ → Option Station → Option ℕ
 register_after r v None = v
 register_after r v (Some w) = if w.destination == r then w.made else v
 
--- What register r holds behind several stations, the oldest first
+-- What register r holds after several stations, the oldest first
 abbrev pub register_in : ℕ → Option ℕ → List Station → Option ℕ
 register_in r v [] = v
 register_in r v (w ∷ ws) = register_in r (register_after r v (Some w)) ws
 
--- What an instruction behind these stations reads from register r
+-- What an instruction after these stations reads from register r
 abbrev pub source_in : List ℕ → List Station → ℕ → Option ℕ
 source_in registers ws r =
     if can_be_written r then register_in r (Some (slice_index registers r)) ws else Some 0
@@ -73,7 +73,7 @@ abbrev pub where_open : Stage → Option Operands → Option Operands
 where_open Open o = o
 where_open _ o = None
 
--- The sources of a station behind these, if it can be claimed
+-- The sources of a station after these, if it can be claimed
 abbrev pub operands_in : List ℕ → List Station → Station → Option Operands
 operands_in registers ws w =
     where_open w.stage
@@ -125,7 +125,7 @@ let_at i half pc predicted =
       stage = Open;
     }
 
--- Where the path goes on behind the youngest station, or at a pc where there is none
+-- Where the path goes on after the youngest station, or at a pc where there is none
 abbrev pub next_after : ℕ → Option Station → ℕ
 next_after pc None = pc
 next_after pc (Some w) = w.next
@@ -134,7 +134,7 @@ next_after pc (Some w) = w.next
 abbrev pub next_in : ℕ → List Station → ℕ
 next_in pc ws = next_after pc (slice_get ws (length ws - 1))
 
--- The half that comes behind the youngest station: behind a first half its second. Where there is
+-- The half that comes after the youngest station: after a first half its second. Where there is
 -- none, it is the second if a first half waits for it
 abbrev pub half_behind : Option ℕ → Option Station → Half
 half_behind low None = waiting_half low

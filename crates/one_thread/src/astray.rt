@@ -1,4 +1,4 @@
-//! A miss in a flow: what was predicted is let behind it and squashed, and it is mended.
+//! A miss in a flow: what was predicted is let after it and squashed, and it is mended.
 ghost use Rattle.std.specs.Prelude.{◌≡◌, ◌≢◌, ◌-◌, suc, length, slice_get, Some};
 ghost use Rattle.one_thread.specs.Astray.{HasGoneAstray, AwaitsMending, IsUpcoming};
 ghost use Rattle.one_thread.specs.Flow.{Flows, in_order};
@@ -14,7 +14,7 @@ use inorder::wrapped;
 use instructions::Predictor;
 
 impl<'a> Pipeline<'a> {
-    // Lets what is predicted behind the next instruction, as long as anything can be let. None of it is claimed before the
+    // Lets what is predicted after the next instruction, as long as anything can be let. None of it is claimed before the
     // next instruction has squashed it, so a predictor alone notices it: it is told who has left each station, and asked.
     fn lets_astray<P: Predictor>(&mut self, predictor: &mut P, flow: &Flow, predicted: u32)
         requires { IsUpcoming self.old flow.now predicted }
@@ -40,7 +40,7 @@ impl<'a> Pipeline<'a> {
         }
     }
 
-    /// The next instruction was let and is a miss: it completes and is mended, once what was predicted behind it was let
+    /// The next instruction was let and is a miss: it completes and is mended, once what was predicted after it was let
     /// and squashed.
     #[cold]
     #[inline(never)]

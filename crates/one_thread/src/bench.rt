@@ -99,7 +99,7 @@ impl<'a, P: Predictor + Drop> Bench<'a, P> {
         self.pipeline.window.len()
     }
 
-    /// A live tenant by its age, the oldest at 0; nothing behind the youngest.
+    /// A live tenant by its age, the oldest at 0; nothing after the youngest.
     pub fn tenant(&self, age: usize) -> Option<Station>
         ensures { result ≡ slice_get self.now.pipeline.window age }
     {

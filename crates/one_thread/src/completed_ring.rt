@@ -34,7 +34,7 @@ pub struct CompletedRing {
     // the station of the oldest
     oldest: usize,
     len: usize,
-    // the entries of its stores, behind some that have left
+    // the entries of its stores, after some that have left
     stores: ArrayVec<Entry, 32>,
     // how many of them have left
     past: usize,

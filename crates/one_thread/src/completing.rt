@@ -25,7 +25,7 @@ pub struct Done {
 }
 
 impl<'a> Pipeline<'a> {
-    // The value of a load of an address behind these stores, unless one blocks it.
+    // The value of a load of an address after these stores, unless one blocks it.
     #[inline(always)]
     fn value_behind(&self, stores: &[Entry], op: Op, address: u32) -> Option<u32>
         requires inside { address + width_in op ≤ length self.now.committed.memory }

@@ -100,7 +100,7 @@ impl Decoded {
         self.kind
     }
 
-    /// The operation computes one value, and the path goes on behind it.
+    /// The operation computes one value, and the path goes on after it.
     #[inline(always)]
     pub(crate) fn is_plain(&self) -> bool
         ensures computes { IsTrue result → kind_of self.now.op ≡ Computes }
@@ -179,7 +179,7 @@ impl Decoded {
         self.is_pair() && half == Half::Low
     }
 
-    /// The half that comes behind one: behind a first half its second.
+    /// The half that comes after one: after a first half its second.
     pub(crate) fn half_behind(&self, half: Half) -> Half
         ensures { result ≡ half_after (first_half self.now.op half) }
     {
@@ -212,7 +212,7 @@ impl Decoded {
         }
     }
 
-    /// The pc behind a half, unless a predictor is asked for it.
+    /// The pc after a half, unless a predictor is asked for it.
     pub(crate) fn fixed_next(&self, half: Half, pc: u32) -> Option<u32>
         ensures { result ≡ fixed_next_of self.now half pc }
     {

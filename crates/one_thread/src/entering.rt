@@ -13,7 +13,7 @@ use crate::pipeline::Pipeline;
 use crate::station::Station;
 use instructions::{Half, Kind, Leaver, Predictor};
 
-// How many have completed for good once one more has: all behind a miss, else those that had before.
+// How many have completed for good once one more has: all after a miss, else those that had before.
 #[inline(always)]
 fn closed(flow: &Flow, predicted: u32, next: u32, from: usize) -> usize
     ensures { (next ≡ predicted) × (result ≡ from) ⊎ (result ≡ length flow.now.ring.completed) }
@@ -38,7 +38,7 @@ impl<'a> Pipeline<'a> {
         flow.last = Some(station);
     }
 
-    // The next instruction is let alone, and fills the ring: nothing is let behind it.
+    // The next instruction is let alone, and fills the ring: nothing is let after it.
     #[inline(always)]
     fn is_alone(&self, flow: &Flow, from: usize) -> bool {
         flow.ring.len() == from && from + 1 == self.ring

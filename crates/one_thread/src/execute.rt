@@ -26,7 +26,7 @@ pub struct Ready {
     pub operands: Operands,
 }
 
-// What a station needs, if it can be claimed behind the first `i`.
+// What a station needs, if it can be claimed after the first `i`.
 #[inline(always)]
 fn sources(window: &Window, ahead: &Ahead, i: usize, station: &Station) -> Option<Operands>
     requires there { i < length window.now }

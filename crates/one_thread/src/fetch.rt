@@ -18,7 +18,7 @@ pub fn decode_all(alloc: Global, program: &Program) -> Result<Vec<Decoded>, Memo
     Ok(code)
 }
 
-// Where the instruction of an address stands. An address that is no multiple of 4 comes far behind the last.
+// Where the instruction of an address stands. An address that is no multiple of 4 comes far after the last.
 #[inline(always)]
 fn index_of(pc: u32) -> usize
     ensures { result ≡ text_index pc }

@@ -86,7 +86,7 @@ impl Flow {
         }
     }
 
-    // The half behind this one of an instruction; where it is known what the instruction does, it is no half.
+    // The half after this one of an instruction; where it is known what the instruction does, it is no half.
     #[inline(always)]
     fn half_behind(&self, instr: &Decoded, known: Option<Kind>, half: Half) -> Half
         requires kind { KnownAs known instr.now }

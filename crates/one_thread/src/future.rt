@@ -9,7 +9,7 @@ use crate::decoded::Decoded;
 use crate::execute::Operands;
 use instructions::Reg;
 
-/// What each register holds behind the live tenants, and where the path goes on. The values are the future file of
+/// What each register holds after the live tenants, and where the path goes on. The values are the future file of
 /// Smith and Pleszkun.
 #[derive(Clone, Copy)]
 pub struct Future {
@@ -32,7 +32,7 @@ impl Future {
         }
     }
 
-    /// Moves on behind a station that writes this value to a register, if that is not register 0, and goes on at `next`.
+    /// Moves on after a station that writes this value to a register, if that is not register 0, and goes on at `next`.
     #[inline(always)]
     pub fn follows(&mut self, destination: Reg, value: u32, next: u32)
         requires { length self.old.values ≡ 34 }

@@ -9,9 +9,9 @@ use instructions::{Kind, Op};
 /// Where an operation goes on.
 #[derive(Clone, Copy)]
 pub enum Goes {
-    /// One value is computed, and the path goes on behind: nothing else is to be looked at.
+    /// One value is computed, and the path goes on after it: nothing else is to be looked at.
     Plain,
-    /// A load or store, behind which the path goes on.
+    /// A load or store, after which the path goes on.
     Behind,
     /// The instruction names where it goes on: `j` and `jal`.
     To,

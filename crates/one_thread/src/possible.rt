@@ -20,7 +20,7 @@ use instructions::Predictor;
 /// A step that is possible, with what it takes to make it.
 #[derive(Clone, Copy)]
 pub enum Step {
-    /// All tenants behind the oldest miss are squashed, and it is mended.
+    /// All tenants after the oldest miss are squashed, and it is mended.
     Recover(Missed),
     /// The next instruction is let.
     Let(Fetched),

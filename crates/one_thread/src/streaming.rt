@@ -3,9 +3,9 @@
 //!
 //! Nearly always one station is free, so that one instruction more fills the ring. That is the only one that can be
 //! claimed, and its outcome stands before anything else is let: a miss squashes nobody and is mended in place, and
-//! the oldest tenant retires. Where more can be let before any is claimed, each runs as it is let, and behind a miss the
+//! the oldest tenant retires. Where more can be let before any is claimed, each runs as it is let, and after a miss the
 //! predicted path is let as far as it goes, and squashed. Should one of them not complete then, or be a miss that may
-//! wait for a load, all of these are again as they were let. So what stands in the stations behind each retirement, and
+//! wait for a load, all of these are again as they were let. So what stands in the stations after each retirement, and
 //! what a predictor is asked and told, is meant to be the same as if all turns were made one by one, in their order;
 //! the contracts promise a unit that legal steps reach, and the end of the run.
 ghost use Rattle.std.specs.Prelude.{◌≡◌, ◌<◌, ◌≤◌, length, slice_get, is_some, true, IfSome, None, Some};
@@ -131,7 +131,7 @@ impl<'a> Pipeline<'a> {
         }
     }
 
-    // The station at `i`, as it was let, if it is behind those that have completed for good.
+    // The station at `i`, as it was let, if it is after those that have completed for good.
     fn station_at_exit(&self, flow: &Flow, from: usize, i: usize) -> Station
         requires code { IsDecoded self.now.code.items self.now.program.now }
         requires there { AreThere self.now.program.now flow.now.ring.completed }

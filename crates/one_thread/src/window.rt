@@ -137,7 +137,7 @@ impl Window {
         self.stations.get(i)
     }
 
-    /// The first `i` tenants: those that came first, and those behind them.
+    /// The first `i` tenants: those that came first, and those after them.
     #[inline(always)]
     pub fn before(&self, i: usize) -> (&[Station], &[Station])
         requires { i ≤ length self.now }
@@ -205,7 +205,7 @@ impl Window {
         self.settle();
     }
 
-    /// All tenants behind the oldest miss leave, and it goes on where it has to.
+    /// All tenants after the oldest miss leave, and it goes on where it has to.
     pub fn recover(&mut self, miss: Missed)
         requires { FirstMiss self.old (Some miss) }
         ensures { RecoversTo self.old self.new }
@@ -223,7 +223,7 @@ impl Window {
         });
     }
 
-    /// A tenant joins behind the youngest.
+    /// A tenant joins after the youngest.
     pub fn join(&mut self, station: Station)
         requires { length self.old < 32 }
         ensures { self.new ≡ self.old ++ station ∷ [] }

@@ -21,7 +21,7 @@ pub record Enters (core : TheCore) (departed : TheCore) (seen : List Entry) (sea
   pub core_is : seat.core ≡ core
   pub may : FrontMayEnter departed seen seat
 
--- The front begins at this core: with a seat that has let nothing, or behind a renewal
+-- The front begins at this core: with a seat that has let nothing, or after a renewal
 abbrev pub Begins : {S : Type 0} → TheCore → Begin S → Caller → Type 0
 Begins core (Fresh predictor) seat = IsUnused core seat
 Begins core (Again still) seat = Enters core still.core still.seen seat
@@ -49,7 +49,7 @@ pub record HasDeparted {S : Type 0} (core : TheCore) (seat : Caller) (still : Th
   pub still_core : still.core ≡ core
   pub still_seen : still.seen ≡ seat.seen
 
--- The front begins again behind its departure from this core
+-- The front begins again after its departure from this core
 abbrev pub FrontBeginsAgain : {S : Type 0} → TheCore → Caller → Begin S → Type 0
 FrontBeginsAgain core seat (Fresh predictor) = ⊥
 FrontBeginsAgain core seat (Again still) = HasDeparted core seat still

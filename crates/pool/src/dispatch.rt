@@ -149,7 +149,7 @@ fn take_turns<K: Bounds + Ring, P: Predictor + Drop, G, R: Wait>(
 }
 
 /// Lets instructions out, and recovers from misses. Where the tags of a station are spent and nobody is live, the term
-/// is over, and the front leaves the core, behind one turn at least.
+/// is over, and the front leaves the core, after one turn at least.
 pub(crate) fn dispatch<K: Bounds + Ring, P: Predictor + Drop, G, R: Wait>(
     shared: &TermShared<'_, K, G, R>,
     dispatcher: Dispatcher<P>,

@@ -35,7 +35,7 @@ fn let_first(core: &Core, seat: &mut FrontSeat, predicted: u32) -> u32
 
 const FIVE: &[u8] = b"addiu $1,$0,5\nbreak\n";
 
-// Two units try the tenant of station 0, the second one behind the first: what came of it, and whom each has woken.
+// Two units try the tenant of station 0, the second one after the first: what came of it, and whom each has woken.
 fn tried_twice(
     core: &Core,
     program: &Program,
@@ -59,7 +59,7 @@ fn tried_twice(
     (finished, again, (one.woken(), other.woken()))
 }
 
-// Whether the tenant of station 0 retires with the value 5, and nobody behind it.
+// Whether the tenant of station 0 retires with the value 5, and nobody after it.
 fn retires_five(core: &Core, back: &mut BackSeat) -> bool
     requires { back.old.core ≡ core.now }
 {

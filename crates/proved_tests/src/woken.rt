@@ -11,7 +11,7 @@ use std::process::Abort;
 use std::sync::Wait;
 use std::test::Fail;
 
-/// Of whom the back and the unit say that they have woken them: the back before its load and behind it, the unit behind
+/// Of whom the back and the unit say that they have woken them: the back before its load and after it, the unit after
 /// the job that the load has woken, and the back where it is idle again.
 type Woken = ((u32, Refresh), (u32, u32), (Refresh, u32));
 

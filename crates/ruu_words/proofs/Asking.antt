@@ -102,7 +102,7 @@ value_there ts First t = refl
 value_there ts Second t = refl
 
 module _ (P : Program) (C : Sizes) where
-  -- a plan with a mark behind its events
+  -- a plan with a mark after its events
   pub and_marks : (id : ℕ) (h : List Entry) (d : Draft) (x : Place) (new : ℕ) (Kind Kind' : List Entry → Draft → List Event → Type 0) (mark : Mark) (p : Plan P C id h d x new Kind)
       → MayMark (unit_of P C (map (entry id) p.events ++ h)) id mark → Kind' h p.draft (Marks mark ∷ p.events) → Plan P C id h d x new Kind'
   and_marks id h d x new Kind Kind' mark p may kind = record {

@@ -98,7 +98,7 @@ module _ (P : Program) (C : Sizes) where
         go true e = mid (eqb n.station s) refl e
         go false e = e
 
-    -- so the new word of the operand is there behind the tenant in progress too
+    -- so the new word of the operand is there after the tenant in progress too
     behind_draft : (V : UpdateUnit) (d : Draft) (k : Source) (new : ℕ) → SameDraft P C U V d → last_of (recent (operand_unit P C U d k)) s ≡ Some t → IsOperand (operand_word (recent V) s k) new →
         IsOperand (operand_word (recent (operand_unit P C V d k)) s k) new
     behind_draft V Nothing k new same e w = w
@@ -156,7 +156,7 @@ module _ (P : Program) (C : Sizes) where
       go Retired e = inr (λ live. let x = sym e ∙ live in cc x)
       go Squashed e = inr (λ live. let x = sym e ∙ live in cc x)
 
-  -- A delivery that finds the word of the operand that waits: `more` are events that it adds behind itself
+  -- A delivery that finds the word of the operand that waits: `more` are events that it adds after itself
   module _ (id : ℕ) (h : List Entry) (d : Draft) (legal : IsLegal P C h) (draft : IsDraft P C (unit_of P C h) d) (s : ℕ) (k : Source) (g val old n new r q : ℕ)
       (old_is : IsOperandOf (record { tag = g; value = None }) old) (new_is : IsOperandOf (record { tag = g; value = Some val }) new)
       (i : IsTenant (unit_of P C h) r s g (HasLink k q)) (made : HasMade (unit_of P C h) q val) (hit : n ≡ old)

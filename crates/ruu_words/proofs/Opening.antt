@@ -1,4 +1,4 @@
--- The words at the start, and behind a renewal, and the rule then. A table opens with no history, or with that of
+-- The words at the start, and after a renewal, and the rule then. A table opens with no history, or with that of
 -- a seat of another table and a renewal.
 use Rattle.std.proofs.Common.{◌≡◌, ℕ, zero, suc, ◌+◌, List, [], ◌∷◌, slice_index, Some, refl, sym, ap, ◌∙◌, subst, inl, arith}
 use mathlib.Core.Option.{some, some-injective, some-ne-none}

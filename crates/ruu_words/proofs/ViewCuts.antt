@@ -52,7 +52,7 @@ pub record IsCut (v l r : View) : Type 0 where
   pub given : IsAlive r.role → (n : ℕ) → IsOf r n → IsSpare v.spare n
   pub apart : IsAlive r.role → (n : ℕ) → IsOf l n → ¬ IsOf r n
 
--- Whose a seat is behind a cut
+-- Whose a seat is after a cut
 data Where (views : List View) (id : ℕ) (l r : View) (i : ℕ) (a : View) : Type 0 where
   IsLeft : i ≡ id → l ≡ a → Where views id l r i a
   IsElse : i ≢ id → get_elem? views i ≡ some a → Where views id l r i a

@@ -16,7 +16,7 @@ use Rattle.ruu_words.specs.Rule.{IsKept, Keeps}
 use Rattle.ruu_words.proofs.SpareNumbers.{no_spare}
 use Rattle.ruu_words.proofs.ViewCuts.{starts_empty, with_views}
 
--- Behind a joining, a seat that is not spent was there before, with the same numbers
+-- After a joining, a seat that is not spent was there before, with the same numbers
 record WasAt (views : List View) (i : ℕ) (u : View) : Type 0 where
   pub before : View
   pub is : get_elem? views i ≡ some before

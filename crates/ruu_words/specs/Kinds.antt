@@ -1,4 +1,4 @@
--- What each kind of step tells: of the history before it, of the let in progress behind it, and of
+-- What each kind of step tells: of the history before it, of the let in progress after it, and of
 -- the events that it adds.
 use Rattle.std.specs.Prelude.{⊤, ◌≡◌, ◌≢◌, ◌⊎◌, ℕ, Bool, false, List, [], ◌∷◌, Some, None, ◌==◌, if◌then◌else◌}
 use Rattle.instructions.specs.Programs.{Program}

@@ -68,7 +68,7 @@ pub record PlacesAreApart (n : ℕ) : Type 0 where
   pub others : (words : List ℕ) (x y : Place) (v : ℕ) → IsPlace n x → IsPlace n y → x ≢ y →
       slice_index (slice_set words (index n x) v) (index n y) ≡ slice_index words (index n y)
 
--- Where a renewal is allowed, each word behind it is that of a first table
+-- Where a renewal is allowed, each word after it is that of a first table
 abbrev pub RenewedWordsAreFirst : Type 0
 RenewedWordsAreFirst =
     (P : Program) (C : Sizes) (seen : List Entry) (words : List ℕ) →
@@ -76,7 +76,7 @@ RenewedWordsAreFirst =
     Content P C (unit_of P C (renewed seen)) Nothing x
     (slice_index words (index C.ring x))
 
--- A table may go on from what a seat of another one has seen, where a renewal is allowed behind that
+-- A table may go on from what a seat of another one has seen, where a renewal is allowed after that
 abbrev pub TablesGoOn : Type 0
 TablesGoOn =
     (c : Setup) (v : View) → c.opening.views ≡ v ∷ [] → IsLegal c.program (sizes_of c) v.seen →

@@ -16,11 +16,11 @@ sizes_of c = record { ring = c.ring; queue = c.queue; first_tag = c.first_tag }
 
 -- The history that a table opens with: that of the seat it goes on from and a renewal, or none
 
--- A history, with a renewal behind it
+-- A history, with a renewal after it
 abbrev pub renewed : List Entry → List Entry
 renewed h = entry front (Does Renew) ∷ h
 
--- What the seat has seen whose view this is, if there is one, with a renewal behind it
+-- What the seat has seen whose view this is, if there is one, with a renewal after it
 abbrev pub renewed_of : List View → List Entry
 renewed_of [] = []
 renewed_of (v ∷ vs) = renewed v.seen

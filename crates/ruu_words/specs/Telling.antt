@@ -12,7 +12,7 @@ use Rattle.ruu_words.specs.declared.rule.View.{View}
 use Rattle.ruu_words.specs.Views.{Unborn}
 
 -- What a step tells: its caller has seen the history before the step, with no renewal, added these
--- events, and `Kind` says which, for the history before them and the let in progress behind them
+-- events, and `Kind` says which, for the history before them and the let in progress after them
 pub record Grows (P : Program) (C : Sizes) (by : ℕ) (v w : View)
     (Kind : List Entry → Draft → List Event → Type 0) : Type 0 where
   pub between : List Entry

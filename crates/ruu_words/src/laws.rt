@@ -15,12 +15,12 @@ pub fn places_are_apart()
     ensures { (stations : ℕ) → PlacesAreApart stations }
 {}
 
-/// Behind a renewal the words are those of a first table.
+/// After a renewal the words are those of a first table.
 pub fn a_new_table_has_first_words()
     ensures { RenewedWordsAreFirst }
 {}
 
-/// A table may open with the history that a seat of another table has seen, and a renewal behind it,
+/// A table may open with the history that a seat of another table has seen, and a renewal after it,
 /// where in that history nobody is live and no stop has retired.
 pub fn a_table_goes_on()
     ensures { TablesGoOn }

@@ -28,7 +28,7 @@ use Rattle.station.proofs.Splitting.{LastEvent, last_event}
 use Rattle.station.proofs.Staying.{fronts_stay}
 use Rattle.inorder.proofs.Recent.{new_there}
 
--- What others have added behind a call's last event
+-- What others have added after a call's last event
 pub behind_last : (P : Program) (C : Sizes) (old new : List Entry) (e : Event) (es : List Event) → (l : LastEvent P C front old new e es) → Adds P C front (entry front e ∷ l.point) new []
 behind_last P C old new e es l = record {
   begins = record { more = l.after; is = l.is };

@@ -1,4 +1,4 @@
--- A question behind its link: the source was asked for.
+-- A question after its link: the source was asked for.
 use Rattle.std.proofs.Common.{◌≡◌, ℕ, true, List, [], ◌∷◌, ◌++◌, Some, sym, ap, ◌∙◌, subst}
 use Rattle.std.specs.Prelude.{is_none}
 use Rattle.instructions.specs.Programs.{Program}

@@ -1,4 +1,4 @@
--- The look of a question at its creator: it is linked in time, or the exchange behind it delivers.
+-- The look of a question at its creator: it is linked in time, or the exchange after it delivers.
 use Rattle.std.proofs.Common.{◌≡◌, ℕ, List, [], ◌∷◌, ◌++◌, map, Some, refl, sym, ap, ◌∙◌, subst, inl, inr, ⊎_elim}
 use Rattle.instructions.specs.Programs.{Program}
 use Rattle.inorder.specs.declared.history.Act.TheVariants.{Deliver, Link}
@@ -139,7 +139,7 @@ module _ (P : Program) (C : Sizes) where
       next_mid : Next P C w.seen ≡ Next P C old
       next_mid = next_by P C by is v w (Finds P C s g k a b n) e [] (told_made made).0 refl ∙ x.next
 
-      -- what is so behind these events
+      -- what is so after these events
       pub record IsEnded : Type 0 where
         pub reply : AskAnswers P C by old y.seen s g k a b Delivered
         pub next : Next P C y.seen ≡ Next P C old

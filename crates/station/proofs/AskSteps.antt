@@ -42,7 +42,7 @@ module _ {v w : TheCall} {s g a b : ℕ} {k : Source} (r : IsAskedAt v w s g k a
   pub asked_from : HasAskedFrom w.core.program w.core.sizes w.view.seen s g k a b
   asked_from = after (λ z. HasAskedFrom z.0.program z.0.sizes w.view.seen s g k a b) r.same (record { r = r.asked.r; q = r.asked.q; of = r.asked.of })
 
-  -- Behind the look at the creator
+  -- After the look at the creator
   module _ {x : TheCall} (n : ℕ) (look : TakesStep w x (λ P C. Finds P C s g k a b n)) where
     found : Grows v.core.program v.core.sizes v.view.by w.view x.view (Finds v.core.program v.core.sizes s g k a b n)
     found = taken r.same look
@@ -66,7 +66,7 @@ module _ {v w : TheCall} {s g a b : ℕ} {k : Source} (r : IsAskedAt v w s g k a
         (subst (λ (z : ℕ × ℕ). CanAnswer v.core.program v.core.sizes x.view.seen s z.0 k z.1) (λ i. (sym tag_is i, sym value_is i))
         (can_answer v.core.program v.core.sizes v.view.by s g k a b n v.view.seen w.view x.view r.by_is r.asked found made))
 
-    -- Behind the exchange
+    -- After the exchange
     pub is_delivered : {y : TheCall} {tag : ℕ} (o m : ℕ) → IsMade (state_of n) → tag ≡ g → TakesStep x y (λ P C. Ends P C s tag k o m) →
         LeadsTo v y (let_place v) (AnswersAsk (s, g) k (a, b) Delivered)
     is_delivered {y} {tag} o m made tag_is step =

@@ -136,7 +136,7 @@ module _ (P : Program) (C : Sizes) where
   events_keep [] h = tt
   events_keep (e ∷ es) h = (h.0, events_keep es h.1)
 
-  -- behind a call that retires nobody
+  -- after a call that retires nobody
   pub back_on : (by station : ℕ) (over : Bool) (old new : List Entry) (es : List Event) → Adds P C by old new es → AllByRecursion IsNoRetirement es
       → (by ≡ back → IsAtHead C (unit_of P C old) station over) → by ≡ back → IsAtHead C (unit_of P C new) station over
   back_on by station over old new es a keeps knows is =

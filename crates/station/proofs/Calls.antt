@@ -140,7 +140,7 @@ leave_after {v} {w} {l} g = after (λ z. MayLeave z.0.program z.0.sizes w.view.s
 pub end_after : {v w : TheCall} {s : ℕ} {word : StationWord} → IsSameCall v w → HasEnd v.core.program v.core.sizes w.view.seen s word → HasEnd w.core.program w.core.sizes w.view.seen s word
 end_after {v} {w} {s} {word} g = after (λ z. HasEnd z.0.program z.0.sizes w.view.seen s word) g
 
--- a look, of the seat before the call and behind it
+-- a look, of the seat before the call and after it
 pub saw_at : (core : TheCore) {old new : View} {core' : TheCore} {lent lent' : ℕ} {v w : TheCall} → v ≡ call_of core old lent → call_of core' new lent' ≡ w → (x : Place) (n : ℕ) →
     TakesStep v w (λ P C. Sees P C v.view.by v.view x n)
     → Grows core.program core.sizes old.by old new (Sees core.program core.sizes old.by old x n)
@@ -148,7 +148,7 @@ saw_at core begins is x n took = subst (λ (z : TheCall × TheCall). Grows z.0.c
     z.0.view x n))
     (λ i. (begins i, sym is i)) took.grows
 
--- behind a look the front has done nothing yet
+-- after a look the front has done nothing yet
 pub record HasOnlyLooked (P : Program) (C : Sizes) (between old new : List Entry) : Type 0 where
   pub is : new ≡ between ++ old
   pub legal : IsLegal P C (between ++ old)

@@ -98,7 +98,7 @@ claim_begins {v} {s} {g} {i} {x} {d} legal program seen = record {
   tag = tag_small v.core.program v.core.sizes v.view.seen legal seen.p s g (named_of seen.named);
 }
 
--- what a reading behind this point is answered, of the core and the caller at first
+-- what a reading after this point is answered, of the core and the caller at first
 source_at : {v w : TheCall} (x : TheCall) (s g : ℕ) (k : Source) (needed : Bool) (r : Result ℕ Claim) → IsSameCall v w → AnswersSource w x s g k needed r →
     SourceAnswers v.core.program v.core.sizes v.view.by w.view.seen x.view.seen s g k needed r
 source_at {v} {w} x s g k needed r same answer = before (λ z. SourceAnswers z.0.program z.0.sizes z.1 w.view.seen x.view.seen s g k needed r) same answer

@@ -1,4 +1,4 @@
--- The words of tenants at their end, and what is seen of a stop behind them.
+-- The words of tenants at their end, and what is seen of a stop after them.
 use Rattle.std.proofs.Common.{◌≡◌, ◌≢◌, ℕ, suc, Bool, true, false, cond, List, [], ◌∷◌, ◌++◌, refl, sym, ap, ◌∙◌, subst, inl, inr, ⊎_elim, arith}
 use Rattle.instructions.specs.Operations.{code_of}
 use Rattle.instructions.specs.Programs.{Program}

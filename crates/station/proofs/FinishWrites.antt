@@ -1,4 +1,4 @@
--- The exchange of a finish, and what is carried behind it.
+-- The exchange of a finish, and what is carried after it.
 use Rattle.std.proofs.Common.{◌≡◌, ◌≢◌, ℕ, cond, List, [], ◌∷◌, ◌++◌, map, length, refl, sym, ap, ◌∙◌, subst, ⊎_elim}
 use Rattle.instructions.specs.declared.op.Half.{Half}
 use Rattle.instructions.specs.Operations.{outcome_of as outcome_of_half, outcome_by}
@@ -92,7 +92,7 @@ module _ (P : Program) (C : Sizes) where
         go (Address x) is f = tt
         go (Stops x) is f = tt
 
-  -- what is carried behind it
+  -- what is carried after it
   pub finish_all : (by id s g : ℕ) (o o' : Outcome) (old mid new : List Entry) → o ≡ o' → id ≡ by → IsOut P C by s g Finish old mid → OfTenant P C mid s g (λ q. HasCarried P C id q o mid new) →
       IsWritten P C by old new s g Finish (λ p. IsCarried P C new p o')
   finish_all by id s g o o' old mid new same is out carry = writes_out P C by s g Finish old mid new (λ p. IsCarried P C new p o') out

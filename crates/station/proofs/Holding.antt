@@ -151,7 +151,7 @@ module _ (P : Program) (C : Sizes) (by : ℕ) where
   events_no_end p [] h = tt
   events_no_end p (e ∷ es) h = (h.0, events_no_end p es h.1)
 
-  -- A held job stays held behind calls that add no finish of it
+  -- A held job stays held after calls that add no finish of it
   pub holds_on : (old new : List Entry) (es : List Event) (j : Job) (h : Holds P C by old j) → Adds P C by old new es → AllByRecursion (IsNoFinish h.p) es → Holds P C by new j
   holds_on old new es j h a none =
       let more : List Entry = a.begins.more in
@@ -163,18 +163,18 @@ module _ (P : Program) (C : Sizes) (by : ℕ) where
         new = old_since P C new old a.begins a.legal a.one_table h.p ∙ h.new;
       }
 
-  -- so behind a look or a meeting
+  -- so after a look or a meeting
   pub holds_seen : (old new : List Entry) (j : Job) → Holds P C by old j → Adds P C by old new [] → Holds P C by new j
   holds_seen old new j h a = holds_on old new [] j h a tt
 
-  -- behind another claim
+  -- after another claim
   pub holds_claimed : (old new : List Entry) (s : ℕ) (answer : ClaimAnswer) (j : Job) → Holds P C by old j → ClaimAnswers P C by old new s answer → Holds P C by new j
   holds_claimed old new s (Claimed i) j h a = holds_on old new _ j h a.adds ((λ e. cc e), tt)
   holds_claimed old new s NotOpen j h a = holds_on old new _ j h a ((λ e. cc e), tt)
   holds_claimed old new s (Waiting g k) j h a = holds_on old new _ j h a.adds ((λ e. cc e), tt)
   holds_claimed old new s (Moved g) j h a = holds_on old new _ j h a.adds ((λ e. cc e), tt)
 
-  -- and behind the finish of another job
+  -- and after the finish of another job
 
   -- two tenants, of two stations or with two tags, stand apart
   apart_from : (h : List Entry) (p q : ℕ) (t u : Tenant) → at (unit_of P C h).tenants p ≡ Some t → at (unit_of P C h).tenants q ≡ Some u → (t.station ≢ u.station) ⊎ (t.tag ≢ u.tag) → q ≢ p
@@ -215,7 +215,7 @@ module _ (P : Program) (C : Sizes) (by : ℕ) where
           more old (subst (IsLegal P C) is legal) (record { tenant = t; is = at_p; fact = (refl, refl) }))
   holds_finished old new done WasStale j h other a = holds_on old new _ j h a.adds ((λ e. cc e), tt)
 
--- Behind a renewal nobody holds a job
+-- After a renewal nobody holds a job
 pub none_held : (P : Program) (C : Sizes) (by : ℕ) (seen : List Entry) (j : Job) → ¬ Holds P C by (entry front (Does Renew) ∷ seen) j
 none_held P C by seen j h =
     let U = unit_of P C seen in

@@ -46,7 +46,7 @@ has_outcome t (Stops c) l = record { live = l; fate = refl; made = λ w e. absur
 has_outcome t (Pair low high) l = record { live = l; fate = refl; made = λ w e. absurd (cc e) }
 
 module _ (P : Program) (C : Sizes) where
-  -- the entry of the call, and those behind it
+  -- the entry of the call, and those after it
   with_entry : (by : ℕ) (new after point : List Entry) (e : Event) → new ≡ after ++ entry by e ∷ point → new ≡ (after ++ entry by e ∷ []) ++ point
   with_entry by new after point e is = is ∙ sym (append_assoc after (entry by e ∷ []) point)
 

@@ -170,7 +170,7 @@ looked {v} {w} {t} {station} {n} {tag} legal by_is about took is =
     (took.grows.kind.mine by_is ∙ about.draft_is) in
     record { same = took.same; ready = ready; station_is = about.station_is; tag_is = is ∙ tag_found P C v.view.by t v.view.seen Nothing (let_place v) (new_tag v) n w.view ready word }
 
--- the station behind a let
+-- the station after a let
 pub next_out : {v w : TheCall} {t : Tenant} → IsSameCall v w → IsLetNow t v.core (caller v) (caller w) → let_place w ≡ (let_place v + 1) % v.core.sizes.ring
 next_out {v} {w} {t} on out =
     let P = v.core.program in

@@ -14,7 +14,7 @@ use Rattle.ruu_words.proofs.SpareNumbers.{half_of, other_half_of}
 use Rattle.station.specs.Quiet.{SplitsShareNumbers, UnitsAreNumbered}
 use Rattle.station.specs.Seats.{HasSpare, IsGiver, IsNumbered}
 
--- Behind a step, or behind a call of the front or of the back
+-- After a step, or after a call of the front or of the back
 
 giver_on : (opening : List Entry) (v w : View) → w.by ≡ v.by → w.spare ≡ v.spare → Unborn opening w → IsGiver opening v → IsGiver opening w
 giver_on opening v w by spare unborn g = record {

@@ -88,7 +88,7 @@ module _ (P : Program) (C : Sizes) where
       record { tenant = g.tenant; is = g.is; fact = (ready_stays P by s x.tenant g.tenant g.goes x.fact.0, fields_stay P by s x.tenant g.tenant g.goes x.fact.0 ∙ x.fact.1) })
       more seen legal j
 
-  -- behind a live tenant none has its station
+  -- after a live tenant none has its station
   pub last_live : (h : List Entry) → IsLegal P C h → (p q : ℕ) (t u : Tenant) → at (unit_of P C h).tenants p ≡ Some t → at (unit_of P C h).tenants q ≡ Some u →
       t.standing ≡ Live → u.station ≡ t.station →
       ¬ (p < q)

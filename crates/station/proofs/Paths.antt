@@ -1,4 +1,4 @@
--- The path while the front adds nothing, behind a let, and behind a renewal.
+-- The path while the front adds nothing, after a let, and after a renewal.
 use Rattle.std.proofs.Common.{◌≡◌, ◌≢◌, ℕ, suc, ◌+◌, ◌%◌, Bool, true, false, ◌&&◌, cond, eqb, ne_eqb, List, [], ◌∷◌, ◌++◌, length, Some, None, refl, sym, ap, ◌∙◌, subst, arith}
 use Rattle.instructions.specs.Instruction.{destination, is_first_half}
 use Rattle.instructions.specs.declared.op.Half.{Half}
@@ -122,7 +122,7 @@ lets_lead P C old new t m adds =
       creators = λ r ne. after.creators r ∙ now.creators r ne;
     })
 
--- Behind a renewal
+-- After a renewal
 
 first_station : (P : Program) (C : Sizes) (h : List Entry) → next_station C (recent (unit_of P C (renewed h))) ≡ 0
 first_station P C h = omega arith

@@ -1,4 +1,4 @@
--- A retirement at its points: what the call that began as v can answer behind each of its readings.
+-- A retirement at its points: what the call that began as v can answer after each of its readings.
 use Rattle.std.proofs.Common.{◌≡◌, ◌≢◌, ◌⊎◌, ◌<◌, ℕ, [], sym, ap, subst, inl, inr, ⊎_elim}
 use Rattle.instructions.specs.Instruction.{kind}
 use Rattle.instructions.specs.Programs.{instr_of}
@@ -35,7 +35,7 @@ retires_on {v} {w} {x} {station} {answer} same adds r = record {
   head = r.head;
 }
 
--- Behind the look at the head
+-- After the look at the head
 
 pub late_state : {s : StationState} → (s ≡ Addr) ⊎ ((s ≡ Done) ⊎ (s ≡ Stop)) → IsLateState s
 late_state o = ⊎_elim (λ e. subst IsLateState (sym e) tt) (λ p. ⊎_elim (λ e. subst IsLateState (sym e) tt) (λ e. subst IsLateState (sym e) tt) p) o
@@ -63,7 +63,7 @@ module _ {v w : TheCall} (station n : ℕ) (look : TakesStep v w (λ P C. LooksA
     pub behind_look : {x : TheCall} {answer : Retire} → RetiresFrom w x station answer → RetiresFrom v x station answer
     behind_look r = retires_on look.same end.1 r
 
--- Behind the reading of its info
+-- After the reading of its info
 
 module _ {v w : TheCall} (station n : ℕ) (read : TakesStep v w (λ P C. ReadsInfo P C station n)) (by_is : v.view.by ≡ back) (found : StationWord)
     (end : HasEnd v.core.program v.core.sizes v.view.seen station found) where
@@ -80,7 +80,7 @@ module _ {v w : TheCall} (station n : ℕ) (read : TakesStep v w (λ P C. ReadsI
   pub behind_info : {x : TheCall} {answer : Retire} → RetiresFrom w x station answer → RetiresFrom v x station answer
   behind_info r = retires_on read.same (end_adds v.core.program v.core.sizes v.view.by v.view w.view station n read.grows by_is found end) r
 
--- Behind the reading of a store's data
+-- After the reading of a store's data
 
 module _ {v w : TheCall} (a : Access) (n : ℕ) (read : TakesStep v w (λ P C. FindsData P C a n)) where
   pub waits_for_data : state_of n ≢ 2 → RetiresFrom v w a.station NotDone

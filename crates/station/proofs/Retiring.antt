@@ -1,4 +1,4 @@
--- A retirement, behind the write with which its tenant leaves.
+-- A retirement, after the write with which its tenant leaves.
 use Rattle.std.proofs.Common.{◌≡◌, ◌≢◌, ℕ, suc, ◌+◌, ◌%◌, ◌<◌, false, List, [], ◌∷◌, ◌++◌, map, length, Some, refl, sym, ap, ◌∙◌, subst, arith}
 use Rattle.std.proofs.Math.Nat.{mod-add-mod}
 use Rattle.std.specs.List.{AllByRecursion}
@@ -58,7 +58,7 @@ module _ (P : Program) (C : Sizes) where
       let us = (U h).tenants in
       (sound_mid P t (older us p) (younger us p) (subst (IsSound P) (split_at us p t is) (unit_sound P C h legal))).own.inside
 
-  -- Behind the write
+  -- After the write
 
   module _ (by : ℕ) (l : Leaving) (v w : View) (g : Grows P C by v w (Leaves P C l)) where
     abbrev h : List Entry

@@ -1,4 +1,4 @@
--- The look and the exchange of a load that settles, and what is carried behind them.
+-- The look and the exchange of a load that settles, and what is carried after them.
 use Rattle.std.proofs.Common.{◌≡◌, ◌≢◌, ℕ, Bool, List, [], ◌∷◌, ◌++◌, map, Some, sym, ap, ◌∙◌, subst, inl, inr, ⊎_elim}
 use Rattle.std.specs.List.{AllByRecursion}
 use Rattle.atomic_table.specs.Table.{Me}
@@ -128,7 +128,7 @@ module _ (P : Program) (C : Sizes) where
       let c : HasWalked P C by q mid new = subst (λ z. HasWalked P C z q mid new) is (walk q i) in
       (c.events, (c.walk, c.adds)))
 
-  -- Behind a settle
+  -- After a settle
 
   delivers_keep : (seen : List Entry) (q : ℕ) (es : List Event) → AllByRecursion (IsDeliveryOf P C seen q) es → AllByRecursion (IsNoRetirement P C) es
   delivers_keep seen q [] all = tt

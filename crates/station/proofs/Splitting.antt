@@ -1,4 +1,4 @@
--- What a call has added, taken apart: its last event, what others added behind it, and what was before.
+-- What a call has added, taken apart: its last event, what others added after it, and what was before.
 use Rattle.std.proofs.Common.{◌≡◌, ℕ, List, [], ◌∷◌, ◌++◌, map, length, refl, sym, ap, ◌∙◌, subst, append_assoc, arith, length-append}
 use mathlib.Core.Logic.{dite}
 use native.Mathlib.Decide.{ℕ_discrete}
@@ -59,7 +59,7 @@ last_own by (x ∷ more) e es h = dite (ℕ_discrete x.by by)
     others a b us vs e = cc e
 
 module _ (P : Program) (C : Sizes) where
-  -- the history up to the last own event, with that event's entry and with what others added behind it
+  -- the history up to the last own event, with that event's entry and with what others added after it
   pub record LastEvent (by : ℕ) (old new : List Entry) (e : Event) (es : List Event) : Type 0 where
     pub point : List Entry
     pub after : List Entry

@@ -54,7 +54,7 @@ count_off : (ys zs : List Tenant) → AllByRecursion IsOff ys → how_many on_pa
 count_off [] zs h = refl
 count_off (y ∷ ys) zs h = ap (λ b. cond b (suc (how_many on_path (ys ++ zs))) (how_many on_path (ys ++ zs))) h.0 ∙ count_off ys zs h.1
 
--- behind a live tenant none has retired
+-- after a live tenant none has retired
 pub off_path : (P : Program) (t : Tenant) (ts ys : List Tenant) → t.standing ≡ Live → AllByRecursion IsNotLive ys → IsSound P (ys ++ t ∷ ts) → AllByRecursion IsOff ys
 off_path P t ts [] live last s = tt
 off_path P t ts (y ∷ ys) live last s = (go y.standing refl, off_path P t ts ys live last.1 s.1)

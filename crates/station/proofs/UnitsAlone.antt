@@ -47,7 +47,7 @@ are_units (e ∷ more) f b =
     two : (n : ℕ) → n ≢ 0 → n ≢ 1 → IsUnit n
     two n a b = omega arith
 
--- what is behind a point of it, where a caller has added nothing
+-- what is after a point of it, where a caller has added nothing
 none_behind : (n : ℕ) (old new more point rest : List Entry) → new ≡ more ++ point → point ≡ rest ++ old → own n new ≡ own n old → own n more ≡ []
 none_behind n old new more point rest is before same =
     let a = ap (λ z. length z) (sym same ∙ (ap (own n) is ∙ own-append n more point)) in
@@ -150,7 +150,7 @@ module _ (P : Program) (C : Sizes) where
     kept_entry p s g h id u (Refuses r) legal may i = i
     kept_entry p s g h id u (Marks k) legal may i = i
 
-    -- what no act of a unit ends is still so behind entries of units
+    -- what no act of a unit ends is still so after entries of units
     kept_on : (p s g : ℕ) (more seen : List Entry) → IsLegal P C (more ++ seen) → AreUnits more →
         IsTenant (unit_of P C seen) p s g Fact → IsTenant (unit_of P C (more ++ seen)) p s g Fact
     kept_on p s g [] seen legal all i = i

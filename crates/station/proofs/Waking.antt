@@ -104,7 +104,7 @@ module _ (P : Program) (C : Sizes) where
   pub wakes_nobody : (by : ℕ) (old new : List Entry) (es : List Event) → Adds P C by old new es → HasNoDelivery es → Wakes P C by old new (λ s. ⊥)
   wakes_nobody by old new es a none = record { events = es; adds = a; each = λ p k among. absurd (none p k among); woken = λ s no. absurd no }
 
-  -- One call behind another: the stations of both
+  -- One call after another: the stations of both
   pub wakes_both : (by : ℕ) (old mid new : List Entry) (F G H : ℕ → Type 0) → Wakes P C by old mid F → Wakes P C by mid new G
       → ((s : ℕ) → F s → H s) → ((s : ℕ) → G s → H s) → ((s : ℕ) → H s → F s ⊎ G s) → Wakes P C by old new H
   wakes_both by old mid new F G H a b left right either = record {

@@ -1,4 +1,4 @@
--- The answers of the calls of a core, of a seat before the call and behind it.
+-- The answers of the calls of a core, of a seat before the call and after it.
 use Rattle.std.specs.Prelude.{ℕ}
 use Rattle.inorder.specs.declared.history.Source.{Source}
 use Rattle.station.specs.declared.answers.Ask.{Ask}
@@ -17,7 +17,7 @@ use Rattle.station.specs.Seats.{Caller, TheCore, unit_seen}
 use Rattle.station.specs.Waking.{Wakes}
 use Rattle.station.specs.Writeback.{FinishAnswers, SettleAnswers}
 
--- A statement on a seat before a call and behind it, at a core
+-- A statement on a seat before a call and after it, at a core
 abbrev pub Reply : Type 1
 Reply = TheCore → Caller → Caller → Type 0
 

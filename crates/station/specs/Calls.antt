@@ -150,7 +150,7 @@ abbrev pub Carries : ℕ × ℕ → Outcome → Reply
 Carries of outcome core v w = OfTenant core.program core.sizes v.seen of.0 of.1
     (λ q. HasCarried core.program core.sizes v.by q outcome v.seen w.seen)
 
--- Behind a retirement from this station the oldest live tenant stands at the next one
+-- After a retirement from this station the oldest live tenant stands at the next one
 abbrev pub HeadMoves : TheCall → ℕ → Retire → Type 0
 HeadMoves w station r = HeadGoesOn w.core.sizes (seen_unit w) station r
 

@@ -53,7 +53,7 @@ JobsStayFinishing =
     (P : Program) (C : Sizes) (by : ℕ) (old new : List Entry) (other : Job) (answer : Finish) (j : Job) →
     Holds P C by old j → AreTwo j other → FinishAnswers P C by old new other answer → Holds P C by new j
 
--- Behind a renewal nobody holds a job of before: stations and tags name other tenants
+-- After a renewal nobody holds a job of before: stations and tags name other tenants
 abbrev pub JobsEndAtARenewal : Type 0
 JobsEndAtARenewal =
     (P : Program) (C : Sizes) (by : ℕ) (seen : List Entry) (j : Job) →

@@ -28,7 +28,7 @@ PathsStay =
     (P : Program) (C : Sizes) (old new : List Entry) → Adds P C front old new [] →
     IsSamePath P C (unit_of P C old) (unit_of P C new)
 
--- Behind a let the path goes on at its predicted next pc, at the next station, as the half behind it
+-- After a let the path goes on at its predicted next pc, at the next station, as the half after it
 pub record IsLed (P : Program) (C : Sizes) (U : UpdateUnit) (t : NewTenant) (V : UpdateUnit) : Type 0 where
   pub pc : front_pc V.tenants ≡ t.predicted
   pub half : front_half P V.tenants ≡ half_after (is_first_half (instr_of P t.index).op t.half)
@@ -43,7 +43,7 @@ LetsLead =
     MayLetOut P C (unit_of P C old) t → Adds P C front old new (let_of t ∷ []) →
     IsLed P C (unit_of P C old) t (unit_of P C new)
 
--- Behind a renewal the path goes on where it was left, at station 0 with the first tag; each register
+-- After a renewal the path goes on where it was left, at station 0 with the first tag; each register
 -- has the same creator, and what was made stays
 pub record IsTakenOver (core now : TheCore) (U V : UpdateUnit) : Type 0 where
   pub pc : front_pc V.tenants ≡ front_pc U.tenants

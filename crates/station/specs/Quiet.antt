@@ -69,7 +69,7 @@ pub record IsOut (P : Program) (C : Sizes) (old new : List Entry) (t : NewTenant
   pub tenant : IsTenant (unit_of P C new) p (next_station C (recent (unit_of P C old))) (next_tag C (recent (unit_of P C old))) (IsLetAs t (front_pc (unit_of P C old).tenants))
   pub opens : ((n : ℕ) → IsUnit n → own n new ≡ own n old) → IsOpen tenant.tenant
 
--- Behind a let of the front its tenant is there, and open unless a unit has done something since
+-- After a let of the front its tenant is there, and open unless a unit has done something since
 abbrev pub LetsAreOut : Type 0
 LetsAreOut =
     (P : Program) (C : Sizes) (old new : List Entry) (t : NewTenant) →

@@ -49,7 +49,7 @@ pub record SeesWrongPath (P : Program) (C : Sizes) (seen : List Entry) : Type 0 
   pub p : ℕ
   pub can : CanSquash (unit_of P C seen) p
 
--- In what was seen the youngest live tenant, behind a live miss, is of this station and tag
+-- In what was seen the youngest live tenant, after a live miss, is of this station and tag
 pub record HasYoungest (P : Program) (C : Sizes) (seen : List Entry) (station tag : ℕ) : Type 0 where
   pub p : ℕ
   pub named : IsNamed (unit_of P C seen) p station tag
@@ -61,7 +61,7 @@ pub record Squashes (P : Program) (C : Sizes) (s g : ℕ) (h : List Entry) (d : 
   pub added : events ≡ Does (On youngest.p Squash) ∷ []
   pub draft : d ≡ Nothing
 
--- The tenant of this station and tag, the youngest live one behind a live miss, was squashed
+-- The tenant of this station and tag, the youngest live one after a live miss, was squashed
 pub record WasSquashed (P : Program) (C : Sizes) (by station tag : ℕ) (old new : List Entry) : Type 0 where
   pub p : ℕ
   pub named : IsNamed (unit_of P C new) p station tag

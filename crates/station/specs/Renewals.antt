@@ -83,7 +83,7 @@ NoStopStays =
     (P : Program) (C : Sizes) (old new : List Entry) → Adds P C back old new [] →
     GoesOn (unit_of P C old) → GoesOn (unit_of P C new)
 
--- The front may renew behind what it and the back have seen, where nobody was live and no stop had retired
+-- The front may renew after what it and the back have seen, where nobody was live and no stop had retired
 abbrev pub EmptyCoresMayBeRenewed : Type 0
 EmptyCoresMayBeRenewed =
     (P : Program) (C : Sizes) (of_front of_back new : List Entry) →

@@ -138,7 +138,7 @@ abbrev pub is_stop : Last → Bool
 is_stop (WasStop code) = true
 is_stop _ = false
 
--- Behind a retirement the oldest live tenant stands at the next station
+-- After a retirement the oldest live tenant stands at the next station
 abbrev pub HeadGoesOn : Sizes → UpdateUnit → ℕ → Retire → Type 0
 HeadGoesOn C U s (Retired station tag index half last) = IsAtHead C U ((s + 1) % C.ring) (is_stop last)
 HeadGoesOn C U s _ = ⊤

@@ -53,7 +53,7 @@ impl Split<View> for BackCut {
     ghost right = { λ v. view Back v.spare.first nobody v.seen Nothing };
 }
 
-// The first unit's seat may give away all numbers behind its own.
+// The first unit's seat may give away all numbers after its own.
 struct FirstCut;
 
 impl Split<View> for FirstCut {

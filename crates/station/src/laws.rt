@@ -20,13 +20,13 @@ pub fn jobs_stay()
     ensures finishing { JobsStayFinishing }
 {}
 
-/// A job of before a renewal is held by nobody behind it.
+/// A job of before a renewal is held by nobody after it.
 pub fn a_job_ends_at_a_renewal()
     ensures { JobsEndAtARenewal }
 {}
 
 /// Where the front has seen that nobody is live, and the back that no stop has retired, that stays so
-/// while the two only look and meet, and a renewal is allowed behind what both have then seen.
+/// while the two only look and meet, and a renewal is allowed after what both have then seen.
 pub fn an_empty_core_may_be_renewed()
     ensures nobody { NobodyStays }
     ensures no_stop { NoStopStays }
@@ -45,13 +45,13 @@ pub fn a_path_stays()
     ensures { PathsStay }
 {}
 
-/// Behind a let the path goes on at its predicted next pc, at the next station, as the half that comes
+/// After a let the path goes on at its predicted next pc, at the next station, as the half that comes
 /// then, and no other register has another creator.
 pub fn a_let_leads_on()
     ensures { LetsLead }
 {}
 
-/// Behind a renewal the path goes on at the pc and half where the front had left it, at station 0 with
+/// After a renewal the path goes on at the pc and half where the front had left it, at station 0 with
 /// the first tag. Each register has the creator that it had, and what was made stays.
 pub fn a_renewal_goes_on()
     ensures { RenewalsGoOn }
@@ -77,7 +77,7 @@ pub fn a_number_is_of_its_part<P: Part>(seat: &SeatOf<P>)
 }
 
 /// A unit without a seat has done nothing: its number is given by `make`, `renew` or `split`, and those
-/// that a seat may still give away have no entry, behind that with which the core opened, in what its
+/// that a seat may still give away have no entry, after that with which the core opened, in what its
 /// caller has seen.
 pub fn no_seat_no_entry(seat: &UnitSeat)
     ensures { (n : ℕ) → IsSpare seat.now.spare n → own n seat.now.seen ≡

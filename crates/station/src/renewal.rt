@@ -30,7 +30,7 @@ impl Core {
 
     /// Another core for the same program, of the same sizes, whose stations begin again with the first
     /// tag. Its seats are new: the front's, the back's, and that of the first unit. They have seen what
-    /// the three old ones had, once these have met, and the renewal behind it. Seats of the old core are
+    /// the three old ones had, once these have met, and the renewal after it. Seats of the old core are
     /// of no use any more, and no job of before is held.
     /// Call `renew` once all tags of a station are spent, where the front has seen that nobody is live
     /// and the back has retired no stop.

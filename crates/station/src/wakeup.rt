@@ -17,7 +17,7 @@ use ruu_words::StationWord;
 use ruu_words::rule::View;
 
 impl<'a> Call<'a, FrontPart> {
-    // Stores the link, and looks at the creator only behind that: one that finishes in between finds the link.
+    // Stores the link, and looks at the creator only after that: one that finishes in between finds the link.
     // A creator that holds its result by then gives it at once.
     fn ask_creator(&mut self, of: (usize, u32), k: Source, from: (usize, u32)) -> Ask
         requires draft { self.old.view.draft ≡ Nothing }

@@ -48,7 +48,7 @@ impl<'a, P: Part> Call<'a, P> {
     }
 
     /// Delivers the value of a station's tenant to all consumers that asked for it in time. Each link is read
-    /// once. One more look at the station has the mark of the walk, since the last delivery comes behind its link.
+    /// once. One more look at the station has the mark of the walk, since the last delivery comes after its link.
     /// The answer has a bit for each station that was woken.
     pub(crate) fn walk(&mut self, from: (usize, u32), value: u32) -> u32
         requires writer { IsWriter P.role }

@@ -20,7 +20,7 @@ use ruu_words::rule::View;
 use ruu_words::{Place, StationWord};
 
 impl<'a> Call<'a, UnitPart> {
-    // Writes the result into the station's word, and reads the links only behind that. Gives the stations
+    // Writes the result into the station's word, and reads the links only after that. Gives the stations
     // that were woken, too.
     fn finish_job(&mut self, job: Job, outcome: Outcome) -> (Finish, u32)
         requires job { Holds self.old.core.program self.old.core.sizes self.old.view.by

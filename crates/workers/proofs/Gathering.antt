@@ -7,7 +7,7 @@ use Rattle.counts.specs.Shares.{added_to, share_of}
 use Rattle.workers.specs.declared.gathered.Gathered.{Gathered}
 use Rattle.workers.specs.Gathering.{gathered_of}
 
--- the shares behind the additions of all that was gathered
+-- the shares after the additions of all that was gathered
 abbrev behind : Gathered → Shares
 behind g =
     added_to Hints g.hints (added_to Mends g.mends (added_to Squashes g.squashes (added_to Stale g.stale

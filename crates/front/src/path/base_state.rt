@@ -1,4 +1,4 @@
-//! The base of a path: the registers and the front pc behind all tenants that have no record.
+//! The base of a path: the registers and the front pc after all tenants that have no record.
 ghost use Rattle.std.specs.Prelude.{◌≡◌, replicate};
 ghost use Rattle.instructions.specs.declared.op.Half.TheVariants.{Low};
 ghost use Rattle.instructions.specs.Programs.{text_start};
@@ -7,7 +7,7 @@ use instructions::{Half, Program};
 use station::FrontSeat;
 use std::snapshot::Snapshot;
 
-/// What the tenants of the path that are not kept have left: the registers, and where the path goes on behind them
+/// What the tenants of the path that are not kept have left: the registers, and where the path goes on after them
 /// if none is kept.
 #[derive(Drop)]
 pub struct Base {

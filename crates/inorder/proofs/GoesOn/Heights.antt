@@ -52,7 +52,7 @@ one_more d e X h = let m = mul-le-mul_right X h in let s = suc-mul d X in omega 
 at_least : (d X : ℕ) → 1 ≤ d → 1 ≤ X → 1 ≤ d * X
 at_least d X h x = let m = mul-le-mul_right X h in omega (arith, m, x)
 
--- Behind a miss, and those that have left
+-- After a miss, and those that have left
 
 miss_more : (y : Tenant) (ts : List Tenant) (a : Bool) → misses_by y.standing y.fate ≡ a → has_miss ts ≡ true → has_miss (y ∷ ts) ≡ true
 miss_more y ts true e h = miss_if y ts true e
@@ -70,7 +70,7 @@ pub behind_miss : (C : Sizes) (ys ts : List Tenant) → has_miss ts ≡ true →
 behind_miss C [] ts h = refl
 behind_miss C (y ∷ ys) ts h = counts_nothing C y (ys ++ ts) (is_live y) refl (miss_stays ys ts h) ∙ behind_miss C ys ts h
 
--- a tenant behind a miss may be any
+-- a tenant after a miss may be any
 pub any_behind_miss : (C : Sizes) (ys : List Tenant) (t : Tenant) (ts : List Tenant) → has_miss ts ≡ true → height C (ys ++ t ∷ ts) ≡ height C ts
 any_behind_miss C ys t ts h =
     behind_miss C ys (t ∷ ts) (miss_more t ts (misses_by t.standing t.fate) refl h)
@@ -118,7 +118,7 @@ fewer : (y : Tenant) (ts : List Tenant) (a : Bool) → is_live y ≡ a → how_m
 fewer y ts true e = let count = live_if y ts true e in omega (arith, count)
 fewer y ts false e = let count = live_if y ts false e in omega (arith, count)
 
--- the tenants behind ts count less than one more in the last place of ts
+-- the tenants after ts count less than one more in the last place of ts
 pub above : (C : Sizes) (ys ts : List Tenant) → how_many is_live (ys ++ ts) ≤ C.ring →
     height C (ys ++ ts) + 10 ^ (C.ring - how_many is_live (ys ++ ts)) ≤ height C ts + 10 ^ (C.ring - how_many is_live ts)
 above C [] ts h = omega arith
@@ -158,7 +158,7 @@ rises_by C t t' ts true false e e' f h =
 pub rises : (C : Sizes) (t t' : Tenant) (ts : List Tenant) → is_live t' ≡ is_live t → tenant_work t' ≤ tenant_work t → height C (t ∷ ts) ≤ height C (t' ∷ ts)
 rises C t t' ts e h = rises_by C t t' ts (is_live t) (has_miss ts) refl e refl h
 
--- the same tenant behind lists of the same height or more
+-- the same tenant after lists of the same height or more
 over_by : (C : Sizes) (y : Tenant) (zs zs' : List Tenant) (a m : Bool) → is_live y ≡ a → has_miss zs ≡ m → has_miss zs' ≡ m → how_many is_live zs' ≡ how_many is_live zs →
     height C zs ≤ height C zs' → height C (y ∷ zs) ≤ height C (y ∷ zs')
 over_by C y zs zs' false m e f f' n h = let one = height_if C y zs false m e f in let two = height_if C y zs' false m e f' in omega (arith, one, two, h)
@@ -183,7 +183,7 @@ rises_among C t t' ts [] e m h = rises C t t' ts e h
 rises_among C t t' ts (y ∷ ys) e m h =
     over_by C y (ys ++ t ∷ ts) (ys ++ t' ∷ ts) (is_live y) (has_miss (ys ++ t ∷ ts)) refl refl (same_miss t t' ts ys m) (same_count t t' ts ys e) (rises_among C t t' ts ys e m h)
 
--- A tenant that becomes a miss: what is behind it counts no more, and it counts more itself
+-- A tenant that becomes a miss: what is after it counts no more, and it counts more itself
 misses_with : (C : Sizes) (t t' : Tenant) (ts ys : List Tenant) (m : Bool) → has_miss ts ≡ m → is_live t ≡ true → is_live t' ≡ true → misses_by t'.standing t'.fate ≡ true →
     tenant_work t' < tenant_work t → tenant_work t ≤ 9 → how_many is_live (ys ++ t ∷ ts) ≤ C.ring → height C (ys ++ t ∷ ts) ≤ height C (ys ++ t' ∷ ts)
 misses_with C t t' ts ys true f live live' miss less most room =

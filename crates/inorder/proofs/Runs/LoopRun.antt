@@ -40,7 +40,7 @@ counted_to_two_allowed : AreAllowed loop two_stations counted_to_two
 unfolding instr_at computed_by jump_target checked_address loaded
 counted_to_two_allowed = given (are_allowed loop two_stations counted_to_two) refl
 
--- The branch was predicted not taken, and is mended; the break behind it is squashed
+-- The branch was predicted not taken, and is mended; the break after it is squashed
 abbrev pub taken_once : List Taken
 taken_once =
     taken 1 (On 2 (Retire 0)) ∷

@@ -1,4 +1,4 @@
--- Entries that are not legal behind the example histories.
+-- Entries that are not legal after the example histories.
 use Rattle.std.proofs.Common.{◌≡◌, ◌≢◌, ℕ, zero, suc, List, [], ◌∷◌, Some, None, refl, true, ⊎_elim, arith}
 use Rattle.std.specs.List.{AllByRecursion}
 use Rattle.instructions.specs.Operations.{checked_address, computed_by, jump_target, loaded}

@@ -97,7 +97,7 @@ shared_stops : stop adds 2 ≡ Some BreakStop
 unfolding instr_at computed_by jump_target checked_address loaded
 shared_stops = refl
 
--- What the front may be told on the way: the ring is full, and behind the break there is no instruction
+-- What the front may be told on the way: the ring is full, and after the break there is no instruction
 front_full : IsFull two_stations (unit_of adds two_stations asked)
 unfolding instr_at computed_by jump_target checked_address loaded
 front_full = refl

@@ -164,7 +164,7 @@ passes_committed = refl
 abbrev pub counts : Program
 counts = program (instr Addiu 1 0 0 1 ∷ instr Addiu 1 1 0 1 ∷ instr Break 0 0 0 0 ∷ [])
 
--- One instruction has retired. The two behind it are flushed, though one of them is done, and nobody is live
+-- One instruction has retired. The two after it are flushed, though one of them is done, and nobody is live
 abbrev pub interrupted : List Taken
 interrupted =
     taken 0 (On 1 (Speculate Flush)) ∷

@@ -31,7 +31,7 @@ all_let_allowed : AreAllowed skips four_stations all_let
 unfolding instr_at computed_by jump_target checked_address loaded
 all_let_allowed = given (are_allowed skips four_stations all_let) refl
 
--- The load behind the branch has stopped, its address being odd, and the branch is a miss
+-- The load after the branch has stopped, its address being odd, and the branch is a miss
 abbrev pub fault_on_the_wrong_path : List Taken
 fault_on_the_wrong_path =
     taken 2 (On 0 Finish) ∷

@@ -29,7 +29,7 @@ pub let_creator : (c : Option ℕ) (s : Supply) → (let_operand c s).creator �
 let_creator c (Known v) = refl
 let_creator c From = refl
 
--- only a jump is predicted to go on elsewhere than behind itself
+-- only a jump is predicted to go on elsewhere than after itself
 pub predicted_by : (op : Op) (pc n predicted : ℕ) → IfSome (fixed_next_by op pc n) (λ x. predicted ≡ x) →
     GoesOn (kind op) (pc_plus_4 pc) predicted
 predicted_by Addu pc n predicted h = h

@@ -116,7 +116,7 @@ impl Gate for Ahead {
     fn counted(&self, _tally: &Tally) {}
 }
 
-/// Three stores behind the instruction at which the gate holds.
+/// Three stores after the instruction at which the gate holds.
 const STORES: &[u8] = b".space 12\nnop\nsw $0,0($0)\nsw $0,4($0)\nsw $0,8($0)\nbreak\n";
 
 #[test]

@@ -1,4 +1,4 @@
--- Each entry of a legal history was allowed behind those before it, and the unit at each point is
+-- Each entry of a legal history was allowed after those before it, and the unit at each point is
 -- reached by allowed steps.
 use Rattle.std.proofs.Common.{List, [], ◌∷◌, ◌++◌, subst}
 use Rattle.instructions.specs.Programs.{Program}

@@ -1,4 +1,4 @@
--- An instruction that is no half comes behind a whole one.
+-- An instruction that is no half comes after a whole one.
 use Rattle.std.proofs.Common.{◌≡◌, Option, Some, refl, sym, subst}
 use Rattle.instructions.specs.declared.op.Half.TheVariants.{Low}
 use Rattle.instructions.specs.declared.op.Kind.{Kind}
