@@ -1,18 +1,19 @@
 -- Labels that are held, and one more.
-use Rattle.std.proofs.Common.{◌≡◌, ℕ, Bool, true, false, ◌||◌, cond, List, [], ◌∷◌, ◌++◌, map, Option, Some, None, Bor, refl, sym, ap, ◌∙◌, append_assoc, inl, inr}
+use Rattle.std.proofs.Common.{◌≡◌, ℕ, Bool, true, false, ◌||◌, cond, List, [], ◌∷◌, ◌++◌, map, Option, Some, None, Bor, Ordering, Less, Equal, Greater, refl, sym, ap, ◌∙◌, append_assoc, inl, inr}
 use Rattle.std.specs.Prelude.{is_some}
 use Rattle.std.specs.Bool.{one_answer}
 use Rattle.std.specs.BTreeMap.{UpdatesBy}
 use Rattle.std.specs.Cmp.Lexicographic.{slice_cmp}
-use Rattle.std.specs.Ordering.{nat_cmp}
+use Rattle.std.specs.Ordering.{is_eq, nat_cmp, ordering_then}
 use Rattle.std.specs.List.{list_any}
 use Rattle.std.specs.Map.{lookup}
 use Rattle.std.specs.Str.{bytes_eq}
 use Rattle.std.proofs.lemmas.Bool.{cases_Bool}
 use Rattle.std.proofs.lemmas.List.{append-nil}
-use Rattle.std.proofs.lemmas.Map.Text.{btree_map_updates_str}
+use Rattle.std.proofs.lemmas.Cmp.{nat_cmp_total, nat_list_cmp_total, tied_itself}
+use Rattle.std.proofs.lemmas.Map.Text.{is_eq-slice_cmp}
 use Rattle.std.proofs.lemmas.Slice.Eq.{bytes_eq-Decides}
-use Rattle.isa.specs.Labels.{LabelMap, AreHeld, address_of, names_of}
+use Rattle.isa.specs.Labels.{LabelMap, AreHeld, address_of, hash_of, key_cmp, key_of, names_of}
 use Rattle.isa.specs.Listing.{stands_in, stands_twice, is_double, labels_at}
 
 -- ---- one more name
@@ -29,6 +30,20 @@ lookup_keep : (t : List ℕ → Bool) (ps : List (List ℕ × ℕ)) (k : List �
 lookup_keep t [] k v e = rw e refl
 lookup_keep t (p ∷ ps) k v e = ap (cond (t p.0) (Some p.1)) (lookup_keep t ps k v e)
 
+unequal_then : (a b : Ordering) → is_eq b ≡ false → is_eq (ordering_then a b) ≡ false
+unequal_then Less b e = refl
+unequal_then Equal b e = e
+unequal_then Greater b e = refl
+
+-- keys are equal where names are
+same_key : (x y : List ℕ) → is_eq (key_cmp (key_of x) (key_of y)) ≡ bytes_eq x y
+same_key x y = elim (cases_Bool (bytes_eq x y)) [
+  | inl is ↦
+      let same : x ≡ y = (bytes_eq-Decides x y).0 is in
+      rw (is, sym same, tied_itself nat_cmp_total (hash_of x), tied_itself nat_list_cmp_total x) refl
+  | inr not ↦ unequal_then (nat_cmp (hash_of x) (hash_of y)) (slice_cmp nat_cmp x y) (is_eq-slice_cmp x y ∙ not) ∙ sym not
+]
+
 pub stands_among : (name : List ℕ) (held : List (List ℕ × ℕ)) → is_some (lookup (λ k. bytes_eq k name) held) ≡ stands_in (names_of held) name
 stands_among name [] = refl
 stands_among name (p ∷ ps) = elim (cases_Bool (bytes_eq p.0 name)) [
@@ -40,11 +55,10 @@ module _ (old new : LabelMap) (name : List ℕ) (address : ℕ) (held : List (Li
   pub is_among : is_some (address_of old name) ≡ stands_in (names_of held) name
   is_among = ap is_some (are name) ∙ stands_among name held
 
-  pub held_more : address_of old name ≡ None
-      → UpdatesBy (λ x y. slice_cmp nat_cmp x.now y.now) (λ k. slice_cmp nat_cmp name k.now) old new (Some address)
+  pub held_more : address_of old name ≡ None → UpdatesBy key_cmp (key_cmp (key_of name)) old new (Some address)
       → AreHeld new (held ++ (name, address) ∷ [])
   held_more absent updates = λ q.
-      let after : address_of new q ≡ cond (bytes_eq name q) (Some address) (address_of old q) = btree_map_updates_str name old new (Some address) updates q in
+      let after : address_of new q ≡ cond (bytes_eq name q) (Some address) (address_of old q) = rw (same_key name q) at (updates.0 (key_of q)) in
       elim (cases_Bool (bytes_eq name q)) [
         | inl is ↦
             let same : name ≡ q = (bytes_eq-Decides name q).0 is in

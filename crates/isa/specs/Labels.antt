@@ -1,18 +1,35 @@
--- The labels of a listing as its reader holds them: names in the order of their bytes, each with an address.
+-- The labels of a listing as its reader holds them: names in the order of their hashes, and of their bytes where hashes are equal, each
+-- with an address.
 use Rattle.std.specs.Prelude.{◌≡◌, ℕ, List, map, Option}
 use Rattle.std.specs.Borrow.{Bor}
-use Rattle.std.specs.BTreeMap.{BTreeMap, get_by}
+use Rattle.std.specs.BTreeMap.{BTreeMap, get}
 use Rattle.std.specs.Cmp.Lexicographic.{slice_cmp}
-use Rattle.std.specs.Ordering.{nat_cmp}
+use Rattle.std.specs.Hash.FoldHasher.{initial, write, finish}
+use Rattle.std.specs.Ordering.{nat_cmp, ordering_then}
+use Rattle.std.specs.declared.cmp.Ordering.{Ordering}
 use Rattle.std.specs.Map.{lookup}
 use Rattle.std.specs.Str.{bytes_eq}
 
+-- a name after its hash
+abbrev pub Key : Type 0
+Key = ℕ × Bor (List ℕ)
+
 abbrev pub LabelMap : Type 0
-LabelMap = BTreeMap (Bor (List ℕ)) ℕ
+LabelMap = BTreeMap Key ℕ
+
+abbrev pub key_cmp : Key → Key → Ordering
+key_cmp x y = ordering_then (nat_cmp x.0 y.0) (slice_cmp nat_cmp x.1.now y.1.now)
+
+-- the hash of a name, a number of 64 bits
+unfoldable pub hash_of : List ℕ → ℕ
+hash_of name = finish (write initial name)
+
+abbrev pub key_of : List ℕ → Key
+key_of name = (hash_of name, record { ref_ptr = (0, 0); now = name })
 
 -- the address of a name, where it is held
 abbrev pub address_of : LabelMap → List ℕ → Option ℕ
-address_of held name = get_by (λ k. slice_cmp nat_cmp name k.now) held
+address_of held name = get key_cmp held (key_of name)
 
 -- the names of labels
 abbrev pub names_of : List (List ℕ × ℕ) → List (List ℕ)

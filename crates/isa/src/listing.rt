@@ -24,7 +24,7 @@ pub use fault::{FaultKind, TextFault};
 pub use form::{Form, form_of, forms};
 pub use instr_text::{InstrText, Label, Naming, text_is_read_back};
 use instructions::{Instr, Program};
-use labels::Labels;
+use labels::{Labels, address_of};
 pub use law::the_first_fault_is_named;
 use line::{Target, read_first_line};
 pub use register::register as register_in;
@@ -46,8 +46,8 @@ fn resolve<'a>(labels: &Labels<'a>, target: &Target<'a>, number: u32) -> Result<
     let Some(name) = target.label else {
         return Ok(number);
     };
-    match labels.get(name) {
-        Some(address) => Ok(*address),
+    match address_of(labels, name) {
+        Some(address) => Ok(address),
         None => Err(TextFault {
             line: target.line,
             kind: FaultKind::UnknownLabel,
