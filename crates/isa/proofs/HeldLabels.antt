@@ -13,7 +13,7 @@ use Rattle.std.proofs.lemmas.List.{append-nil}
 use Rattle.std.proofs.lemmas.Cmp.{nat_cmp_total, nat_list_cmp_total, tied_itself}
 use Rattle.std.proofs.lemmas.Map.Text.{is_eq-slice_cmp}
 use Rattle.std.proofs.lemmas.Slice.Eq.{bytes_eq-Decides}
-use Rattle.isa.specs.Labels.{LabelMap, AreHeld, address_of, hash_of, key_cmp, key_of, names_of}
+use Rattle.isa.specs.Labels.{LabelMap, AreHeld, address_of, ending_of, key_cmp, key_of, names_of}
 use Rattle.isa.specs.Listing.{stands_in, stands_twice, is_double, labels_at}
 
 -- ---- one more name
@@ -40,8 +40,8 @@ same_key : (x y : List ℕ) → is_eq (key_cmp (key_of x) (key_of y)) ≡ bytes_
 same_key x y = elim (cases_Bool (bytes_eq x y)) [
   | inl is ↦
       let same : x ≡ y = (bytes_eq-Decides x y).0 is in
-      rw (is, sym same, tied_itself nat_cmp_total (hash_of x), tied_itself nat_list_cmp_total x) refl
-  | inr not ↦ unequal_then (nat_cmp (hash_of x) (hash_of y)) (slice_cmp nat_cmp x y) (is_eq-slice_cmp x y ∙ not) ∙ sym not
+      rw (is, sym same, tied_itself nat_cmp_total (ending_of x), tied_itself nat_list_cmp_total x) refl
+  | inr not ↦ unequal_then (nat_cmp (ending_of x) (ending_of y)) (slice_cmp nat_cmp x y) (is_eq-slice_cmp x y ∙ not) ∙ sym not
 ]
 
 pub stands_among : (name : List ℕ) (held : List (List ℕ × ℕ)) → is_some (lookup (λ k. bytes_eq k name) held) ≡ stands_in (names_of held) name

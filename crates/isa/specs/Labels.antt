@@ -1,16 +1,14 @@
--- The labels of a listing as its reader holds them: names in the order of their hashes, and of their bytes where hashes are equal, each
--- with an address.
-use Rattle.std.specs.Prelude.{◌≡◌, ℕ, List, map, Option}
+-- The labels of a listing as its reader holds them: names in the order of their last bytes, then of all bytes, each with an address.
+use Rattle.std.specs.Prelude.{◌≡◌, ℕ, ◌*◌, ◌-◌, ◌%◌, ◌^◌, bit_or, List, drop, fold, length, map, Option}
 use Rattle.std.specs.Borrow.{Bor}
 use Rattle.std.specs.BTreeMap.{BTreeMap, get}
 use Rattle.std.specs.Cmp.Lexicographic.{slice_cmp}
-use Rattle.std.specs.Hash.FoldHasher.{initial, write, finish}
 use Rattle.std.specs.Ordering.{nat_cmp, ordering_then}
 use Rattle.std.specs.declared.cmp.Ordering.{Ordering}
 use Rattle.std.specs.Map.{lookup}
 use Rattle.std.specs.Str.{bytes_eq}
 
--- a name after its hash
+-- a name after the number of its last bytes
 abbrev pub Key : Type 0
 Key = ℕ × Bor (List ℕ)
 
@@ -20,12 +18,12 @@ LabelMap = BTreeMap Key ℕ
 abbrev pub key_cmp : Key → Key → Ordering
 key_cmp x y = ordering_then (nat_cmp x.0 y.0) (slice_cmp nat_cmp x.1.now y.1.now)
 
--- the hash of a name, a number of 64 bits
-unfoldable pub hash_of : List ℕ → ℕ
-hash_of name = finish (write initial name)
+-- the last eight bytes of a name, or all of a shorter one, as a number, the first byte the highest
+unfoldable pub ending_of : List ℕ → ℕ
+ending_of name = fold (λ number b. bit_or (number * 2 ^ 8 % 2 ^ 64) b) 0 (drop (length name - 8) name)
 
 abbrev pub key_of : List ℕ → Key
-key_of name = (hash_of name, record { ref_ptr = (0, 0); now = name })
+key_of name = (ending_of name, record { ref_ptr = (0, 0); now = name })
 
 -- the address of a name, where it is held
 abbrev pub address_of : LabelMap → List ℕ → Option ℕ

@@ -1,32 +1,36 @@
 //! The labels of a listing, found by their names.
 ghost use Rattle.std.specs.Prelude.{◌≡◌, ◌≢◌, ◌∷◌, ◌++◌, [], ℕ, List, true, false, OnOk, IfOk, IfErr};
 ghost use Rattle.lexical.specs.Label.{labels_of, statement_of};
-ghost use Rattle.isa.specs.Labels.{address_of as address_of_name, hash_of, names_of, AreHeld};
+ghost use Rattle.isa.specs.Labels.{address_of as address_of_name, ending_of, names_of, AreHeld};
 ghost use Rattle.isa.specs.Listing.{stands_in, is_double, labels_at};
 
 use super::fault::FaultKind;
 use lexical::{next_label, trim};
 use std::collections::BTreeMap;
-use std::hash::{FoldHasher, Hasher};
 
-/// The address of each label, by its name. The hash before a name decides nearly every comparison without a look at the
-/// name's bytes, and these decide where hashes are equal.
+/// The address of each label, by its name. The number before a name decides most comparisons without a look at the name,
+/// and the name decides where numbers are equal.
 pub type Labels<'a> = BTreeMap<(u64, &'a [u8]), u32>;
 
-#[tactic(auto, unfolding(crate::specs::Labels::hash_of))]
-fn hash_of(name: &[u8]) -> u64
-    ensures { result ≡ hash_of name.now }
+// The last eight bytes of a name, or all of a shorter one, as a number: labels that are numbered one after the other
+// stand side by side.
+#[tactic(auto, unfolding(crate::specs::Labels::ending_of))]
+fn ending_of(name: &[u8]) -> u64
+    ensures { result ≡ ending_of name.now }
 {
-    let mut state = FoldHasher::default();
-    state.write(name);
-    state.finish()
+    let ending = &name[name.len().saturating_sub(8)..];
+    let mut number = 0u64;
+    for b in ending {
+        number = number << 8 | u64::from(*b);
+    }
+    number
 }
 
 /// The address of a label, if there is one with this name.
 pub fn address_of<'a>(labels: &Labels<'a>, name: &'a [u8]) -> Option<u32>
     ensures { result ≡ address_of_name labels.now name.now }
 {
-    labels.get(&(hash_of(name), name)).copied()
+    labels.get(&(ending_of(name), name)).copied()
 }
 
 // Adds a label, unless another one has its name.
@@ -38,7 +42,7 @@ fn add_label<'a>(labels: &mut Labels<'a>, name: &'a [u8], address: u32) -> Resul
         × ((held : List (List ℕ × ℕ)) → AreHeld labels.old held
         → stands_in (names_of held) name.now ≡ true)) }
 {
-    match labels.insert((hash_of(name), name), address)? {
+    match labels.insert((ending_of(name), name), address)? {
         None => Ok(()),
         Some(_) => Err(FaultKind::DoubleLabel),
     }
