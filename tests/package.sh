@@ -1,9 +1,13 @@
 #!/usr/bin/env bash
 # The package: it is made of what is built, and says the same version everywhere. Unpacked in an empty folder, with an empty
 # environment and as another user where this is root, it runs each word as the checkout does. A program in C is linked with both
-# libraries, and Python loads the shared one. No package is made of what is not proved, or without `tar`.
+# forms of each library, and Python loads the shared ones. No package is made of what is not proved, or without `tar`.
 . "$(dirname "$0")/common.bash"
-[ -z "${BUILT:-}" ] || build_step
+if [ -n "${BUILT:-}" ]; then
+  build_step
+  python3 tests/built.py ruu_judge
+  (cd crates/ruu_judge && rt lib < /dev/null > "$work/log" 2>&1) || { tail -n 40 "$work/log"; fail "the judge cannot be built"; }
+fi
 chmod 755 "$work"
 kit=$(dirname "$(rt doc)")
 
@@ -49,7 +53,7 @@ grep -qF "\`$name.tar.gz\`" README.md || fail 'README.md names another package'
 for it in LICENSE-MIT LICENSE-APACHE licenses/clap/LICENSE-MIT licenses/circular_buffer/LICENSE; do
   [ -s "$at/$it" ] || fail "the package has no $it"
 done
-for it in "$at"/bin/* "$at/lib/libruu_step.so"; do
+for it in "$at"/bin/* "$at"/lib/*.so; do
   newest=$( (exec -a llvm-nm "$kit/toolchain/bin/clang" -D "$it") | grep -o 'GLIBC_[0-9.]*' | sort -uV | tail -n 1)
   printf '%s\n' "${newest:-GLIBC_2.0}" GLIBC_2.34 | sort -CV || fail "${it##*/} wants $newest"
 done
@@ -98,7 +102,7 @@ for words in prove package '--unproved run examples/sum.s'; do
 done
 echo 'each word runs in it as in the checkout, and by a link'
 
-# the library, from C in both forms and from Python
+# the libraries, from C in both forms and from Python
 if command -v cc > /dev/null; then
   flags=(-std=c11 -O2 -I "$at/lib" "$at/examples/lockstep/lockstep.c")
   cc "${flags[@]}" -o "$work/static" "$at/lib/libruu_step.a" || fail 'no program with the static library'
@@ -106,6 +110,24 @@ if command -v cc > /dev/null; then
   for it in static shared; do
     "$work/$it" examples/c/primes.elf > "$work/out" 2> "$work/err"
     [ $? -eq 1 ] && grep -q '^instruction 28 at 0x00400024' "$work/out" || fail "the $it library answers otherwise"
+  done
+  cat > "$work/judge.c" << 'C'
+#include "ruu.h"
+int main(void)
+{
+    struct ruu_judge judge = RUU_NO_JUDGE;
+    uint64_t line;
+    int32_t made = ruu_judge_new((const uint8_t *)"break\n", 6, 1, 1, 0, &line, &judge);
+    int32_t told = ruu_judge_event(&judge, (const uint8_t *)"let", 3), after = ruu_judge_event(&judge, (const uint8_t *)"retire", 6);
+    ruu_judge_free(&judge);
+    return made * 64 + told * 8 + after;
+}
+C
+  cc -std=c11 -O2 -I "$at/lib" -o "$work/static" "$work/judge.c" "$at/lib/libruu_judge.a" || fail 'no program with the static judge'
+  cc -std=c11 -O2 -I "$at/lib" -o "$work/shared" "$work/judge.c" -L "$at/lib" -lruu_judge -Wl,-rpath,"$at/lib" || fail 'no program with the shared judge'
+  for it in static shared; do
+    "$work/$it"
+    [ $? -eq 1 ] || fail "the $it judge answers otherwise"
   done
 fi
 as_user "$at" python3 examples/lockstep/lockstep.py lib/libruu_step.so examples/c/primes.elf --right > "$work/out" 2> "$work/err" \
@@ -115,7 +137,12 @@ import ruu
 machine = ruu.load("./libruu_step.so")
 print(machine.run(ruu.words([0x24010005, 13]), ruu.data(0), ruu.words([0] * 34), ruu.word(ruu.TEXT), 9))' > "$work/out" 2> "$work/err" \
   && [ "$(cat "$work/out")" = '(1, 1)' ] || fail 'ruu.py does not load the library'
-echo 'the library is linked in both forms, and loaded'
+as_user "$at/lib" python3 -B -c '
+import ruu
+judge = ruu.Judge("./libruu_judge.so", "break")
+print(judge.event("let"), judge.event("retire"), judge.reason().split("\n")[1])' > "$work/out" 2> "$work/err" \
+  && [ "$(cat "$work/out")" = '0 1 0 break is not done' ] || fail 'ruu.py does not load the judge'
+echo 'the libraries are linked in both forms, and loaded'
 
 # what is not proved, and without tar
 mkdir -p "$work/fresh" "$work/bare"

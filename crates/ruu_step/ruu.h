@@ -1,4 +1,5 @@
-/* The in-order machine of ./ruu, one instruction a call, or many: link libruu_step.a, or load libruu_step.so.
+/* The in-order machine of ./ruu, one instruction a call, or many: link libruu_step.a, or load libruu_step.so. And its judge of
+ * out-of-order machines, one event a call: link libruu_judge.a, or load libruu_judge.so.
  * docs/REFERENCE.md tells how they are built and what is promised of them. */
 #ifndef RUU_STEP_H
 #define RUU_STEP_H
@@ -85,6 +86,59 @@ static RUU_INLINE const char *ruu_stop_name(int32_t answer)
     default: return "no answer";
     }
 }
+
+/* A judge of what another out-of-order machine does: it is told the lines of a log, as `./ruu judge` reads them, each as soon
+ * as it happens, and says of each event whether it is legal. `struct ruu_judge judge = RUU_NO_JUDGE;` is a place for one. */
+struct ruu_judge {
+    void *held;            /* the library's own; null where there is no judge */
+};
+#define RUU_NO_JUDGE {0}
+#define RUU_NO_BOUND ((size_t)-1)
+
+/* The answers of a judge: 0 to 5 are the exit statuses of `./ruu judge`. */
+enum {
+    RUU_JUDGE_LEGAL = 0,       /* the event is legal, or the line has none; of other calls: it is done */
+    RUU_JUDGE_REFUSED = 1,     /* the event is refused, and the judge has ended */
+    RUU_JUDGE_LISTING = 2,     /* the listing has a fault */
+    RUU_JUDGE_USED_WRONG = 3,  /* there is no judge, or is one already; no stations; flags that are none */
+    RUU_JUDGE_UNREAD = 4,      /* the line is not read; the judge goes on as if it had no event */
+    RUU_JUDGE_NO_MEMORY = 5,
+    RUU_JUDGE_ENDED = 6        /* it has ended before, by a refused event or for want of memory */
+};
+
+/* What a judge allows beside the steps of the unit, and what the word `issue` means in a log; 0 is none of them. */
+enum {
+    RUU_JUDGE_GUESSES = 1,          /* --guess: a load may take a value ahead of older stores */
+    RUU_JUDGE_FLUSHES = 2,          /* --flush: the youngest may be squashed without a misprediction */
+    RUU_JUDGE_ISSUE_DISPATCHES = 4, /* --issue dispatch */
+    RUU_JUDGE_ISSUE_EXECUTES = 8    /* --issue execute */
+};
+
+/* Makes a judge of the unit of a listing of `bytes` bytes (docs/LISTING.md), with that many stations, and at most `queue` loads
+ * and stores in flight; RUU_NO_BOUND is no bound. RUU_JUDGE_LEGAL: *judge has it, and has to be freed. RUU_JUDGE_LISTING: the
+ * first fault is in line *line, counted from 1, or the listing is too long and *line is 0. After each answer but
+ * RUU_JUDGE_LEGAL, *judge is as it was. The listing is copied: it may go once the call is over.
+ *
+ * These four calls allocate with malloc, which may be the caller's own. No proof sees a caller in C: no pointer may be null,
+ * each area is as long as it is said to be, and no two of them overlap. *judge is RUU_NO_JUDGE, or as the last call left it,
+ * and is neither copied and used twice nor called after the copy was freed. A judge may be used by one call at a time; many
+ * threads may have judges of their own. None of them may be called from a signal handler. */
+int32_t ruu_judge_new(const uint8_t *RUU_RESTRICT listing, size_t bytes, size_t stations, size_t queue, uint32_t flags,
+                      uint64_t *RUU_RESTRICT line, struct ruu_judge *RUU_RESTRICT judge);
+
+/* Tells a judge the next line of the log, `bytes` bytes, with a line feed at its end or without. A let at which a predictor is
+ * asked (a branch, jr or jalr) says what it predicted, as in "let 0x00400004 -> 0x00400008"; one that does not is taken to be
+ * predicted in order. */
+int32_t ruu_judge_event(struct ruu_judge *RUU_RESTRICT judge, const uint8_t *RUU_RESTRICT text, size_t bytes);
+
+/* Writes the text of the verdict, as `./ruu judge` prints it for a log of the lines told up to now, into `text`, as much of it
+ * as fits into `size` bytes, with no zero at its end. *length is how long it is: call again with more room where that is more
+ * than `size`. RUU_JUDGE_NO_MEMORY: *length is 0; the judge is as it was, and may be asked again. */
+int32_t ruu_judge_reason(struct ruu_judge *RUU_RESTRICT judge, uint8_t *RUU_RESTRICT text, size_t size,
+                         size_t *RUU_RESTRICT length);
+
+/* Frees all that a judge holds. *judge is RUU_NO_JUDGE afterwards; where it was before, nothing is done. */
+void ruu_judge_free(struct ruu_judge *judge);
 
 #ifdef __cplusplus
 }

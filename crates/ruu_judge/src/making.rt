@@ -1,0 +1,81 @@
+//! The making of a judge.
+ghost use Rattle.std.specs.Prelude.{IfErr, IfOk};
+ghost use Rattle.isa.specs.Listing.{listing};
+ghost use Rattle.ruu_judge.specs.Calls.{IsMade, IsNotMade};
+
+use crate::held::Held;
+use crate::owned::{OwnedUnit, Rules};
+use events::Issue;
+use isa::{FaultKind, parse};
+use std::alloc::{AllocError, AllocFailed, Global};
+
+// The flags of a judge.
+const GUESSES: u32 = 1;
+
+const FLUSHES: u32 = 2;
+
+const ISSUE_DISPATCHES: u32 = 4;
+
+const ISSUE_EXECUTES: u32 = 8;
+
+/// Why there is no judge.
+#[derive(Clone, Copy)]
+pub enum NotMade {
+    /// The listing has a fault at this line.
+    Fault(u64),
+    Memory,
+}
+
+impl From<AllocError> for NotMade {
+    fn from(_error: AllocError) -> NotMade {
+        NotMade::Memory
+    }
+}
+
+impl<T: Drop> From<AllocFailed<T>> for NotMade {
+    fn from(_failed: AllocFailed<T>) -> NotMade {
+        NotMade::Memory
+    }
+}
+
+fn issue_of(flags: u32) -> Option<Issue> {
+    match flags & (ISSUE_DISPATCHES | ISSUE_EXECUTES) {
+        0 => Some(Issue::Ambiguous),
+        ISSUE_DISPATCHES => Some(Issue::Dispatch),
+        ISSUE_EXECUTES => Some(Issue::Execute),
+        _ => None,
+    }
+}
+
+/// What flags ask for; none where one of them is unknown, or `issue` would have two meanings.
+pub(crate) fn rules_of(flags: u32) -> Option<Rules> {
+    if flags > 15 {
+        return None;
+    }
+    let issue = issue_of(flags)?;
+    Some(Rules {
+        issue,
+        guesses: flags & GUESSES != 0,
+        flushes: flags & FLUSHES != 0,
+    })
+}
+
+/// A judge of the unit of a listing's program.
+pub(crate) fn made(
+    alloc: Global,
+    text: &[u8],
+    stations: usize,
+    queue: usize,
+    rules: Rules,
+) -> Result<Box<Held>, NotMade>
+    ensures ok { IfOk result (λ b. IsMade (listing text.now) stations queue b.value) }
+    ensures err { IfErr result (IsNotMade (listing text.now)) }
+{
+    let program = match parse(alloc, text) {
+        Ok(program) => program,
+        Err(fault) if fault.kind == FaultKind::Memory => return Err(NotMade::Memory),
+        Err(fault) => return Err(NotMade::Fault(fault.line)),
+    };
+    let unit = OwnedUnit::new(alloc, program, stations, queue)?;
+    Ok(Box::new(alloc, Held::new(rules, unit))?)
+}

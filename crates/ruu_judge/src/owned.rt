@@ -1,0 +1,209 @@
+//! A unit that owns its program.
+ghost use Rattle.replay.specs.Settlement.{AreUses, IsSettled};
+
+use crate::log::Item;
+use crate::verdict::{legal_text, refused_text};
+use counted_io::Fault;
+use events::{Event, Issue, Judge, Why};
+use instructions::Program;
+use replay::{Settled, Tenant, Unit};
+use std::alloc::{AllocError, Global};
+
+/// What a judge allows beside the steps of the unit, and what `issue` means.
+#[derive(Clone, Copy)]
+pub struct Rules {
+    pub issue: Issue,
+    pub guesses: bool,
+    pub flushes: bool,
+}
+
+/// A unit, and its program.
+#[derive(Drop)]
+pub struct OwnedUnit {
+    pub program: Program,
+    pub ring: usize,
+    pub queue: usize,
+    pub first_tag: u64,
+    pub tenants: Vec<Tenant>,
+    pub settled: Settled,
+    pub uses: Vec<u64>,
+    pub ghost settles: { IsSettled program tenants.items settled },
+    pub ghost counts: { AreUses tenants.items uses.items },
+}
+
+/// A unit after an event.
+#[derive(Drop)]
+pub enum Judged {
+    Legal(OwnedUnit),
+    Refused(OwnedUnit, Why),
+    NoMemory,
+}
+
+impl OwnedUnit {
+    ghost use Rattle.std.specs.Prelude.{IfOk};
+    ghost use Rattle.ruu_judge.specs.Units.{IsNewUnit, IsSame, IsVerdict};
+
+    /// The unit of a program before its first event, with `ring` stations and at most `queue` loads and stores in flight.
+    pub fn new(
+        alloc: Global,
+        program: Program,
+        ring: usize,
+        queue: usize,
+    ) -> Result<OwnedUnit, AllocError>
+        ensures { IfOk result (IsNewUnit program ring queue) }
+    {
+        let Judge {
+            unit,
+            guesses: _,
+            flushes: _,
+        } = Judge::new(alloc, &program, ring, queue)?;
+        let Unit {
+            program: _,
+            ring,
+            queue,
+            first_tag,
+            tenants,
+            settled,
+            uses,
+        } = unit;
+        Ok(OwnedUnit {
+            program,
+            ring,
+            queue,
+            first_tag,
+            tenants,
+            settled,
+            uses,
+        })
+    }
+
+    /// The unit after an event, if that is legal. A let at which a predictor is asked, and which does not say its predicted next
+    /// pc, is predicted in order.
+    pub fn judged(self, rules: Rules, event: Event) -> Judged
+        ensures { IsVerdict self event result }
+    {
+        let OwnedUnit {
+            program,
+            ring,
+            queue,
+            first_tag,
+            tenants,
+            settled,
+            uses,
+        } = self;
+        let unit = Unit {
+            program: &program,
+            ring,
+            queue,
+            first_tag,
+            tenants,
+            settled,
+            uses,
+        };
+        let mut judge = Judge {
+            unit,
+            guesses: rules.guesses,
+            flushes: rules.flushes,
+        };
+        let answer = judge.event(event, None);
+        let Judge {
+            unit,
+            guesses: _,
+            flushes: _,
+        } = judge;
+        let Unit {
+            program: _,
+            ring,
+            queue,
+            first_tag,
+            tenants,
+            settled,
+            uses,
+        } = unit;
+        match answer {
+            Ok(Ok(())) => Judged::Legal(OwnedUnit {
+                program,
+                ring,
+                queue,
+                first_tag,
+                tenants,
+                settled,
+                uses,
+            }),
+            Ok(Err(why)) => Judged::Refused(
+                OwnedUnit {
+                    program,
+                    ring,
+                    queue,
+                    first_tag,
+                    tenants,
+                    settled,
+                    uses,
+                },
+                why,
+            ),
+            Err(_) => Judged::NoMemory,
+        }
+    }
+    /// The text of a verdict: that of the event that is refused, or the counts and the report after so many legal ones.
+    pub fn text(
+        self,
+        alloc: Global,
+        refused: Option<(Item, Why)>,
+        judged: u64,
+    ) -> (OwnedUnit, Result<String, Fault>)
+        ensures { IsSame self result.0 }
+    {
+        let OwnedUnit {
+            program,
+            ring,
+            queue,
+            first_tag,
+            tenants,
+            settled,
+            uses,
+        } = self;
+        let unit = Unit {
+            program: &program,
+            ring,
+            queue,
+            first_tag,
+            tenants,
+            settled,
+            uses,
+        };
+        let judge = Judge {
+            unit,
+            guesses: false,
+            flushes: false,
+        };
+        let text = match refused {
+            Some((item, why)) => refused_text(alloc, &judge, &item, why),
+            None => legal_text(alloc, &judge, judged),
+        };
+        let Judge {
+            unit,
+            guesses: _,
+            flushes: _,
+        } = judge;
+        let Unit {
+            program: _,
+            ring,
+            queue,
+            first_tag,
+            tenants,
+            settled,
+            uses,
+        } = unit;
+        let back = OwnedUnit {
+            program,
+            ring,
+            queue,
+            first_tag,
+            tenants,
+            settled,
+            uses,
+        };
+        (back, text)
+    }
+}
