@@ -4,7 +4,7 @@ use Rattle.instructions.specs.Programs.{Program}
 use Rattle.events.specs.declared.event.Event.{Event}
 use Rattle.events.specs.declared.why.Why.{Why}
 use Rattle.events.specs.Told.{Refuses, Tells}
-use Rattle.replay.specs.declared.unit.Unit.{Unit}
+use Rattle.replay.specs.declared.unit.Unit.{Unit as Lent}
 use Rattle.ruu_judge.specs.declared.owned.OwnedUnit.{OwnedUnit}
 use Rattle.ruu_judge.specs.declared.owned.Judged.{Judged}
 use Rattle.ruu_judge.specs.declared.owned.Judged.TheVariants.{Legal, NoMemory, Refused}
@@ -18,7 +18,7 @@ pub record IsNewUnit (program : Program) (ring queue : ℕ) (o : OwnedUnit) : Ty
   pub tag : o.first_tag ≡ 1
 
 -- A unit that borrows its program has the fields of one that owns it
-pub record IsUnit (o : OwnedUnit) (u : Unit) : Type 0 where
+pub record IsUnit (o : OwnedUnit) (u : Lent) : Type 0 where
   pub program : u.program.now ≡ o.program
   pub ring : u.ring ≡ o.ring
   pub queue : u.queue ≡ o.queue
@@ -27,16 +27,16 @@ pub record IsUnit (o : OwnedUnit) (u : Unit) : Type 0 where
 
 -- Legal steps that an event says lead from a unit to a later one
 pub record IsLegal (o : OwnedUnit) (event : Event) (p : OwnedUnit) : Type 0 where
-  pub before : Unit
-  pub after : Unit
+  pub before : Lent
+  pub after : Lent
   pub was : IsUnit o before
   pub is : IsUnit p after
   pub tells : Tells before event after
 
 -- An event is refused for a reason that is true of the unit to which its legal steps lead
 pub record IsRefused (o : OwnedUnit) (why : Why) (p : OwnedUnit) : Type 0 where
-  pub before : Unit
-  pub after : Unit
+  pub before : Lent
+  pub after : Lent
   pub was : IsUnit o before
   pub is : IsUnit p after
   pub refuses : Refuses before why after

@@ -15,10 +15,9 @@ mod slot;
 mod tenants;
 mod verdict;
 
-pub use slot::Slot;
-
 use held::{Answer, Held};
 use making::{NotMade, made, rules_of};
+pub use slot::Slot;
 use std::alloc::Global;
 
 // What the calls answer; the exit statuses of the program `judge` have these numbers.

@@ -1,4 +1,4 @@
--- closed
+-- `closed` makes an empty place: null owns nothing. Assumes `Logic`.
 use Rattle.std.proofs.Common.{◌≡◌, List, [], ◌∷◌, ◌++◌, refl, sym, ap, subst, lit<}
 use mir.Syntax.{Fn}
 use mir.Val.{Val, vptr, vnull, vcons, vnil}

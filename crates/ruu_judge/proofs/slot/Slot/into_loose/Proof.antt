@@ -1,4 +1,4 @@
--- into_loose
+-- `into_loose` tests the pointer: null owns nothing, and another one a box. Assumes `Logic`.
 use Rattle.std.proofs.Common.{◌≡◌, List, [], ◌∷◌, ◌++◌, refl, sym, ap, subst, lit<}
 use mir.Syntax.{Fn}
 use mir.Val.{Val, vptr, vnull, vcons, vnil}

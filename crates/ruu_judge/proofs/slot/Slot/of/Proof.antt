@@ -1,4 +1,4 @@
--- of
+-- `of` hands over the box of a `Loose`. Assumes `Logic`.
 use Rattle.std.proofs.Common.{◌≡◌, List, [], ◌∷◌, ◌++◌, refl, sym, ap, subst, lit<}
 use mir.Syntax.{Fn}
 use mir.Val.{Val, vptr, vnull, vcons, vnil}

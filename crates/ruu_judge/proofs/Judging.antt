@@ -1,0 +1,23 @@
+-- A unit that owns its program, after an event.
+use Rattle.std.proofs.Common.{◌≡◌, subst}
+use Rattle.events.specs.declared.event.Event.{Event}
+use Rattle.events.specs.declared.why.Why.{Why}
+use Rattle.events.specs.Told.{Refuses, Tells}
+use Rattle.replay.specs.declared.unit.Unit.{Unit as Lent}
+use Rattle.replay.specs.Settlement.{IsSettled}
+use Rattle.ruu_judge.specs.declared.owned.OwnedUnit.{OwnedUnit}
+use Rattle.ruu_judge.specs.Units.{IsLegal, IsRefused, IsUnit}
+
+-- after an event that is taken, and one that is refused, the program is what it was
+pub taken_settles : (u v : Lent) (event : Event) → Tells u event v → IsSettled u.program.now v.tenants.items v.settled
+taken_settles u v event t = subst (λ p. IsSettled p v.tenants.items v.settled) t.follows.program v.settles
+
+pub refused_settles : (u v : Lent) (why : Why) → Refuses u why v → IsSettled u.program.now v.tenants.items v.settled
+refused_settles u v why r = subst (λ p. IsSettled p v.tenants.items v.settled) r.follows.program v.settles
+
+-- what is true of units that borrow their program is true of those that own it
+pub legal : (u v : Lent) (o p : OwnedUnit) (event : Event) → IsUnit o u → IsUnit p v → Tells u event v → IsLegal o event p
+legal u v o p event was is tells = record { before = u; after = v; was = was; is = is; tells = tells }
+
+pub refused : (u v : Lent) (o p : OwnedUnit) (why : Why) → IsUnit o u → IsUnit p v → Refuses u why v → IsRefused o why p
+refused u v o p why was is refuses = record { before = u; after = v; was = was; is = is; refuses = refuses }
