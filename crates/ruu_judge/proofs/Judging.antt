@@ -16,8 +16,8 @@ pub refused_settles : (u v : Lent) (why : Why) → Refuses u why v → IsSettled
 refused_settles u v why r = subst (λ p. IsSettled p v.tenants.items v.settled) r.follows.program v.settles
 
 -- what is true of units that borrow their program is true of those that own it
-pub legal : (u v : Lent) (o p : OwnedUnit) (event : Event) → IsUnit o u → IsUnit p v → Tells u event v → IsLegal o event p
-legal u v o p event was is tells = record { before = u; after = v; was = was; is = is; tells = tells }
+pub legal : (u v : Lent) (event : Event) → Tells u event v → (o p : OwnedUnit) → IsUnit o u → IsUnit p v → IsLegal o event p
+legal u v event tells o p was is = record { before = u; after = v; was = was; is = is; tells = tells }
 
-pub refused : (u v : Lent) (o p : OwnedUnit) (why : Why) → IsUnit o u → IsUnit p v → Refuses u why v → IsRefused o why p
-refused u v o p why was is refuses = record { before = u; after = v; was = was; is = is; refuses = refuses }
+pub refused : (u v : Lent) (why : Why) → Refuses u why v → (o p : OwnedUnit) → IsUnit o u → IsUnit p v → IsRefused o why p
+refused u v why refuses o p was is = record { before = u; after = v; was = was; is = is; refuses = refuses }

@@ -10,11 +10,11 @@ use Rattle.ruu_judge.specs.declared.owned.Judged.{Judged}
 use Rattle.ruu_judge.specs.declared.owned.Judged.TheVariants.{Legal, NoMemory, Refused}
 
 -- The unit of a program before its first event, of these sizes
-pub record IsNewUnit (program : Program) (ring queue : ℕ) (o : OwnedUnit) : Type 0 where
-  pub program : o.program ≡ program
+pub record IsNewUnit (P : Program) (stations accesses : ℕ) (o : OwnedUnit) : Type 0 where
+  pub program : o.program ≡ P
   pub tenants : o.tenants.items ≡ []
-  pub ring : o.ring ≡ ring
-  pub queue : o.queue ≡ queue
+  pub ring : o.ring ≡ stations
+  pub queue : o.queue ≡ accesses
   pub tag : o.first_tag ≡ 1
 
 -- A unit that borrows its program has the fields of one that owns it
