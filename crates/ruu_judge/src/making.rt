@@ -1,7 +1,8 @@
 //! The making of a judge.
-ghost use Rattle.std.specs.Prelude.{IfErr, IfOk};
+ghost use Rattle.std.specs.Prelude.{◌≡◌, IfErr, IfOk};
 ghost use Rattle.isa.specs.Listing.{listing};
 ghost use Rattle.ruu_judge.specs.Calls.{IsMade, IsNotMade};
+ghost use Rattle.ruu_judge.specs.declared.making.NotMade.TheVariants.{Memory as NoRoom};
 
 use crate::held::Held;
 use crate::owned::{OwnedUnit, Rules};
@@ -27,12 +28,16 @@ pub enum NotMade {
 }
 
 impl From<AllocError> for NotMade {
+    ghost from_gives = { λ _ why. why ≡ NoRoom };
+
     fn from(_error: AllocError) -> NotMade {
         NotMade::Memory
     }
 }
 
 impl<T: Drop> From<AllocFailed<T>> for NotMade {
+    ghost from_gives = { λ _ why. why ≡ NoRoom };
+
     fn from(_failed: AllocFailed<T>) -> NotMade {
         NotMade::Memory
     }

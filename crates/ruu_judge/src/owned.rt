@@ -79,7 +79,7 @@ impl OwnedUnit {
 
     /// The unit after an event, if that is legal. A let at which a predictor is asked, and which does not say its predicted next
     /// pc, is predicted in order.
-    #[tactic(auto, using(crate::proofs::Judging::taken_settles, crate::proofs::Judging::refused_settles))]
+    #[tactic(auto, using(crate::proofs::Judging::taken_settles, crate::proofs::Judging::refused_settles, crate::proofs::Judging::legal, crate::proofs::Judging::refused))]
     pub fn judged(self, rules: Rules, event: Event) -> Judged
         ensures { IsVerdict self event result }
     {
@@ -121,8 +121,11 @@ impl OwnedUnit {
             settled,
             uses,
         } = unit;
-        match answer {
-            Ok(Ok(())) => Judged::Legal(OwnedUnit {
+        let Ok(found) = answer else {
+            return Judged::NoMemory;
+        };
+        match found {
+            Ok(()) => Judged::Legal(OwnedUnit {
                 program,
                 ring,
                 queue,
@@ -131,7 +134,7 @@ impl OwnedUnit {
                 settled,
                 uses,
             }),
-            Ok(Err(why)) => Judged::Refused(
+            Err(why) => Judged::Refused(
                 OwnedUnit {
                     program,
                     ring,
@@ -143,7 +146,6 @@ impl OwnedUnit {
                 },
                 why,
             ),
-            Err(_) => Judged::NoMemory,
         }
     }
     /// The text of a verdict: that of the event that is refused, or the counts and the report after so many legal ones.
