@@ -79,7 +79,7 @@ impl OwnedUnit {
 
     /// The unit after an event, if that is legal. A let at which a predictor is asked, and which does not say its predicted next
     /// pc, is predicted in order.
-    #[tactic(auto, using(crate::proofs::Judging::taken_settles, crate::proofs::Judging::refused_settles, crate::proofs::Judging::legal, crate::proofs::Judging::refused))]
+    #[tactic(auto, using(crate::proofs::Judging::taken_settles, crate::proofs::Judging::refused_settles))]
     pub fn judged(self, rules: Rules, event: Event) -> Judged
         ensures { IsVerdict self event result }
     {
