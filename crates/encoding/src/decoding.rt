@@ -1,5 +1,5 @@
 //! From a word to an instruction.
-ghost use Rattle.std.specs.Prelude.{◌≡◌, Some};
+ghost use Rattle.std.specs.Prelude.{◌≡◌, IfSome, Some};
 ghost use Rattle.std.specs.Option.{option_map};
 ghost use Rattle.isa.specs.Statement.{implied_target as implied_target_of, implied_source as implied_source_of};
 ghost use Rattle.encoding.specs.Words.{instruction_of, decode as decode_of, decode_as as decode_as_of, read as read_of, branch_target as branch_target_of, region_target as region_target_of};
@@ -80,7 +80,8 @@ fn implied_source(op: Op) -> Reg
 #[inline(always)]
 #[tactic(auto, unfolding(crate::specs::Words::read))]
 fn read(op: Op, layout: Layout, word: u32, pc: u32) -> Option<Decoded>
-    ensures { option_map instruction_of result ≡ read_of layout.shape layout.select op pc word }
+    ensures value { option_map instruction_of result ≡ read_of layout.shape layout.select op pc word }
+    ensures op { IfSome result (λ decoded. decoded.op ≡ op) }
 {
     let (rs, rt, rd) = (fields::rs(word), fields::rt(word), fields::rd(word));
     let shift = fields::shift(word);
@@ -128,7 +129,8 @@ fn read(op: Op, layout: Layout, word: u32, pc: u32) -> Option<Decoded>
 /// not use. The word has to have the operation's opcode and selecting field, as `operation_of` says.
 #[inline(always)]
 pub fn decode_as(op: Op, word: u32, pc: u32) -> Option<Decoded>
-    ensures { option_map instruction_of result ≡ decode_as_of pc word (Some op) }
+    ensures value { option_map instruction_of result ≡ decode_as_of pc word (Some op) }
+    ensures op { IfSome result (λ decoded. decoded.op ≡ op) }
 {
     read(op, layout_of(op), word, pc)
 }

@@ -219,6 +219,7 @@ fn by_opcode(opcode: u32) -> Option<Op>
 }
 
 /// The operation with the opcode and the selecting field of a word. The table is searched only where neither names one.
+#[inline(always)]
 #[tactic(auto, unfolding(crate::specs::Layouts::operation_of))]
 pub fn operation_of(word: u32) -> Option<Op>
     ensures { result ≡ operation word }

@@ -1,6 +1,8 @@
 //! One step over machine words and buffers.
 ghost use Rattle.std.specs.Prelude.{◌≡◌, ◌≤◌, ◌+◌, Some, length, slice_index};
-ghost use Rattle.instructions.specs.Instruction.{kind as kind_of, width as width_of, pc_plus_4 as pc_plus_4_of};
+ghost use Rattle.instructions.specs.declared.op.Half.TheVariants.{Low};
+ghost use Rattle.instructions.specs.Operations.{AddressIsInside, outcome as whole_outcome};
+ghost use Rattle.instructions.specs.Instruction.{destination as destination_of, kind as kind_of, width as width_of, pc_plus_4 as pc_plus_4_of};
 ghost use Rattle.inorder.specs.Machine.{after_access, write as written};
 ghost use Rattle.encoding.specs.Words.{decode as decode_of};
 ghost use Rattle.lockstep.specs.Changes.{change_over};
@@ -10,7 +12,9 @@ ghost use Rattle.lockstep.specs.Step.{word_at as word_of, step_as, step_by, step
 use crate::change::{Change, changed};
 use encoding::{decode, decode_as, operation_of};
 use inorder::data::{number, store};
-use instructions::{Half, Instr, Kind, Op, Outcome, Program, Reg, Stop, loaded, outcome, pc_plus_4};
+use instructions::{
+    Half, Instr, Kind, Op, Outcome, Program, Reg, Stop, loaded, outcome, outcome_by_kind, pc_plus_4,
+};
 
 /// The answer of a step.
 #[derive(Clone, Copy, Debug, PartialEq, Eq)]
@@ -58,26 +62,42 @@ fn write(registers: &mut [u32; 34], r: Reg, value: u32)
     }
 }
 
+// The register that an instruction of a kind changes: its only one, or LO.
+#[inline(always)]
+fn destination(kind: Kind, instr: &Instr) -> Reg
+    requires { kind ≡ kind_of instr.now.op }
+    ensures { result ≡ destination_of instr.now Low }
+{
+    match kind {
+        Kind::Jumps | Kind::Stores => Reg::ZERO,
+        _ if instr.op().is_pair() => Reg::LO,
+        _ => instr.target,
+    }
+}
+
 // Runs the load or store at an address.
 #[inline(always)]
-fn access(memory: &mut [u8], registers: &mut [u32; 34], pc: u32, instr: &Instr, address: usize)
+fn access(
+    kind: Kind,
+    memory: &mut [u8],
+    registers: &mut [u32; 34],
+    pc: u32,
+    instr: &Instr,
+    address: usize,
+)
+    requires kind { kind ≡ kind_of instr.now.op }
     requires inside { address + width_of instr.now.op ≤ length memory.old }
     ensures { HoldsState registers.new memory.new (pc_plus_4_of pc)
-        (after_access (kind_of instr.now.op)
-        (machine_state registers.old memory.old pc) instr.now address) }
+        (after_access kind (machine_state registers.old memory.old pc) instr.now address) }
 {
     let width = instr.op().width() as usize;
-    match instr.op().kind() {
+    match kind {
         Kind::Stores => {
             store(memory, address, width, register(registers, instr.second()));
         }
         _ => {
             let raw = number(memory, address, width);
-            write(
-                registers,
-                instr.destination(Half::Low),
-                loaded(instr.op(), raw),
-            );
+            write(registers, destination(kind, instr), loaded(instr.op(), raw));
         }
     }
 }
@@ -93,10 +113,31 @@ fn fetch(text: &[u32], pc: u32) -> Result<Instr, Answer>
     instruction(word, pc).ok_or(Answer::NoOperation)
 }
 
-// Runs an instruction.
+// The outcome of an instruction of a kind.
 #[inline(always)]
-fn run(memory: &mut [u8], registers: &mut [u32; 34], pc: &mut u32, instr: &Instr) -> Answer
-    requires { length memory.old ≤ 65536 }
+fn outcome_of(kind: Kind, instr: &Instr, pc: u32, a: u32, b: u32, size: u32) -> Outcome
+    requires { kind ≡ kind_of instr.now.op }
+    ensures value { result ≡ whole_outcome instr.now pc a b size }
+    ensures inside { AddressIsInside result (width_of instr.now.op) size }
+{
+    if instr.op().is_pair() {
+        outcome(instr, pc, a, b, size)
+    } else {
+        outcome_by_kind(kind, instr, Half::Low, pc, a, b, size)
+    }
+}
+
+// Runs an instruction of a kind.
+#[inline(always)]
+fn run(
+    kind: Kind,
+    memory: &mut [u8],
+    registers: &mut [u32; 34],
+    pc: &mut u32,
+    instr: &Instr,
+) -> Answer
+    requires kind { kind ≡ kind_of instr.now.op }
+    requires memory { length memory.old ≤ 65536 }
     ensures { IsStepped (machine_state registers.old memory.old pc.old) result
         registers.new memory.new pc.new
         (step_by (machine_state registers.old memory.old pc.old) (Some instr.now)) }
@@ -104,23 +145,23 @@ fn run(memory: &mut [u8], registers: &mut [u32; 34], pc: &mut u32, instr: &Instr
     let at = *pc;
     let a = register(registers, instr.first());
     let b = register(registers, instr.second());
-    *pc = match outcome(instr, at, a, b, memory.len() as u32) {
+    *pc = match outcome_of(kind, instr, at, a, b, memory.len() as u32) {
         Outcome::Stop(stop) => return Answer::Stopped(stop),
         Outcome::Value(value) => {
-            write(registers, instr.destination(Half::Low), value);
+            write(registers, destination(kind, instr), value);
             pc_plus_4(at)
         }
         Outcome::Next(next) => {
-            write(registers, instr.destination(Half::Low), pc_plus_4(at));
+            write(registers, destination(kind, instr), pc_plus_4(at));
             next
         }
         Outcome::Pair(low, high) => {
-            write(registers, instr.destination(Half::Low), low);
+            write(registers, destination(kind, instr), low);
             write(registers, instr.destination(Half::High), high);
             pc_plus_4(at)
         }
         Outcome::Address(address) => {
-            access(memory, registers, at, instr, address as usize);
+            access(kind, memory, registers, at, instr, address as usize);
             pc_plus_4(at)
         }
     };
@@ -129,20 +170,14 @@ fn run(memory: &mut [u8], registers: &mut [u32; 34], pc: &mut u32, instr: &Instr
 
 // Runs a word as an instruction of an operation.
 #[inline(always)]
-fn run_as(
-    op: Op,
-    word: u32,
-    memory: &mut [u8],
-    registers: &mut [u32; 34],
-    pc: &mut u32,
-) -> Answer
+fn run_as(op: Op, word: u32, memory: &mut [u8], registers: &mut [u32; 34], pc: &mut u32) -> Answer
     requires { length memory.old ≤ 65536 }
     ensures { IsStepped (machine_state registers.old memory.old pc.old) result
         registers.new memory.new pc.new
         (step_as op word (machine_state registers.old memory.old pc.old)) }
 {
     match decode_as(op, word, *pc) {
-        Some(decoded) => run(memory, registers, pc, &Instr::from(decoded)),
+        Some(decoded) => run(op.kind(), memory, registers, pc, &Instr::from(decoded)),
         None => Answer::NoOperation,
     }
 }
@@ -150,13 +185,7 @@ fn run_as(
 // Runs a word of an operation. Each operation has an arm of its own, so that the compiler makes code for it alone: this takes
 // a third of the time of one code for all.
 #[inline(always)]
-fn run_each(
-    op: Op,
-    word: u32,
-    memory: &mut [u8],
-    registers: &mut [u32; 34],
-    pc: &mut u32,
-) -> Answer
+fn run_each(op: Op, word: u32, memory: &mut [u8], registers: &mut [u32; 34], pc: &mut u32) -> Answer
     requires { length memory.old ≤ 65536 }
     ensures { IsStepped (machine_state registers.old memory.old pc.old) result
         registers.new memory.new pc.new
@@ -270,7 +299,7 @@ pub fn step_told(
         Err(answer) => return answer,
     };
     let before = *registers;
-    let answer = run(memory, registers, pc, &instr);
+    let answer = run(instr.op().kind(), memory, registers, pc, &instr);
     if answer == Answer::Went {
         *change = changed(&instr, &before, registers);
     }
