@@ -125,8 +125,8 @@ fn read(op: Op, layout: Layout, word: u32, pc: u32) -> Option<Decoded>
     })
 }
 
-/// The instruction of a word at the address `pc` as one of the operation `op`, unless a bit is set that the operation does
-/// not use. The word has to have the operation's opcode and selecting field, as `operation_of` says.
+/// The instruction of a word at the address `pc`, read as one of the operation `op`, unless a bit is set that the operation
+/// does not use. `decode` reads a word as one of its `operation_of`.
 #[inline(always)]
 pub fn decode_as(op: Op, word: u32, pc: u32) -> Option<Decoded>
     ensures value { option_map instruction_of result ≡ decode_as_of pc word (Some op) }
@@ -141,5 +141,6 @@ pub fn decode_as(op: Op, word: u32, pc: u32) -> Option<Decoded>
 pub fn decode(word: u32, pc: u32) -> Option<Decoded>
     ensures { option_map instruction_of result ≡ decode_of pc word }
 {
-    decode_as(operation_of(word)?, word, pc)
+    let op = operation_of(word)?;
+    decode_as(op, word, pc)
 }

@@ -1,5 +1,5 @@
 //! The layout of each operation in its word.
-ghost use Rattle.std.specs.Prelude.{◌≡◌, ◌<◌, ◌&&◌, ◌==◌, IfSome, Some};
+ghost use Rattle.std.specs.Prelude.{◌≡◌, ◌<◌};
 ghost use Rattle.std.specs.List.{find};
 ghost use Rattle.instructions.specs.Instruction.{operations};
 ghost use Rattle.encoding.specs.Layouts.{layout as layout_by, operation_of as operation, has_layout};

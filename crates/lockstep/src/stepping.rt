@@ -182,7 +182,8 @@ fn run_as(op: Op, word: u32, memory: &mut [u8], registers: &mut [u32; 34], pc: &
     }
 }
 
-// Runs a word as a multiplication or division. It stands apart, so that the other operations save no registers for its calls.
+// Runs a word as a multiplication or division. It stands apart, so that the code of the other operations saves no registers
+// for the calls in it.
 #[inline(never)]
 fn run_pair(op: Op, word: u32, memory: &mut [u8], registers: &mut [u32; 34], pc: &mut u32) -> Answer
     requires { length memory.old ≤ 65536 }
@@ -193,7 +194,8 @@ fn run_pair(op: Op, word: u32, memory: &mut [u8], registers: &mut [u32; 34], pc:
     run_as(op, word, memory, registers, pc)
 }
 
-// Runs a word, if it is an instruction. Each operation has an arm of its own, so that the compiler makes code for it alone.
+// Runs a word, if it is an instruction. Each operation has an arm of its own, so that the compiler makes code for it alone:
+// what `outcome_of` and `access` ask of an operation is then known.
 #[tactic(auto, using(crate::proofs::TheStep::decoded_as))]
 fn run_word(word: u32, memory: &mut [u8], registers: &mut [u32; 34], pc: &mut u32) -> Answer
     requires { length memory.old ≤ 65536 }
