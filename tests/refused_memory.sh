@@ -54,6 +54,9 @@ done
 listing=tests/listings/fault
 refuse ruu threads 0 /dev/null $listing.report crates/ruu/out/ruu run $listing.s --units 2
 
-# Once the threads of a run with one unit have been started, dispatch, unit and snapshots, only what is shown takes memory.
-refuse 'ruu, what it shows' threads 0 /dev/null examples/fibonacci.report \
-  WHILE_THREADS=3 crates/ruu/out/ruu run examples/fibonacci.s --units 1
+# Once the threads of a run with one unit have been started, dispatch, unit and snapshots, only what is shown takes memory: the
+# longer listing is shown first after 64 instructions, and the shorter one at its end.
+for listing in fibonacci double; do
+  refuse 'ruu, what it shows' threads 0 /dev/null examples/$listing.report \
+    WHILE_THREADS=3 crates/ruu/out/ruu run examples/$listing.s --units 1
+done
