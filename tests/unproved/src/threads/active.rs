@@ -48,7 +48,13 @@ fn a_second_unit_is_active_for_the_work(rt: HostRuntime) -> Result<(), Fail> {
     let gate = Asking {
         units: AtomicU64::new(0),
     };
-    let run = run_listing(&rt, rt.alloc(), listing.as_slice(), &config(16, 1, 1)?, &gate)?;
+    let run = run_listing(
+        &rt,
+        rt.alloc(),
+        listing.as_slice(),
+        &config(16, 1, 1)?,
+        &gate,
+    )?;
     let Run::Ended(end, _) = run else {
         return Err(Fail::from("no end"));
     };
