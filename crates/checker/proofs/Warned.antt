@@ -3,7 +3,7 @@ use Rattle.std.proofs.Common.{◌≡◌, ◌++◌, ℕ, List, [], ◌∷◌, sub
 use Rattle.instructions.specs.Programs.{Program}
 use Rattle.checker.specs.declared.parts.Part.{Part}
 use Rattle.checker.specs.declared.warnings.Warning.{Warning}
-use Rattle.checker.specs.declared.warnings.Warning.TheVariants.{NeverUsed, Unreached, PastEnd}
+use Rattle.checker.specs.declared.warnings.Warning.TheVariants.{NeverUsed, AtData, StackUnset, Unreached, PastEnd}
 use Rattle.checker.specs.Warnings.{Applies, Warned, IsOfInstruction, IsWarranted, AreWarnings, AreWarned, StandsOn, warning_text}
 
 -- one warning
@@ -25,5 +25,7 @@ all_warned file bytes P old text new first second = (first.0 ++ second.0, joined
 pub of_instruction : (bytes : List ℕ) (P : Program) (k n : ℕ) (line : List ℕ) (part : Part) (w : Warning) → StandsOn bytes k n
     → IsOfInstruction P k w → Applies bytes P n line part w
 of_instruction bytes P k n line part NeverUsed stands is = absurd is
+of_instruction bytes P k n line part AtData stands is = absurd is
+of_instruction bytes P k n line part StackUnset stands is = (k, (stands, is))
 of_instruction bytes P k n line part Unreached stands is = (k, (stands, is))
 of_instruction bytes P k n line part PastEnd stands is = (k, (stands, is))

@@ -24,7 +24,7 @@ pub(crate) fn double<'a>(labels: &Labels<'_>, line: &'a [u8], number: u64) -> Op
         let name = &line[part.from..part.to];
         match labels.first(name) {
             Some(first) if labels.is_double(line, part, number) => {
-                return Some(standing("@4 stands first in line @6.", name, first.line));
+                return Some(standing("Write another name: @4 stands first in line @6.", name, first.line));
             },
             _ => rest = behind,
         }
@@ -66,11 +66,11 @@ pub(crate) fn unknown<'a>(bytes: &'a [u8], statement: &Statement<'_>) -> Option<
     };
     if let Some((label, line)) = first_like(bytes, name, true) {
         return Some(standing(
-            "The case of letters counts: @4 stands in line @6.",
+            "Write @4, as in line @6: the case of letters counts.",
             label,
             line,
         ));
     }
     let (label, line) = first_like(bytes, name, false)?;
-    Some(standing("@4 stands in line @6.", label, line))
+    Some(standing("Is @4 meant, which stands in line @6?", label, line))
 }

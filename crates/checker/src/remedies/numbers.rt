@@ -112,7 +112,7 @@ pub(crate) fn bad_number(statement: &Statement<'_>) -> Option<Remedy<'static>> {
         return space(first);
     }
     if last_operand(statement).contains(&b'.') {
-        return Some(said("There are no fractions."));
+        return Some(said("Write a whole number: there are no fractions."));
     }
     None
 }

@@ -76,6 +76,29 @@ fn push_known(
     Ok(())
 }
 
+/// A sentence in which lines are to be written, and behind them a name with some words about it.
+pub(crate) fn sentence(
+    alloc: Global,
+    before: &str,
+    lines: &[u8],
+    between: &str,
+    name: &[u8],
+    after: &str,
+) -> Result<Vec<u8>, AllocError> {
+    let mut said = before.as_bytes().to_vec(alloc)?;
+    said.extend_from_slice(lines)?;
+    said.extend_from_slice(between.as_bytes())?;
+    said.extend_from_slice(name)?;
+    said.extend_from_slice(after.as_bytes())?;
+    said.push(b'.')?;
+    Ok(said)
+}
+
+/// The sentence in which lines are to be written, and the reason why, or nothing.
+pub(crate) fn write(alloc: Global, lines: &[u8], reason: &str) -> Result<Vec<u8>, AllocError> {
+    sentence(alloc, "Write ", lines, reason, b"", "")
+}
+
 /// The sentence of a remedy, filled.
 pub(crate) fn filled(
     alloc: Global,

@@ -17,8 +17,8 @@ pub(crate) enum Number {
     IntoFirst,
 }
 
-// Whether the listing language takes these lines, in a listing that has their labels.
-fn is_taken(alloc: Global, lines: &[u8]) -> Result<bool, AllocError> {
+/// Whether the listing language takes these lines, in a listing that has their labels.
+pub(crate) fn is_taken(alloc: Global, lines: &[u8]) -> Result<bool, AllocError> {
     match parse(alloc, lines) {
         Ok(_) => Ok(true),
         Err(fault) if fault.kind == FaultKind::Memory => Err(AllocError),
@@ -26,10 +26,9 @@ fn is_taken(alloc: Global, lines: &[u8]) -> Result<bool, AllocError> {
     }
 }
 
-// Lines in a row, behind some words.
-fn in_a_row(alloc: Global, words: &str, lines: &[u8]) -> Result<Vec<u8>, AllocError> {
+// Lines in a row.
+fn in_a_row(alloc: Global, lines: &[u8]) -> Result<Vec<u8>, AllocError> {
     let mut said = Vec::new(alloc);
-    said.extend_from_slice(words.as_bytes())?;
     for byte in lines {
         if *byte == b'\n' {
             said.extend_from_slice(b" and then ")?;
@@ -37,7 +36,6 @@ fn in_a_row(alloc: Global, words: &str, lines: &[u8]) -> Result<Vec<u8>, AllocEr
             said.push(*byte)?;
         }
     }
-    said.push(b'.')?;
     Ok(said)
 }
 
@@ -78,10 +76,9 @@ fn lines_before<'a>(
     })
 }
 
-/// Some words with lines behind them, if the language takes these lines.
+/// Lines in a row, if the language takes them.
 pub(crate) fn tried<'a>(
     alloc: Global,
-    words: &str,
     statement: &Statement<'a>,
     number: Number,
     lines: &'static str,
@@ -101,7 +98,7 @@ pub(crate) fn tried<'a>(
     let others = filled(alloc, &behind, statement)?;
     all.extend_from_slice(others.as_slice())?;
     if is_taken(alloc, all.as_slice())? {
-        Ok(Some(in_a_row(alloc, words, all.as_slice())?))
+        Ok(Some(in_a_row(alloc, all.as_slice())?))
     } else {
         Ok(None)
     }
