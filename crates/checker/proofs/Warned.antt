@@ -1,10 +1,14 @@
 -- Warnings, one behind the other.
-use Rattle.std.proofs.Common.{◌≡◌, ◌++◌, ℕ, List, [], ◌∷◌, subst}
+use Rattle.std.proofs.Common.{◌≡◌, ◌++◌, ℕ, List, [], ◌∷◌, refl, subst}
 use Rattle.instructions.specs.Programs.{Program}
 use Rattle.checker.specs.declared.parts.Part.{Part}
 use Rattle.checker.specs.declared.warnings.Warning.{Warning}
 use Rattle.checker.specs.declared.warnings.Warning.TheVariants.{NeverUsed, AtData, StackUnset, Unreached, PastEnd}
 use Rattle.checker.specs.Warnings.{Applies, Warned, IsOfInstruction, IsWarranted, AreWarnings, AreWarned, StandsOn, warning_text}
+
+-- no warning
+pub none_warned : (file bytes : List ℕ) (P : Program) (text : List ℕ) → AreWarned file bytes P text text
+none_warned file bytes P text = ([], refl)
 
 -- one warning
 pub one_warned : (file bytes : List ℕ) (P : Program) (w : Warned) (old new : List ℕ) → IsWarranted bytes P w

@@ -88,7 +88,8 @@ fn push_line(
     let remedy = remedy(alloc, source.bytes, labels, line, fault)?;
     let rule = sentence(fault.kind);
     push_advice(alloc, text, spot, part, ERROR, remedy.as_slice(), rule)?;
-    push_form(text, fault.kind, line)
+    push_form(text, fault.kind, line)?;
+    Ok(())
 }
 
 // Adds the diagnostic of a fault of the listing as a whole.

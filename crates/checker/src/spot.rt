@@ -81,5 +81,6 @@ pub(crate) fn push_advice(
 {
     let sentence = headline(alloc, help, rule)?;
     push_spot(alloc, text, spot, part, severity, sentence.as_slice())?;
-    push_rule(text, help, rule)
+    push_rule(text, help, rule)?;
+    Ok(())
 }

@@ -89,7 +89,8 @@ pub(crate) fn push_warning(
         warning }
     ensures { OnOk result (AreWarnedOf good.now text.old.items text.new.items) }
 {
-    push_advice(alloc, text, spot, part, WARNING, help, warning.said())
+    push_advice(alloc, text, spot, part, WARNING, help, warning.said())?;
+    Ok(())
 }
 
 // The warning of instruction k, if there is one: where it is the first of some that no path reaches, or where a run can

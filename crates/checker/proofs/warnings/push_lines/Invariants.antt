@@ -8,7 +8,7 @@ use Rattle.checker.proofs.warnings.push_lines.Given as goal
 abbrev pub invariant-loop-rest : goal.invariant-loop-rest
 invariant-loop-rest l = record {
   rest : lines_left (option_map (λ t. t.now) l.rest) ≡ drop l.number (lines_of l.good.bytes.now);
-  data : l.is_data ≡ begin_with_data (lines_left (option_map (λ t. t.now) l.rest));
+  is_data : l.is_data ≡ begin_with_data (lines_left (option_map (λ t. t.now) l.rest));
   warned : AreWarnedOf l.good l.initial.text.items l.text.items;
 }
 

@@ -13,4 +13,4 @@ returns c =
     rw (← c.requires.spot.file)
     (one_warned spot.file.now c.args.good.now.bytes.now c.args.good.now.program.now warned c.args.text.now.items c.push_advice.new.text.items
     (record { line_is = c.requires.spot.line; lies = c.requires.part; right = c.requires.right })
-    (c.push_advice.ensures ∙ told))
+    (c.in_ok-push_advice.ensures ∙ told))

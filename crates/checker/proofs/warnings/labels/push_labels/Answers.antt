@@ -10,3 +10,39 @@ loop-name-init c = record {
   labels = code_labels c.args.spot.line.now (part_text c.args.spot.line.now c.code-rest.result) c.code-rest.ensures.text;
   warned = search rules;
 }
+
+pub push_warning-requires-clause-right : goal.push_warning-requires-clause-right
+push_warning-requires-clause-right c =
+    let line = c.args.spot.line.now in (
+      first_label line (part_text line c.loop-name.rest) (part_text line c.in-Some.name) (part_text line c.in-Some.behind) c.in-Some.ensures.label
+          c.loop-name.invariant.labels,
+      search rules,
+    )
+
+pub push_warning-requires-then-not-is_operand-clause-right : goal.push_warning-requires-then-not-is_operand-clause-right
+push_warning-requires-then-not-is_operand-clause-right c =
+    let line = c.args.spot.line.now in (
+      first_label line (part_text line c.loop-name.rest) (part_text line c.in-Some.name) (part_text line c.in-Some.behind) c.in-Some.ensures.label
+          c.loop-name.invariant.labels,
+      search rules,
+    )
+
+pub loop-name-preserved-in_ok-push_warning : goal.loop-name-preserved-in_ok-push_warning
+loop-name-preserved-in_ok-push_warning c =
+    let line = c.args.spot.line.now in
+    record {
+      part = search rules;
+      labels = next_labels line (part_text line c.loop-name.rest) (part_text line c.in-Some.name) (part_text line c.in-Some.behind) c.in-Some.ensures.label
+          c.loop-name.invariant.labels;
+      warned = all_warned _ _ _ _ _ _ c.loop-name.invariant.warned c.in_ok-push_warning.ensures;
+    }
+
+pub loop-name-preserved-in_ok-push_warning-2 : goal.loop-name-preserved-in_ok-push_warning-2
+loop-name-preserved-in_ok-push_warning-2 c =
+    let line = c.args.spot.line.now in
+    record {
+      part = search rules;
+      labels = next_labels line (part_text line c.loop-name.rest) (part_text line c.in-Some.name) (part_text line c.in-Some.behind) c.in-Some.ensures.label
+          c.loop-name.invariant.labels;
+      warned = all_warned _ _ _ _ _ _ c.loop-name.invariant.warned c.in_ok-push_warning-2.ensures;
+    }
