@@ -31,11 +31,14 @@ use std::alloc::{AllocError, Global};
 // The first bytes of an executable.
 const EXECUTABLE: &[u8] = b"\x7fELF";
 
-// Whether a fault is one of a word, of operands or of a number.
+// Whether a fault is one of a statement: of its word, operands, registers or numbers.
 fn is_of_statement(kind: FaultKind) -> bool {
     matches!(
         kind,
-        FaultKind::UnknownOp | FaultKind::BadOperands | FaultKind::BadNumber
+        FaultKind::UnknownOp
+            | FaultKind::BadOperands
+            | FaultKind::BadRegister
+            | FaultKind::BadNumber
     )
 }
 
@@ -100,7 +103,7 @@ pub(crate) fn remedy(
     if let Some(remedy) = said_first(bytes, labels, line, &statement, fault) {
         return filled(alloc, &remedy, &statement);
     }
-    if is_of_statement(fault.kind) {
+    if is_of_statement(fault.kind) && fault.kind != FaultKind::BadRegister {
         in_place(alloc, line, &statement, fault)
     } else {
         Ok(Vec::new(alloc))

@@ -5,7 +5,7 @@ use super::super::statements::Statement;
 use super::data::byte_of;
 use super::sentences::{sentence, write};
 use super::tried::{Number, tried};
-use isa::register_in;
+use isa::{Operands, form_of, register_in};
 use lexical::{is_name, number_in};
 use std::alloc::{AllocError, Global};
 
@@ -116,6 +116,18 @@ static ACCESSES: [Access; 7] = [
     access!(false, true, Loaded, "addu $at,$at,@2\n@0 @1,0($at)"),
 ];
 
+// Whether a word stores `$at`, which then is not free for a number.
+fn stores_at(word: &[u8], register: &[u8]) -> bool {
+    let is_store = match form_of(word, 2) {
+        Ok(form) => matches!(form.operands, Operands::Store),
+        Err(_) => false,
+    };
+    match register_in(register) {
+        Ok(register) => is_store && register.number() == 1,
+        Err(_) => false,
+    }
+}
+
 // The instructions for an access.
 fn lines_of<'a>(
     alloc: Global,
@@ -130,9 +142,9 @@ fn lines_of<'a>(
     };
     let is_la = word.eq_ignore_ascii_case(b"la");
     let has_register = !address.register.is_empty();
-    let uses_at = register == b"$at".as_slice() || register == b"$1".as_slice();
+    let keeps_at = stores_at(word, register);
     for row in &ACCESSES {
-        let is_spoilt = uses_at && matches!(row.number, Number::Loaded);
+        let is_spoilt = keeps_at && matches!(row.number, Number::Loaded);
         if row.is_la == is_la && row.has_register == has_register && !is_spoilt {
             let found = tried(alloc, &statement, row.number, row.lines, word)?;
             if found.is_some() {
