@@ -1,5 +1,5 @@
 -- How a check ends that was refused.
-use Rattle.std.proofs.Common.{◌≡◌, ◌∙◌, List, ℕ, Bool, Option, Some, refl, sym, ap, subst}
+use Rattle.std.proofs.Common.{◌≡◌, List, ℕ, Bool, Option, Some, refl, sym, subst}
 use Rattle.answers.specs.Answer.{most_taken}
 use Rattle.counted_io.specs.Replies.{IsUnanswered}
 use Rattle.counted_io.specs.declared.counted.Counted.{Counted}

@@ -2,9 +2,9 @@
 use Rattle.std.proofs.Common.{◌≡◌, ◌++◌, ◌∷◌, [], ℕ, List, append_assoc, arith}
 use Rattle.std.proofs.lemmas.Grind.{common_steps}
 
--- two pieces behind a text
-pub two_behind : (old a b first second : List ℕ) → first ≡ old ++ a → second ≡ first ++ b → second ≡ old ++ (a ++ b)
-two_behind old a b first second one two = grind (arith, common_steps)
+-- two pieces after a text
+pub two_after : (old a b first second : List ℕ) → first ≡ old ++ a → second ≡ first ++ b → second ≡ old ++ (a ++ b)
+two_after old a b first second one two = grind (arith, common_steps)
 
 -- a place with what is said there, and a quote behind it
 pub placed : (old file a line b column c severity sentence quote first second third fourth fifth : List ℕ) → first ≡ old ++ file

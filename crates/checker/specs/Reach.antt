@@ -82,7 +82,7 @@ pub record IsUnreached (P : Program) (k : ℕ) : Type 0 where
 
 -- ---- a path
 
--- whether paths of these lead on behind an instruction
+-- whether paths of these lead on after an instruction
 abbrev pub passes : Paths → Instr → Bool
 passes Any i = true
 passes WithoutStack i = not (sets_stack i)
@@ -104,7 +104,7 @@ HavePaths paths P S = (k : ℕ) → slice_get S k ≡ Some true → HasPath path
 abbrev pub HavePathsTo : Paths → Program → List ℕ → Type 0
 HavePathsTo paths P list = (i k : ℕ) → slice_get list i ≡ Some k → HasPath paths P k
 
--- instruction k reads `$sp` behind a path on which no instruction sets it
+-- instruction k reads `$sp` after a path on which no instruction sets it
 abbrev pub IsStackUnset : Program → (k : ℕ) → Type 0
 IsStackUnset P k = HasPath WithoutStack P k × (reads_stack (instr_of P k) ≡ true)
 

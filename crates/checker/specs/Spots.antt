@@ -25,7 +25,7 @@ abbrev pub rule_line : (help rule : List ℕ) → List ℕ
 rule_line [] rule = []
 rule_line (b ∷ bs) rule = rule ++ newline
 
--- a part of a line with what helps, and behind it the rule that is broken
+-- a part of a line with what helps, and after it the rule that is broken
 unfoldable pub advice_text : (file : List ℕ) → (number : ℕ) → (line : List ℕ) → Part → (severity help rule : List ℕ) → List ℕ
 advice_text file number line part severity help rule =
     spot_text file number line part severity (headline help rule) ++ rule_line help rule

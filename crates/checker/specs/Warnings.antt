@@ -115,7 +115,7 @@ AreWarned file bytes P old new = (ws : List Warned) × AreWarnings file bytes P 
 
 -- ---- while warnings are looked for
 
--- the new text is the old one with some warnings of this listing behind it
+-- the new text is the old one with some warnings of this listing after it
 abbrev pub AreWarnedOf : Good → (old new : List ℕ) → Type 0
 AreWarnedOf good old new = AreWarned good.file.now good.bytes.now good.program.now old new
 

@@ -32,7 +32,7 @@ fn sets_stack(instr: &Instr) -> bool
     instr.target.number() == STACK && !reads_stack(instr)
 }
 
-// Whether paths lead on behind an instruction.
+// Whether paths lead on after an instruction.
 fn passes(paths: Paths, instr: &Instr) -> bool
     ensures { result ≡ passes paths instr.now }
 {

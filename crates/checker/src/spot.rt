@@ -64,7 +64,7 @@ fn push_rule(text: &mut Vec<u8>, help: &[u8], rule: &str) -> Result<(), AllocErr
     text.extend_from_slice(b"\n")
 }
 
-/// Adds the place of a part with what helps, if that is known, and behind it the rule that is broken.
+/// Adds the place of a part with what helps, if that is known, and after it the rule that is broken.
 pub(crate) fn push_advice(
     alloc: Global,
     text: &mut Vec<u8>,

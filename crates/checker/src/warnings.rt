@@ -4,7 +4,8 @@ ghost use Rattle.lexical.specs.Line.{lines_of};
 ghost use Rattle.isa.specs.Listing.{instruction_lines};
 ghost use Rattle.checker.specs.Parts.{IsPartOf};
 ghost use Rattle.checker.specs.Reach.{HavePaths, IsStackUnset, may_run_past_end};
-ghost use Rattle.checker.specs.Warnings.{AreOperandsOf, AreWarned, AreWarnedOf, Applies, IsKnown, IsOfInstruction, IsSpotOf, said};
+ghost use Rattle.checker.specs.Warnings.{AreOperandsOf, AreWarned, AreWarnedOf, Applies};
+ghost use Rattle.checker.specs.Warnings.{IsKnown, IsOfInstruction, IsSpotOf, said};
 
 mod labels;
 mod operands;
@@ -14,7 +15,7 @@ use super::reach::{Paths, ends_path, is_closed, reached, reads_stack};
 use super::remedies::warned;
 use super::spot::{Spot, push_advice};
 use instructions::Program;
-use labels::{Next, begin_with_data, is_data_behind, push_labels};
+use labels::{Next, begin_with_data, is_data_after, push_labels};
 use lexical::next_line;
 use operands::{Operands, operands_of};
 use std::alloc::{AllocError, Global};
@@ -183,13 +184,13 @@ fn push_lines(
         push_labels(alloc, text, good, operands, spot, next)?;
         k = push_numbered(alloc, text, good, spot, k)?;
         byte = byte.wrapping_add(warned::data_size(line));
-        is_data = is_data_behind(line, after, is_data);
+        is_data = is_data_after(line, after, is_data);
         rest = after;
     }
     Ok(())
 }
 
-// The first instruction that reads `$sp` behind a path on which no instruction sets it.
+// The first instruction that reads `$sp` after a path on which no instruction sets it.
 fn first_unset(program: &Program, unset: &[bool]) -> Option<usize>
     requires size { length unset.now ≡ length program.now.code }
     requires paths { HavePaths Paths.WithoutStack program.now unset.now }

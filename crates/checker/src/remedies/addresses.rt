@@ -3,7 +3,7 @@
 use super::super::forms::has_offset;
 use super::super::statements::Statement;
 use super::data::byte_of;
-use super::sentences::{sentence, write};
+use super::sentences::sentence;
 use super::tried::{Number, tried};
 use isa::{Operands, form_of, register_in};
 use lexical::{is_name, number_in};
@@ -12,46 +12,49 @@ use std::alloc::{AllocError, Global};
 // The greatest number of a byte that is told.
 const MOST_BYTE: u32 = 65_535;
 
-// The parts of an address, each empty where it is missing.
+// A load, a store or `la`: its word, its register, and the parts of its address, each empty where it is missing.
 #[derive(Clone, Copy)]
-struct Address<'a> {
+struct Access<'a> {
+    word: &'a [u8],
+    value: &'a [u8],
     name: &'a [u8],
     number: &'a [u8],
     register: &'a [u8],
 }
 
-// An address without parts.
-const NO_ADDRESS: Address<'static> = Address {
-    name: b"",
-    number: b"",
-    register: b"",
-};
+// Whether a byte stands between parts of an address.
+fn is_between(byte: u8) -> bool {
+    matches!(byte, b'+' | b'(' | b')' | b'[' | b']' | b' ' | b'\t')
+}
 
-impl<'a> Address<'a> {
-    // The address with one more part, if it can have it.
-    fn with(self, part: &'a [u8]) -> Option<Self> {
-        if part.is_empty() {
-            return Some(self);
+impl<'a> Access<'a> {
+    // An access without an address.
+    fn new(word: &'a [u8], value: &'a [u8]) -> Self {
+        Access {
+            word,
+            value,
+            name: b"",
+            number: b"",
+            register: b"",
         }
-        if self.register.is_empty() && register_in(part).is_ok() {
-            return Some(Address {
-                register: part,
-                ..self
-            });
-        }
-        if self.number.is_empty() && number_in(part, 0x8000_0000, 0xffff_ffff).is_some() {
-            return Some(Address {
-                number: part,
-                ..self
-            });
-        }
-        if self.name.is_empty() && is_name(part) {
-            return Some(Address { name: part, ..self });
-        }
-        None
     }
 
-    // The address with the parts of a text.
+    // The access with one more part of its address, if it can have it.
+    fn with(self, part: &'a [u8]) -> Option<Self> {
+        let mut found = self;
+        if self.register.is_empty() && register_in(part).is_ok() {
+            found.register = part;
+        } else if self.number.is_empty() && number_in(part, 0x8000_0000, 0xffff_ffff).is_some() {
+            found.number = part;
+        } else if self.name.is_empty() && is_name(part) {
+            found.name = part;
+        } else if !part.is_empty() {
+            return None;
+        }
+        Some(found)
+    }
+
+    // The access with the parts of a text.
     fn with_all(self, text: &'a [u8]) -> Option<Self> {
         let mut found = self;
         let mut from = 0;
@@ -68,36 +71,37 @@ impl<'a> Address<'a> {
     }
 }
 
-// Whether a byte stands between parts of an address.
-fn is_between(byte: u8) -> bool {
-    matches!(byte, b'+' | b'(' | b')' | b'[' | b']' | b' ' | b'\t')
-}
-
-// The register that is loaded or stored, and the address.
-fn access_in<'a>(statement: &Statement<'a>) -> Option<(&'a [u8], Address<'a>)> {
+// The access of a statement.
+fn access_in<'a>(statement: &Statement<'a>) -> Option<Access<'a>> {
     let [first, second, third] = statement.operands;
-    let (register, text) = if register_in(first).is_ok() {
+    let (value, text) = if register_in(first).is_ok() {
         (first, second)
     } else {
         (second, first)
     };
-    let address = NO_ADDRESS.with_all(text)?.with_all(third)?;
-    let is_missing = text.is_empty() || register_in(register).is_err() || statement.count > 3;
-    if is_missing { None } else { Some((register, address)) }
+    let is_missing = text.is_empty() || register_in(value).is_err() || statement.count > 3;
+    if is_missing || !has_offset(statement.word) && !is_la(statement.word) {
+        return None;
+    }
+    Access::new(statement.word, value).with_all(text)?.with_all(third)
+}
+
+fn is_la(word: &[u8]) -> bool {
+    word.eq_ignore_ascii_case(b"la")
 }
 
 // What is written for an access, where it is `la` and where it has a register: @1 is the register of the value, @2 that of
 // the address, and @3 the number.
-struct Access {
+struct Way {
     is_la: bool,
     has_register: bool,
     number: Number,
     lines: &'static str,
 }
 
-macro_rules! access {
+macro_rules! way {
     ($is_la:literal, $has_register:literal, $number:ident, $lines:literal) => {
-        Access {
+        Way {
             is_la: $is_la,
             has_register: $has_register,
             number: Number::$number,
@@ -106,47 +110,45 @@ macro_rules! access {
     };
 }
 
-static ACCESSES: [Access; 7] = [
-    access!(true, false, IntoFirst, ""),
-    access!(true, true, AsItStands, "addiu @1,@2,@3"),
-    access!(true, true, Loaded, "addu @1,$at,@2"),
-    access!(false, false, AsItStands, "@0 @1,@3($zero)"),
-    access!(false, false, Loaded, "@0 @1,0($at)"),
-    access!(false, true, AsItStands, "@0 @1,@3(@2)"),
-    access!(false, true, Loaded, "addu $at,$at,@2\n@0 @1,0($at)"),
+static WAYS: [Way; 7] = [
+    way!(true, false, IntoFirst, ""),
+    way!(true, true, AsItStands, "addiu @1,@2,@3"),
+    way!(true, true, Loaded, "addu @1,$at,@2"),
+    way!(false, false, AsItStands, "@0 @1,@3($zero)"),
+    way!(false, false, Loaded, "@0 @1,0($at)"),
+    way!(false, true, AsItStands, "@0 @1,@3(@2)"),
+    way!(false, true, Loaded, "addu $at,$at,@2\n@0 @1,0($at)"),
 ];
 
-// Whether a word stores `$at`, which then is not free for a number.
-fn stores_at(word: &[u8], register: &[u8]) -> bool {
-    let is_store = match form_of(word, 2) {
-        Ok(form) => matches!(form.operands, Operands::Store),
-        Err(_) => false,
-    };
-    match register_in(register) {
-        Ok(register) => is_store && register.number() == 1,
-        Err(_) => false,
+// Whether an access stores `$at`, which then is not free for a number.
+fn stores_at(access: &Access<'_>) -> bool {
+    match (form_of(access.word, 2), register_in(access.value)) {
+        (Ok(form), Ok(value)) => {
+            matches!(form.operands, Operands::Store) && value.number() == 1
+        },
+        _ => false,
     }
 }
 
-// The instructions for an access.
-fn lines_of<'a>(
-    alloc: Global,
-    word: &'a [u8],
-    register: &'a [u8],
-    address: Address<'a>,
-) -> Result<Option<Vec<u8>>, AllocError> {
+// The instructions for an access without a name.
+fn lines_of(alloc: Global, access: &Access<'_>) -> Result<Option<Vec<u8>>, AllocError> {
+    let word = access.word;
+    let number = if access.number.is_empty() {
+        b"0"
+    } else {
+        access.number
+    };
     let statement = Statement {
         word,
         count: 3,
-        operands: [register, address.register, address.number],
+        operands: [access.value, access.register, number],
     };
-    let is_la = word.eq_ignore_ascii_case(b"la");
-    let has_register = !address.register.is_empty();
-    let keeps_at = stores_at(word, register);
-    for row in &ACCESSES {
-        let is_spoilt = keeps_at && matches!(row.number, Number::Loaded);
-        if row.is_la == is_la && row.has_register == has_register && !is_spoilt {
-            let found = tried(alloc, &statement, row.number, row.lines, word)?;
+    let (is_la, has_register) = (is_la(word), !access.register.is_empty());
+    let keeps_at = stores_at(access);
+    for way in &WAYS {
+        let is_spoilt = keeps_at && matches!(way.number, Number::Loaded);
+        if way.is_la == is_la && way.has_register == has_register && !is_spoilt {
+            let found = tried(alloc, &statement, way.number, way.lines, word)?;
             if found.is_some() {
                 return Ok(found);
             }
@@ -155,57 +157,34 @@ fn lines_of<'a>(
     Ok(None)
 }
 
-// The sentence for an access whose address has no name.
-fn without_name<'a>(
+// The sentence with the instructions for an access, with words before them, and what is said of its name.
+fn told<'a>(
     alloc: Global,
-    word: &'a [u8],
-    register: &'a [u8],
-    address: Address<'a>,
+    access: &Access<'a>,
+    before: &str,
+    between: &str,
+    name: &'a [u8],
+    after: &str,
 ) -> Result<Option<Vec<u8>>, AllocError> {
-    let mut whole = address;
-    if address.number.is_empty() {
-        whole.number = b"0";
-    }
-    match lines_of(alloc, word, register, whole)? {
-        Some(lines) => Ok(Some(write(alloc, lines.as_slice(), "")?)),
+    match lines_of(alloc, access)? {
+        Some(lines) => {
+            let said = sentence(alloc, before, lines.as_slice(), between, name, after)?;
+            Ok(Some(said))
+        },
         None => Ok(None),
     }
 }
 
-// The byte of an address with a name, where the name is that of data, and the one at which the name stands.
-fn bytes_at(bytes: &[u8], address: Address<'_>) -> Option<(u32, u32)> {
-    let first = byte_of(bytes, address.name)?;
-    let more = if address.number.is_empty() {
+// The byte at which the name of an access stands, if it is that of data, and the byte of the address.
+fn bytes_at(bytes: &[u8], access: &Access<'_>) -> Option<(u32, u32)> {
+    let first = byte_of(bytes, access.name)?;
+    let more = if access.number.is_empty() {
         0
     } else {
-        number_in(address.number, 0x8000_0000, 0xffff_ffff)?
+        number_in(access.number, 0x8000_0000, 0xffff_ffff)?
     };
     let byte = first.wrapping_add(more);
     if byte > MOST_BYTE { None } else { Some((first, byte)) }
-}
-
-// The sentence for an access whose address has a name.
-fn with_name<'a>(
-    alloc: Global,
-    bytes: &[u8],
-    word: &'a [u8],
-    register: &'a [u8],
-    address: Address<'a>,
-) -> Result<Option<Vec<u8>>, AllocError> {
-    let Some((first, byte)) = bytes_at(bytes, address) else {
-        return Ok(None);
-    };
-    let digits = format!(in alloc; "{byte}")?;
-    let known = Address {
-        number: digits.as_bytes(),
-        ..address
-    };
-    let Some(lines) = lines_of(alloc, word, register, known)? else {
-        return Ok(None);
-    };
-    let stands = format!(in alloc; " is byte {first}")?;
-    let said = sentence(alloc, "Write ", lines.as_slice(), ": ", address.name, stands.as_str())?;
-    Ok(Some(said))
 }
 
 /// The sentence for a load, a store or `la` whose address is a number and a register in another order, is too far, or
@@ -215,18 +194,25 @@ pub(crate) fn written(
     bytes: &[u8],
     statement: &Statement<'_>,
 ) -> Result<Option<Vec<u8>>, AllocError> {
-    let word = statement.word;
-    if !has_offset(word) && !word.eq_ignore_ascii_case(b"la") {
-        return Ok(None);
-    }
-    let Some((register, address)) = access_in(statement) else {
+    let Some(access) = access_in(statement) else {
         return Ok(None);
     };
-    if address.name.is_empty() {
-        without_name(alloc, word, register, address)
-    } else {
-        with_name(alloc, bytes, word, register, address)
+    if access.name.is_empty() {
+        if access.number.is_empty() && access.register.is_empty() {
+            return Ok(None);
+        }
+        return told(alloc, &access, "Write ", "", b"", "");
     }
+    let Some((first, byte)) = bytes_at(bytes, &access) else {
+        return Ok(None);
+    };
+    let digits = format!(in alloc; "{byte}")?;
+    let known = Access {
+        number: digits.as_bytes(),
+        ..access
+    };
+    let stands = format!(in alloc; " is byte {first}")?;
+    told(alloc, &known, "Write ", ": ", known.name, stands.as_str())
 }
 
 /// The sentence for a load or a store whose address has a name that is not that of data.
@@ -234,32 +220,28 @@ pub(crate) fn example(
     alloc: Global,
     statement: &Statement<'_>,
 ) -> Result<Option<Vec<u8>>, AllocError> {
-    let Some((register, address)) = access_in(statement) else {
+    let Some(access) = access_in(statement) else {
         return Ok(None);
     };
-    if address.name.is_empty() || !has_offset(statement.word) {
+    if access.name.is_empty() || is_la(access.word) {
         return Ok(None);
     }
-    let known = Address {
+    let known = Access {
         number: b"4",
-        ..address
-    };
-    let Some(lines) = lines_of(alloc, statement.word, register, known)? else {
-        return Ok(None);
+        ..access
     };
     let before = "Write the number of the byte, from 0 on, as for byte 4 in ";
-    let said = sentence(alloc, before, lines.as_slice(), ": data has no labels", b"", "")?;
-    Ok(Some(said))
+    told(alloc, &known, before, ": data has no labels", b"", "")
 }
 
-// The address that an operand is, if it has a name of data and no register, and its two bytes.
-fn data_in<'a>(bytes: &[u8], operand: &'a [u8]) -> Option<(Address<'a>, u32, u32)> {
-    let address = NO_ADDRESS.with_all(operand)?;
-    if address.name.is_empty() || !address.register.is_empty() {
+// The name of data that an operand of `.word` has, without a register, and its two bytes.
+fn data_in<'a>(bytes: &[u8], word: &'a [u8], operand: &'a [u8]) -> Option<(&'a [u8], u32, u32)> {
+    let access = Access::new(word, b"").with_all(operand)?;
+    if access.name.is_empty() || !access.register.is_empty() {
         return None;
     }
-    let (first, byte) = bytes_at(bytes, address)?;
-    Some((address, first, byte))
+    let (first, byte) = bytes_at(bytes, &access)?;
+    Some((access.name, first, byte))
 }
 
 /// The sentence for a number of `.word` in whose place the name of data stands.
@@ -272,14 +254,14 @@ pub(crate) fn in_data(
         return Ok(None);
     }
     for operand in statement.operands {
-        if let Some((address, first, byte)) = data_in(bytes, operand) {
+        if let Some((name, first, byte)) = data_in(bytes, statement.word, operand) {
             let is_alone = statement.count == 1;
             let before = if is_alone { "Write .word " } else { "Write " };
             let between = if is_alone { ": " } else { " in its place: " };
             let digits = format!(in alloc; "{byte}")?;
             let stands = format!(in alloc; " is byte {first}")?;
             let (digits, after) = (digits.as_bytes(), stands.as_str());
-            let said = sentence(alloc, before, digits, between, address.name, after)?;
+            let said = sentence(alloc, before, digits, between, name, after)?;
             return Ok(Some(said));
         }
     }

@@ -9,7 +9,7 @@ use std::alloc::{AllocError, Global};
 // The most bytes of operands that are written anew.
 const MOST_BYTES: usize = 60;
 
-// The word, and behind it the operands with a comma in place of the blanks between two of them.
+// The word, and after it the operands with a comma in place of the blanks between two of them.
 fn with_commas(alloc: Global, word: &[u8], operands: &[u8]) -> Result<Vec<u8>, AllocError> {
     let mut line = word.to_vec(alloc)?;
     let mut before = b' ';

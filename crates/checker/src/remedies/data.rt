@@ -41,7 +41,7 @@ fn is_empty(word: &[u8]) -> bool {
     has_word(".data .text .globl .global .align", word)
 }
 
-/// The byte at which a label stands, where the first statement behind it is data.
+/// The byte at which a label stands, where the first statement after it is data.
 pub(crate) fn byte_of(bytes: &[u8], name: &[u8]) -> Option<u32> {
     let mut at = 0u32;
     let mut is_found = false;

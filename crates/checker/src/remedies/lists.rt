@@ -101,7 +101,7 @@ pub(crate) static SENTENCES: [Row; 25] = [
     ),
     (
         "syscall ecall",
-        "Write break where the run ends, else leave it out: there is no system, and the report has the registers and the memory.",
+        "Write break where the run ends, else leave it out: there is no system, and a report has registers and memory.",
     ),
     ("eret", "Leave it out: there is no system."),
     (

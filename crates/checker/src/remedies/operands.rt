@@ -3,18 +3,14 @@
 use super::super::forms::takes_label;
 use super::super::statements::Statement;
 use super::registers::without_dollar;
-use super::sentences::{Remedy, said};
+use super::sentences::{Remedy, counting, said};
 use lexical::{begins_number, parenthesized};
 
 // The remedy of an operand that is no register, number or address.
 fn operand<'a>(operand: &'a [u8]) -> Option<Remedy<'a>> {
     if let [b'\'', letter, b'\''] = operand {
-        return Some(Remedy {
-            sentence: "Write @6: a character is written by its number.",
-            text: b"",
-            other: b"",
-            numbers: [i64::from(*letter), 0],
-        });
+        let sentence = "Write @6: a character is written by its number.";
+        return Some(counting(sentence, b"", [i64::from(*letter), 0]));
     }
     if operand.contains(&b'[') {
         return Some(said("Write the register of an address in parentheses, as in 4($sp)."));

@@ -26,11 +26,20 @@ pub(crate) fn said(sentence: &'static str) -> Remedy<'static> {
 
 /// A sentence with a text.
 pub(crate) fn naming<'a>(sentence: &'static str, text: &'a [u8]) -> Remedy<'a> {
+    counting(sentence, text, [0, 0])
+}
+
+/// A sentence with a text and numbers.
+pub(crate) fn counting<'a>(
+    sentence: &'static str,
+    text: &'a [u8],
+    numbers: [i64; 2],
+) -> Remedy<'a> {
     Remedy {
         sentence,
         text,
         other: b"",
-        numbers: [0, 0],
+        numbers,
     }
 }
 
@@ -76,7 +85,7 @@ fn push_known(
     Ok(())
 }
 
-/// A sentence in which lines are to be written, and behind them a name with some words about it.
+/// A sentence in which lines are to be written, and after them a name with some words about it.
 pub(crate) fn sentence(
     alloc: Global,
     before: &str,

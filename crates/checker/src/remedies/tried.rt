@@ -2,7 +2,7 @@
 
 use super::super::statements::Statement;
 use super::numbers::{loading, value_of};
-use super::sentences::{Remedy, filled, naming};
+use super::sentences::{Remedy, counting, filled, naming};
 use isa::{FaultKind, parse, register_in};
 use lexical::is_name;
 use std::alloc::{AllocError, Global};
@@ -68,12 +68,7 @@ fn lines_before<'a>(
         Number::IntoFirst => (load.into, load.numbers),
         _ => ("", [0 - i64::from(value.cast_signed()), 0]),
     };
-    Some(Remedy {
-        sentence,
-        text,
-        other: b"",
-        numbers,
-    })
+    Some(counting(sentence, text, numbers))
 }
 
 /// Lines in a row, if the language takes them.
@@ -87,15 +82,9 @@ pub(crate) fn tried<'a>(
     let Some(before) = lines_before(statement, number, text) else {
         return Ok(None);
     };
-    let numbers = before.numbers;
-    let behind = Remedy {
-        sentence: lines,
-        text,
-        other: b"",
-        numbers,
-    };
+    let after = counting(lines, text, before.numbers);
     let mut all = filled(alloc, &before, statement)?;
-    let others = filled(alloc, &behind, statement)?;
+    let others = filled(alloc, &after, statement)?;
     all.extend_from_slice(others.as_slice())?;
     if is_taken(alloc, all.as_slice())? {
         Ok(Some(in_a_row(alloc, all.as_slice())?))

@@ -3,7 +3,7 @@
 use super::super::statements::{Statement, statement_in};
 use super::data::size_of;
 use super::numbers::loading;
-use super::sentences::{Remedy, filled, sentence};
+use super::sentences::{counting, filled, sentence};
 use lexical::next_line;
 use std::alloc::{AllocError, Global};
 
@@ -25,8 +25,8 @@ pub(crate) fn data_size(line: &[u8]) -> u32 {
     size_of(&statement_in(line)).unwrap_or(0)
 }
 
-/// What to write in place of a label at data, by the number of its byte, and by the line of the next instruction, if there is
-/// one.
+/// What to write in place of a label at data, by the number of its byte, and by the line of the next instruction, if
+/// there is one.
 pub(crate) fn at_data(alloc: Global, byte: u32, line: Option<u64>) -> Result<Vec<u8>, AllocError> {
     let sentence = match (line.is_some(), byte <= 32_767) {
         (true, true) => {
@@ -38,13 +38,8 @@ pub(crate) fn at_data(alloc: Global, byte: u32, line: Option<u64>) -> Result<Vec
         (false, true) => "Write @6, its byte, for this data, as in lw $t0,@6($zero).",
         (false, false) => "Write @6, its byte, for this data, as in ori $t0,$zero,@6.",
     };
-    let remedy = Remedy {
-        sentence,
-        text: b"",
-        other: b"",
-        numbers: [i64::from(byte), line.unwrap_or(0).cast_signed()],
-    };
-    filled(alloc, &remedy, &SET)
+    let numbers = [i64::from(byte), line.unwrap_or(0).cast_signed()];
+    filled(alloc, &counting(sentence, b"", numbers), &SET)
 }
 
 // The bytes of the last data of a listing, where that is `.space`; else 0.
@@ -69,7 +64,7 @@ fn before_set(has_room: bool) -> &'static str {
     if has_room {
         "If the last .space is the stack, write "
     } else {
-        "Write .space 400 behind all data, for example, and "
+        "Write .space 400 after all data, for example, and "
     }
 }
 
@@ -81,13 +76,7 @@ pub(crate) fn stack(alloc: Global, bytes: &[u8], size: u32) -> Result<Vec<u8>, A
         return Ok(Vec::new(alloc));
     }
     let load = loading(top);
-    let set = Remedy {
-        sentence: load.into,
-        text: b"",
-        other: b"",
-        numbers: load.numbers,
-    };
-    let line = filled(alloc, &set, &SET)?;
+    let line = filled(alloc, &counting(load.into, b"", load.numbers), &SET)?;
     let before = before_set(has_room);
     sentence(alloc, before, line.as_slice(), " as the first instruction", b"", "")
 }

@@ -56,7 +56,7 @@ pub(crate) fn is_known(word: &[u8]) -> bool {
     directive_text(word).is_some() || !matches!(form_of(word, 0), Err(FaultKind::UnknownOp))
 }
 
-// Whether a word is an operation of floating point: one with its kind behind a dot, as `add.s`.
+// Whether a word is an operation of floating point: one with its kind after a dot, as `add.s`.
 fn is_of_reals(word: &[u8]) -> bool {
     match word {
         [first, .., b'.', b's' | b'S' | b'd' | b'D' | b'w' | b'W'] => *first != b'.',

@@ -38,8 +38,8 @@ pub(crate) fn begin_with_data(text: Option<&[u8]>) -> bool
     false
 }
 
-/// Whether data stands first behind a line, by whether it does from that line on.
-pub(crate) fn is_data_behind(line: &[u8], after: Option<&[u8]>, is_data: bool) -> bool
+/// Whether data stands first after a line, by whether it does from that line on.
+pub(crate) fn is_data_after(line: &[u8], after: Option<&[u8]>, is_data: bool) -> bool
     ensures { is_data ≡ begin_with_data (line.now ∷ lines_left (option_map (λ t. t.now) after.entry))
         → result ≡ begin_with_data (lines_left (option_map (λ t. t.now) after.entry)) }
 {

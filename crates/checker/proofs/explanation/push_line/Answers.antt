@@ -1,7 +1,7 @@
-use Rattle.std.proofs.Common.{◌∙◌, ◌++◌, ap, append_assoc, refl}
+use Rattle.std.proofs.Common.{◌∙◌, ◌++◌, ap, refl}
 use Rattle.checker.specs.Diagnostics.{error, form_note, sentence}
 use Rattle.checker.specs.Spots.{advice_text}
-use Rattle.checker.proofs.Texts.{two_behind}
+use Rattle.checker.proofs.Texts.{two_after}
 use Rattle.checker.proofs.explanation.push_line.Goals as goal
 
 pub returns : goal.returns
@@ -15,7 +15,7 @@ returns c =
     ∙ ap (λ t. c.args.text.now.items ++ advice_text c.args.source.file.now c.args.fault.line line part error remedy t) c.sentence-rule.ensures in
     record {
       rest = advice ++ form_note kind line;
-      is = two_behind c.args.text.now.items advice (form_note kind line) c.push_advice.new.text.items c.push_form.new.text.items worded
+      is = two_after c.args.text.now.items advice (form_note kind line) c.push_advice.new.text.items c.push_form.new.text.items worded
           c.in_ok-push_form.ensures;
       explains = (part, (remedy, (c.part_at_fault-part.ensures, refl)));
     }

@@ -41,6 +41,6 @@ loop-rest-preserved c =
     let lines : lines_left (option_map (λ r. r.now) c.loop-rest.rest) ≡ c.next_line.result.0.now ∷ left = rw c.in-Some.is c.next_line.ensures.lines in
     record {
       rest = next_rest all left c.loop-rest.number c.next_line.result.0.now here;
-      is_data = c.is_data_behind-is_data.ensures (c.loop-rest.invariant.is_data ∙ ap begin_with_data lines);
+      is_data = c.is_data_after-is_data.ensures (c.loop-rest.invariant.is_data ∙ ap begin_with_data lines);
       warned = all_warned _ _ _ _ _ _ (all_warned _ _ _ _ _ _ c.loop-rest.invariant.warned c.in_ok-push_labels.ensures) c.in_ok-k.ensures;
     }

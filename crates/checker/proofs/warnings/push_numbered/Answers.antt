@@ -1,4 +1,4 @@
-use Rattle.std.proofs.Common.{rules, subst, sym}
+use Rattle.std.proofs.Common.{rules}
 use Rattle.checker.specs.Reach.{IsStackUnset}
 use Rattle.checker.specs.Warnings.{AreWarnedOf, IsOfInstruction, StandsOn}
 use Rattle.checker.proofs.Warned.{all_warned, none_warned, of_instruction}
