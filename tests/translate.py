@@ -201,7 +201,7 @@ def advice_of(statements):
         return advice_of(statements[:100]) | advice_of(statements[100:])
     listing = "".join(f"{line}\n" for line in [*statements, "f: break"])
     went = subprocess.run([CHECKER, "check", "--all", "-"], input=listing.encode(), capture_output=True, check=False)
-    told = re.findall(r"^-:(\d+):\d+: error: Write ([^:]*)\.$", went.stdout.decode(), re.M)
+    told = re.findall(r"^-:(\d+):\d+: error: Write ([^:\n]*)\.$", went.stdout.decode(), re.M)
     return {statements[int(line) - 1]: advice for line, advice in told}
 
 

@@ -151,7 +151,15 @@ fn push_numbered(
     let part = statement(spot.line, code(spot.line));
     if is_stack_unset(good, k) {
         let help = warned::stack(alloc, good.bytes, good.program.size())?;
-        push_warning(alloc, text, good, spot, part, Warning::StackUnset, help.as_slice())?;
+        push_warning(
+            alloc,
+            text,
+            good,
+            spot,
+            part,
+            Warning::StackUnset,
+            help.as_slice(),
+        )?;
     }
     if let Some(warning) = warning_at(good, k) {
         push_warning(alloc, text, good, spot, part, warning, b"")?;

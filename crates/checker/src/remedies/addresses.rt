@@ -83,7 +83,9 @@ fn access_in<'a>(statement: &Statement<'a>) -> Option<Access<'a>> {
     if is_missing || !has_offset(statement.word) && !is_la(statement.word) {
         return None;
     }
-    Access::new(statement.word, value).with_all(text)?.with_all(third)
+    Access::new(statement.word, value)
+        .with_all(text)?
+        .with_all(third)
 }
 
 fn is_la(word: &[u8]) -> bool {
@@ -184,7 +186,11 @@ fn bytes_at(bytes: &[u8], access: &Access<'_>) -> Option<(u32, u32)> {
         number_in(access.number, 0x8000_0000, 0xffff_ffff)?
     };
     let byte = first.wrapping_add(more);
-    if byte > MOST_BYTE { None } else { Some((first, byte)) }
+    if byte > MOST_BYTE {
+        None
+    } else {
+        Some((first, byte))
+    }
 }
 
 /// The sentence for a load, a store or `la` whose address is a number and a register in another order, is too far, or

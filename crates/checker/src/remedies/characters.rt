@@ -77,5 +77,7 @@ pub(crate) fn sentence(code: &[u8]) -> Option<&'static str> {
             return Some(character.sentence);
         }
     }
-    Some("Leave it out, or write it in a comment: letters and signs beyond ASCII stand there alone.")
+    Some(
+        "Leave it out, or write it in a comment: letters and signs beyond ASCII stand there alone.",
+    )
 }

@@ -67,10 +67,14 @@ pub(crate) fn bad_register<'a>(statement: &Statement<'a>) -> Option<Remedy<'a>> 
             return Some(said(range_of(name)?));
         }
         if name.starts_with(b"f") && !name.eq_ignore_ascii_case(b"fp") {
-            return Some(said("Write a general register, as $t0: there are none of floating point."));
+            return Some(said(
+                "Write a general register, as $t0: there are none of floating point.",
+            ));
         }
         if name.eq_ignore_ascii_case(b"lo") || name.eq_ignore_ascii_case(b"hi") {
-            return Some(said("Write mflo or mfhi to read LO or HI, and mtlo or mthi to write them."));
+            return Some(said(
+                "Write mflo or mfhi to read LO or HI, and mtlo or mthi to write them.",
+            ));
         }
     }
     None

@@ -71,12 +71,23 @@ fn before_set(has_room: bool) -> &'static str {
 /// What to write where `$sp` is not set, by the bytes of data: the instruction that sets it.
 pub(crate) fn stack(alloc: Global, bytes: &[u8], size: u32) -> Result<Vec<u8>, AllocError> {
     let has_room = last_space(bytes) > 0;
-    let top = if has_room { size } else { size.wrapping_add(STACK) };
+    let top = if has_room {
+        size
+    } else {
+        size.wrapping_add(STACK)
+    };
     if top > MOST_BYTES {
         return Ok(Vec::new(alloc));
     }
     let load = loading(top);
     let line = filled(alloc, &counting(load.into, b"", load.numbers), &SET)?;
     let before = before_set(has_room);
-    sentence(alloc, before, line.as_slice(), " as the first instruction", b"", "")
+    sentence(
+        alloc,
+        before,
+        line.as_slice(),
+        " as the first instruction",
+        b"",
+        "",
+    )
 }

@@ -120,7 +120,9 @@ fn nearest(word: &[u8]) -> Option<Remedy<'static>> {
 fn label(code: &[u8], statement: &Statement<'_>) -> Option<&'static str> {
     let (front, colon) = cut(code, b':');
     if colon.is_some() && !is_name(trim(front)) {
-        return Some("Write another name: a label begins with a letter, _ or ., and goes on with these and digits.");
+        return Some(
+            "Write another name: a label begins with a letter, _ or ., and goes on with these and digits.",
+        );
     }
     let [first, _, _] = statement.operands;
     let (next, _) = cut_word(first);

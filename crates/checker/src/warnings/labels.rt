@@ -71,7 +71,15 @@ pub(crate) fn push_labels(
     while let Some((name, behind)) = label_at(line, rest) {
         if next.is_data {
             let help = warned::at_data(alloc, next.byte, good.lines.get(next.k).copied())?;
-            push_warning(alloc, text, good, spot, name, Warning::AtData, help.as_slice())?;
+            push_warning(
+                alloc,
+                text,
+                good,
+                spot,
+                name,
+                Warning::AtData,
+                help.as_slice(),
+            )?;
         } else if next.k > 0 && !is_operand(operands, &line[name.from..name.to]) {
             push_warning(alloc, text, good, spot, name, Warning::NeverUsed, b"")?;
         }
