@@ -24,7 +24,7 @@ use Rattle.lsq.specs.declared.entry.Entry.{Entry}
 use Rattle.one_thread.specs.Loads.{waits}
 use Rattle.chart.specs.declared.event.Event.TheVariants.{Blocked, Moved}
 use Rattle.chart.specs.declared.row.Row.{Row}
-use Rattle.chart.specs.declared.telling.Style.{Style}
+use Rattle.chart.specs.Styles.{Style}
 use Rattle.chart.specs.Blocked.{Queued, block_event, block_events, blocker, blocker_of, entry_after, held_by, joined, joined_by, no_rows, position_at, waits_for}
 use Rattle.chart.specs.Events.{entry_events, events, left_events, went_on, moved_events, retired_event, squash, squashes, worked_on}
 use Rattle.chart.specs.Happened.{Awaits, Happened, HasGone, StandsAs}

@@ -24,7 +24,7 @@ use Rattle.one_thread.specs.Choices.{IsTurnBy, Picks, TurnedBy, step_made}
 use Rattle.one_thread.specs.StandsFor.{StandsFor, StandsForSome, sizes}
 use Rattle.one_thread.specs.Turns.{BenchFields, Does, Falls, Moves, SizesStay, Trains}
 use Rattle.one_thread.specs.Window.{window}
-use Rattle.chart.specs.declared.telling.Style.{Style}
+use Rattle.chart.specs.Styles.{Style}
 use Rattle.chart.specs.Events.{events}
 use Rattle.chart.specs.Kept.{next_kept}
 use Rattle.chart.specs.Rows.{SoFar}
