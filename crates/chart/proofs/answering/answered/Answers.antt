@@ -1,4 +1,4 @@
-use Rattle.std.proofs.Common.{rules, ◌≡◌, sym, subst, refl, Result, Err, ℕ, ap, ◌∙◌}
+use Rattle.std.proofs.Common.{rules, ◌≡◌, sym, subst, refl, Result, Err, ℕ}
 use Rattle.std.specs.Io.KnownBytes.{Appends}
 use Rattle.isa.specs.Report.{fault_line}
 use Rattle.counted_io.specs.Counted.{known_by}

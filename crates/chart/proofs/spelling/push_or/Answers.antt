@@ -1,5 +1,4 @@
 use Rattle.std.proofs.Common.{◌≡◌, ◌++◌, ◌∙◌, OnOk, string_bytes, subst, sym}
-use Rattle.chart.specs.Sources.{text_or}
 use Rattle.chart.proofs.Spelled.{added, is_no_text, is_text}
 use Rattle.chart.proofs.spelling.push_or.Goals as goal
 
