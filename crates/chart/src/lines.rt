@@ -46,7 +46,12 @@ fn begin(lines: &mut Vec<Line>, style: &Style<'_>, line: Line) -> Result<(), All
     Ok(())
 }
 
-fn note(lines: &mut Vec<Line>, style: &Style<'_>, turn: u64, event: &Event) -> Result<(), AllocError>
+fn note(
+    lines: &mut Vec<Line>,
+    style: &Style<'_>,
+    turn: u64,
+    event: &Event,
+) -> Result<(), AllocError>
     ensures { OnOk result (lines.new.items ≡ after_event (styled style.now) turn lines.old.items event.now) }
 {
     match event {

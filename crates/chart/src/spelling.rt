@@ -3,7 +3,7 @@ ghost use Rattle.std.specs.Prelude.{◌≡◌, ◌∷◌, ◌++◌, ◌<◌, IfO
 ghost use Rattle.std.specs.Option.{option_map};
 ghost use Rattle.chart.specs.Drawings.{tenant_text as tenant_text_of};
 ghost use Rattle.chart.specs.Sources.{as_named, first_name as first_name_in, in_word as in_word_by, name_for as name_in, name_one as name_one_by};
-ghost use Rattle.chart.specs.Sources.{named as named_in, names_in as names_of, register_of as register_by, source_text as source_text_of, sourced, text_or, words, words_left};
+ghost use Rattle.chart.specs.Sources.{named as named_in, names_in as names_of, register_of as register_by, sourced, text_or, words, words_left};
 
 use crate::books::counted;
 use crate::drawing::half_text;
@@ -104,12 +104,7 @@ fn name_for<'a>(names: &[&'a [u8]], at: u64, word: &[u8]) -> Option<&'a [u8]>
 }
 
 // Adds a word, or its register as a line of these names writes it.
-fn push_named(
-    out: &mut Vec<u8>,
-    names: &[&[u8]],
-    at: u64,
-    word: &[u8],
-) -> Result<(), AllocError>
+fn push_named(out: &mut Vec<u8>, names: &[&[u8]], at: u64, word: &[u8]) -> Result<(), AllocError>
     ensures { OnOk result (out.new.items
         ≡ out.old.items ++ as_named (map (λ n. n.now) names.now) at word.now) }
 {
