@@ -101,7 +101,7 @@ impl<'a> Judge<'a> {
     {
         self.begin_if_open(who)?;
         let Some(tenant) = self.unit.tenant(who) else {
-            return Err(Why::NotLet(who));
+            return self.end(who, said);
         };
         match (tenant.fate, self.unit.kind(&tenant)) {
             (Fate::Addr(_), Kind::Loads) => self.load(who, said),

@@ -73,7 +73,7 @@ impl<'a> Judge<'a> {
         self.leave(who)?;
         match self.unit.tenant(who) {
             Some(tenant) => is_value(who, self.left_value(&tenant), said),
-            None => Err(Why::NotLet(who)),
+            None => Err(self.unknown(who)),
         }
     }
 

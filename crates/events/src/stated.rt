@@ -31,6 +31,17 @@ pub(crate) fn is_value(who: usize, is: Option<u32>, said: Option<u32>) -> Result
 }
 
 impl<'a> Judge<'a> {
+    /// Why nothing is known of a position: nobody was let there, or who was let there is dropped.
+    pub(crate) fn unknown(&self, who: usize) -> Why
+        ensures { IsUnknown self.now.unit.tenants.items who result }
+    {
+        if who < self.unit.tenants.len() {
+            Why::Gone(who)
+        } else {
+            Why::NotLet(who)
+        }
+    }
+
     // What a tenant leaves as it retires: the data of a store, or what it has made.
     pub(crate) fn left_value(&self, tenant: &Tenant) -> Option<u32> {
         match self.unit.kind(tenant) {
@@ -46,7 +57,7 @@ impl<'a> Judge<'a> {
     {
         match self.unit.tenant(who) {
             Some(tenant) => is_value(who, outcome_value(&tenant), said),
-            None => Err(Why::NotLet(who)),
+            None => Err(self.unknown(who)),
         }
     }
 
@@ -56,7 +67,7 @@ impl<'a> Judge<'a> {
         ensures err { IfErr result (IsTrueOf self.now.unit) }
     {
         let Some(tenant) = self.unit.tenant(who) else {
-            return Err(Why::NotLet(who));
+            return Err(self.unknown(who));
         };
         let (first, second) = (tenant.first.creator, tenant.second.creator);
         if first == Some(producer) || second == Some(producer) {
