@@ -22,7 +22,7 @@ use Rattle.replay.specs.Reasons.{act_of}
 use Rattle.replay.specs.Shown.{shown}
 use Rattle.replay.specs.Verdicts.{IsNamed, IsTaken}
 use Rattle.events.specs.declared.why.Why.{Why}
-use Rattle.events.specs.declared.why.Why.TheVariants.{Let as WhyLet, NoInstruction, Act as WhyAct, NotLet, OtherProducer, OtherValue, NoValue, Nobody}
+use Rattle.events.specs.declared.why.Why.TheVariants.{Let as WhyLet, NoInstruction, Act as WhyAct, Gone, NotLet, OtherProducer, OtherValue, NoValue, Nobody}
 use Rattle.events.specs.Following.{AreTold, Follows, IsUntold}
 use Rattle.events.specs.Told.{AreExecution, Confirms, Executes, IsExecution, IsOfValues, IsSquashAfter, IsTrueOf, Recovers, Refuses, Retires, SquashesOne}
 
@@ -235,6 +235,7 @@ of_values u (WhyLet r) t = absurd t
 of_values u (NoInstruction pc) t = absurd t
 of_values u (WhyAct p deed r) t = absurd t
 of_values u (NotLet p) t = absurd t
+of_values u (Gone p) t = absurd t
 of_values u (OtherProducer p a b) t = absurd t
 of_values u (OtherValue p v) t = tt
 of_values u (NoValue p) t = tt

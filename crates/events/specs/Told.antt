@@ -1,7 +1,8 @@
 -- Which steps of the unit an event tells, and why one is refused.
-use Rattle.std.specs.Prelude.{⊤, ◌≡◌, ◌⊎◌, ℕ, ◌<◌, List, [], ◌∷◌, Option, Some, None, IfSome, slice_get}
+use Rattle.std.specs.Prelude.{⊤, ◌≡◌, ◌≢◌, ◌⊎◌, ℕ, ◌<◌, List, [], ◌∷◌, Option, Some, None, IfSome, slice_get}
 use Rattle.std.specs.List.{AllByRecursion}
 use Rattle.instructions.specs.Programs.{address}
+use Rattle.inorder.specs.Tenants.{Live}
 use Rattle.inorder.specs.Unit.{front_pc}
 use Rattle.replay.specs.declared.acting.Deed.TheVariants.{Claim, Confirm, Finish, Flush, Guess, Load, Mend, Retire, Squash}
 use Rattle.replay.specs.declared.step.Step.{Step}
@@ -11,14 +12,14 @@ use Rattle.replay.specs.declared.tenant.Fate.TheVariants.{Addr, Done, Guessed, M
 use Rattle.replay.specs.declared.tenant.Tenant.{Tenant}
 use Rattle.replay.specs.declared.unit.Unit.{Unit as Held}
 use Rattle.replay.specs.Lets.{IsNoLet}
-use Rattle.replay.specs.Reasons.{Reason as ActReason}
+use Rattle.replay.specs.Reasons.{Is, Reason as ActReason}
 use Rattle.replay.specs.declared.dispatch.NoLet.{NoLet as Reason}
 use Rattle.replay.specs.declared.dispatch.NoLet.TheVariants.{OtherPc}
 use Rattle.replay.specs.Shown.{shown}
 use Rattle.events.specs.declared.event.Event.{Event}
 use Rattle.events.specs.declared.event.Event.TheVariants.{Let as ToldLet, From as ToldFrom, Begin as ToldBegin, End as ToldEnd, Execute as ToldExecute, Read as ToldRead, Load as ToldLoad, Complete as ToldComplete, Retire as ToldRetire, Squash as ToldSquash, Mend as ToldMend, Recover as ToldRecover}
 use Rattle.events.specs.declared.why.Why.{Why}
-use Rattle.events.specs.declared.why.Why.TheVariants.{Let as NoLet, NoInstruction, Act as NoAct, NotLet, OtherProducer, OtherValue, NoValue}
+use Rattle.events.specs.declared.why.Why.TheVariants.{Let as NoLet, NoInstruction, Act as NoAct, Gone, NotLet, OtherProducer, OtherValue, NoValue}
 use Rattle.events.specs.Following.{Follows}
 
 -- A step of the execution of the tenant at position p
@@ -184,6 +185,7 @@ IsTrueOf u (NoLet reason) = IsTrueLet u reason
 IsTrueOf u (NoInstruction pc) = front_pc (shown u.tenants.items) ≡ pc
 IsTrueOf u (NoAct p deed reason) = ActReason u.program.now (shown u.tenants.items) deed p reason
 IsTrueOf u (NotLet p) = slice_get u.tenants.items p ≡ None
+IsTrueOf u (Gone p) = Is (shown u.tenants.items) p (λ t. t.standing ≢ Live)
 IsTrueOf u (OtherProducer p a b) = HasProducers u.tenants.items p a b
 IsTrueOf u _ = ⊤
 

@@ -1,5 +1,5 @@
 //! What an event says of producers and values.
-ghost use Rattle.std.specs.Prelude.{◌≡◌, IfErr, IfSome, OnOk, Some};
+ghost use Rattle.std.specs.Prelude.{◌≡◌, ◌≤◌, IfErr, IfSome, OnOk, Some, None, slice_get};
 ghost use Rattle.events.specs.Told.{ComesFrom, HasOutcome, IsOfValues, IsTrueOf, outcome_of};
 
 use crate::judge::Judge;
@@ -33,9 +33,10 @@ pub(crate) fn is_value(who: usize, is: Option<u32>, said: Option<u32>) -> Result
 impl<'a> Judge<'a> {
     /// Why nothing is known of a position: nobody was let there, or who was let there is dropped.
     pub(crate) fn unknown(&self, who: usize) -> Why
-        ensures { IsUnknown self.now.unit.tenants.items who result }
+        requires { self.now.unit.tenants.from ≤ who → slice_get self.now.unit.tenants.items who ≡ None }
+        ensures { IsTrueOf self.now.unit result }
     {
-        if who < self.unit.tenants.len() {
+        if who < self.unit.tenants.first() {
             Why::Gone(who)
         } else {
             Why::NotLet(who)

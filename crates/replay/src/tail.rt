@@ -93,6 +93,7 @@ impl<T: Copy + Drop> Tail<T> {
     pub fn get(&self, at: usize) -> Option<T>
         ensures kept { self.now.from ≤ at → result ≡ slice_get self.now.items at }
         ensures gone { at < self.now.from → result ≡ None }
+        ensures some { IfSome result (λ item. slice_get self.now.items at ≡ Some item) }
         ensures small { IfSome result (λ _. at < 2 ^ 62) }
     {
         if at < self.from {

@@ -18,4 +18,4 @@ returns-in-Some-tenant-clause-err c =
 pub returns-in-None-clause-err : goal.returns-in-None-clause-err
 returns-in-None-clause-err c =
     refuses_true c.args.self.now.unit c.leave.new.self.unit c.in_ok-leave.ensures.ok.told _ c.in_ok-leave.ensures.ok.follows
-    (sym c.tenant.ensures ∙ c.in-None.is)
+    c.unknown.ensures
