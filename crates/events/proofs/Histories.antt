@@ -19,17 +19,15 @@ use Rattle.events.specs.Logs.{AreTaken, IsHistoryOf, Say, steps_of}
 use Rattle.events.proofs.Follow.{stays, then}
 
 -- steps of one caller, as a history
-by_one : List UnitStep → List Taken
+abbrev by_one : List UnitStep → List Taken
 by_one [] = []
 by_one (s ∷ ss) = record { by = 0; step = s } ∷ by_one ss
 
 same_steps : (ss : List UnitStep) → steps_of (by_one ss) ≡ ss
-  unfolding by_one
 same_steps [] = refl
 same_steps (s ∷ ss) = ap (λ ts. s ∷ ts) (same_steps ss)
 
 run_reached : (P : Program) (C : Sizes) (ss : List UnitStep) → reached P C (by_one ss) ≡ run_on P C 0 empty_unit ss
-  unfolding by_one
 run_reached P C [] = refl
 run_reached P C (s ∷ ss) = ap (λ U. applied P C U 0 s) (run_reached P C ss)
 
@@ -39,7 +37,6 @@ taken_allowed P C U (UnitOn q act) m = m
 taken_allowed P C U Renew m = absurd m
 
 run_allowed : (P : Program) (C : Sizes) (ss : List UnitStep) → MayRun P C 0 empty_unit ss → AreAllowed P C (by_one ss)
-  unfolding by_one
 run_allowed P C [] m = tt
 run_allowed P C (s ∷ ss) m =
     (run_allowed P C ss m.0,
