@@ -1,7 +1,8 @@
 #!/usr/bin/env bash
 # Prints the processor times of `./ruu commits` and of the library for C as multiples of those of plain C programs, each the least of
 # seven in turn: the log of a million instructions through a pipe, beside a program that prints as many such lines by printf; and
-# the steps of a listing, by ruu_step and by ruu_run, beside the interpreter of interpreter.c, which decodes beforehand.
+# the steps of a listing, by ruu_step and by ruu_run, beside those of step.c, which does the same, and beside the interpreter of
+# interpreter.c, which decodes beforehand. Before that, agree.c has to find no word and state in which the library and step.c differ.
 set -eu
 cd "$(dirname "$0")/.."
 work=$(mktemp -d)
@@ -36,20 +37,32 @@ for _ in 1 2 3 4 5 6 7; do
 done
 awk -v log_="$(least 1 log)" -v lines="$(least 1 printed)" 'BEGIN { printf "%-24s %6.2f s   C %6.2f s   ratio %.1f\n", "a million lines", log_, lines, log_ / lines }'
 
-cc -O2 -I crates/ruu_step -o "$work/steps" benchmarks/steps.c crates/ruu_step/out/libruu_step.a
+library=crates/ruu_step/out/libruu_step.a
+c() { cc -O2 -I crates/ruu_step -o "$work/$1" "${@:2}"; } # what is made, from what
+c steps benchmarks/steps.c "$library"
+c plain benchmarks/steps.c benchmarks/step.c
+c plain.o -c -Druu_step=plain_step -Druu_run=plain_run benchmarks/step.c
+c agree benchmarks/agree.c "$work/plain.o" "$library"
+"$work/agree" 200000
+
 for program in loop mixed; do
   python3 benchmarks/assemble.py "benchmarks/$program.s" > "$work/program.h"
   cc -O2 -I "$work" -o "$work/interpreter" benchmarks/interpreter.c
   crates/words/out/words words "benchmarks/$program.s" > "$work/words"
-  rm -f "$work/step" "$work/run" "$work/yardstick"
+  rm -f "$work"/*.step "$work"/*.run "$work/decoded"
   for _ in 1 2 3 4 5 6 7; do
-    "$work/interpreter" >> "$work/yardstick"
+    "$work/interpreter" >> "$work/decoded"
     for how in step run; do
-      "$work/steps" $how 4294967295 < "$work/words" >> "$work/$how"
+      for by in steps plain; do
+        "$work/$by" $how 4294967295 < "$work/words" >> "$work/$by.$how"
+      done
     done
   done
   for how in step run; do
-    awk -v name="ruu_$how, $program" -v here="$(least 3 $how)" -v n="$(least 1 $how)" -v c="$(least 4 yardstick)" -v m="$(least 2 yardstick)" \
-      'BEGIN { printf "%-24s %6.1f ns  C %6.2f ns  ratio %.1f\n", name, here / n * 1e9, c / m * 1e9, here / n / (c / m) }'
+    awk -v name="ruu_$how, $program" -v n="$(least 1 steps.$how)" -v here="$(least 3 steps.$how)" -v plain="$(least 3 plain.$how)" \
+      -v m="$(least 2 decoded)" -v decoded="$(least 4 decoded)" 'BEGIN {
+        printf "%-24s %6.1f ns  C %6.2f ns  ratio %.1f", name, here / n * 1e9, plain / n * 1e9, here / plain
+        printf "  decoded beforehand %6.2f ns  ratio %.1f\n", decoded / m * 1e9, here / n / (decoded / m)
+      }'
   done
 done

@@ -224,18 +224,43 @@ CHART
 cmp -s "$work/told" "$work/out" || { diff "$work/told" "$work/out"; fail 'a blocked load is drawn otherwise'; }
 [ "$(grep -P '^L\t2\t1' "$work/log")" = "$(printf 'L\t2\t1\twaits for the store 1')" ] || fail 'the log names another store'
 
-# registers as the listing has most of them, whatever its comments say
-written() { # name, listing, the instruction in the chart
+# registers as the line of each instruction writes them, whatever comments and other lines say; one that the line does not
+# name as most are
+written() { # name, listing, instructions in the chart
   printf "$2" > "$work/written.s"
-  "$chart" chart "$work/written.s" --trace "$work/log" > "$work/out"
-  grep -qF "$3" "$work/out" && grep -qF "$3" "$work/log" || fail "$1: another instruction"
+  "$chart" chart "$work/written.s" --trace "$work/log" --limit 9 > "$work/out"
+  for instr in "${@:3}"; do
+    grep -qP "^\d+\t\d+\t0x[0-9a-f]{8} \Q$instr\E  " "$work/out" && grep -qP "^L\t\d+\t0\t0x[0-9a-f]{8} \Q$instr\E$" "$work/log" \
+      || fail "$1: another instruction than $instr"
+  done
 }
-written 'numbers' 'addu $9,$8,$10\nbreak\n' '0x00400000 addu $9,$8,$10'
-written 'names' 'addu $t1,$t0,$t2\nbreak\n' '0x00400000 addu $t1,$t0,$t2'
-written 'names in comments' '# $t0 $t1 $t2 $t3 $t4\naddu $9,$8,$10 # $sp $fp\nbreak\n' '0x00400000 addu $9,$8,$10'
-written 'more names' 'addu $t1,$8,$t2\nbreak\n' '0x00400000 addu $t1,$t0,$t2'
-written 'more numbers' 'addu $9,$t0,$10\nbreak\n' '0x00400000 addu $9,$8,$10'
-echo 'a blocked load names its store, and registers are written as in the listing'
+written 'numbers' 'addu $9,$8,$10\nbreak\n' 'addu $9,$8,$10'
+written 'names' 'addu $t1,$t0,$t2\nbreak\n' 'addu $t1,$t0,$t2'
+written 'names in comments' '# $t0 $t1 $t2 $t3 $t4\naddu $9,$8,$10 # $t1,$t0,$t2\nbreak\n' 'addu $9,$8,$10'
+written 'names and a number' 'addu $t1,$8,$t2\nbreak\n' 'addu $t1,$8,$t2'
+written 'numbers and a name' 'addu $9,$t0,$10\nbreak\n' 'addu $9,$t0,$10'
+written 'register 0' 'addu $t1,$0,$zero\naddu $t1,$zero,$0\nsll $0,$zero,0\nbreak\n' 'addu $t1,$0,$zero' 'addu $t1,$zero,$0' 'nop'
+written 'one register in two ways' 'addu $8,$t0,$8 # $t0,$8,$t0\nbreak\n' 'addu $8,$t0,$8'
+written 'register 30' 'addu $s8,$30,$fp\nlw $30,-4($s8)\nbreak\n' 'addu $s8,$30,$fp' 'lw $30,-4($s8)'
+written 'two lines' 'a: b :\tADDU  $t1 , $8,$t2\n\n  addu $9,$t0,$10\nbeq $t1 ,$0, c\nc: break\n' 'addu $t1,$8,$t2' 'addu $9,$t0,$10' 'beq $t1,$0,L0040000c'
+written 'a jump that names one register' '.word 0x400008\nlw $t0,0($0)\njalr $8\nbreak\n' 'lw $t0,0($0)' 'jalr $31,$8'
+written 'a jump among names' '.word 0x400008\nlw $t0,0($zero)\njalr $8 # $31 $31 $31\nbreak\n' 'jalr $ra,$8'
+written 'a jump by its own register' '.word 0x40000c\nlw $t0,0($zero)\naddu $ra,$0,$t0\njalr $31\nbreak\n' 'jalr $31,$31'
+# each form, with the registers that it writes; by number where it leaves one out, as most of the listing
+while IFS= read -r row; do
+  [[ $row == *' => '* ]] || continue
+  printf '%b' "${row%% => *}\naddu \$1,\$1,\$1\naddu \$1,\$1,\$1\n" > "$work/written.s"
+  python3 -c "
+import re, sys
+given, wanted = sys.argv[1].split(' => ')
+names = re.findall(r'\\$\w+', given.split('#')[0])
+if len(names) == wanted.count('\$'):
+    wanted = re.sub(r'\\$\d+', lambda it: names.pop(0), wanted)
+print(wanted)" "$row" > "$work/told"
+  "$chart" chart "$work/written.s" --limit 1 2> "$work/err" | sed -nE 's/^0\t1\t0x00400000 (.*[^ ]) +L.*/\1/p' > "$work/out"
+  cmp -s "$work/told" "$work/out" || { diff "$work/told" "$work/out"; fail "${row%% => *} is drawn otherwise"; }
+done < tests/listings/forms.txt
+echo 'a blocked load names its store, and each register is written as its line has it'
 
 # A listing with a fault has no pictures.
 says() { # name, status, standard error

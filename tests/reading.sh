@@ -2,7 +2,7 @@
 # Listings as they are read. Of one with a fault the line of the fault is all that is written by the program `alone`, by
 # `ruu` on threads and by `ruu --alone`, with status 2, and the first that `ruu check` writes: so it is for each row of
 # tests/listings/faults.txt, for listings at each limit and beyond it, and for each beginning of a listing. And each row of
-# tests/listings/forms.txt is read as the instruction that a chart writes.
+# tests/listings/forms.txt is read as the instruction that `drive` tells.
 . "$(dirname "$0")/common.bash"
 build run alone
 build run ruu
@@ -76,18 +76,16 @@ for way in '' --alone; do
     || fail "$name, with --limit 3 $way"
 done
 
-build run chart
-chart=crates/chart/out/chart
+build run drive
+drive=crates/drive/out/drive
 
-# each form, as the chart of its run writes it behind the address: up to two blanks or the picture; by numbers, as most registers
-# of the listing are written
-numbers='addu $1,$1,$1\naddu $1,$1,$1\n'
+# each form, as the unit that reads it tells it when it lets it: by numbers
 count=0
 while IFS= read -r row; do
   [[ $row == *' => '* ]] || continue
   name=${row%% => *}
-  printf '%b' "$name\n$numbers" > "$work/listing.s"
-  written=$("$chart" chart - --limit 1 < "$work/listing.s" 2> "$work/err" | sed -nE 's/^0\t1\t0x00400000 (.*[^ ]) +L.*/\1/p')
+  printf '%b' "$name\n" > "$work/listing.s"
+  written=$("$drive" drive "$work/listing.s" <<< turn 2> "$work/err" | sed -nE 's/^Let station 0 tag 1 pc 0x00400000 (.*)$/\1/p' | sed 's/ half Low$/ lo/')
   [ "$written" = "${row#* => }" ] || fail "$name is written as $written"
   count=$((count + 1))
 done < tests/listings/forms.txt

@@ -20,6 +20,9 @@ is_said() { # report, whether it runs on threads
   fi
 }
 
+# Whether a refusal that changes nothing is a mistake.
+is_each_told=false
+
 refuse() { # name, threads or alone, how many threads want memory, listing, report, command with its variables
   local name=$1 how=$2 threads=$3 listing=$4 report=$5 n=0 refused=0 unstarted=0
   local of=${report%.report}
@@ -38,6 +41,7 @@ refuse() { # name, threads or alone, how many threads want memory, listing, repo
   done
   is_whole "$report" && is_said "$report" "$how" || fail "$name, $of, with all its memory: status $status"
   [ $refused -gt 0 ] || fail "$name, $of: no refusal was told of, of $((n - 1))"
+  ! $is_each_told || [ $refused -eq $((n - 1)) ] || fail "$name, $of: of $((n - 1)) refusals $refused were told of"
   [ $unstarted -eq "$threads" ] || fail "$name, $of: $unstarted threads were not started, and not $threads"
   echo "$name, $of: each of $((n - 1)) allocations was refused in turn, $((refused + unstarted)) told"
 }
@@ -54,6 +58,11 @@ done
 listing=tests/listings/fault
 refuse ruu threads 0 /dev/null $listing.report crates/ruu/out/ruu run $listing.s --units 2
 
-# Once the threads of a run with one unit have been started, dispatch, unit and snapshots, only what is shown takes memory.
-refuse 'ruu, what it shows' threads 0 /dev/null examples/fibonacci.report \
-  WHILE_THREADS=3 crates/ruu/out/ruu run examples/fibonacci.s --units 1
+# Once the threads of a run with one unit have been started, dispatch, unit and snapshots, memory is taken for what is shown, and for
+# the report if no thread has to be joined: each refusal is told. The longer listing is shown first after 64 instructions, and the
+# shorter one at its end.
+is_each_told=true
+for listing in fibonacci double; do
+  refuse 'ruu, what it shows' threads 0 /dev/null examples/$listing.report \
+    WHILE_THREADS=3 crates/ruu/out/ruu run examples/$listing.s --units 1
+done

@@ -178,12 +178,12 @@ def cases():
 # What stands for each kind of an operand.
 SAMPLES = {"D": "$t0", "S": "$t1", "T": "$t2", "I": "10", "-I": "7", "U": "40000", "H": "3", "Z": "0", "W": "0x20000", "N": "100000",
            "L": "f", "I(S)": "4($t1)", "N(S)": "100000($t1)", "A": "4($t1)", "P": "4($t1)"}
-# Words of which `ruu check` knows nothing, but for a load or a store of a number.
-UNKNOWN = set("la lb lbu lh lhu lw sb sh sw ld sd ulh ulhu ulw ush usw mulu mulou rol ror movz movn clz clo bgezal bltzal".split())
+# Words of which `ruu check` knows nothing.
+UNKNOWN = set("ld sd ulh ulhu ulw ush usw mulu mulou rol ror movz movn clz clo bgezal bltzal".split())
 
 
 def is_known(row):
-    return row.word not in UNKNOWN or row.kinds[1:] == ["I"]
+    return row.word not in UNKNOWN
 
 
 def is_other(row):
@@ -201,13 +201,8 @@ def advice_of(statements):
         return advice_of(statements[:100]) | advice_of(statements[100:])
     listing = "".join(f"{line}\n" for line in [*statements, "f: break"])
     went = subprocess.run([CHECKER, "check", "--all", "-"], input=listing.encode(), capture_output=True, check=False)
-    found, line = {}, None
-    for text in went.stdout.decode().splitlines():
-        if place := re.match(r"-:(\d+):\d+: error: ", text):
-            line = int(place[1])
-        elif line and (advice := re.fullmatch(r"Write (.*)\.", text)):
-            found[statements[line - 1]] = advice[1]
-    return found
+    told = re.findall(r"^-:(\d+):\d+: error: Write ([^:\n]*)\.$", went.stdout.decode(), re.M)
+    return {statements[int(line) - 1]: advice for line, advice in told}
 
 
 def made_alone(statement):
@@ -220,7 +215,7 @@ def remedies():
     """How many statements of `remedies.txt` become what stands there. Those that are refused are of other assemblers."""
     count = 0
     with open("tests/listings/remedies.txt", encoding="utf-8") as lines:
-        found = [re.fullmatch(r"([a-z]+) (.*) => Write (.*)\.\n", line) for line in lines]
+        found = [re.fullmatch(r"([a-z]+) (.*) => Write ([^:]*)\.\n", line) for line in lines]
     for word, operands, advice in (it.groups() for it in found if it):
         made, advice = made_alone(f"{word} {operands}"), re.sub(r"\b0x[0-9a-f]+", lambda number: str(int(number[0], 16)), advice)
         count += made == advice

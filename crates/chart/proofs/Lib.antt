@@ -1,4 +1,5 @@
 pub mod Lists
+pub mod Spelled
 pub mod Taken
 pub mod BooksKept
 pub mod Turns

@@ -16,7 +16,7 @@ use Rattle.one_thread.specs.declared.station.Station.{Station}
 use Rattle.one_thread.specs.Turns.{Before, Does, Now, Nowhere}
 use Rattle.one_thread.specs.Window.{station_of, window}
 use Rattle.chart.specs.declared.row.Row.{Row}
-use Rattle.chart.specs.declared.telling.Style.{Style}
+use Rattle.chart.specs.Styles.{Style}
 use Rattle.chart.specs.Named.{AreNamed, IsRowOf, StandsIn, live_positions}
 use Rattle.lsq.specs.declared.entry.Entry.{Entry}
 use Rattle.chart.specs.Blocked.{Queued, all_held, blocker, entry_after, held_by, held_rows, joined, joined_by, no_rows}

@@ -4,7 +4,6 @@ use Rattle.std.proofs.KnownBytes.{Appends-trans}
 use Rattle.std.proofs.Math.Seq.{take-append-add}
 use Rattle.std.proofs.lemmas.List.{take-append-le}
 use Rattle.std.specs.Io.KnownBytes.{Appends}
-use Rattle.counted_io.specs.Counted.{raised}
 use Rattle.instructions.specs.declared.instr.Instr.{Instr}
 use Rattle.instructions.specs.declared.stop.Stop.{Stop}
 use Rattle.inorder.specs.Committed.{committed}
@@ -24,7 +23,7 @@ use Rattle.one_thread.specs.Choices.{IsTurnBy, Picks, TurnedBy, step_made}
 use Rattle.one_thread.specs.StandsFor.{StandsFor, StandsForSome, sizes}
 use Rattle.one_thread.specs.Turns.{BenchFields, Does, Falls, Moves, SizesStay, Trains}
 use Rattle.one_thread.specs.Window.{window}
-use Rattle.chart.specs.declared.telling.Style.{Style}
+use Rattle.chart.specs.Styles.{Style}
 use Rattle.chart.specs.Events.{events}
 use Rattle.chart.specs.Kept.{next_kept}
 use Rattle.chart.specs.Rows.{SoFar}

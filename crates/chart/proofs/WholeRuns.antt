@@ -18,7 +18,7 @@ use Rattle.one_thread.specs.Possible.{Possible}
 use Rattle.one_thread.specs.declared.pipeline.Pipeline.{Pipeline}
 use Rattle.one_thread.specs.StandsFor.{StandsFor, sizes}
 use Rattle.one_thread.specs.Turns.{BenchFields}
-use Rattle.chart.specs.declared.telling.Style.{Style}
+use Rattle.chart.specs.Styles.{Style}
 use Rattle.chart.specs.Rows.{SoFar, start_kept}
 use Rattle.chart.specs.Telling.{first_text, last_text}
 use Rattle.chart.specs.Watched.{GoesOn, Guides, IsBegun, IsDue, NoTurnIsDue, IsThrough, IsTold, Passed, unit_behind, kept_behind, sizes_by, told}

@@ -6,13 +6,12 @@ use Rattle.instructions.specs.Programs.{Program}
 use Rattle.inorder.specs.Runs.{end_of}
 use Rattle.answers.specs.Answer.{most_taken, status_for, text_for}
 use Rattle.isa.specs.Listing.{listing}
-use Rattle.isa.specs.declared.listing.instr_text.Naming.{Naming}
 use Rattle.chart.specs.declared.telling.Format.{Format}
 use Rattle.chart.specs.declared.telling.Format.TheVariants.{Chart, Kanata}
 use Rattle.counted_io.specs.declared.fault.Fault.{Fault}
 use Rattle.counted_io.specs.declared.fault.Fault.TheVariants as fault
-use Rattle.chart.specs.declared.telling.Style.{Style}
-use Rattle.chart.specs.Names.{naming_of}
+use Rattle.chart.specs.Sources.{Source, source_of}
+use Rattle.chart.specs.Styles.{Style}
 use Rattle.chart.specs.Watched.{IsTold, IsBegun as IsPartOf, guides, sizes_by}
 use Rattle.command_line.specs.Predictors.{IsChosen, LearnsAs, PredictsAs}
 use Rattle.command_line.specs.declared.chosen.Chosen.{Chosen}
@@ -37,58 +36,58 @@ abbrev pub rows_of : Format → (wanted : ℕ) → ℕ
 rows_of Chart wanted = wanted
 rows_of Kanata wanted = 0
 
--- How a run is told that is asked for, by these names of registers
-abbrev pub style_of : Format → Charted → Naming → Style
-style_of f asked n =
-    record { format = f; naming = n; rows = rows_of f asked.rows; by_leave = asked.by_leave }
+-- How a run of this listing is told that is asked for
+abbrev pub style_of : Format → Charted → Source → Style
+style_of f asked s =
+    record { format = f; source = s; rows = rows_of f asked.rows; by_leave = asked.by_leave }
 
 -- The run that is asked for was told whole: each of its turns, by the guesses of its predictor and in the order of its
 -- seed, up to its end
-pub record HasToldWhole (f : Format) (asked : Charted) (n : Naming) (P : Program) (before after : Option (List ℕ)) : Type 0 where
+pub record HasToldWhole (f : Format) (asked : Charted) (s : Source) (P : Program) (before after : Option (List ℕ)) : Type 0 where
   pub first : Chosen
   pub chosen : IsChosen asked.run.predictor first
   pub told :
-      IsTold PredictsAs LearnsAs ChoosesBy (style_of f asked n) P (sizes_by asked.run.config) asked.run.config.limit (guides first (order_by asked.run.seed))
+      IsTold PredictsAs LearnsAs ChoosesBy (style_of f asked s) P (sizes_by asked.run.config) asked.run.config.limit (guides first (order_by asked.run.seed))
       (end_of P asked.run.config.limit) before after
 
 -- A beginning was told of the run that is asked for: of turns that are due within its limit
-pub record HasBegun (f : Format) (asked : Charted) (n : Naming) (P : Program) (before after : Option (List ℕ)) : Type 0 where
+pub record HasBegun (f : Format) (asked : Charted) (s : Source) (P : Program) (before after : Option (List ℕ)) : Type 0 where
   pub first : Chosen
   pub chosen : IsChosen asked.run.predictor first
   pub begun :
-      IsPartOf PredictsAs LearnsAs ChoosesBy (style_of f asked n) P (sizes_by asked.run.config) asked.run.config.limit (guides first (order_by asked.run.seed))
+      IsPartOf PredictsAs LearnsAs ChoosesBy (style_of f asked s) P (sizes_by asked.run.config) asked.run.config.limit (guides first (order_by asked.run.seed))
       before after
 
 -- The run was logged where a log is wanted, and nothing was written where none is
-abbrev pub IsLogged : (is_wanted : Bool) → Charted → Naming → Program → (before after : Option (List ℕ)) → Type 0
-IsLogged true asked n P before after = HasToldWhole Kanata asked n P before after
-IsLogged false asked n P before after = after ≡ before
+abbrev pub IsLogged : (is_wanted : Bool) → Charted → Source → Program → (before after : Option (List ℕ)) → Type 0
+IsLogged true asked s P before after = HasToldWhole Kanata asked s P before after
+IsLogged false asked s P before after = after ≡ before
 
 -- The text without pictures was written: the report, or the line of a fault
 abbrev pub IsReported : Charted → Result Program (ℕ × FaultKind) → (before after : Option (List ℕ)) → Type 0
 IsReported asked found before after = Appends before after (text_for asked.run.config.limit found)
 
 -- The report, the chart behind it, and the log
-pub record HasPictures (asked : Charted) (n : Naming) (P : Program) (before after : Outputs) : Type 0 where
+pub record HasPictures (asked : Charted) (s : Source) (P : Program) (before after : Outputs) : Type 0 where
   pub reported : Option (List ℕ)
   pub report : IsReported asked (Ok P) before.text reported
-  pub chart : HasToldWhole Chart asked n P reported after.text
-  pub log : IsLogged (is_some asked.log) asked n P before.log after.log
+  pub chart : HasToldWhole Chart asked s P reported after.text
+  pub log : IsLogged (is_some asked.log) asked s P before.log after.log
 
 -- What is written for a listing: with its pictures, or the line of its fault
-abbrev pub IsOutputOf : Charted → Naming → Result Program (ℕ × FaultKind) → (before after : Outputs) → Type 0
-IsOutputOf asked n (Ok P) before after = HasPictures asked n P before after
-IsOutputOf asked n (Err f) before after = IsReported asked (Err f) before.text after.text × (after.log ≡ before.log)
+abbrev pub IsOutputOf : Charted → Source → Result Program (ℕ × FaultKind) → (before after : Outputs) → Type 0
+IsOutputOf asked s (Ok P) before after = HasPictures asked s P before after
+IsOutputOf asked s (Err f) before after = IsReported asked (Err f) before.text after.text × (after.log ≡ before.log)
 
--- All was written for a listing, by these names of registers, and the status is that of its run
-abbrev pub IsWatchedBy : Charted → Naming → Result Program (ℕ × FaultKind) → (status : ℕ) → (before after : Outputs) → Type 0
-IsWatchedBy asked n found status before after =
-    (status ≡ status_number (status_for asked.run.config.limit found)) × IsOutputOf asked n found before after
+-- All was written for a listing of these lines, and the status is that of its run
+abbrev pub IsWatchedBy : Charted → Source → Result Program (ℕ × FaultKind) → (status : ℕ) → (before after : Outputs) → Type 0
+IsWatchedBy asked s found status before after =
+    (status ≡ status_number (status_for asked.run.config.limit found)) × IsOutputOf asked s found before after
 
 -- All was written for the bytes of a listing, and the status is that of its run
 abbrev pub IsWatched : Charted → (input : List ℕ) → (status : ℕ) → (before after : Outputs) → Type 0
 IsWatched asked input status before after =
-    IsWatchedBy asked (naming_of (take most_taken input)) (listing input) status before after
+    IsWatchedBy asked (source_of (take most_taken input)) (listing input) status before after
 
 -- The reasons for which a log can break off
 abbrev pub IsOfLog : Refusal → Type 0
@@ -102,18 +101,18 @@ log_refusal fault.Write = Trace
 log_refusal other = fault_refusal other
 
 -- The report, and a beginning of the chart
-pub record HasChartBegun (asked : Charted) (n : Naming) (P : Program) (before after : Outputs) : Type 0 where
+pub record HasChartBegun (asked : Charted) (s : Source) (P : Program) (before after : Outputs) : Type 0 where
   pub reported : Option (List ℕ)
   pub report : IsReported asked (Ok P) before.text reported
-  pub chart : HasBegun Chart asked n P reported after.text
+  pub chart : HasBegun Chart asked s P reported after.text
   pub log : after.log ≡ before.log
 
 -- The report, the chart, and a beginning of the log
-pub record HasLogBegun (asked : Charted) (n : Naming) (P : Program) (before after : Outputs) : Type 0 where
+pub record HasLogBegun (asked : Charted) (s : Source) (P : Program) (before after : Outputs) : Type 0 where
   pub reported : Option (List ℕ)
   pub report : IsReported asked (Ok P) before.text reported
-  pub chart : HasToldWhole Chart asked n P reported after.text
-  pub log : HasBegun Kanata asked n P before.log after.log
+  pub chart : HasToldWhole Chart asked s P reported after.text
+  pub log : HasBegun Kanata asked s P before.log after.log
 
 -- What was written of a text: a proper beginning where the writer failed, and else nothing
 abbrev pub IsCutText : Refusal → (text : List ℕ) → (before after : Option (List ℕ)) → Type 0
@@ -127,21 +126,21 @@ pub record HasReportBegun (asked : Charted) (found : Result Program (ℕ × Faul
   pub log : after.log ≡ before.log
 
 -- Where a run with pictures was broken off: in its log only where one is wanted
-pub data IsBrokenOff (asked : Charted) (n : Naming) (P : Program) (refusal : Refusal) (before after : Outputs) : Type 0 where
-  InReport : HasReportBegun asked (Ok P) refusal before after → IsBrokenOff asked n P refusal before after
-  InChart : IsOfWriting refusal → HasChartBegun asked n P before after → IsBrokenOff asked n P refusal before after
-  InLog : is_some asked.log ≡ true → IsOfLog refusal → HasLogBegun asked n P before after →
-      IsBrokenOff asked n P refusal before after
+pub data IsBrokenOff (asked : Charted) (s : Source) (P : Program) (refusal : Refusal) (before after : Outputs) : Type 0 where
+  InReport : HasReportBegun asked (Ok P) refusal before after → IsBrokenOff asked s P refusal before after
+  InChart : IsOfWriting refusal → HasChartBegun asked s P before after → IsBrokenOff asked s P refusal before after
+  InLog : is_some asked.log ≡ true → IsOfLog refusal → HasLogBegun asked s P before after →
+      IsBrokenOff asked s P refusal before after
 
--- What was written for a listing where that was broken off, by these names of registers
-abbrev pub IsBegunBy : Charted → Naming → Result Program (ℕ × FaultKind) → Refusal → (before after : Outputs) → Type 0
-IsBegunBy asked n (Ok P) refusal before after = IsBrokenOff asked n P refusal before after
-IsBegunBy asked n (Err f) refusal before after = HasReportBegun asked (Err f) refusal before after
+-- What was written for a listing of these lines where that was broken off
+abbrev pub IsBegunBy : Charted → Source → Result Program (ℕ × FaultKind) → Refusal → (before after : Outputs) → Type 0
+IsBegunBy asked s (Ok P) refusal before after = IsBrokenOff asked s P refusal before after
+IsBegunBy asked s (Err f) refusal before after = HasReportBegun asked (Err f) refusal before after
 
 -- What was written for the bytes of a listing where that was broken off
 abbrev pub IsBegun : Charted → (input : List ℕ) → Refusal → (before after : Outputs) → Type 0
 IsBegun asked input refusal before after =
-    IsBegunBy asked (naming_of (take most_taken input)) (listing input) refusal before after
+    IsBegunBy asked (source_of (take most_taken input)) (listing input) refusal before after
 
 -- How many calls of the log have failed where a run was refused
 abbrev pub log_failures : Refusal → ℕ

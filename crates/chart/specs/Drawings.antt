@@ -1,8 +1,6 @@
 -- The chart: a line for each tenant, and what became of it over the turns.
 use Rattle.std.specs.Prelude.{ℕ, zero, suc, ◌+◌, ◌-◌, ◌*◌, ◌/◌, ◌%◌, ◌==◌, min, nat_lt, List, [], ◌∷◌, ◌++◌, length, Option, Some, None, codes, decimal, if◌then◌else◌}
 use Rattle.counted_io.specs.Counted.{raised}
-use Rattle.isa.specs.InstrText.{text_of}
-use Rattle.isa.specs.declared.listing.instr_text.Naming.{Naming}
 use Rattle.instructions.specs.Instruction.{is_first_half, kind}
 use Rattle.isa.specs.Report.{hexadecimal, newline}
 use Rattle.instructions.specs.declared.instr.Instr.{Instr}
@@ -16,6 +14,7 @@ use Rattle.chart.specs.declared.event.Way.TheVariants.{Retired, Squashed}
 use Rattle.chart.specs.declared.lines.Line.{Line}
 use Rattle.chart.specs.declared.row.Held.{Held}
 use Rattle.chart.specs.declared.row.Row.{Row}
+use Rattle.chart.specs.Sources.{Source, source_text}
 
 -- A text so many times
 abbrev pub times : ℕ → List ℕ → List ℕ
@@ -28,8 +27,8 @@ half_label i High = codes " hi"
 half_label i Low = if is_first_half i.op Low then codes " lo" else []
 
 -- The instruction of a tenant, or its half
-abbrev pub tenant_text : Naming → Station → List ℕ
-tenant_text n w = text_of n w.instr ++ half_label w.instr w.half
+abbrev pub tenant_text : Source → Station → List ℕ
+tenant_text s w = source_text s w ++ half_label w.instr w.half
 
 -- The label of a load that was blocked: the position of the store that it has waited for last
 abbrev pub held_label : Option Held → List ℕ
@@ -103,11 +102,11 @@ way_mark (Some Squashed) = codes "S"
 way_mark None = codes ">"
 
 -- The line of a tenant: position, turn of its let, pc, instruction and picture
-abbrev pub line : Naming → Line → List ℕ
-line n l =
+abbrev pub line : Source → Line → List ℕ
+line s l =
     (decimal l.row.position ++ (codes "\t" ++ (decimal l.row.let_at ++ (codes "\t"
     ++ (hexadecimal l.row.station.pc ++ codes " ")))))
-    ++ (padded (tenant_text n l.row.station ++ held_label l.row.held)
+    ++ (padded (tenant_text s l.row.station ++ held_label l.row.held)
     ++ (codes " " ++ (picture l.row l.turn (way_mark l.way) ++ newline)))
 
 -- The heads of the first columns
@@ -132,10 +131,10 @@ axis_above None q = axis q
 axis_above (Some before) q = if before == q then [] else axis q
 
 -- Lines, behind one of this round or none, each round with its axis
-abbrev pub lines_text : Naming → (before : Option ℕ) → List Line → List ℕ
-lines_text n before [] = []
-lines_text n before (l ∷ ls) =
-    (axis_above before (round l.row.let_at) ++ line n l) ++ lines_text n (Some (round l.row.let_at)) ls
+abbrev pub lines_text : Source → (before : Option ℕ) → List Line → List ℕ
+lines_text s before [] = []
+lines_text s before (l ∷ ls) =
+    (axis_above before (round l.row.let_at) ++ line s l) ++ lines_text s (Some (round l.row.let_at)) ls
 
 -- The line that tells that more tenants were let than are drawn
 abbrev pub rest_text : (drawn lets : ℕ) → List ℕ

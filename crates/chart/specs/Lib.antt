@@ -1,3 +1,6 @@
+pub mod Names
+pub mod Sources
+pub mod Styles
 pub mod Rows
 pub mod Blocked
 pub mod Events
@@ -6,7 +9,6 @@ pub mod Kept
 pub mod Drawings
 pub mod Kanata
 pub mod Telling
-pub mod Names
 pub mod Watched
 pub mod Named
 pub mod Happened

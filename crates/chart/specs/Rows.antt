@@ -11,7 +11,7 @@ use Rattle.chart.specs.declared.row.Phase.TheVariants.{Waiting, Address, Done, M
 use Rattle.chart.specs.declared.row.Row.{Row}
 use Rattle.chart.specs.declared.books.Books.{Books}
 use Rattle.chart.specs.declared.lines.Line.{Line}
-use Rattle.chart.specs.declared.telling.Style.{Style}
+use Rattle.chart.specs.Styles.{Style, styled}
 use Rattle.counted_io.specs.Counted.{raised}
 
 -- The phase of a tenant, by the stage of its station
@@ -132,7 +132,7 @@ pub record SoFar : Type 0 where
 abbrev pub kept : Books → SoFar
 kept b =
     record {
-      style = b.style;
+      style = styled b.style;
       turns = b.turns;
       lets = b.lets;
       retirements = b.retirements;

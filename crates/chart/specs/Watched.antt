@@ -21,7 +21,7 @@ use Rattle.one_thread.specs.Possible.{Possible, possible}
 use Rattle.one_thread.specs.Turns.{BenchFields, Does, Trains}
 use Rattle.one_thread.specs.Window.{window}
 use Rattle.inorder.specs.Moves.{IsReached}
-use Rattle.chart.specs.declared.telling.Style.{Style}
+use Rattle.chart.specs.Styles.{Style}
 use Rattle.chart.specs.declared.event.Event.{Event}
 use Rattle.chart.specs.Events.{events}
 use Rattle.chart.specs.Kept.{next_kept}

@@ -4,19 +4,19 @@ ghost use Rattle.isa.specs.Listing.{listing};
 ghost use Rattle.counted_io.specs.Counted.{failures_of, known_by};
 ghost use Rattle.inorder.specs.Runs.{end_of, end_state};
 ghost use Rattle.chart.specs.Answers.{IsBegun, IsBegunBy, IsWatched, IsWatchedBy, log_failures, outputs};
-ghost use Rattle.chart.specs.Names.{naming_of as naming_in};
+ghost use Rattle.chart.specs.Sources.{source_of, sourced};
 ghost use Rattle.answers.specs.Answer.{status_number};
 ghost use Rattle.command_line.specs.Exits.{HoldsOfInput, IsOfOneThread, failed_writes, refused};
 ghost use Rattle.command_line.specs.declared.exit.Line.TheVariants.{Nothing, Refused};
 
-use crate::naming::naming_of;
 use crate::pictures::{draw, trace};
+use crate::source::Source;
 use answers::{MOST_TAKEN, Status};
 use bench::run;
 use command_line::{Charted, Exit, Line, Refusal, choose, refused};
 use counted_io::{Counted, read_up_to, write_whole};
 use instructions::{End, Memory, Program};
-use isa::{FaultKind, Naming, fault_text, parse, report_text};
+use isa::{FaultKind, fault_text, parse_with_lines, report_text};
 use std::alloc::Global;
 use std::io::{Read, Write};
 
@@ -119,7 +119,7 @@ fn answered<W: Write, L: Write>(
     requires writer_room { failures_of writer.old < 2 ^ 64 - 1 }
     requires log_room { failures_of log.old < 2 ^ 64 - 1 }
     ensures ok { IfOk result (λ status.
-        IsWatchedBy asked.now (naming_in bytes.now) (listing bytes.now) (status_number status)
+        IsWatchedBy asked.now (source_of bytes.now) (listing bytes.now) (status_number status)
         (outputs (known_by W.contents writer.old) (known_by L.contents log.old))
         (outputs (known_by W.contents writer.new) (known_by L.contents log.new))) }
     ensures quiet { OnOk result (failures_of writer.new ≡ failures_of writer.old) }
@@ -132,12 +132,15 @@ fn answered<W: Write, L: Write>(
     ensures trace { IfErr result (λ refusal.
         failures_of log.new ≡ failures_of log.old + log_failures refusal) }
     ensures begun { IfErr result (λ refusal.
-        IsBegunBy asked.now (naming_in bytes.now) (listing bytes.now) refusal
+        IsBegunBy asked.now (source_of bytes.now) (listing bytes.now) refusal
         (outputs (known_by W.contents writer.old) (known_by L.contents log.old))
         (outputs (known_by W.contents writer.new) (known_by L.contents log.new))) }
 {
-    match parse(alloc, bytes) {
-        Ok(program) => told(alloc, asked, naming_of(bytes), &program, writer, log),
+    match parse_with_lines(alloc, bytes) {
+        Ok((program, numbers)) => {
+            let source = Source::new(alloc, bytes, numbers)?;
+            told(alloc, asked, &source, &program, writer, log)
+        }
         Err(fault) if fault.kind == FaultKind::Memory => Err(Refusal::Memory),
         Err(fault) => {
             let line = fault_text(alloc, &fault)?;
@@ -151,7 +154,7 @@ fn answered<W: Write, L: Write>(
 fn told<W: Write, L: Write>(
     alloc: Global,
     asked: &Charted<'_>,
-    naming: Naming,
+    source: &Source<'_>,
     program: &Program,
     writer: &mut Counted<W>,
     log: &mut Counted<L>,
@@ -159,7 +162,7 @@ fn told<W: Write, L: Write>(
     requires writer_room { failures_of writer.old < 2 ^ 64 - 1 }
     requires log_room { failures_of log.old < 2 ^ 64 - 1 }
     ensures ok { IfOk result (λ status.
-        IsWatchedBy asked.now naming (Ok program.now) (status_number status)
+        IsWatchedBy asked.now (sourced source.now) (Ok program.now) (status_number status)
         (outputs (known_by W.contents writer.old) (known_by L.contents log.old))
         (outputs (known_by W.contents writer.new) (known_by L.contents log.new))) }
     ensures quiet { OnOk result (failures_of writer.new ≡ failures_of writer.old) }
@@ -171,15 +174,15 @@ fn told<W: Write, L: Write>(
         failures_of writer.new ≡ failures_of writer.old + failed_writes refusal) }
     ensures trace { IfErr result (λ refusal.
         failures_of log.new ≡ failures_of log.old + log_failures refusal) }
-    ensures begun { IfErr result (λ refusal. IsBegunBy asked.now naming (Ok program.now) refusal
+    ensures begun { IfErr result (λ refusal. IsBegunBy asked.now (sourced source.now) (Ok program.now) refusal
         (outputs (known_by W.contents writer.old) (known_by L.contents log.old))
         (outputs (known_by W.contents writer.new) (known_by L.contents log.new))) }
 {
     let end = ran(alloc, asked, program)?;
     let report = report_text(alloc, &end)?;
     write_whole(writer, report.as_str().as_bytes())?;
-    draw(alloc, asked, naming, program, writer)?;
-    trace(alloc, asked, naming, program, log)?;
+    draw(alloc, asked, source, program, writer)?;
+    trace(alloc, asked, source, program, log)?;
     Ok(Status::of(end.outcome))
 }
 

@@ -5,6 +5,7 @@ ghost use Rattle.chart.specs.Rows.{all_seen as all_seen_of, kept};
 ghost use Rattle.chart.specs.Kept.{closed, next_kept};
 ghost use Rattle.chart.specs.Rows.{let_row as let_row_of};
 ghost use Rattle.chart.specs.Rows.{seen_in, start_kept, with_row};
+ghost use Rattle.chart.specs.Styles.{styled};
 ghost use Rattle.counted_io.specs.Counted.{counted as counted_of, raised as raised_of};
 
 use crate::blocked::hold;
@@ -21,8 +22,8 @@ use std::alloc::{AllocError, Global};
 /// How a run is told; counts of the turns that were made, the tenants that were let and those that have retired; a row
 /// for each live tenant, the oldest first; and the lines that are drawn.
 #[derive(Drop)]
-pub(crate) struct Books {
-    pub(crate) style: Style,
+pub(crate) struct Books<'a> {
+    pub(crate) style: Style<'a>,
     turns: u64,
     pub(crate) lets: u64,
     retirements: u64,
@@ -161,9 +162,9 @@ fn push_row(rows: &mut Vec<Row>, new: Option<Row>) -> Result<(), AllocError>
     Ok(())
 }
 
-impl Books {
-    pub(crate) fn new(alloc: Global, style: Style) -> Books
-        ensures { kept result ≡ start_kept style }
+impl<'a> Books<'a> {
+    pub(crate) fn new(alloc: Global, style: Style<'a>) -> Books<'a>
+        ensures { kept result ≡ start_kept (styled style.entry) }
     {
         Books {
             style,

@@ -4,13 +4,16 @@ ghost use Rattle.isa.specs.Report.{newline};
 ghost use Rattle.instructions.specs.Instruction.{kind as kind_of};
 ghost use Rattle.chart.specs.Drawings.{axis, axis_above, axis_label, behind_ran, columns_head, ruler, half_label, held_label, held_turns as held_turns_of};
 ghost use Rattle.chart.specs.Drawings.{line, lines_text, mark_after_ran, mark_behind, padded, picture, rest_text};
+ghost use Rattle.chart.specs.Sources.{sourced};
 ghost use Rattle.chart.specs.Drawings.{round as round_of, settled_mark as settled_mark_of, tenant_text, times, way_mark as way_mark_of};
 
 use crate::event::Way;
 use crate::lines::Line;
 use crate::row::{Held, Row};
+use crate::source::Source;
+use crate::spelling::push_tenant;
 use instructions::{Half, Instr, Kind};
-use isa::{Hexadecimal, InstrText, Naming};
+use isa::Hexadecimal;
 use std::alloc::{AllocError, Global};
 
 /// The columns that an instruction takes.
@@ -61,15 +64,17 @@ fn push_held(out: &mut String, held: Option<Held>) -> Result<(), AllocError>
     }
 }
 
-fn push_instr(alloc: Global, out: &mut String, row: &Row, naming: Naming) -> Result<(), AllocError>
+fn push_instr(
+    alloc: Global,
+    out: &mut String,
+    row: &Row,
+    source: &Source<'_>,
+) -> Result<(), AllocError>
     ensures { OnOk result (string_bytes out.new ≡ string_bytes out.old
-        ++ padded (tenant_text naming row.now.station ++ held_label row.now.held)) }
+        ++ padded (tenant_text (sourced source.now) row.now.station ++ held_label row.now.held)) }
 {
-    let station = &row.station;
-    let instr = station.instr.to_instr();
-    let half = half_text(&instr, station.half);
-    let instr = InstrText { naming, instr };
-    let mut text = format!(in alloc; "{instr}{half}")?;
+    let mut text = String::new(alloc);
+    push_tenant(alloc, &mut text, source, &row.station)?;
     push_held(&mut text, row.held)?;
     push_padded(out, text.as_str())
 }
@@ -176,17 +181,17 @@ fn way_mark(way: Option<Way>) -> &'static str
 fn push_line(
     alloc: Global,
     out: &mut String,
-    naming: Naming,
+    source: &Source<'_>,
     shown: &Line,
 ) -> Result<(), AllocError>
     ensures { OnOk result (string_bytes out.new
-        ≡ string_bytes out.old ++ line naming shown.now) }
+        ≡ string_bytes out.old ++ line (sourced source.now) shown.now) }
 {
     let row = &shown.row;
     let (position, let_at) = (row.position, row.let_at);
     let pc = Hexadecimal(row.station.pc);
     write!(out, "{position}\t{let_at}\t{pc} ")?;
-    push_instr(alloc, out, row, naming)?;
+    push_instr(alloc, out, row, source)?;
     out.push_str(" ")?;
     push_picture(out, row, shown.turn, way_mark(shown.way))?;
     out.push_str("\n")
@@ -254,17 +259,17 @@ fn push_axis_above(
 pub(crate) fn push_lines(
     alloc: Global,
     out: &mut String,
-    naming: Naming,
+    source: &Source<'_>,
     lines: &[Line],
 ) -> Result<(), AllocError>
     ensures { OnOk result (string_bytes out.new
-        ≡ string_bytes out.old ++ lines_text naming None lines.now) }
+        ≡ string_bytes out.old ++ lines_text (sourced source.now) None lines.now) }
 {
     let mut before = None;
     for line in lines.iter() {
         let round = round(line.row.let_at);
         push_axis_above(alloc, out, before, round)?;
-        push_line(alloc, out, naming, line)?;
+        push_line(alloc, out, source, line)?;
         before = Some(round);
     }
     Ok(())

@@ -1,13 +1,15 @@
 //! A log of the format Kanata, version 0004.
 ghost use Rattle.std.specs.Prelude.{◌≡◌, ◌++◌, OnOk, string_bytes};
 ghost use Rattle.chart.specs.Kanata.{block_line, event_lines, first_lines, let_lines, stage_text as stage_text_of, tick, wait_line, way_text};
+ghost use Rattle.chart.specs.Sources.{sourced};
 ghost use Rattle.chart.specs.Telling.{events_lines};
 
-use crate::drawing::half_text;
 use crate::event::{Event, Way};
 use crate::row::{Phase, Row};
-use isa::{Hexadecimal, InstrText, Naming};
-use std::alloc::AllocError;
+use crate::source::Source;
+use crate::spelling::push_tenant;
+use isa::Hexadecimal;
+use std::alloc::{AllocError, Global};
 
 pub(crate) fn push_head(out: &mut String) -> Result<(), AllocError>
     ensures { OnOk result (string_bytes out.new ≡ string_bytes out.old ++ first_lines) }
@@ -43,19 +45,20 @@ fn push_wait(out: &mut String, position: u64, producer: Option<u64>) -> Result<(
     }
 }
 
-fn push_let(out: &mut String, naming: Naming, row: &Row) -> Result<(), AllocError>
+fn push_let(
+    alloc: Global,
+    out: &mut String,
+    source: &Source<'_>,
+    row: &Row,
+) -> Result<(), AllocError>
     ensures { OnOk result (string_bytes out.new
-        ≡ string_bytes out.old ++ let_lines naming row.now) }
+        ≡ string_bytes out.old ++ let_lines (sourced source.now) row.now) }
 {
     let position = row.position;
     let pc = Hexadecimal(row.station.pc);
-    let instr = row.station.instr.to_instr();
-    let half = half_text(&instr, row.station.half);
-    let instr = InstrText { naming, instr };
-    write!(
-        out,
-        "I\t{position}\t{position}\t0\nL\t{position}\t0\t{pc} {instr}{half}\nS\t{position}\t0\tDs\n"
-    )
+    write!(out, "I\t{position}\t{position}\t0\nL\t{position}\t0\t{pc} ")?;
+    push_tenant(alloc, out, source, &row.station)?;
+    write!(out, "\nS\t{position}\t0\tDs\n")
 }
 
 fn push_way(out: &mut String, way: Way) -> Result<(), AllocError>
@@ -75,13 +78,18 @@ fn push_block(out: &mut String, position: u64, store: u64) -> Result<(), AllocEr
     write!(out, "L\t{position}\t1\twaits for the store {store}\n")
 }
 
-fn push_event(out: &mut String, naming: Naming, event: &Event) -> Result<(), AllocError>
+fn push_event(
+    alloc: Global,
+    out: &mut String,
+    source: &Source<'_>,
+    event: &Event,
+) -> Result<(), AllocError>
     ensures { OnOk result (string_bytes out.new
-        ≡ string_bytes out.old ++ event_lines naming event.now) }
+        ≡ string_bytes out.old ++ event_lines (sourced source.now) event.now) }
 {
     match event {
         Event::Let { row, first, second } => {
-            push_let(out, naming, row)?;
+            push_let(alloc, out, source, row)?;
             push_wait(out, row.position, *first)?;
             push_wait(out, row.position, *second)
         }
@@ -100,15 +108,16 @@ fn push_event(out: &mut String, naming: Naming, event: &Event) -> Result<(), All
 
 /// Adds the lines of the events of a turn.
 pub(crate) fn push_events(
+    alloc: Global,
     out: &mut String,
-    naming: Naming,
+    source: &Source<'_>,
     events: &[Event],
 ) -> Result<(), AllocError>
     ensures { OnOk result (string_bytes out.new
-        ≡ string_bytes out.old ++ events_lines naming events.now) }
+        ≡ string_bytes out.old ++ events_lines (sourced source.now) events.now) }
 {
     for event in events.iter() {
-        push_event(out, naming, event)?;
+        push_event(alloc, out, source, event)?;
     }
     Ok(())
 }

@@ -3,7 +3,7 @@ ghost use Rattle.std.specs.Prelude.{◌<◌, ◌^◌, List, ◌∷◌, length};
 ghost use Rattle.std.specs.List.{AllByRecursion};
 ghost use Rattle.instructions.specs.Programs.{Program};
 ghost use Rattle.inorder.specs.Unit.{Sizes};
-ghost use Rattle.chart.specs.declared.telling.Style.{Style};
+ghost use Rattle.chart.specs.Styles.{Style};
 ghost use Rattle.chart.specs.Happened.{Happened};
 ghost use Rattle.chart.specs.Named.{AreNamed};
 ghost use Rattle.chart.specs.Watched.{AreTurns, Passed, unit_behind, events_at, kept_behind};

@@ -14,6 +14,8 @@ mod log_file;
 mod naming;
 mod pictures;
 mod row;
+mod source;
+mod spelling;
 mod telling;
 mod waits;
 mod watched;

@@ -3,14 +3,16 @@ ghost use Rattle.std.specs.Prelude.{◌≡◌, ◌≢◌, ◌+◌, ◌-◌, ◌^
 ghost use Rattle.counted_io.specs.Counted.{failures_of, known_by};
 ghost use Rattle.chart.specs.Answers.{HasBegun, HasToldWhole, IsLogged, IsOfLog};
 ghost use Rattle.chart.specs.Answers.{log_failures, log_refusal, style_of as style_in};
+ghost use Rattle.chart.specs.Sources.{sourced};
+ghost use Rattle.chart.specs.Styles.{styled};
 ghost use Rattle.command_line.specs.Exits.{IsOfWriting, failed_writes};
 
+use crate::source::Source;
 use crate::telling::{Format, Style};
 use crate::watched::watch;
 use command_line::{Charted, Refusal, choose};
 use counted_io::{Counted, Fault};
 use instructions::Program;
-use isa::Naming;
 use one_thread::Order;
 use std::alloc::Global;
 use std::io::Write;
@@ -19,22 +21,22 @@ use std::io::Write;
 pub(crate) fn draw<W: Write>(
     alloc: Global,
     asked: &Charted<'_>,
-    naming: Naming,
+    source: &Source<'_>,
     program: &Program,
     writer: &mut Counted<W>,
 ) -> Result<(), Refusal>
     requires room { failures_of writer.old < 2 ^ 64 - 1 }
-    ensures told { OnOk result (HasToldWhole Format.Chart asked.now naming program.now
+    ensures told { OnOk result (HasToldWhole Format.Chart asked.now (sourced source.now) program.now
         (known_by W.contents writer.old) (known_by W.contents writer.new)) }
     ensures quiet { OnOk result (failures_of writer.new ≡ failures_of writer.old) }
     ensures err { IfErr result IsOfWriting }
     ensures write { IfErr result (λ refusal.
         failures_of writer.new ≡ failures_of writer.old + failed_writes refusal) }
     ensures trace { IfErr result (λ refusal. log_failures refusal ≡ 0) }
-    ensures begun { OnErr result (HasBegun Format.Chart asked.now naming program.now
+    ensures begun { OnErr result (HasBegun Format.Chart asked.now (sourced source.now) program.now
         (known_by W.contents writer.old) (known_by W.contents writer.new)) }
 {
-    picture(alloc, asked, naming, program, Format::Chart, writer)?;
+    picture(alloc, asked, source, program, Format::Chart, writer)?;
     Ok(())
 }
 
@@ -42,12 +44,12 @@ pub(crate) fn draw<W: Write>(
 pub(crate) fn trace<L: Write>(
     alloc: Global,
     asked: &Charted<'_>,
-    naming: Naming,
+    source: &Source<'_>,
     program: &Program,
     log: &mut Counted<L>,
 ) -> Result<(), Refusal>
     requires room { failures_of log.old < 2 ^ 64 - 1 }
-    ensures told { OnOk result (IsLogged (is_some asked.now.log) asked.now naming program.now
+    ensures told { OnOk result (IsLogged (is_some asked.now.log) asked.now (sourced source.now) program.now
         (known_by L.contents log.old) (known_by L.contents log.new)) }
     ensures quiet { OnOk result (failures_of log.new ≡ failures_of log.old) }
     ensures err { IfErr result IsOfLog }
@@ -55,13 +57,13 @@ pub(crate) fn trace<L: Write>(
     ensures write { IfErr result (λ refusal. failed_writes refusal ≡ 0) }
     ensures trace { IfErr result (λ refusal.
         failures_of log.new ≡ failures_of log.old + log_failures refusal) }
-    ensures begun { OnErr result (HasBegun Format.Kanata asked.now naming program.now
+    ensures begun { OnErr result (HasBegun Format.Kanata asked.now (sourced source.now) program.now
         (known_by L.contents log.old) (known_by L.contents log.new)) }
 {
     if asked.log.is_none() {
         return Ok(());
     }
-    match picture(alloc, asked, naming, program, Format::Kanata, log) {
+    match picture(alloc, asked, source, program, Format::Kanata, log) {
         Ok(()) => Ok(()),
         Err(fault) => Err(log_refusal(fault)),
     }
@@ -71,15 +73,15 @@ pub(crate) fn trace<L: Write>(
 fn picture<W: Write>(
     alloc: Global,
     asked: &Charted<'_>,
-    naming: Naming,
+    source: &Source<'_>,
     program: &Program,
     format: Format,
     writer: &mut Counted<W>,
 ) -> Result<(), Fault>
     requires { failures_of writer.old < 2 ^ 64 - 1 }
-    ensures told { OnOk result (HasToldWhole format asked.now naming program.now
+    ensures told { OnOk result (HasToldWhole format asked.now (sourced source.now) program.now
         (known_by W.contents writer.old) (known_by W.contents writer.new)) }
-    ensures begun { OnErr result (HasBegun format asked.now naming program.now
+    ensures begun { OnErr result (HasBegun format asked.now (sourced source.now) program.now
         (known_by W.contents writer.old) (known_by W.contents writer.new)) }
     ensures quiet { OnOk result (failures_of writer.new ≡ failures_of writer.old) }
     ensures write { IfErr result (λ fault. fault ≡ Fault.Write →
@@ -90,7 +92,7 @@ fn picture<W: Write>(
 {
     let predictor = choose(asked.run.predictor);
     let order = Order::by_seed(asked.run.seed);
-    let style = style_of(format, asked, naming);
+    let style = style_of(format, asked, source);
     watch(
         alloc,
         program,
@@ -104,8 +106,8 @@ fn picture<W: Write>(
 }
 
 // How a run is told that is asked for.
-fn style_of(format: Format, asked: &Charted<'_>, naming: Naming) -> Style
-    ensures { result ≡ style_in format asked.now naming }
+fn style_of<'a>(format: Format, asked: &Charted<'_>, source: &'a Source<'a>) -> Style<'a>
+    ensures { styled result ≡ style_in format asked.now (sourced source.now) }
 {
     let rows = match format {
         Format::Chart => asked.rows,
@@ -114,7 +116,7 @@ fn style_of(format: Format, asked: &Charted<'_>, naming: Naming) -> Style
     let by_leave = asked.by_leave;
     Style {
         format,
-        naming,
+        source,
         rows,
         by_leave,
     }

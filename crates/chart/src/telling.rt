@@ -1,13 +1,14 @@
 //! The text of a run, as it is told.
 ghost use Rattle.std.specs.Prelude.{◌≡◌, IfOk, OnOk, string_bytes};
 ghost use Rattle.chart.specs.Rows.{kept};
+ghost use Rattle.chart.specs.Sources.{sourced};
 ghost use Rattle.chart.specs.Telling.{first_text, last_text, turn_by};
 
 use crate::books::Books;
 use crate::drawing::{push_lines, push_rest};
 use crate::event::Event;
 use crate::kanata::{push_events, push_head, push_tick};
-use isa::Naming;
+use crate::source::Source;
 use std::alloc::{AllocError, Global};
 
 /// The format in which a run is told.
@@ -21,10 +22,10 @@ pub enum Format {
 
 /// How a run is told.
 #[derive(Clone, Copy)]
-pub struct Style {
+pub struct Style<'a> {
     pub format: Format,
-    /// The way in which registers are written.
-    pub naming: Naming,
+    /// The listing of the run.
+    pub source: &'a Source<'a>,
     /// So many tenants have a line, those that were let first.
     pub rows: u64,
     /// The lines stand in the order in which their tenants have left, and not in that of the program.
@@ -43,27 +44,27 @@ pub(crate) fn first(alloc: Global, format: Format) -> Result<String, AllocError>
 }
 
 /// The text of a turn with these events.
-pub(crate) fn turn(alloc: Global, style: &Style, events: &[Event]) -> Result<String, AllocError>
+pub(crate) fn turn(alloc: Global, style: &Style<'_>, events: &[Event]) -> Result<String, AllocError>
     ensures { IfOk result (λ text. string_bytes text
-        ≡ turn_by style.now.format style.now.naming events.now) }
+        ≡ turn_by style.now.format (sourced style.now.source.now) events.now) }
 {
     let mut out = String::new(alloc);
     if let Format::Kanata = style.format {
         push_tick(&mut out)?;
-        push_events(&mut out, style.naming, events)?;
+        push_events(alloc, &mut out, style.source, events)?;
     }
     Ok(out)
 }
 
 /// The text behind the last turn.
-pub(crate) fn last(alloc: Global, books: &mut Books) -> Result<String, AllocError>
+pub(crate) fn last(alloc: Global, books: &mut Books<'_>) -> Result<String, AllocError>
     ensures { IfOk result (λ text. string_bytes text ≡ last_text (kept books.old)) }
 {
     let mut out = String::new(alloc);
     let style = books.style;
     if let Format::Chart = style.format {
         books.close()?;
-        push_lines(alloc, &mut out, style.naming, books.lines.as_slice())?;
+        push_lines(alloc, &mut out, style.source, books.lines.as_slice())?;
         push_rest(&mut out, style.rows, books.lets)?;
     }
     Ok(out)

@@ -5,7 +5,7 @@ ghost use Rattle.counted_io.specs.Counted.{failures_of, known_by, Gives};
 ghost use Rattle.instructions.specs.Programs.{Program};
 ghost use Rattle.inorder.specs.Unit.{Sizes};
 ghost use Rattle.one_thread.specs.Changes.{run_from};
-ghost use Rattle.chart.specs.declared.telling.Style.{Style};
+ghost use Rattle.chart.specs.Styles.{Style};
 ghost use Rattle.chart.specs.Events.{events};
 ghost use Rattle.chart.specs.Kept.{next_kept};
 ghost use Rattle.chart.specs.Rows.{kept};
@@ -24,7 +24,7 @@ use std::io::Write;
 fn bench_text<P: Predictor + Drop>(
     alloc: Global,
     bench: &Bench<'_, P>,
-    books: &mut Books,
+    books: &mut Books<'_>,
     answer: Turn,
 ) -> Result<String, AllocError>
     ensures kept { OnOk result
@@ -65,7 +65,7 @@ pub(crate) fn tell<W: Write>(
 fn tell_turn<P: Predictor + Drop, W: Write>(
     alloc: Global,
     bench: &Bench<'_, P>,
-    books: &mut Books,
+    books: &mut Books<'_>,
     answer: Turn,
     writer: &mut Counted<W>,
 ) -> Result<(), Fault>
@@ -92,7 +92,7 @@ pub(crate) fn tell_turns<P: Predictor + Drop, C: Chooser + Drop, W: Write>(
     alloc: Global,
     bench: &mut Bench<'_, P>,
     order: &mut C,
-    books: &mut Books,
+    books: &mut Books<'_>,
     limit: u64,
     writer: &mut Counted<W>,
 ) -> Result<(), Fault>

@@ -1,3 +1,4 @@
+mod Ended
 mod Explained
 mod FaultsFound
 mod Keys

@@ -4,6 +4,7 @@ use Rattle.std.proofs.lemmas.List.{take_all}
 use Rattle.std.proofs.lemmas.Bool.{cases_lt}
 use Rattle.instructions.specs.Programs.{Program}
 use Rattle.checker.specs.Reach.{HasPath, HasSuccessors, HavePaths, HavePathsTo}
+use Rattle.checker.specs.declared.reach.Paths.{Paths}
 
 -- all below k go right, and so does k
 pub below_and : (P : Program) (S : List Bool) (k : ℕ)
@@ -36,8 +37,9 @@ not_marked (suc n) zero is = absurd cc
 not_marked (suc n) (suc k) is = not_marked n k is
 
 -- nothing is marked at first
-pub none_marked : (P : Program) (m n : ℕ) (old new : List Bool) → old ≡ [] → new ≡ take m old ++ replicate n false → HavePaths P new
-none_marked P m n old new empty is k at =
+pub none_marked : (paths : Paths) (P : Program) (m n : ℕ) (old new : List Bool) → old ≡ [] → new ≡ take m old ++ replicate n false
+    → HavePaths paths P new
+none_marked paths P m n old new empty is k at =
     let nothing : take m old ≡ [] = rw empty (take_all m [] (omega arith)) in
     not_marked n k (subst (λ (S : List Bool). slice_get S k ≡ Some true) (is ∙ ap (λ (S : List Bool). S ++ replicate n false) nothing) at)
 
@@ -50,11 +52,11 @@ front_is [] k i j is = absurd cc
 front_is (x ∷ xs) k zero j is = is
 front_is (x ∷ xs) k (suc i) j is = front_is xs k i j is
 
-module _ (P : Program) (ks old : List ℕ) (k : ℕ) (is : old ≡ ks ++ k ∷ []) (have : HavePathsTo P old) where
+module _ (paths : Paths) (P : Program) (ks old : List ℕ) (k : ℕ) (is : old ≡ ks ++ k ∷ []) (have : HavePathsTo paths P old) where
   -- a path leads to the last one of a list
-  pub last_path : HasPath P k
+  pub last_path : HasPath paths P k
   last_path = have (length ks) k (subst (λ (s : List ℕ). slice_get s (length ks) ≡ Some k) (sym is) (last_is ks k))
 
   -- and to the others
-  pub other_paths : HavePathsTo P ks
+  pub other_paths : HavePathsTo paths P ks
   other_paths i j at = have i j (subst (λ (s : List ℕ). slice_get s i ≡ Some j) (sym is) (front_is ks k i j at))

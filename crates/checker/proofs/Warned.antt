@@ -1,10 +1,14 @@
 -- Warnings, one behind the other.
-use Rattle.std.proofs.Common.{◌≡◌, ◌++◌, ℕ, List, [], ◌∷◌, subst}
+use Rattle.std.proofs.Common.{◌≡◌, ◌++◌, ℕ, List, [], ◌∷◌, refl, subst}
 use Rattle.instructions.specs.Programs.{Program}
 use Rattle.checker.specs.declared.parts.Part.{Part}
 use Rattle.checker.specs.declared.warnings.Warning.{Warning}
-use Rattle.checker.specs.declared.warnings.Warning.TheVariants.{NeverUsed, Unreached, PastEnd}
+use Rattle.checker.specs.declared.warnings.Warning.TheVariants.{NeverUsed, AtData, StackUnset, Unreached, PastEnd}
 use Rattle.checker.specs.Warnings.{Applies, Warned, IsOfInstruction, IsWarranted, AreWarnings, AreWarned, StandsOn, warning_text}
+
+-- no warning
+pub none_warned : (file bytes : List ℕ) (P : Program) (text : List ℕ) → AreWarned file bytes P text text
+none_warned file bytes P text = ([], refl)
 
 -- one warning
 pub one_warned : (file bytes : List ℕ) (P : Program) (w : Warned) (old new : List ℕ) → IsWarranted bytes P w
@@ -25,5 +29,7 @@ all_warned file bytes P old text new first second = (first.0 ++ second.0, joined
 pub of_instruction : (bytes : List ℕ) (P : Program) (k n : ℕ) (line : List ℕ) (part : Part) (w : Warning) → StandsOn bytes k n
     → IsOfInstruction P k w → Applies bytes P n line part w
 of_instruction bytes P k n line part NeverUsed stands is = absurd is
+of_instruction bytes P k n line part AtData stands is = absurd is
+of_instruction bytes P k n line part StackUnset stands is = (k, (stands, is))
 of_instruction bytes P k n line part Unreached stands is = (k, (stands, is))
 of_instruction bytes P k n line part PastEnd stands is = (k, (stands, is))

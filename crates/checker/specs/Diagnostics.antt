@@ -1,7 +1,7 @@
 -- The diagnostics of a listing that is read and not run.
 use Rattle.std.specs.Prelude.{◌≡◌, ◌+◌, ℕ, Bool, true, false}
 use Rattle.std.specs.Prelude.{List, [], ◌∷◌, ◌++◌, length, codes, decimal}
-use Rattle.std.specs.Prelude.{Option, Some, None, Result, Ok, Err, flat_map, if◌then◌else◌}
+use Rattle.std.specs.Prelude.{Option, Some, None, Result, Ok, Err, if◌then◌else◌}
 use Rattle.lexical.specs.Line.{lines_of}
 use Rattle.isa.specs.declared.listing.fault.FaultKind.{FaultKind}
 use Rattle.isa.specs.declared.listing.fault.FaultKind.TheVariants as kind
@@ -12,11 +12,9 @@ use Rattle.isa.specs.Report.{fault_line, newline}
 use Rattle.checker.specs.Forms.{word_note}
 use Rattle.checker.specs.Lines.{numbered_line, word_in}
 use Rattle.checker.specs.Parts.{IsPartOf}
-use Rattle.checker.specs.Quotes.{on_layer}
-use Rattle.checker.specs.Spots.{spot_text}
+use Rattle.checker.specs.Spots.{advice_text}
 use Rattle.checker.specs.Faults.{AreChosen}
 use Rattle.checker.specs.Warnings.{AreWarned}
-use Rattle.checker.specs.declared.quoting.Layer.TheVariants.{Line}
 use Rattle.checker.specs.declared.parts.Part.{Part}
 
 -- ---- a listing without a fault
@@ -61,21 +59,16 @@ form_note kind line = if has_form kind then word_note (word_in line) else []
 abbrev pub error : List ℕ
 error = codes "error: "
 
--- a remedy as it is shown, in a line of its own; no line where no remedy is known
-abbrev pub remedy_line : List ℕ → List ℕ
-remedy_line [] = []
-remedy_line (b ∷ bs) = flat_map (on_layer Line) (b ∷ bs) ++ newline
-
 -- the diagnostic of a fault of the listing as a whole, behind the name of the file as it is shown
 abbrev pub whole : (file : List ℕ) → FaultKind → List ℕ
 whole file kind = file ++ (codes ": " ++ (error ++ (sentence kind ++ newline)))
 
--- the diagnostic of a fault: the line with its place and a mark under some part, the rule that is broken, the forms of the
--- operation, and some remedy without control characters; a fault of the listing as a whole has no line
+-- the diagnostic of a fault: the line with its place and a mark under some part, some remedy without control characters, the
+-- rule that is broken, and the forms of the operation; a fault of the listing as a whole has no line
 abbrev pub IsExplanation : (file : List ℕ) → (number : ℕ) → FaultKind → Option (List ℕ) → List ℕ → Type 0
 IsExplanation file number kind None text = text ≡ whole file kind
 IsExplanation file number kind (Some line) text = (part : Part) × ((remedy : List ℕ) × (IsPartOf line part
-    × (text ≡ spot_text file number line part error (sentence kind) ++ (form_note kind line ++ remedy_line remedy))))
+    × (text ≡ advice_text file number line part error remedy (sentence kind) ++ form_note kind line)))
 
 -- the new text is the old one with a diagnostic behind it
 pub record IsExplanationBehind (file : List ℕ) (number : ℕ) (kind : FaultKind) (line : Option (List ℕ)) (old new : List ℕ) : Type 0 where

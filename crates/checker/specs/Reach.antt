@@ -5,6 +5,8 @@ use Rattle.instructions.specs.declared.op.Op.TheVariants.{Beq, J, Jal, Jr, Jalr,
 use Rattle.instructions.specs.declared.instr.Instr.{Instr}
 use Rattle.instructions.specs.Targets.{names_target}
 use Rattle.instructions.specs.Programs.{Program, address, instr_of}
+use Rattle.checker.specs.declared.reach.Paths.{Paths}
+use Rattle.checker.specs.declared.reach.Paths.TheVariants.{Any, WithoutStack}
 
 -- ---- one instruction
 
@@ -49,6 +51,14 @@ abbrev pub is_opaque : Instr → Bool
 is_opaque i =
     (is_jalr i.op || (is_jr i.op && not (i.first == 31))) || (not (is_jal i.op) && (i.target == 31))
 
+-- whether register 29, which is `$sp`, is a source of an instruction
+abbrev pub reads_stack : Instr → Bool
+reads_stack i = (i.first == 29) || (i.second == 29)
+
+-- whether an instruction sets `$sp`, and not from what it was
+abbrev pub sets_stack : Instr → Bool
+sets_stack i = (i.target == 29) && not (reads_stack i)
+
 -- ---- a set of instructions
 
 -- all successors of instruction k are in the set
@@ -72,21 +82,31 @@ pub record IsUnreached (P : Program) (k : ℕ) : Type 0 where
 
 -- ---- a path
 
+-- whether paths of these lead on after an instruction
+abbrev pub passes : Paths → Instr → Bool
+passes Any i = true
+passes WithoutStack i = not (sets_stack i)
+
 -- A path leads to an instruction: the first one, one behind an instruction that a path reaches and that falls through, or the
 -- target that such an instruction names.
-pub data HasPath (P : Program) : ℕ → Type 0 where
-  First : 0 < length P.code → HasPath P 0
-  Behind : (k : ℕ) → HasPath P k → ends_path (instr_of P k) ≡ false → k + 1 < length P.code → HasPath P (k + 1)
-  Target : (k j : ℕ) → HasPath P k → names_target (instr_of P k).op ≡ true → j < length P.code
-      → (instr_of P k).number ≡ address j → HasPath P j
+pub data HasPath (paths : Paths) (P : Program) : ℕ → Type 0 where
+  First : 0 < length P.code → HasPath paths P 0
+  Behind : (k : ℕ) → HasPath paths P k → passes paths (instr_of P k) ≡ true → ends_path (instr_of P k) ≡ false
+      → k + 1 < length P.code → HasPath paths P (k + 1)
+  Target : (k j : ℕ) → HasPath paths P k → passes paths (instr_of P k) ≡ true → names_target (instr_of P k).op ≡ true
+      → j < length P.code → (instr_of P k).number ≡ address j → HasPath paths P j
 
 -- a path leads to each instruction of a set
-abbrev pub HavePaths : Program → List Bool → Type 0
-HavePaths P S = (k : ℕ) → slice_get S k ≡ Some true → HasPath P k
+abbrev pub HavePaths : Paths → Program → List Bool → Type 0
+HavePaths paths P S = (k : ℕ) → slice_get S k ≡ Some true → HasPath paths P k
 
 -- a path leads to each instruction of a list
-abbrev pub HavePathsTo : Program → List ℕ → Type 0
-HavePathsTo P list = (i k : ℕ) → slice_get list i ≡ Some k → HasPath P k
+abbrev pub HavePathsTo : Paths → Program → List ℕ → Type 0
+HavePathsTo paths P list = (i k : ℕ) → slice_get list i ≡ Some k → HasPath paths P k
+
+-- instruction k reads `$sp` after a path on which no instruction sets it
+abbrev pub IsStackUnset : Program → (k : ℕ) → Type 0
+IsStackUnset P k = HasPath WithoutStack P k × (reads_stack (instr_of P k) ≡ true)
 
 -- ---- the end
 

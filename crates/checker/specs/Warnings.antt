@@ -1,5 +1,5 @@
 -- Warnings of a listing without a fault.
-use Rattle.std.specs.Prelude.{◌≡◌, ◌++◌, ℕ, Bool, false, true, List, [], ◌∷◌, codes, Some, is_some, slice_get}
+use Rattle.std.specs.Prelude.{◌≡◌, ◌-◌, ◌==◌, ◌++◌, ℕ, Bool, false, true, List, [], ◌∷◌, codes, drop, length, Some, IfSome, is_some, slice_get, if◌then◌else◌}
 use Rattle.std.specs.List.{flat_map, after_first}
 use Rattle.std.specs.Borrow.{Bor}
 use Rattle.std.specs.BTreeMap.{BTreeMap, get_by}
@@ -11,13 +11,17 @@ use Rattle.lexical.specs.Line.{before_comment, lines_of}
 use Rattle.lexical.specs.Operand.{operands}
 use Rattle.instructions.specs.Programs.{Program}
 use Rattle.isa.specs.Listing.{Lines, labels, stands_in, instruction_lines}
-use Rattle.checker.specs.Lines.{numbered_line}
+use Rattle.isa.specs.Statement.{directive_text}
+use Rattle.checker.specs.Lines.{numbered_line, word_in}
 use Rattle.checker.specs.Parts.{IsPartOf, part_text}
-use Rattle.checker.specs.Reach.{HasPath, IsUnreached, may_run_past_end}
-use Rattle.checker.specs.Spots.{spot_text}
+use Rattle.checker.specs.Reach.{HasPath, HavePaths, IsClosedSet, IsStackUnset, IsUnreached, may_run_past_end}
+use Rattle.checker.specs.Spots.{advice_text}
 use Rattle.checker.specs.declared.parts.Part.{Part}
+use Rattle.checker.specs.declared.reach.Paths.TheVariants.{Any}
+use Rattle.checker.specs.declared.spot.Spot.{Spot}
+use Rattle.checker.specs.declared.warnings.Good.{Good}
 use Rattle.checker.specs.declared.warnings.Warning.{Warning}
-use Rattle.checker.specs.declared.warnings.Warning.TheVariants.{NeverUsed, Unreached, PastEnd}
+use Rattle.checker.specs.declared.warnings.Warning.TheVariants.{NeverUsed, AtData, StackUnset, Unreached, PastEnd}
 
 -- the beginning of a warning
 abbrev pub warning : List ℕ
@@ -26,6 +30,8 @@ warning = codes "warning: "
 -- the sentence of a kind of warning
 abbrev pub said : Warning → List ℕ
 said NeverUsed = codes "No instruction names this label."
+said AtData = codes "Data has no labels: this one means the next instruction."
+said StackUnset = codes "No instruction before this one sets $sp, which is 0 at the start."
 said Unreached = codes "No path reaches this instruction."
 said PastEnd = codes "A run can go on behind the last instruction: break ends it."
 
@@ -45,6 +51,15 @@ has_key map name = is_some (get_by (λ k. slice_cmp nat_cmp name k.now) map)
 abbrev pub AreOperandsOf : Lines → BTreeMap (Bor (List ℕ)) ℕ → Type 0
 AreOperandsOf ls map = (name : List ℕ) → has_key map name ≡ stands_in (all_operands ls) name
 
+-- whether the first statement of lines is data
+abbrev pub begin_with_data : Lines → Bool
+begin_with_data [] = false
+begin_with_data (l ∷ ls) = if length (word_in l) == 0 then begin_with_data ls else is_some (directive_text (word_in l))
+
+-- whether the first statement from line n on, counted from 1, is data
+abbrev pub stands_at_data : (n : ℕ) → Lines → Bool
+stands_at_data n ls = begin_with_data (drop (n - 1) ls)
+
 -- instruction k stands on line n
 abbrev pub StandsOn : List ℕ → (k n : ℕ) → Type 0
 StandsOn bytes k n = slice_get (instruction_lines bytes) k ≡ Some n
@@ -52,24 +67,31 @@ StandsOn bytes k n = slice_get (instruction_lines bytes) k ≡ Some n
 -- the warning is true of instruction k
 abbrev pub IsOfInstruction : Program → (k : ℕ) → Warning → Type 0
 IsOfInstruction P k NeverUsed = ⊥
+IsOfInstruction P k AtData = ⊥
+IsOfInstruction P k StackUnset = IsStackUnset P k
 IsOfInstruction P k Unreached = IsUnreached P k
-IsOfInstruction P k PastEnd = HasPath P k × (may_run_past_end P k ≡ true)
+IsOfInstruction P k PastEnd = HasPath Any P k × (may_run_past_end P k ≡ true)
 
--- the warning is true of a part of line n: the part is one of the line's labels and no operand, or no run reaches the line's
--- instruction, or a path leads to it and a run can go on from it past the last one
+-- the warning is true of a part of line n: the part is one of the line's labels, and no operand or before data; or the line's
+-- instruction reads `$sp`, and a path leads to it on which none sets it; or no run reaches it; or a path leads to it and a run
+-- can go on from it past the last one
 abbrev pub Applies : (bytes : List ℕ) → Program → (n : ℕ) → (line : List ℕ) → Part → Warning → Type 0
 Applies bytes P n line part NeverUsed =
     (stands_in (labels line) (part_text line part) ≡ true)
     × (stands_in (all_operands (lines_of bytes)) (part_text line part) ≡ false)
+Applies bytes P n line part AtData =
+    (stands_in (labels line) (part_text line part) ≡ true) × (stands_at_data n (lines_of bytes) ≡ true)
+Applies bytes P n line part StackUnset = (k : ℕ) × (StandsOn bytes k n × IsStackUnset P k)
 Applies bytes P n line part Unreached = (k : ℕ) × (StandsOn bytes k n × IsUnreached P k)
-Applies bytes P n line part PastEnd = (k : ℕ) × (StandsOn bytes k n × (HasPath P k × (may_run_past_end P k ≡ true)))
+Applies bytes P n line part PastEnd = (k : ℕ) × (StandsOn bytes k n × (HasPath Any P k × (may_run_past_end P k ≡ true)))
 
--- a warning: its line, its part and its kind
+-- a warning: its line, its part and its kind, and what helps, if that is known
 pub record Warned : Type 0 where
   pub number : ℕ
   pub line : List ℕ
   pub part : Part
   pub kind : Warning
+  pub help : List ℕ
 
 -- the line is in the listing, the part lies in it, and the warning is true
 pub record IsWarranted (bytes : List ℕ) (P : Program) (w : Warned) : Type 0 where
@@ -79,7 +101,7 @@ pub record IsWarranted (bytes : List ℕ) (P : Program) (w : Warned) : Type 0 wh
 
 -- the text of a warning
 abbrev pub warning_text : (file : List ℕ) → Warned → List ℕ
-warning_text file w = spot_text file w.number w.line w.part warning (said w.kind)
+warning_text file w = advice_text file w.number w.line w.part warning w.help (said w.kind)
 
 -- the new text is the old one with these warnings behind it, each of which is warranted
 abbrev pub AreWarnings : (file bytes : List ℕ) → Program → List Warned → (old new : List ℕ) → Type 0
@@ -90,3 +112,23 @@ AreWarnings file bytes P (w ∷ ws) old new =
 -- the new text is the old one with some warnings behind it, each of which is warranted
 abbrev pub AreWarned : (file bytes : List ℕ) → Program → (old new : List ℕ) → Type 0
 AreWarned file bytes P old new = (ws : List Warned) × AreWarnings file bytes P ws old new
+
+-- ---- while warnings are looked for
+
+-- the new text is the old one with some warnings of this listing after it
+abbrev pub AreWarnedOf : Good → (old new : List ℕ) → Type 0
+AreWarnedOf good old new = AreWarned good.file.now good.bytes.now good.program.now old new
+
+-- what is known of a listing without a fault: the line of each instruction, those that a run can reach, and the one that reads
+-- `$sp` where none has set it
+pub record IsKnown (good : Good) : Type 0 where
+  pub lines : good.lines.now ≡ instruction_lines good.bytes.now
+  pub size : length good.reached.now ≡ length good.program.now.code
+  pub paths : HavePaths Any good.program.now good.reached.now
+  pub closed : good.is_closed ≡ true → IsClosedSet good.program.now good.reached.now
+  pub stack : IfSome good.stack (IsStackUnset good.program.now)
+
+-- the spot is a line of the listing
+pub record IsSpotOf (good : Good) (spot : Spot) : Type 0 where
+  pub file : spot.file.now ≡ good.file.now
+  pub line : numbered_line spot.number (lines_of good.bytes.now) ≡ Some spot.line.now

@@ -66,13 +66,14 @@ fn double_label(labels: &Labels<'_>, line: &[u8], code: Part, number: u64) -> Pa
     code
 }
 
-/// The place of `;` or `//`, with which a comment of another language begins.
+/// The place of `;`, `//` or `/*`, with which a comment of another language begins.
 pub(crate) fn other_comment(line: &[u8], part: Part) -> Option<usize>
     requires { IsPartOf line.now part }
     ensures { IfSome result (λ at. (part.from ≤ at) × (at < part.to)) }
 {
     for at in part.from..part.to {
-        if line[at] == b';' || line[at..part.to].starts_with(b"//") {
+        let text = &line[at..part.to];
+        if line[at] == b';' || text.starts_with(b"//") || text.starts_with(b"/*") {
             return Some(at);
         }
     }

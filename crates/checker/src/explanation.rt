@@ -4,16 +4,15 @@ ghost use Rattle.std.specs.Option.{option_map};
 ghost use Rattle.lexical.specs.Line.{lines_of};
 ghost use Rattle.checker.specs.Diagnostics.{AreExplained, IsExplained, IsExplanationBehind};
 ghost use Rattle.checker.specs.Lines.{numbered_line};
-ghost use Rattle.checker.specs.Diagnostics.{remedy_line, form_note, sentence};
+ghost use Rattle.checker.specs.Diagnostics.{form_note, sentence};
 
 use super::blame::part_at_fault;
 use super::clearing::Labels;
 use super::faults::chosen_faults;
 use super::forms::push_forms;
 use super::lines::{numbered_line, word_in};
-use super::quoting::{Layer, push_bytes};
 use super::remedies::remedy;
-use super::spot::{Spot, push_spot};
+use super::spot::{Spot, push_advice};
 use isa::{FaultKind, TextFault, fault_text};
 use std::alloc::{AllocError, Global};
 
@@ -68,17 +67,6 @@ fn push_form(text: &mut Vec<u8>, kind: FaultKind, line: &[u8]) -> Result<(), All
     }
 }
 
-// Adds a remedy in a line of its own, if one is known.
-fn push_remedy(text: &mut Vec<u8>, remedy: &[u8]) -> Result<(), AllocError>
-    ensures { OnOk result (text.new.items ≡ text.old.items ++ remedy_line remedy.now) }
-{
-    if remedy.is_empty() {
-        return Ok(());
-    }
-    push_bytes(text, Layer::Line, remedy)?;
-    text.extend_from_slice(b"\n")
-}
-
 // Adds the diagnostic of a fault in a line of the listing.
 fn push_line(
     alloc: Global,
@@ -98,9 +86,9 @@ fn push_line(
     };
     let part = part_at_fault(labels, line, fault);
     let remedy = remedy(alloc, source.bytes, labels, line, fault)?;
-    push_spot(alloc, text, spot, part, ERROR, sentence(fault.kind))?;
+    let rule = sentence(fault.kind);
+    push_advice(alloc, text, spot, part, ERROR, remedy.as_slice(), rule)?;
     push_form(text, fault.kind, line)?;
-    push_remedy(text, remedy.as_slice())?;
     Ok(())
 }
 

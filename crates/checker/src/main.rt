@@ -56,7 +56,8 @@ fn check_file(rt: &HostRuntime, asked: &Checked<'_>) -> ExitCode {
 }
 
 fn check_from<R: Read + Drop>(rt: &HostRuntime, asked: &Checked<'_>, input: R) -> ExitCode {
-    let reader = Counted::new(input);
+    let mut reader = Some(Counted::new(input));
     let mut writer = Counted::new(rt.stdout());
-    end(rt, check(rt.alloc(), asked, Some(reader), &mut writer))
+    let exit = check(rt.alloc(), asked, &mut reader, &mut writer);
+    end(rt, exit)
 }

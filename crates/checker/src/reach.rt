@@ -3,10 +3,44 @@ ghost use Rattle.std.specs.Prelude.{◌≡◌, ◌+◌, ◌<◌, ℕ, IfOk, IfSo
 ghost use Rattle.instructions.specs.Targets.{names_target};
 ghost use Rattle.instructions.specs.Programs.{address, instr_of};
 ghost use Rattle.checker.specs.Reach.{HasPath, HasSuccessors, HavePaths, HavePathsTo, IsClosedSet};
-ghost use Rattle.checker.specs.Reach.{ends_path, is_always_taken, is_opaque};
+ghost use Rattle.checker.specs.Reach.{ends_path, is_always_taken, is_opaque, passes, reads_stack, sets_stack};
 
 use instructions::{Instr, Op, Program, Reg};
 use std::alloc::{AllocError, Global};
+
+/// The number of `$sp`.
+const STACK: u8 = 29;
+
+/// The paths that are followed: any, or those on which no instruction sets `$sp`.
+#[derive(Clone, Copy)]
+pub(crate) enum Paths {
+    Any,
+    WithoutStack,
+}
+
+/// Whether an instruction reads `$sp`.
+pub(crate) fn reads_stack(instr: &Instr) -> bool
+    ensures { result ≡ reads_stack instr.now }
+{
+    instr.first.number() == STACK || instr.second.number() == STACK
+}
+
+// Whether an instruction sets `$sp`, and not from what it was.
+fn sets_stack(instr: &Instr) -> bool
+    ensures { result ≡ sets_stack instr.now }
+{
+    instr.target.number() == STACK && !reads_stack(instr)
+}
+
+// Whether paths lead on after an instruction.
+fn passes(paths: Paths, instr: &Instr) -> bool
+    ensures { result ≡ passes paths instr.now }
+{
+    match paths {
+        Paths::Any => true,
+        Paths::WithoutStack => !sets_stack(instr),
+    }
+}
 
 // Whether an instruction is a branch that is taken whatever the registers hold.
 fn is_always_taken(instr: &Instr) -> bool
@@ -92,17 +126,18 @@ pub(crate) fn is_closed(program: &Program, reached: &[bool]) -> bool
 // Marks an instruction as reached, and puts it on the list of those whose successors are to be found.
 fn reach(
     program: &Program,
+    paths: Paths,
     reached: &mut Vec<bool>,
     next: &mut Vec<usize>,
     k: usize,
 ) -> Result<(), AllocError>
     requires size { length reached.old.items ≡ length program.now.code }
-    requires path { k < length program.now.code → HasPath program.now k }
-    requires marked { HavePaths program.now reached.old.items }
-    requires listed { HavePathsTo program.now next.old.items }
+    requires path { k < length program.now.code → HasPath paths program.now k }
+    requires marked { HavePaths paths program.now reached.old.items }
+    requires listed { HavePathsTo paths program.now next.old.items }
     ensures size { length reached.new.items ≡ length reached.old.items }
-    ensures marked { OnOk result (HavePaths program.now reached.new.items) }
-    ensures listed { OnOk result (HavePathsTo program.now next.new.items) }
+    ensures marked { OnOk result (HavePaths paths program.now reached.new.items) }
+    ensures listed { OnOk result (HavePathsTo paths program.now next.new.items) }
 {
     if k < program.len() && !reached[k] {
         reached[k] = true;
@@ -126,28 +161,32 @@ fn index_of(number: u32) -> Option<usize>
 // Marks the instructions to which instruction k leads, if there is one.
 fn reach_successors(
     program: &Program,
+    paths: Paths,
     reached: &mut Vec<bool>,
     next: &mut Vec<usize>,
     k: usize,
 ) -> Result<(), AllocError>
     requires size { length reached.old.items ≡ length program.now.code }
-    requires path { HasPath program.now k }
-    requires marked { HavePaths program.now reached.old.items }
-    requires listed { HavePathsTo program.now next.old.items }
+    requires path { HasPath paths program.now k }
+    requires marked { HavePaths paths program.now reached.old.items }
+    requires listed { HavePathsTo paths program.now next.old.items }
     ensures size { length reached.new.items ≡ length reached.old.items }
-    ensures marked { OnOk result (HavePaths program.now reached.new.items) }
-    ensures listed { OnOk result (HavePathsTo program.now next.new.items) }
+    ensures marked { OnOk result (HavePaths paths program.now reached.new.items) }
+    ensures listed { OnOk result (HavePathsTo paths program.now next.new.items) }
 {
     if k >= program.len() {
         return Ok(());
     }
     let instr = program.instr(k);
+    if !passes(paths, instr) {
+        return Ok(());
+    }
     if !ends_path(instr) {
-        reach(program, reached, next, k + 1)?;
+        reach(program, paths, reached, next, k + 1)?;
     }
     if instr.op.names_target() {
         if let Some(target) = index_of(instr.number) {
-            reach(program, reached, next, target)?;
+            reach(program, paths, reached, next, target)?;
         }
     }
     Ok(())
@@ -155,19 +194,23 @@ fn reach_successors(
 
 /// The instructions to which paths lead from the first one, by falling through and by labels alone: a flag for each
 /// instruction.
-pub(crate) fn reached(alloc: Global, program: &Program) -> Result<Vec<bool>, AllocError>
+pub(crate) fn reached(
+    alloc: Global,
+    program: &Program,
+    paths: Paths,
+) -> Result<Vec<bool>, AllocError>
     ensures size { IfOk result (λ reached. length reached.items ≡ length program.now.code) }
-    ensures paths { IfOk result (λ reached. HavePaths program.now reached.items) }
+    ensures paths { IfOk result (λ reached. HavePaths paths program.now reached.items) }
 {
     let mut reached = Vec::new(alloc);
     reached.resize(program.len(), false)?;
     let mut next = Vec::new(alloc);
-    reach(program, &mut reached, &mut next, 0)?;
+    reach(program, paths, &mut reached, &mut next, 0)?;
     for _ in 0..program.len() {
         let Some(k) = next.pop() else {
             break;
         };
-        reach_successors(program, &mut reached, &mut next, k)?;
+        reach_successors(program, paths, &mut reached, &mut next, k)?;
     }
     Ok(reached)
 }

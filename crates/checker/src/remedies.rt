@@ -1,6 +1,9 @@
-//! Remedies of faults, in a sentence or two. Proved of a remedy is alone that each of its bytes is shown without harm.
+//! Remedies of faults, in a sentence or two: first what to write, and then why. Proved of a remedy is alone that each of its
+//! bytes is shown without harm.
 
+mod addresses;
 mod characters;
+mod commas;
 mod data;
 mod instead;
 mod labels;
@@ -12,21 +15,32 @@ mod registers;
 mod second;
 mod sentences;
 mod tried;
+pub(crate) mod warned;
 mod words;
 
 use super::blame::other_comment;
 use super::clearing::Labels;
 use super::parts::code;
 use super::statements::{Statement, statement_in};
-use instead::instead;
+use instead::{example, instead};
 use isa::{FaultKind, TextFault};
 use lexical::before_comment;
-use lists::{SENTENCES, row_of};
 use sentences::{Remedy, filled, said};
 use std::alloc::{AllocError, Global};
 
 // The first bytes of an executable.
 const EXECUTABLE: &[u8] = b"\x7fELF";
+
+// Whether a fault is one of a statement: of its word, operands, registers or numbers.
+fn is_of_statement(kind: FaultKind) -> bool {
+    matches!(
+        kind,
+        FaultKind::UnknownOp
+            | FaultKind::BadOperands
+            | FaultKind::BadRegister
+            | FaultKind::BadNumber
+    )
+}
 
 // What is said of the fault of a line before instructions are tried in its place, if anything is.
 fn said_first<'a>(
@@ -38,18 +52,18 @@ fn said_first<'a>(
 ) -> Option<Remedy<'a>> {
     let code_text = before_comment(line);
     let has_other_comment = other_comment(line, code(line)).is_some();
-    let found = second::statement(code_text).or(data::by_label(bytes, statement));
+    let second = second::statement(code_text);
     let sentence = match fault.kind {
         FaultKind::NotAscii if bytes.starts_with(EXECUTABLE) => {
-            "This is an executable: './ruu listing FILE' writes its listing."
+            "Write ./ruu listing FILE for its listing: this is an executable."
         },
         FaultKind::NotAscii => characters::sentence(code_text)?,
         FaultKind::DoubleLabel => return labels::double(labels, line, fault.line),
         FaultKind::UnknownLabel => return labels::unknown(bytes, statement),
         FaultKind::TooLong | FaultKind::Memory => return None,
-        _ if found.is_some() => return found,
-        _ if has_other_comment => "A comment begins with #.",
-        FaultKind::UnknownOp => row_of(&SENTENCES, statement.word)?,
+        _ if second.is_some() => return second,
+        _ if has_other_comment => "Write # before a comment, in each of its lines.",
+        FaultKind::UnknownOp => words::row_of_word(statement.word)?,
         FaultKind::BadOperands => return operands::odd_operand(statement),
         FaultKind::BadRegister => return registers::bad_register(statement),
         FaultKind::BadNumber => return numbers::bad_number(statement),
@@ -67,7 +81,7 @@ fn said_last<'a>(
         FaultKind::UnknownOp => words::unknown(before_comment(line), statement),
         _ => {
             numbers::bare_number(statement)?;
-            Some(said("There are no octal numbers: write a decimal one, without a zero before it."))
+            Some(said("Write a decimal number, without a zero before it: there are no octal ones."))
         },
     }
 }
@@ -81,18 +95,44 @@ pub(crate) fn remedy(
     fault: TextFault,
 ) -> Result<Vec<u8>, AllocError> {
     let statement = statement_in(line);
+    if is_of_statement(fault.kind) {
+        if let Some(sentence) = rewritten(alloc, bytes, line, &statement)? {
+            return Ok(sentence);
+        }
+    }
     if let Some(remedy) = said_first(bytes, labels, line, &statement, fault) {
         return filled(alloc, &remedy, &statement);
     }
-    match fault.kind {
-        FaultKind::UnknownOp | FaultKind::BadOperands | FaultKind::BadNumber => {
-            in_place(alloc, line, &statement, fault)
-        },
-        _ => Ok(Vec::new(alloc)),
+    if is_of_statement(fault.kind) && fault.kind != FaultKind::BadRegister {
+        in_place(alloc, line, &statement, fault)
+    } else {
+        Ok(Vec::new(alloc))
     }
 }
 
-// The instructions to write in place of a statement, or else what is said of it last.
+// The statement with its address or its commas as the language has them, if that is all that is wrong.
+fn rewritten(
+    alloc: Global,
+    bytes: &[u8],
+    line: &[u8],
+    statement: &Statement<'_>,
+) -> Result<Option<Vec<u8>>, AllocError> {
+    let code_text = before_comment(line);
+    if second::statement(code_text).is_some() {
+        return Ok(None);
+    }
+    let found = addresses::written(alloc, bytes, statement)?;
+    if found.is_some() {
+        return Ok(found);
+    }
+    let found = addresses::in_data(alloc, bytes, statement)?;
+    if found.is_some() {
+        return Ok(found);
+    }
+    commas::written(alloc, code_text)
+}
+
+// The instructions to write in place of a statement, or else what is said of it last, or an example.
 fn in_place(
     alloc: Global,
     line: &[u8],
@@ -102,8 +142,16 @@ fn in_place(
     if let Some(sentence) = instead(alloc, statement)? {
         return Ok(sentence);
     }
-    match said_last(line, statement, fault) {
-        Some(remedy) => filled(alloc, &remedy, statement),
-        None => Ok(Vec::new(alloc)),
+    if let Some(sentence) = addresses::example(alloc, statement)? {
+        return Ok(sentence);
     }
+    if let Some(remedy) = said_last(line, statement, fault) {
+        return filled(alloc, &remedy, statement);
+    }
+    if fault.kind == FaultKind::UnknownOp {
+        if let Some(sentence) = example(alloc, statement)? {
+            return Ok(sentence);
+        }
+    }
+    Ok(Vec::new(alloc))
 }

@@ -2,19 +2,22 @@
 ghost use Rattle.std.specs.Prelude.{◌≡◌, ◌<◌, length, IfOk, IfSome, OnOk, Some, slice_get, true};
 ghost use Rattle.lexical.specs.Line.{lines_of};
 ghost use Rattle.isa.specs.Listing.{instruction_lines};
-ghost use Rattle.checker.specs.Lines.{numbered_line};
 ghost use Rattle.checker.specs.Parts.{IsPartOf};
-ghost use Rattle.checker.specs.Reach.{HavePaths, IsClosedSet, may_run_past_end};
-ghost use Rattle.checker.specs.Warnings.{AreOperandsOf, AreWarned, Applies, IsOfInstruction, said};
+ghost use Rattle.checker.specs.Reach.{HavePaths, IsStackUnset, may_run_past_end};
+ghost use Rattle.checker.specs.Warnings.{AreOperandsOf, AreWarned, AreWarnedOf, Applies};
+ghost use Rattle.checker.specs.Warnings.{IsKnown, IsOfInstruction, IsSpotOf, said};
 
+mod labels;
 mod operands;
 
-use super::parts::{Part, code, label_at, statement};
-use super::reach::{ends_path, is_closed, reached};
-use super::spot::{Spot, push_spot};
+use super::parts::{Part, code, statement};
+use super::reach::{Paths, ends_path, is_closed, reached, reads_stack};
+use super::remedies::warned;
+use super::spot::{Spot, push_advice};
 use instructions::Program;
+use labels::{Next, begin_with_data, is_data_after, push_labels};
 use lexical::next_line;
-use operands::{Operands, is_operand, operands_of};
+use operands::{Operands, operands_of};
 use std::alloc::{AllocError, Global};
 
 // The beginning of a warning.
@@ -24,6 +27,8 @@ const WARNING: &str = "warning: ";
 #[derive(Clone, Copy)]
 pub(crate) enum Warning {
     NeverUsed,
+    AtData,
+    StackUnset,
     Unreached,
     PastEnd,
 }
@@ -34,6 +39,10 @@ impl Warning {
     {
         match self {
             Warning::NeverUsed => "No instruction names this label.",
+            Warning::AtData => "Data has no labels: this one means the next instruction.",
+            Warning::StackUnset => {
+                "No instruction before this one sets $sp, which is 0 at the start."
+            },
             Warning::Unreached => "No path reaches this instruction.",
             Warning::PastEnd => "A run can go on behind the last instruction: break ends it.",
         }
@@ -41,7 +50,7 @@ impl Warning {
 }
 
 /// A listing without a fault, its program with the line of each instruction, a flag for each instruction that is
-/// reached, and whether a run reaches no other one.
+/// reached, whether a run reaches no other one, and the first instruction that reads `$sp` where none has set it.
 #[derive(Clone, Copy)]
 pub(crate) struct Good<'a> {
     pub file: &'a [u8],
@@ -50,6 +59,7 @@ pub(crate) struct Good<'a> {
     pub lines: &'a [u64],
     pub reached: &'a [bool],
     pub is_closed: bool,
+    pub stack: Option<usize>,
 }
 
 // Whether a run can go on from instruction k past the last one.
@@ -64,53 +74,23 @@ fn may_run_past_end(program: &Program, k: usize) -> bool
     goes_on || jumps
 }
 
-fn push_warning(
+/// Adds a warning of a part of a line, and before it what helps, if that is known.
+pub(crate) fn push_warning(
     alloc: Global,
     text: &mut Vec<u8>,
     good: &Good<'_>,
     spot: Spot<'_>,
     part: Part,
     warning: Warning,
+    help: &[u8],
 ) -> Result<(), AllocError>
-    requires file { spot.file.now ≡ good.now.file.now }
-    requires line { numbered_line spot.number (lines_of good.now.bytes.now) ≡ Some spot.line.now }
+    requires spot { IsSpotOf good.now spot }
     requires part { IsPartOf spot.line.now part }
     requires right { Applies good.now.bytes.now good.now.program.now spot.number spot.line.now part
         warning }
-    ensures { OnOk result (AreWarned good.now.file.now good.now.bytes.now good.now.program.now
-        text.old.items text.new.items) }
+    ensures { OnOk result (AreWarnedOf good.now text.old.items text.new.items) }
 {
-    push_spot(alloc, text, spot, part, WARNING, warning.said())?;
-    Ok(())
-}
-
-// Warns of the labels of a line that no instruction names. Labels before the first instruction may name the beginning
-// for a reader.
-fn push_labels(
-    alloc: Global,
-    text: &mut Vec<u8>,
-    good: &Good<'_>,
-    operands: &Operands<'_>,
-    spot: Spot<'_>,
-    k: usize,
-) -> Result<(), AllocError>
-    requires file { spot.file.now ≡ good.now.file.now }
-    requires line { numbered_line spot.number (lines_of good.now.bytes.now) ≡ Some spot.line.now }
-    requires operands { AreOperandsOf (lines_of good.now.bytes.now) operands.now }
-    ensures { OnOk result (AreWarned good.now.file.now good.now.bytes.now good.now.program.now
-        text.old.items text.new.items) }
-{
-    if k == 0 {
-        return Ok(());
-    }
-    let line = spot.line;
-    let mut rest = code(line);
-    while let Some((name, behind)) = label_at(line, rest) {
-        if !is_operand(operands, &line[name.from..name.to]) {
-            push_warning(alloc, text, good, spot, name, Warning::NeverUsed)?;
-        }
-        rest = behind;
-    }
+    push_advice(alloc, text, spot, part, WARNING, help, warning.said())?;
     Ok(())
 }
 
@@ -118,10 +98,7 @@ fn push_labels(
 // go on from it past the last one.
 fn warning_at(good: &Good<'_>, k: usize) -> Option<Warning>
     requires inside { k < length good.now.program.now.code }
-    requires size { length good.now.reached.now ≡ length good.now.program.now.code }
-    requires paths { HavePaths good.now.program.now good.now.reached.now }
-    requires closed { good.now.is_closed ≡ true →
-        IsClosedSet good.now.program.now good.now.reached.now }
+    requires known { IsKnown good.now }
     ensures { IfSome result (IsOfInstruction good.now.program.now k) }
 {
     let is_first = k == 0 || good.reached[k - 1];
@@ -133,6 +110,17 @@ fn warning_at(good: &Good<'_>, k: usize) -> Option<Warning>
         return Some(Warning::Unreached);
     }
     None
+}
+
+// Whether instruction k is the first that reads `$sp` where none has set it.
+fn is_stack_unset(good: &Good<'_>, k: usize) -> bool
+    requires { IsKnown good.now }
+    ensures { result ≡ true → IsStackUnset good.now.program.now k }
+{
+    match good.stack {
+        Some(first) => first == k,
+        None => false,
+    }
 }
 
 // Whether instruction k stands on a line.
@@ -153,22 +141,28 @@ fn push_numbered(
     spot: Spot<'_>,
     k: usize,
 ) -> Result<usize, AllocError>
-    requires file { spot.file.now ≡ good.now.file.now }
-    requires line { numbered_line spot.number (lines_of good.now.bytes.now) ≡ Some spot.line.now }
-    requires lines { good.now.lines.now ≡ instruction_lines good.now.bytes.now }
-    requires size { length good.now.reached.now ≡ length good.now.program.now.code }
-    requires paths { HavePaths good.now.program.now good.now.reached.now }
-    requires closed { good.now.is_closed ≡ true →
-        IsClosedSet good.now.program.now good.now.reached.now }
-    ensures { IfOk result (λ _. AreWarned good.now.file.now good.now.bytes.now good.now.program.now
-        text.old.items text.new.items) }
+    requires spot { IsSpotOf good.now spot }
+    requires known { IsKnown good.now }
+    ensures { IfOk result (λ _. AreWarnedOf good.now text.old.items text.new.items) }
 {
     if !stands_on(good.lines, k, spot.number) || k >= good.program.len() {
         return Ok(k);
     }
+    let part = statement(spot.line, code(spot.line));
+    if is_stack_unset(good, k) {
+        let help = warned::stack(alloc, good.bytes, good.program.size())?;
+        push_warning(
+            alloc,
+            text,
+            good,
+            spot,
+            part,
+            Warning::StackUnset,
+            help.as_slice(),
+        )?;
+    }
     if let Some(warning) = warning_at(good, k) {
-        let part = statement(spot.line, code(spot.line));
-        push_warning(alloc, text, good, spot, part, warning)?;
+        push_warning(alloc, text, good, spot, part, warning, b"")?;
     }
     Ok(k + 1)
 }
@@ -181,31 +175,46 @@ fn push_lines(
     operands: &Operands<'_>,
 ) -> Result<(), AllocError>
     requires operands { AreOperandsOf (lines_of good.now.bytes.now) operands.now }
-    requires lines { good.now.lines.now ≡ instruction_lines good.now.bytes.now }
-    requires size { length good.now.reached.now ≡ length good.now.program.now.code }
-    requires paths { HavePaths good.now.program.now good.now.reached.now }
-    requires closed { good.now.is_closed ≡ true →
-        IsClosedSet good.now.program.now good.now.reached.now }
-    ensures { OnOk result (AreWarned good.now.file.now good.now.bytes.now good.now.program.now
-        text.old.items text.new.items) }
+    requires known { IsKnown good.now }
+    ensures { OnOk result (AreWarnedOf good.now text.old.items text.new.items) }
 {
     let file = good.file;
     let mut k = 0;
+    let mut byte = 0u32;
+    let mut is_data = begin_with_data(Some(good.bytes));
     let mut number = 0u64;
     let mut rest = Some(good.bytes);
     while let Some(bytes) = rest {
         let (line, after) = next_line(bytes);
         number += 1;
         let spot = Spot { file, number, line };
-        push_labels(alloc, text, good, operands, spot, k)?;
+        let next = Next { k, byte, is_data };
+        push_labels(alloc, text, good, operands, spot, next)?;
         k = push_numbered(alloc, text, good, spot, k)?;
+        byte = byte.wrapping_add(warned::data_size(line));
+        is_data = is_data_after(line, after, is_data);
         rest = after;
     }
     Ok(())
 }
 
-/// Adds the warnings of a listing, in the order of their lines: labels that no instruction names, instructions that no
-/// path reaches, and those from which a run can go on past the last one.
+// The first instruction that reads `$sp` after a path on which no instruction sets it.
+fn first_unset(program: &Program, unset: &[bool]) -> Option<usize>
+    requires size { length unset.now ≡ length program.now.code }
+    requires paths { HavePaths Paths.WithoutStack program.now unset.now }
+    ensures { IfSome result (IsStackUnset program.now) }
+{
+    for k in 0..unset.len() {
+        if unset[k] && reads_stack(program.instr(k)) {
+            return Some(k);
+        }
+    }
+    None
+}
+
+/// Adds the warnings of a listing, in the order of their lines: labels that no instruction names or that stand before data,
+/// the first read of a stack pointer that is not set, instructions that no path reaches, and those from which a run can go
+/// on past the last one.
 pub(crate) fn push_warnings(
     alloc: Global,
     text: &mut Vec<u8>,
@@ -218,7 +227,8 @@ pub(crate) fn push_warnings(
     ensures { OnOk result (AreWarned file.now bytes.now program.now text.old.items text.new.items) }
 {
     let operands = operands_of(alloc, bytes)?;
-    let reached = reached(alloc, program)?;
+    let unset = reached(alloc, program, Paths::WithoutStack)?;
+    let reached = reached(alloc, program, Paths::Any)?;
     let reached = reached.as_slice();
     let good = Good {
         file,
@@ -227,6 +237,7 @@ pub(crate) fn push_warnings(
         lines,
         reached,
         is_closed: is_closed(program, reached),
+        stack: first_unset(program, unset.as_slice()),
     };
     push_lines(alloc, text, &good, &operands)
 }

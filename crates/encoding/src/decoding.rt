@@ -1,8 +1,8 @@
 //! From a word to an instruction.
-ghost use Rattle.std.specs.Prelude.{◌≡◌};
+ghost use Rattle.std.specs.Prelude.{◌≡◌, IfSome, Some};
 ghost use Rattle.std.specs.Option.{option_map};
 ghost use Rattle.isa.specs.Statement.{implied_target as implied_target_of, implied_source as implied_source_of};
-ghost use Rattle.encoding.specs.Words.{instruction_of, decode as decode_of, read as read_of, branch_target as branch_target_of, region_target as region_target_of};
+ghost use Rattle.encoding.specs.Words.{instruction_of, decode as decode_of, decode_as as decode_as_of, read as read_of, branch_target as branch_target_of, region_target as region_target_of};
 
 use crate::fields;
 use crate::layout::{Layout, Shape, layout_of, operation_of};
@@ -77,9 +77,11 @@ fn implied_source(op: Op) -> Reg
 }
 
 // The instruction of a word whose operation is known, unless a field is set that the shape does not use.
+#[inline(always)]
 #[tactic(auto, unfolding(crate::specs::Words::read))]
 fn read(op: Op, layout: Layout, word: u32, pc: u32) -> Option<Decoded>
-    ensures { option_map instruction_of result ≡ read_of layout.shape layout.select op pc word }
+    ensures value { option_map instruction_of result ≡ read_of layout.shape layout.select op pc word }
+    ensures op { IfSome result (λ decoded. decoded.op ≡ op) }
 {
     let (rs, rt, rd) = (fields::rs(word), fields::rt(word), fields::rd(word));
     let shift = fields::shift(word);
@@ -123,6 +125,16 @@ fn read(op: Op, layout: Layout, word: u32, pc: u32) -> Option<Decoded>
     })
 }
 
+/// The instruction of a word at the address `pc`, read as one of the operation `op`, unless a bit is set that the operation
+/// does not use. `decode` reads a word as one of its `operation_of`.
+#[inline(always)]
+pub fn decode_as(op: Op, word: u32, pc: u32) -> Option<Decoded>
+    ensures value { option_map instruction_of result ≡ decode_as_of pc word (Some op) }
+    ensures op { IfSome result (λ decoded. decoded.op ≡ op) }
+{
+    read(op, layout_of(op), word, pc)
+}
+
 /// The instruction of a word at the address `pc`, if it is one of the language's operations with no bit
 /// set that the operation does not use.
 #[tactic(auto, unfolding(crate::specs::Words::decode))]
@@ -130,5 +142,5 @@ pub fn decode(word: u32, pc: u32) -> Option<Decoded>
     ensures { option_map instruction_of result ≡ decode_of pc word }
 {
     let op = operation_of(word)?;
-    read(op, layout_of(op), word, pc)
+    decode_as(op, word, pc)
 }

@@ -1,5 +1,5 @@
 //! The layout of each operation in its word.
-ghost use Rattle.std.specs.Prelude.{◌≡◌, ◌<◌, ◌&&◌, ◌==◌, IfSome, Some};
+ghost use Rattle.std.specs.Prelude.{◌≡◌, ◌<◌};
 ghost use Rattle.std.specs.List.{find};
 ghost use Rattle.instructions.specs.Instruction.{operations};
 ghost use Rattle.encoding.specs.Layouts.{layout as layout_by, operation_of as operation, has_layout};
@@ -127,21 +127,9 @@ pub fn layout_of(op: Op) -> Layout
     }
 }
 
-fn find_in(operations: &[Op], opcode: u32, select: u32) -> Option<Op>
-    ensures { result ≡ find (has_layout opcode select) operations.now }
-{
-    for op in operations {
-        let found = layout_of(*op);
-        if found.opcode == opcode && found.select == select {
-            return Some(*op);
-        }
-    }
-    None
-}
-
 // The operation with opcode 0 and a function, where there is one.
 fn by_function(function: u32) -> Option<Op>
-    ensures { IfSome result (λ op. find (has_layout 0 function) operations ≡ Some op) }
+    ensures { result ≡ find (has_layout 0 function) operations }
 {
     Some(match function {
         0 => Op::Sll,
@@ -177,7 +165,7 @@ fn by_function(function: u32) -> Option<Op>
 
 // The operation with opcode 1 and a field rt, where there is one.
 fn by_register(rt: u32) -> Option<Op>
-    ensures { IfSome result (λ op. find (has_layout 1 rt) operations ≡ Some op) }
+    ensures { result ≡ find (has_layout 1 rt) operations }
 {
     Some(match rt {
         0 => Op::Bltz,
@@ -188,8 +176,8 @@ fn by_register(rt: u32) -> Option<Op>
 
 // The operation with an opcode above 1, where there is one.
 fn by_opcode(opcode: u32) -> Option<Op>
-    ensures large { IfSome result (λ op. 1 < opcode) }
-    ensures some { IfSome result (λ op. find (has_layout opcode 0) operations ≡ Some op) }
+    requires { 1 < opcode }
+    ensures { result ≡ find (has_layout opcode 0) operations }
 {
     Some(match opcode {
         2 => Op::J,
@@ -218,20 +206,17 @@ fn by_opcode(opcode: u32) -> Option<Op>
     })
 }
 
-/// The operation with the opcode and the selecting field of a word. The table is searched only where neither names one.
+/// The operation with the opcode and the selecting field of a word.
+#[inline(always)]
 #[tactic(auto, unfolding(crate::specs::Layouts::operation_of))]
 pub fn operation_of(word: u32) -> Option<Op>
     ensures { result ≡ operation word }
 {
     let opcode = fields::opcode(word);
     let select = fields::select(word);
-    let found = match opcode {
+    match opcode {
         0 => by_function(select),
         1 => by_register(select),
         _ => by_opcode(opcode),
-    };
-    match found {
-        Some(op) => Some(op),
-        None => find_in(Op::all(), opcode, select),
     }
 }

@@ -8,7 +8,7 @@ mod fields;
 mod laws;
 mod layout;
 
-pub use decoding::{Decoded, decode};
+pub use decoding::{Decoded, decode, decode_as};
 pub use encoding::encode;
 pub use laws::{each_operation_has_a_word, each_word_is_written, one_word_for_each_instruction};
-pub use layout::{Layout, Shape, layout_of};
+pub use layout::{Layout, Shape, layout_of, operation_of};

@@ -1,8 +1,8 @@
 -- One sequence of steps that events tell after another.
 use Rattle.std.specs.List.{AllByRecursion}
-use Rattle.std.specs.Prelude.{Result, IfErr, IfSome, OnOk}
-use Rattle.std.proofs.Common.{◌≡◌, ◌⊎◌, ℕ, suc, Option, Some, Ok, Err, length, List, [], ◌∷◌, ◌++◌, refl, sym, ap, ◌∙◌, subst, inl, inr, ⊎_elim}
-use Rattle.instructions.specs.Programs.{Program}
+use Rattle.std.specs.Prelude.{Result, IfErr, IfNone, IfSome, OnOk, slice_get}
+use Rattle.std.proofs.Common.{◌≡◌, ◌⊎◌, ℕ, suc, ◌<◌, Option, Some, None, Ok, Err, length, List, [], ◌∷◌, ◌++◌, refl, sym, ap, ◌∙◌, subst, inl, inr, ⊎_elim, arith}
+use Rattle.instructions.specs.Programs.{Program, address}
 use Rattle.inorder.specs.declared.history.Step.{Step as UnitStep}
 use Rattle.inorder.specs.declared.history.Step.TheVariants.{Let as UnitLet, On as UnitOn, Renew}
 use Rattle.inorder.specs.Legal.{Allowed, MayAct, change_at}
@@ -17,14 +17,19 @@ use Rattle.replay.specs.declared.unit.Unit.{Unit as Held}
 use Rattle.replay.specs.declared.acting.Deed.{Deed}
 use Rattle.replay.specs.declared.acting.Deed.TheVariants.{Confirm, Mend, Retire}
 use Rattle.replay.specs.declared.supply.Supplies.{Supplies}
-use Rattle.replay.specs.Lets.{sizes_of, supply_of, unit_of}
-use Rattle.replay.specs.Reasons.{act_of}
+use Rattle.replay.specs.Lets.{IsNoLet, sizes_of, supply_of, unit_of}
+use Rattle.replay.specs.declared.dispatch.NoLet.{NoLet}
+use Rattle.replay.specs.declared.dispatch.NoLet.TheVariants.{NoInstruction as NoSuch, NoSupply, OtherNext, OtherPc, QueueFull, RingFull}
+use Rattle.replay.specs.declared.refusal.Refusal.{Refusal}
+use Rattle.replay.specs.declared.tenant.Tenant.{Tenant as HeldTenant}
+use Rattle.replay.proofs.Laid.{get_below}
+use Rattle.replay.specs.Reasons.{IsHeldLive, Reason as ActReason, act_of, held}
 use Rattle.replay.specs.Shown.{shown}
 use Rattle.replay.specs.Verdicts.{IsNamed, IsTaken}
 use Rattle.events.specs.declared.why.Why.{Why}
-use Rattle.events.specs.declared.why.Why.TheVariants.{Let as WhyLet, NoInstruction, Act as WhyAct, NotLet, OtherProducer, OtherValue, NoValue, Nobody}
+use Rattle.events.specs.declared.why.Why.TheVariants.{Let as WhyLet, NoInstruction, Act as WhyAct, Gone, NotLet, OtherProducer, OtherValue, NoValue, Nobody}
 use Rattle.events.specs.Following.{AreTold, Follows, IsUntold}
-use Rattle.events.specs.Told.{AreExecution, Confirms, Executes, IsExecution, IsOfValues, IsSquashAfter, IsTrueOf, Recovers, Refuses, Retires, SquashesOne}
+use Rattle.events.specs.Told.{AreExecution, Confirms, Executes, IsConfirm, IsExecution, IsLet, IsNext, IsOfState, IsOfValues, IsRetire, IsRetiring, IsSquash, IsSquashAfter, IsSquashing, IsTrueOf, NextLet, Only, Recovers, Refuses, Retires, Squashes, SquashesOne}
 
 abbrev as_unit : List Tenant → ℕ → UpdateUnit
 as_unit ts n = record { tenants = ts; fresh = n }
@@ -147,17 +152,118 @@ executes_untold u v w p a b = record { told = a.told; follows = then_untold u v 
 
 -- Refusals
 
-pub refuses_here : (u v : Held) (why : Why) → v ≡ u → IsTrueOf u why → Refuses u why v
-refuses_here u v why same true_of = subst (Refuses u why) (sym same) (record { told = []; follows = stays u; holds = true_of })
+let_lift : (v : Held) (A B : List Step → Type 0) (told ss : List Step) (r : NoLet) → ((rr : List Step) → A rr → B (rr ++ ss)) →
+    NextLet v A told r → NextLet v B (told ++ ss) r
+let_lift v A B told ss RingFull f n = record { index = n.index; predicted = n.predicted; next = f (Let n.index n.predicted ∷ told) n.next; why = n.why }
+let_lift v A B told ss QueueFull f n = record { index = n.index; predicted = n.predicted; next = f (Let n.index n.predicted ∷ told) n.next; why = n.why }
+let_lift v A B told ss NoSuch f n = record { index = n.index; predicted = n.predicted; next = f (Let n.index n.predicted ∷ told) n.next; why = n.why }
+let_lift v A B told ss (OtherPc front) f n = f told n
+let_lift v A B told ss (OtherNext x) f n = record { index = n.index; predicted = n.predicted; next = f (Let n.index n.predicted ∷ told) n.next; why = n.why }
+let_lift v A B told ss (NoSupply k) f n = record { index = n.index; predicted = n.predicted; next = f (Let n.index n.predicted ∷ told) n.next; why = n.why }
 
-pub refuses_true : (u v : Held) (ss : List Step) (why : Why) → Follows u ss v → IsTrueOf v why → Refuses u why v
-refuses_true u v ss why f t = record { told = ss; follows = f; holds = t }
+-- what is next after fewer steps
+next_lift : (v : Held) (A B : List Step → Type 0) (told ss : List Step) (why : Why) → ((rr : List Step) → A rr → B (rr ++ ss)) →
+    IsNext v A told why → IsNext v B (told ++ ss) why
+next_lift v A B told ss (WhyLet r) f n = let_lift v A B told ss r f n
+next_lift v A B told ss (NoInstruction pc) f n = f told n
+next_lift v A B told ss (WhyAct p deed r) f n = f (On p deed ∷ told) n
+next_lift v A B told ss (NotLet p) f n = f told n
+next_lift v A B told ss (Gone p) f n = f told n
+next_lift v A B told ss (OtherProducer p a b) f n = f told n
+next_lift v A B told ss (OtherValue p x) f n = f told n
+next_lift v A B told ss (NoValue p) f n = f told n
+next_lift v A B told ss Nobody f n = f told n
 
-pub refuses_after : (u v w : Held) (ss : List Step) (why : Why) → Follows u ss v → Refuses v why w → Refuses u why w
-refuses_after u v w ss why f r = record { told = r.told ++ ss; follows = then u v w ss r.told f r.follows; holds = r.holds }
+-- an act
+pub refuses_here : (u v : Held) (p : ℕ) (deed : Deed) (r : Refusal) → v ≡ u → ActReason u.program.now (shown u.tenants.items) deed p r →
+    Refuses u (Only (On p deed)) (WhyAct p deed r) v
+refuses_here u v p deed r same why =
+    subst (Refuses u (Only (On p deed)) (WhyAct p deed r)) (sym same) (record { told = []; follows = stays u; next = refl; holds = why })
 
-pub refuses_executed : (u v w : Held) (p : ℕ) (why : Why) → Executes u p v → Refuses v why w → Refuses u why w
-refuses_executed u v w p why e r = refuses_after u v w e.told why e.follows r
+-- an instruction that is let
+pub let_refused : (u m v : Held) (pc next : Option ℕ) (index w : ℕ) (r : NoLet) → Follows u [] m → v ≡ m → IfSome pc (λ x. x ≡ address index) →
+    IfSome next (λ x. x ≡ w) → IsNoLet m index w r → Refuses u (λ ss. (ss ≡ []) ⊎ IsLet pc next ss) (WhyLet r) v
+let_refused u m v pc next index w r f same at goes why =
+    subst (Refuses u (λ ss. (ss ≡ []) ⊎ IsLet pc next ss) (WhyLet r)) (sym same)
+    (record { told = []; follows = f; next = by r why; holds = true_of r why })
+  where
+    one : (ss : List Step) → ss ≡ Let index w ∷ [] → (ss ≡ []) ⊎ IsLet pc next ss
+    one ss e = inr (record { index = index; predicted = w; is = e; at = at; goes = goes })
+
+    by : (x : NoLet) → IsNoLet m index w x → NextLet m (λ ss. (ss ≡ []) ⊎ IsLet pc next ss) [] x
+    by RingFull n = record { index = index; predicted = w; next = one (Let index w ∷ []) refl; why = n }
+    by QueueFull n = record { index = index; predicted = w; next = one (Let index w ∷ []) refl; why = n }
+    by NoSuch n = record { index = index; predicted = w; next = one (Let index w ∷ []) refl; why = n }
+    by (OtherPc front) n = inl refl
+    by (OtherNext x) n = record { index = index; predicted = w; next = one (Let index w ∷ []) refl; why = n }
+    by (NoSupply k) n = record { index = index; predicted = w; next = one (Let index w ∷ []) refl; why = n }
+
+    true_of : (x : NoLet) → IsNoLet m index w x → IsTrueOf m (WhyLet x)
+    true_of RingFull n = tt
+    true_of QueueFull n = tt
+    true_of NoSuch n = tt
+    true_of (OtherPc front) n = n.0
+    true_of (OtherNext x) n = tt
+    true_of (NoSupply k) n = tt
+
+-- what is stated
+pub refuses_state : (u v : Held) (A : List Step → Type 0) (ss : List Step) (why : Why) → Follows u ss v → A ss → IsOfState why → IsTrueOf v why →
+    Refuses u A why v
+refuses_state u v A ss why f a of t = record { told = ss; follows = f; next = go why of; holds = t }
+  where
+    go : (w : Why) → IsOfState w → IsNext v A ss w
+    go (WhyLet r) o = absurd o
+    go (NoInstruction pc) o = a
+    go (WhyAct p deed r) o = absurd o
+    go (NotLet p) o = a
+    go (Gone p) o = a
+    go (OtherProducer p x y) o = a
+    go (OtherValue p x) o = a
+    go (NoValue p) o = a
+    go Nobody o = a
+
+pub refuses_after : (u v w : Held) (ss : List Step) (why : Why) (A B : List Step → Type 0) → Follows u ss v → Refuses v A why w →
+    ((rr : List Step) → A rr → B (rr ++ ss)) → Refuses u B why w
+refuses_after u v w ss why A B f r lift = record {
+  told = r.told ++ ss;
+  follows = then u v w ss r.told f r.follows;
+  next = next_lift w A B r.told ss why lift r.next;
+  holds = r.holds;
+}
+
+-- no step that is told before
+pub refuses_as : (u v w : Held) (why : Why) (A B : List Step → Type 0) → Follows u [] v → Refuses v A why w → ((rr : List Step) → A rr → B rr) →
+    Refuses u B why w
+refuses_as u v w why A B f r how = refuses_after u v w [] why A B f r (λ rr a. subst B (sym (append_nil rr)) (how rr a))
+
+pub refuses_executed : (u v w : Held) (p : ℕ) (why : Why) (A : List Step → Type 0) → ((rr : List Step) → A rr → AreExecution p rr) → Executes u p v →
+    Refuses v A why w → Refuses u (AreExecution p) why w
+refuses_executed u v w p why A how e r =
+    refuses_after u v w e.told why A (AreExecution p) e.follows r (λ rr a. all_more p rr e.told (how rr a) e.are)
+
+pub only_execution : (p : ℕ) (s : Step) → IsExecution p s → (rr : List Step) → Only s rr → AreExecution p rr
+only_execution p s is rr e = subst (AreExecution p) (sym e) (is, tt)
+
+pub only_retiring : (p : ℕ) (ss : List Step) → IsConfirm p ss → (rr : List Step) → Only (On p Retire) rr → IsRetiring (Some p) (rr ++ ss)
+only_retiring p ss c rr e = inr (inr (record {
+  p = p;
+  named = refl;
+  is = ⊎_elim (λ f. inl (ap (λ xs. xs ++ ss) e ∙ ap (λ xs. On p Retire ∷ xs) f)) (λ f. inr (ap (λ xs. xs ++ ss) e ∙ ap (λ xs. On p Retire ∷ xs) f)) c;
+}))
+
+pub only_confirming : (p : ℕ) (rr : List Step) → Only (On p Confirm) rr → IsRetiring (Some p) rr
+only_confirming p rr e = inr (inl (record { p = p; named = refl; is = e }))
+
+-- the tenant is the one that is named
+pub retiring_named : (p : ℕ) (who : Option ℕ) → IfSome who (λ q. q ≡ p) → (rr : List Step) → IsRetiring (Some p) rr → IsRetiring who rr
+retiring_named p who named rr (inl none) = inl none
+retiring_named p who named rr (inr (inl c)) =
+    inr (inl (record { p = p; named = named; is = subst (λ q. rr ≡ On q Confirm ∷ []) (sym c.named) c.is }))
+retiring_named p who named rr (inr (inr r)) =
+    inr (inr (record { p = p; named = named; is = subst (λ q. (rr ≡ On q Retire ∷ []) ⊎ (rr ≡ On q Retire ∷ On q Confirm ∷ [])) (sym r.named) r.is }))
+
+pub retiring_told : (p : ℕ) (who : Option ℕ) (rr : List Step) → IfSome who (λ q. q ≡ p) → IsRetire (Some p) rr → IsRetiring who rr
+retiring_told p who rr named r = retiring_named p who named rr (inr (inr r))
 
 pub untold_act : (u v : Held) (p : ℕ) (deed : Deed) → MayAct u.program.now (shown u.tenants.items) 0 p (act_of deed) →
     shown v.tenants.items ≡ change_at u.program.now (shown u.tenants.items) 0 p (act_of deed) (at (shown u.tenants.items) p) →
@@ -208,7 +314,7 @@ retires_named u v p who r named = record {
   is = record { p = p; named = named; is = subst (λ q. (r.told ≡ On q Retire ∷ []) ⊎ (r.told ≡ On q Retire ∷ On q Confirm ∷ [])) (sym r.is.named) r.is.is };
 }
 
-all_after : (p : ℕ) (rr ss : List Step) → AllByRecursion (IsSquashAfter p) rr → AllByRecursion (IsSquashAfter p) ss → AllByRecursion (IsSquashAfter p) (rr ++ ss)
+pub all_after : (p : ℕ) (rr ss : List Step) → AllByRecursion (IsSquashAfter p) rr → AllByRecursion (IsSquashAfter p) ss → AllByRecursion (IsSquashAfter p) (rr ++ ss)
 all_after p [] ss a b = b
 all_after p (r ∷ rr) ss a b = (a.0, all_after p rr ss a.1 b)
 
@@ -222,6 +328,16 @@ squashes_then u v w p a b = record {
   are = all_after p b.told a.told b.are a.are;
 }
 
+pub squashed_one : (who : Option ℕ) (p : ℕ) (d : Deed) → IfSome who (λ q. q ≡ p) → IsSquashing d → (rr : List Step) → Only (On p d) rr → IsSquash who rr
+squashed_one who p d named how rr e = record {
+  p = p;
+  named = named;
+  is = ⊎_elim (λ f. inl (e ∙ ap (λ x. On p x ∷ []) f)) (λ f. inr (e ∙ ap (λ x. On p x ∷ []) f)) how;
+}
+
+pub squashes : (u v : Held) (who : Option ℕ) (s : Step) → Follows u (s ∷ []) v → IsSquash who (s ∷ []) → Squashes u who v
+squashes u v who s f is = record { told = s ∷ []; follows = f; is = is }
+
 pub recovers : (u v w : Held) (p : ℕ) → SquashesOne u p v → Follows v (On p Mend ∷ []) w → Recovers u p w
 recovers u v w p s f = record {
   told = On p Mend ∷ s.told;
@@ -230,12 +346,25 @@ recovers u v w p s f = record {
 }
 
 -- a reason that speaks of values alone
-pub of_values : (u : Held) (why : Why) → IsOfValues why → IsTrueOf u why
+pub of_values : (u : Held) (why : Why) → IsOfValues why → IsOfState why × IsTrueOf u why
 of_values u (WhyLet r) t = absurd t
 of_values u (NoInstruction pc) t = absurd t
 of_values u (WhyAct p deed r) t = absurd t
 of_values u (NotLet p) t = absurd t
+of_values u (Gone p) t = absurd t
 of_values u (OtherProducer p a b) t = absurd t
-of_values u (OtherValue p v) t = tt
-of_values u (NoValue p) t = tt
+of_values u (OtherValue p v) t = (tt, tt)
+of_values u (NoValue p) t = (tt, tt)
 of_values u Nobody t = absurd t
+
+pub if_none : {X : Type 0} (o : Option X) (A B : Type 0) → (A → B) → IfNone o A → IfNone o B
+if_none None A B f a = f a
+if_none (Some x) A B f a = tt
+
+-- nobody is in flight, if nobody of all is
+pub nobody_live : (hs : List HeldTenant) (n : ℕ) → n ≡ length hs → ((q : ℕ) → q < n → ¬ IsHeldLive (held hs q)) → (q : ℕ) → ¬ IsHeldLive (held hs q)
+nobody_live hs n long never q live = go (slice_get hs q) refl live
+  where
+    go : (o : Option HeldTenant) → slice_get hs q ≡ o → IsHeldLive o → ⊥
+    go None e l = l
+    go (Some h) e l = let below = get_below hs q h e in never q (omega arith) (subst IsHeldLive (sym e) l)

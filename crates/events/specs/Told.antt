@@ -1,8 +1,12 @@
 -- Which steps of the unit an event tells, and why one is refused.
-use Rattle.std.specs.Prelude.{⊤, ◌≡◌, ◌⊎◌, ℕ, ◌<◌, List, [], ◌∷◌, Option, Some, None, IfSome, slice_get}
+use Rattle.std.specs.Prelude.{⊤, ◌≡◌, ◌≢◌, ◌⊎◌, ℕ, ◌<◌, List, [], ◌∷◌, Option, Some, None, IfSome, slice_get}
 use Rattle.std.specs.List.{AllByRecursion}
 use Rattle.instructions.specs.Programs.{address}
+use Rattle.instructions.specs.declared.op.Kind.{Kind}
+use Rattle.instructions.specs.declared.op.Kind.TheVariants.{Stores}
+use Rattle.inorder.specs.Tenants.{Live, kind_of}
 use Rattle.inorder.specs.Unit.{front_pc}
+use Rattle.replay.specs.declared.acting.Deed.{Deed}
 use Rattle.replay.specs.declared.acting.Deed.TheVariants.{Claim, Confirm, Finish, Flush, Guess, Load, Mend, Retire, Squash}
 use Rattle.replay.specs.declared.step.Step.{Step}
 use Rattle.replay.specs.declared.step.Step.TheVariants.{Let, On}
@@ -11,14 +15,14 @@ use Rattle.replay.specs.declared.tenant.Fate.TheVariants.{Addr, Done, Guessed, M
 use Rattle.replay.specs.declared.tenant.Tenant.{Tenant}
 use Rattle.replay.specs.declared.unit.Unit.{Unit as Held}
 use Rattle.replay.specs.Lets.{IsNoLet}
-use Rattle.replay.specs.Reasons.{Reason as ActReason}
+use Rattle.replay.specs.Reasons.{Is, IsHeldLive, Reason as ActReason, held}
 use Rattle.replay.specs.declared.dispatch.NoLet.{NoLet as Reason}
 use Rattle.replay.specs.declared.dispatch.NoLet.TheVariants.{OtherPc}
-use Rattle.replay.specs.Shown.{shown}
+use Rattle.replay.specs.Shown.{shown, tenant_of}
 use Rattle.events.specs.declared.event.Event.{Event}
 use Rattle.events.specs.declared.event.Event.TheVariants.{Let as ToldLet, From as ToldFrom, Begin as ToldBegin, End as ToldEnd, Execute as ToldExecute, Read as ToldRead, Load as ToldLoad, Complete as ToldComplete, Retire as ToldRetire, Squash as ToldSquash, Mend as ToldMend, Recover as ToldRecover}
 use Rattle.events.specs.declared.why.Why.{Why}
-use Rattle.events.specs.declared.why.Why.TheVariants.{Let as NoLet, NoInstruction, Act as NoAct, NotLet, OtherProducer, OtherValue, NoValue}
+use Rattle.events.specs.declared.why.Why.TheVariants.{Let as NoLet, NoInstruction, Act as NoAct, Gone, NotLet, OtherProducer, OtherValue, NoValue, Nobody}
 use Rattle.events.specs.Following.{Follows}
 
 -- A step of the execution of the tenant at position p
@@ -93,6 +97,21 @@ pub record HasOutcome (hs : List Tenant) (p v : ℕ) : Type 0 where
   pub is : slice_get hs p ≡ Some tenant
   pub value : outcome_of tenant.fate ≡ Some v
 
+-- What a tenant leaves as it retires: the data of a store, or what it has made
+abbrev pub left_by : Kind → (second made : Option ℕ) → Option ℕ
+left_by Stores second made = second
+left_by _ second made = made
+
+-- The tenant at a position has left this value
+pub record HasLeft (u : Held) (p v : ℕ) : Type 0 where
+  pub tenant : Tenant
+  pub is : slice_get u.tenants.items p ≡ Some tenant
+  pub value : left_by (kind_of u.program.now (tenant_of tenant)) tenant.second.value tenant.made ≡ Some v
+
+-- A tenant is squashed so
+abbrev pub IsSquashing : Deed → Type 0
+IsSquashing deed = (deed ≡ Squash) ⊎ (deed ≡ Flush)
+
 -- One of the sources of the tenant at a position comes from q
 pub record ComesFrom (hs : List Tenant) (p q : ℕ) : Type 0 where
   pub tenant : Tenant
@@ -160,16 +179,51 @@ pub record Tells (u : Held) (event : Event) (v : Held) : Type 0 where
   pub says : Says event told
   pub states : States v event
 
--- Another instruction may not be let for this reason
-pub record IsNoLetOf (u : Held) (reason : Reason) : Type 0 where
+-- One step
+abbrev pub Only : Step → List Step → Type 0
+Only s ss = ss ≡ s ∷ []
+
+-- A tenant retires, or nothing of that is done, or its guess is confirmed
+pub record IsConfirming (who : Option ℕ) (ss : List Step) : Type 0 where
+  pub p : ℕ
+  pub named : IfSome who (λ q. q ≡ p)
+  pub is : ss ≡ On p Confirm ∷ []
+
+abbrev pub IsRetiring : Option ℕ → List Step → Type 0
+IsRetiring who ss = (ss ≡ []) ⊎ (IsConfirming who ss ⊎ IsRetire who ss)
+
+-- The steps that an event makes, the last one first: all that it says, or the first ones of them
+abbrev pub Begins : Event → List Step → Type 0
+Begins (ToldLet pc next) ss = (ss ≡ []) ⊎ IsLet pc next ss
+Begins (ToldFrom p q) ss = ss ≡ []
+Begins (ToldBegin p) ss = Only (On p Claim) ss
+Begins (ToldEnd p x) ss = Only (On p Finish) ss
+Begins (ToldExecute p x) ss = AreExecution p ss
+Begins (ToldRead p x) ss = (ss ≡ []) ⊎ Only (On p Load) ss
+Begins (ToldLoad p x) ss = AreExecution p ss
+Begins (ToldComplete p x) ss = AreExecution p ss
+Begins (ToldRetire who x) ss = IsRetiring who ss
+Begins (ToldSquash who) ss = (ss ≡ []) ⊎ IsSquash who ss
+Begins (ToldMend p) ss = Only (On p Mend) ss
+Begins (ToldRecover p) ss = AllByRecursion (IsSquashAfter p) ss ⊎ IsRecover p ss
+
+-- The instruction that is let next may not be let for this reason
+pub record IsNextLet (v : Held) (Begin : List Step → Type 0) (told : List Step) (reason : Reason) : Type 0 where
   pub index : ℕ
   pub predicted : ℕ
-  pub why : IsNoLet u index predicted reason
+  pub next : Begin (Let index predicted ∷ told)
+  pub why : IsNoLet v index predicted reason
 
--- The reason why an instruction may not be let is true of a unit
-abbrev pub IsTrueLet : Held → Reason → Type 0
-IsTrueLet u (OtherPc front) = front_pc (shown u.tenants.items) ≡ front
-IsTrueLet u reason = IsNoLetOf u reason
+abbrev pub NextLet : Held → (List Step → Type 0) → List Step → Reason → Type 0
+NextLet v Begin told (OtherPc front) = Begin told
+NextLet v Begin told reason = IsNextLet v Begin told reason
+
+-- The step that is refused for a reason is the next one of an event, after those that it has made; or it has made these,
+-- and what it states is refused
+abbrev pub IsNext : Held → (List Step → Type 0) → List Step → Why → Type 0
+IsNext v Begin told (NoAct p deed reason) = Begin (On p deed ∷ told)
+IsNext v Begin told (NoLet reason) = NextLet v Begin told reason
+IsNext v Begin told why = Begin told
 
 -- The sources of the tenant at a position have these producers
 pub record HasProducers (hs : List Tenant) (p : ℕ) (a b : Option ℕ) : Type 0 where
@@ -178,13 +232,24 @@ pub record HasProducers (hs : List Tenant) (p : ℕ) (a b : Option ℕ) : Type 0
   pub first : tenant.first.creator ≡ a
   pub second : tenant.second.creator ≡ b
 
+-- The reason why an instruction may not be let is true of a unit
+abbrev pub IsTrueLet : Held → Reason → Type 0
+IsTrueLet u (OtherPc front) = front_pc (shown u.tenants.items) ≡ front
+IsTrueLet u reason = ⊤
+
+-- Nobody is in flight
+abbrev pub IsEmpty : Held → Type 0
+IsEmpty u = (q : ℕ) → ¬ IsHeldLive (held u.tenants.items q)
+
 -- The reason is true of a unit
 abbrev pub IsTrueOf : Held → Why → Type 0
 IsTrueOf u (NoLet reason) = IsTrueLet u reason
 IsTrueOf u (NoInstruction pc) = front_pc (shown u.tenants.items) ≡ pc
 IsTrueOf u (NoAct p deed reason) = ActReason u.program.now (shown u.tenants.items) deed p reason
 IsTrueOf u (NotLet p) = slice_get u.tenants.items p ≡ None
+IsTrueOf u (Gone p) = Is (shown u.tenants.items) p (λ t. t.standing ≢ Live)
 IsTrueOf u (OtherProducer p a b) = HasProducers u.tenants.items p a b
+IsTrueOf u Nobody = IsEmpty u
 IsTrueOf u _ = ⊤
 
 -- A reason that speaks of values alone
@@ -193,8 +258,15 @@ IsOfValues (OtherValue p v) = ⊤
 IsOfValues (NoValue p) = ⊤
 IsOfValues _ = ⊥
 
--- Legal steps lead to a unit of which the reason is true
-pub record Refuses (u : Held) (why : Why) (v : Held) : Type 0 where
+-- A reason that speaks of a state, and of no step
+abbrev pub IsOfState : Why → Type 0
+IsOfState (NoAct p deed reason) = ⊥
+IsOfState (NoLet reason) = ⊥
+IsOfState _ = ⊤
+
+-- Legal steps with which an event begins lead to a unit where its next step is refused, for a reason that is true
+pub record Refuses (u : Held) (Begin : List Step → Type 0) (why : Why) (v : Held) : Type 0 where
   pub told : List Step
   pub follows : Follows u told v
+  pub next : IsNext v Begin told why
   pub holds : IsTrueOf v why

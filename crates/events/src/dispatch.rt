@@ -1,7 +1,8 @@
 //! Dispatch.
-ghost use Rattle.std.specs.Prelude.{◌≡◌, ◌<◌, ◌^◌, IfErr, IfOk, IfSome, IsTrue, OnOk, [], length};
+ghost use Rattle.std.specs.Prelude.{◌≡◌, ◌⊎◌, ◌<◌, ◌^◌, IfErr, IfOk, IfSome, IsTrue, OnOk, [], length};
+ghost use Rattle.instructions.specs.Programs.{address};
 ghost use Rattle.events.specs.Following.{Follows};
-ghost use Rattle.events.specs.Told.{Lets, Refuses};
+ghost use Rattle.events.specs.Told.{IsLet, Lets, Refuses};
 ghost use Rattle.replay.specs.Lets.{IsFit};
 
 use crate::judge::Judge;
@@ -15,11 +16,11 @@ const MOST: usize = 1 << 61;
 
 // The number of the instruction at an address.
 fn index_at(program: &Program, pc: u32) -> Option<usize>
-    ensures { IfSome result (λ index. index < length program.now.code) }
+    ensures inside { IfSome result (λ index. index < length program.now.code) }
+    ensures at { IfSome result (λ index. address index ≡ pc) }
 {
-    let offset = pc.wrapping_sub(Program::START);
-    let index = (offset / 4) as usize;
-    if offset % 4 == 0 && index < program.len() {
+    let index = (pc.wrapping_sub(Program::START) / 4) as usize;
+    if index < program.len() && Program::START + 4 * index as u32 == pc {
         Some(index)
     } else {
         None
@@ -88,7 +89,7 @@ impl<'a> Judge<'a> {
         guess: Option<u32>,
     ) -> Result<Result<(), Why>, AllocError>
         ensures ok { IfOk result (λ answer. OnOk answer (Lets self.old.unit pc next self.new.unit)) }
-        ensures err { IfOk result (λ answer. IfErr answer (λ why. Refuses self.old.unit why self.new.unit)) }
+        ensures err { IfOk result (λ answer. IfErr answer (λ why. Refuses self.old.unit (λ ss. (ss ≡ []) ⊎ IsLet pc next ss) why self.new.unit)) }
     {
         self.mend_towards(pc);
         let front = self.unit.front();

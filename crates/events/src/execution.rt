@@ -1,9 +1,9 @@
 //! Execution.
-ghost use Rattle.std.specs.Prelude.{◌≡◌, ℕ, IfErr, IfSome, OnOk, List, [], ◌∷◌};
+ghost use Rattle.std.specs.Prelude.{◌≡◌, ◌⊎◌, ℕ, IfErr, IfSome, OnOk, List, [], ◌∷◌};
 ghost use Rattle.events.specs.Following.{Follows};
-ghost use Rattle.events.specs.Told.{Executes, HasOutcome, IsExecution, IsTrueOf, Refuses};
+ghost use Rattle.events.specs.Told.{AreExecution, Executes, HasOutcome, IsExecution, Only, Refuses};
 ghost use Rattle.replay.specs.declared.step.Step.TheVariants.{On};
-ghost use Rattle.replay.specs.declared.acting.Deed.TheVariants.{Claim, Finish};
+ghost use Rattle.replay.specs.declared.acting.Deed.TheVariants.{Claim, Finish, Load};
 
 use crate::judge::Judge;
 use crate::stated::is_value;
@@ -15,7 +15,7 @@ impl<'a> Judge<'a> {
     /// Its execution begins.
     pub(crate) fn begin(&mut self, who: usize) -> Result<(), Why>
         ensures ok { OnOk result (Follows self.old.unit (On who Claim ∷ []) self.new.unit) }
-        ensures err { IfErr result (λ why. Refuses self.old.unit why self.new.unit) }
+        ensures err { IfErr result (λ why. Refuses self.old.unit (Only (On who Claim)) why self.new.unit) }
     {
         self.act(who, Deed::Claim)
     }
@@ -23,7 +23,7 @@ impl<'a> Judge<'a> {
     // Its execution ends, and its result is delivered.
     fn finish(&mut self, who: usize) -> Result<(), Why>
         ensures ok { OnOk result (Follows self.old.unit (On who Finish ∷ []) self.new.unit) }
-        ensures err { IfErr result (λ why. Refuses self.old.unit why self.new.unit) }
+        ensures err { IfErr result (λ why. Refuses self.old.unit (Only (On who Finish)) why self.new.unit) }
     {
         self.act(who, Deed::Finish)?;
         self.broadcast(who);
@@ -34,7 +34,7 @@ impl<'a> Judge<'a> {
     pub(crate) fn end(&mut self, who: usize, said: Option<u32>) -> Result<(), Why>
         ensures ok { OnOk result (Follows self.old.unit (On who Finish ∷ []) self.new.unit) }
         ensures value { OnOk result (IfSome said (HasOutcome self.new.unit.tenants.items who)) }
-        ensures err { IfErr result (λ why. Refuses self.old.unit why self.new.unit) }
+        ensures err { IfErr result (λ why. Refuses self.old.unit (Only (On who Finish)) why self.new.unit) }
     {
         self.finish(who)?;
         self.has_outcome(who, said)
@@ -42,7 +42,7 @@ impl<'a> Judge<'a> {
 
     fn begin_if_open(&mut self, who: usize) -> Result<(), Why>
         ensures ok { OnOk result (Executes self.old.unit who self.new.unit) }
-        ensures err { IfErr result (λ why. Refuses self.old.unit why self.new.unit) }
+        ensures err { IfErr result (λ why. Refuses self.old.unit (AreExecution who) why self.new.unit) }
     {
         match self.unit.tenant(who).map(|t| t.fate) {
             Some(Fate::Open) => self.begin(who),
@@ -54,7 +54,7 @@ impl<'a> Judge<'a> {
     pub(crate) fn execute(&mut self, who: usize, said: Option<u32>) -> Result<(), Why>
         ensures ok { OnOk result (Executes self.old.unit who self.new.unit) }
         ensures value { OnOk result (IfSome said (HasOutcome self.new.unit.tenants.items who)) }
-        ensures err { IfErr result (λ why. Refuses self.old.unit why self.new.unit) }
+        ensures err { IfErr result (λ why. Refuses self.old.unit (AreExecution who) why self.new.unit) }
     {
         self.begin_if_open(who)?;
         self.end(who, said)
@@ -62,7 +62,7 @@ impl<'a> Judge<'a> {
 
     /// The load could have its value now.
     pub(crate) fn read(&self, who: usize, said: Option<u32>) -> Result<(), Why>
-        ensures { IfErr result (IsTrueOf self.now.unit) }
+        ensures { IfErr result (λ why. Refuses self.now.unit (λ ss. (ss ≡ []) ⊎ Only (On who Load) ss) why self.now.unit) }
     {
         match self.unit.read(who) {
             Ok(value) => is_value(who, Some(value), said),
@@ -82,13 +82,21 @@ impl<'a> Judge<'a> {
         }
     }
 
+    // The load has its value.
+    fn take_value(&mut self, who: usize, said: Option<u32>) -> Result<(), Why>
+        ensures ok { OnOk result (Executes self.old.unit who self.new.unit) }
+        ensures err { IfErr result (λ why. Refuses self.old.unit (AreExecution who) why self.new.unit) }
+    {
+        self.act(who, self.loading(who, said))
+    }
+
     /// The load has its value, which is delivered.
     pub(crate) fn load(&mut self, who: usize, said: Option<u32>) -> Result<(), Why>
         ensures ok { OnOk result (Executes self.old.unit who self.new.unit) }
         ensures value { OnOk result (IfSome said (HasOutcome self.new.unit.tenants.items who)) }
-        ensures err { IfErr result (λ why. Refuses self.old.unit why self.new.unit) }
+        ensures err { IfErr result (λ why. Refuses self.old.unit (AreExecution who) why self.new.unit) }
     {
-        self.act(who, self.loading(who, said))?;
+        self.take_value(who, said)?;
         self.broadcast(who);
         self.has_outcome(who, said)
     }
@@ -97,11 +105,11 @@ impl<'a> Judge<'a> {
     pub(crate) fn complete(&mut self, who: usize, said: Option<u32>) -> Result<(), Why>
         ensures ok { OnOk result (Executes self.old.unit who self.new.unit) }
         ensures value { OnOk result (IfSome said (HasOutcome self.new.unit.tenants.items who)) }
-        ensures err { IfErr result (λ why. Refuses self.old.unit why self.new.unit) }
+        ensures err { IfErr result (λ why. Refuses self.old.unit (AreExecution who) why self.new.unit) }
     {
         self.begin_if_open(who)?;
         let Some(tenant) = self.unit.tenant(who) else {
-            return Err(Why::NotLet(who));
+            return self.end(who, said);
         };
         match (tenant.fate, self.unit.kind(&tenant)) {
             (Fate::Addr(_), Kind::Loads) => self.load(who, said),
@@ -110,13 +118,21 @@ impl<'a> Judge<'a> {
         }
     }
 
+    // The execution of a load ends, with its address or a stop.
+    fn compute(&mut self, who: usize) -> Result<(), Why>
+        ensures ok { OnOk result (Executes self.old.unit who self.new.unit) }
+        ensures err { IfErr result (λ why. Refuses self.old.unit (AreExecution who) why self.new.unit) }
+    {
+        self.finish(who)
+    }
+
     // The execution of a load ends, and it has its value unless its address stops it.
     fn complete_load(&mut self, who: usize, said: Option<u32>) -> Result<(), Why>
         ensures ok { OnOk result (Executes self.old.unit who self.new.unit) }
         ensures value { OnOk result (IfSome said (HasOutcome self.new.unit.tenants.items who)) }
-        ensures err { IfErr result (λ why. Refuses self.old.unit why self.new.unit) }
+        ensures err { IfErr result (λ why. Refuses self.old.unit (AreExecution who) why self.new.unit) }
     {
-        self.finish(who)?;
+        self.compute(who)?;
         match self.unit.tenant(who).map(|t| t.fate) {
             Some(Fate::Addr(_)) => self.load(who, said),
             _ => self.has_outcome(who, said),

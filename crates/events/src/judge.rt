@@ -1,8 +1,8 @@
 //! A judge: the unit as the events before have left it.
-ghost use Rattle.std.specs.Prelude.{◌≡◌, ℕ, IfErr, IfOk, IfSome, IsTrue, OnErr, OnOk, [], ◌∷◌, length};
+ghost use Rattle.std.specs.Prelude.{◌≡◌, ℕ, IfErr, IfNone, IfOk, IfSome, IsTrue, OnErr, OnOk, [], ◌∷◌, length};
 ghost use Rattle.inorder.specs.declared.history.Step.TheVariants.{On as UnitOn};
 ghost use Rattle.events.specs.Following.{Follows, IsUntold};
-ghost use Rattle.events.specs.Told.{Refuses, Tells};
+ghost use Rattle.events.specs.Told.{Begins, IsEmpty, Only, Refuses, Tells};
 ghost use Rattle.replay.specs.declared.step.Step.TheVariants.{On};
 ghost use Rattle.replay.specs.Lets.{sizes_of};
 ghost use Rattle.replay.specs.Reasons.{act_of};
@@ -47,7 +47,7 @@ impl<'a> Judge<'a> {
     /// After a refusal the unit has made those steps of the event that stand before the one that is refused.
     pub fn event(&mut self, event: Event, guess: Option<u32>) -> Result<Result<(), Why>, AllocError>
         ensures ok { IfOk result (λ answer. OnOk answer (Tells self.old.unit event self.new.unit)) }
-        ensures err { IfOk result (λ answer. IfErr answer (λ why. Refuses self.old.unit why self.new.unit)) }
+        ensures err { IfOk result (λ answer. IfErr answer (λ why. Refuses self.old.unit (Begins event) why self.new.unit)) }
     {
         match event {
             Event::Let(pc, next) => self.dispatch(pc, next, guess),
@@ -68,7 +68,7 @@ impl<'a> Judge<'a> {
     // Does it to a tenant, if it is allowed.
     pub(crate) fn act(&mut self, who: usize, deed: Deed) -> Result<(), Why>
         ensures ok { OnOk result (Follows self.old.unit (On who deed ∷ []) self.new.unit) }
-        ensures err { IfErr result (λ why. Refuses self.old.unit why self.new.unit) }
+        ensures err { IfErr result (λ why. Refuses self.old.unit (Only (On who deed)) why self.new.unit) }
     {
         match self.unit.act(who, deed) {
             Ok(()) => Ok(()),
@@ -88,17 +88,17 @@ impl<'a> Judge<'a> {
     }
 
     /// The oldest in flight.
-    pub fn oldest(&self) -> Option<usize> {
-        for q in self.unit.settled.upto..self.unit.tenants.len() {
-            if is_live(self.unit.tenant(q)) {
-                return Some(q);
-            }
-        }
-        None
+    pub fn oldest(&self) -> Option<usize>
+        ensures { IfNone result (IsEmpty self.now.unit) }
+    {
+        self.unit.live_before(self.unit.tenants.len())
     }
 
     /// The youngest in flight.
-    pub fn youngest(&self) -> Option<usize> {
+    pub fn youngest(&self) -> Option<usize>
+        ensures { IfNone result (IsEmpty self.now.unit) }
+    {
+        let oldest = self.oldest()?;
         let n = self.unit.tenants.len();
         for back in 0..n - self.unit.settled.upto {
             let q = n - 1 - back;
@@ -106,7 +106,7 @@ impl<'a> Judge<'a> {
                 return Some(q);
             }
         }
-        None
+        Some(oldest)
     }
 }
 

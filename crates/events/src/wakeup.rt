@@ -2,7 +2,7 @@
 ghost use Rattle.std.specs.Prelude.{[]};
 ghost use Rattle.events.specs.Following.{Follows};
 
-use crate::judge::{Judge, is_live};
+use crate::judge::Judge;
 use inorder::history::Source;
 use replay::{Deed, Operand, Tenant, Way};
 
@@ -19,7 +19,7 @@ fn waits_for(tenant: Option<Tenant>, k: Source, producer: usize) -> bool {
         return false;
     };
     let source = operand(&tenant, k);
-    source.creator == Some(producer) && source.value.is_none() && is_live(Some(tenant))
+    source.creator == Some(producer) && source.value.is_none()
 }
 
 impl<'a> Judge<'a> {

@@ -12,6 +12,8 @@ pub enum Why {
     Act(usize, Deed, Refusal),
     /// Nobody was let at this position.
     NotLet(usize),
+    /// Who was let at this position has left, so long ago that the tenant is dropped.
+    Gone(usize),
     /// The producers of its sources are these.
     OtherProducer(usize, Option<usize>, Option<usize>),
     /// The value of this tenant is this one.

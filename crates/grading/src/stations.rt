@@ -123,7 +123,7 @@ impl Comparing<'_> {
     // The oldest instruction that is most like a station.
     fn most_like(&self, held: &Held) -> Option<usize> {
         let mut best: Option<(u32, usize)> = None;
-        for position in 0..self.unit.tenants.len() {
+        for position in self.unit.settled.upto..self.unit.tenants.len() {
             let Some(tenant) = self.unit.tenant(position) else {
                 break;
             };
@@ -346,7 +346,7 @@ impl Comparing<'_> {
     // The instructions that wait, and are in no station of the table.
     fn push_unheld(&self, out: &mut String) -> Result<bool, AllocError> {
         let mut is_whole = true;
-        for position in 0..self.unit.tenants.len() {
+        for position in self.unit.settled.upto..self.unit.tenants.len() {
             match self.unit.tenant(position) {
                 Some(tenant) if self.is_unheld(position, &tenant) => {
                     let number = self.number_of(position);

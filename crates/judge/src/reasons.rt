@@ -26,6 +26,7 @@ pub fn push_reason(out: &mut String, unit: &Unit<'_>, why: Why) -> Result<(), Al
             push_who(out, unit, who)?;
             push_no_value(out, unit, who)
         }
+        Why::Gone(who) => push_gone(out, who),
         Why::Nobody => out.push_str("nobody is in flight"),
     }
 }
@@ -43,6 +44,11 @@ fn push_not_let(out: &mut String, unit: &Unit<'_>, who: usize) -> Result<(), All
         out,
         "{who} was not let: {lets} were let before, and the first is 0"
     )
+}
+
+// A tenant that is dropped.
+fn push_gone(out: &mut String, who: usize) -> Result<(), AllocError> {
+    write!(out, "{who} has left long ago")
 }
 
 // The last tenant of the path.
@@ -190,6 +196,7 @@ fn push_refusal(
         Refusal::NotLet => push_not_let(out, unit, who),
         Refusal::Retired => push_of(out, unit, who, " has retired"),
         Refusal::Squashed => push_of(out, unit, who, " was squashed"),
+        Refusal::Gone => push_gone(out, who),
         Refusal::HasBegun => push_of(out, unit, who, " has begun before"),
         Refusal::HasEnded => push_of(out, unit, who, " has ended before"),
         Refusal::Waits(k, producer) => push_wait(out, unit, who, k, producer),

@@ -13,9 +13,15 @@ use Rattle.instructions.specs.Programs.{Program, address, instr_at, instr_of, te
 use Rattle.inorder.specs.Machine.{Goes, Halts, Ran, State, after_access, fetched, ran, step}
 use Rattle.inorder.specs.Runs.{end_after, end_from}
 use Rattle.inorder.proofs.Basics.{length_put}
-use Rattle.encoding.specs.Words.{decode}
+use Rattle.encoding.specs.Layouts.{operation_of}
+use Rattle.encoding.specs.Words.{decode, decode_as}
 use Rattle.lockstep.specs.Step.{step_at, step_by, step_over, word_at}
 use Rattle.lockstep.specs.Law.{ARunIsTheMachines, AStepIsTheMachines, IsTextOf, end_behind, end_over}
+
+-- a word is decoded as one of its operation
+pub decoded_as : (pc word : ℕ) → decode pc word ≡ decode_as pc word (operation_of word)
+unfolding decode
+decoded_as pc word = refl
 
 -- only the size of a program's data is read
 sized : (P : Program) (s : State) (i : Instr) → length s.memory ≡ length P.bytes →

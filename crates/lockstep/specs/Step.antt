@@ -1,10 +1,11 @@
 -- One step of the in-order machine over a text of machine words and over buffers of a caller.
 use Rattle.std.specs.Prelude.{◌≡◌, ℕ, ◌-◌, ◌/◌, List, [], Option, None, Some, Result, Ok, Err, ◌==◌, if◌then◌else◌, slice_get}
 use Rattle.instructions.specs.declared.instr.Instr.{Instr}
+use Rattle.instructions.specs.declared.op.Op.{Op}
 use Rattle.instructions.specs.declared.stop.Stop.TheVariants.{BadPc}
 use Rattle.instructions.specs.Programs.{text_start, address}
 use Rattle.inorder.specs.Machine.{State, Ran, Goes, Halts, fetched}
-use Rattle.encoding.specs.Words.{decode}
+use Rattle.encoding.specs.Words.{decode, decode_as}
 use Rattle.lockstep.specs.declared.stepping.Answer.{Answer}
 use Rattle.lockstep.specs.declared.stepping.Answer.TheVariants.{Went, Stopped, NoOperation}
 
@@ -17,6 +18,10 @@ word_at text pc =
 abbrev pub step_by : State → Option Instr → Option Ran
 step_by s None = None
 step_by s (Some i) = Some (fetched (record { code = []; bytes = s.memory }) s (Some i))
+
+-- the step of a word as an instruction of an operation
+abbrev pub step_as : Op → ℕ → State → Option Ran
+step_as op w s = step_by s (decode_as s.pc w (Some op))
 
 -- the step of the word at the pc
 abbrev pub step_at : State → Option ℕ → Option Ran

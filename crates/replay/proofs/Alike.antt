@@ -1,13 +1,13 @@
 -- Tenants that leave the same behind leave the same counts, front, writers and bytes.
 use Rattle.std.specs.Prelude.{⊤}
-use Rattle.std.proofs.Common.{◌≡◌, ℕ, suc, Bool, true, false, cond, ◌&&◌, eqb, List, [], ◌∷◌, length, Some, refl, ap, ◌∙◌, subst}
+use Rattle.std.proofs.Common.{◌≡◌, ℕ, suc, Bool, true, false, not, cond, ◌&&◌, eqb, List, [], ◌∷◌, length, Option, Some, None, refl, ap, ◌∙◌, subst}
 use Rattle.instructions.specs.Instruction.{destination, is_first_half}
 use Rattle.instructions.specs.Programs.{Program, instr_of}
 use Rattle.inorder.specs.Memory.{byte_after, byte_at, stored}
 use Rattle.inorder.specs.Tenants.{Tenant, on_path, stands_on_path}
-use Rattle.inorder.specs.Unit.{at, front_half, front_pc, half_after, how_many, last_writer, replaced}
+use Rattle.inorder.specs.Unit.{at, front_half, front_pc, half_after, how_many, last_writer, replaced, value_made, value_of}
 use Rattle.replay.specs.Fronts.{front_of}
-use Rattle.replay.specs.Settlement.{IsAlike}
+use Rattle.replay.specs.Settlement.{IsAlike, ends}
 
 abbrev pub AreAlike : Program → List Tenant → List Tenant → Type 0
 AreAlike P [] [] = ⊤
@@ -15,7 +15,7 @@ AreAlike P (t ∷ ts) (u ∷ us) = IsAlike P t u × AreAlike P ts us
 AreAlike P _ _ = ⊥
 
 alike_self : (P : Program) (t : Tenant) → IsAlike P t t
-alike_self P t = record { index = refl; half = refl; next = refl; fate = refl; standing = refl; stored = refl }
+alike_self P t = record { index = refl; half = refl; next = refl; made = refl; fate = refl; standing = refl; stored = refl }
 
 alike_all : (P : Program) (ts : List Tenant) → AreAlike P ts ts
 alike_all P [] = tt
@@ -86,3 +86,26 @@ alike_byte P [] (u ∷ us) x a = absurd a
 alike_byte P (t ∷ ts) [] x a = absurd a
 alike_byte P (t ∷ ts) (u ∷ us) x a =
     ap (λ s. byte_after s x (byte_at P ts x)) a.0.stored ∙ ap (byte_after (stored P u) x) (alike_byte P ts us x a.1)
+
+pub alike_value : (P : Program) (ts us : List Tenant) (c : Option ℕ) → AreAlike P ts us → value_of ts c ≡ value_of us c
+alike_value P ts us None a = refl
+alike_value P [] [] (Some p) a = refl
+alike_value P [] (u ∷ us) (Some p) a = absurd a
+alike_value P (t ∷ ts) [] (Some p) a = absurd a
+alike_value P (t ∷ ts) (u ∷ us) (Some p) a =
+    ap (λ n. value_made (cond (eqb p n) (Some t) (at ts p))) (alike_length P ts us a.1)
+    ∙ go (eqb p (length us)) (alike_value P ts us (Some p) a.1)
+  where
+    go : (b : Bool) → value_made (at ts p) ≡ value_made (at us p) → value_made (cond b (Some t) (at ts p)) ≡ value_made (cond b (Some u) (at us p))
+    go true more = a.0.made
+    go false more = more
+
+pub alike_ends : (P : Program) (ts us : List Tenant) → AreAlike P ts us → how_many (ends P) ts ≡ how_many (ends P) us
+alike_ends P [] [] a = refl
+alike_ends P [] (u ∷ us) a = absurd a
+alike_ends P (t ∷ ts) [] a = absurd a
+alike_ends P (t ∷ ts) (u ∷ us) a =
+    ap (λ s. cond (stands_on_path s && not (is_first_half (instr_of P t.index).op t.half)) (suc (how_many (ends P) ts)) (how_many (ends P) ts)) a.0.standing
+    ∙ ap (λ i. cond (on_path u && not (is_first_half (instr_of P i).op t.half)) (suc (how_many (ends P) ts)) (how_many (ends P) ts)) a.0.index
+    ∙ ap (λ h. cond (on_path u && not (is_first_half (instr_of P u.index).op h)) (suc (how_many (ends P) ts)) (how_many (ends P) ts)) a.0.half
+    ∙ ap (λ n. cond (ends P u) (suc n) n) (alike_ends P ts us a.1)

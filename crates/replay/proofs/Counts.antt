@@ -42,6 +42,16 @@ replaced_count f (v ∷ ts) p t u e same = go (eqb p (length ts)) e (λ g. repla
 
 -- Stations
 
+pub at_there : (xs : List ℕ) (i x : ℕ) → slice_get xs i ≡ Some x → x ≡ slice_index xs i
+at_there [] i x e = absurd (cc)
+at_there (y ∷ xs) zero x e = cc
+at_there (y ∷ xs) (suc i) x e = at_there xs i x e
+
+pub at_none : (xs : List ℕ) (i : ℕ) → slice_get xs i ≡ None → slice_index xs i ≡ 0
+at_none [] i e = refl
+at_none (y ∷ xs) zero e = absurd (cc)
+at_none (y ∷ xs) (suc i) e = at_none xs i e
+
 pub uses_few : (hs : List Held) (uses : List ℕ) (s : ℕ) → AreUses hs uses → slice_index uses s ≤ length hs
 uses_few hs uses s are =
     let is = are s in
@@ -67,19 +77,13 @@ zeros zero i = refl
 zeros (suc n) zero = refl
 zeros (suc n) (suc i) = zeros n i
 
-past : (xs : List ℕ) (i : ℕ) → length xs ≤ i → get_or xs i 0 ≡ 0
-past [] i h = refl
-past (x ∷ xs) zero h = absurd (omega arith)
-past (x ∷ xs) (suc i) h = past xs i (omega arith)
-
 grown : (xs : List ℕ) (k i : ℕ) → get_or (xs ++ replicate k 0) i 0 ≡ get_or xs i 0
 grown [] k i = zeros k i
 grown (x ∷ xs) k zero = refl
 grown (x ∷ xs) k (suc i) = grown xs k i
 
-pub uses_grown : (hs : List Held) (uses : List ℕ) (n k : ℕ) → AreUses hs uses → length uses ≤ n → AreUses hs (take n uses ++ replicate k 0)
-uses_grown hs uses n k are long s =
-    ap (λ xs. get_or (xs ++ replicate k 0) s 0) (take_all n uses long) ∙ grown uses k s ∙ are s
+pub uses_grown : (hs : List Held) (uses : List ℕ) → AreUses hs uses → AreUses hs (uses ++ 0 ∷ [])
+uses_grown hs uses are s = grown uses 1 s ∙ are s
 
 pub uses_add : (hs : List Held) (uses : List ℕ) (h : Held) (n : ℕ) → AreUses hs uses → h.station < length uses →
     n ≡ slice_index uses h.station + 1 → AreUses (hs ++ h ∷ []) (slice_set uses h.station n)

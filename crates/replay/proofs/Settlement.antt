@@ -1,5 +1,5 @@
 -- What the settled tenants have left stays, as tenants change, come, and settle.
-use Rattle.std.proofs.Common.{◌≡◌, ◌≢◌, ◌⊎◌, ℕ, zero, suc, ◌+◌, ◌<◌, ◌≤◌, Bool, true, false, cond, ◌&&◌, leb, ltb, ltb-false, eqb, eqb-true, ne_eqb, List, [], ◌∷◌, ◌++◌, length, take, get_or, Option, Some, None, refl, sym, ap, ◌∙◌, subst, inl, inr, ⊎_elim, arith}
+use Rattle.std.proofs.Common.{◌≡◌, ◌≢◌, ◌⊎◌, ℕ, zero, suc, ◌+◌, ◌<◌, ◌≤◌, Bool, true, false, not, cond, ◌&&◌, leb, ltb, ltb-false, eqb, eqb-true, ne_eqb, List, [], ◌∷◌, ◌++◌, length, take, get_or, Option, Some, None, refl, sym, ap, ◌∙◌, subst, inl, inr, ⊎_elim, arith}
 use Rattle.std.specs.Prelude.{slice_get, slice_index, slice_index_or, slice_set, unwrap_or}
 use Rattle.std.proofs.lemmas.List.{get_or-set_other, get_or-set_same, length-set, length-take-le, take-append-le, take-set-le}
 use Rattle.instructions.specs.Programs.{Program}
@@ -7,9 +7,10 @@ use Rattle.instructions.specs.declared.stop.Stop.{Stop}
 use Rattle.inorder.specs.Committed.{with_stored}
 use Rattle.inorder.specs.Memory.{Stored, byte_after, byte_at, covers, stored}
 use Rattle.inorder.specs.Tenants.{Live, Retired, Standing, Tenant, destination_of, is_first, on_path, stands_live, stands_on_path}
-use Rattle.inorder.specs.Unit.{at, half_after, how_many, last_writer, replaced}
-use Rattle.inorder.proofs.Basics.{put_out}
+use Rattle.inorder.specs.Unit.{at, half_after, how_many, last_writer, replaced, value_of}
+use Rattle.inorder.proofs.Basics.{last_writer_below, put_out, value_of_more}
 use Rattle.inorder.proofs.SettledMemory.{HasContent, byte_stored}
+use Rattle.inorder.proofs.SettledRegisters.{value_of_last}
 use Rattle.replay.specs.declared.front.Front.{Front}
 use Rattle.replay.specs.declared.settled.Settled.{Settled}
 use Rattle.replay.specs.declared.tenant.Standing.{Standing as HeldStanding}
@@ -19,40 +20,40 @@ use Rattle.replay.specs.declared.tenant.Store.{Store}
 use Rattle.replay.specs.declared.tenant.Tenant.{Tenant as Held}
 use Rattle.replay.specs.Fronts.{front_of}
 use Rattle.replay.specs.Reasons.{IsHeldLive, IsHeldMiss, IsHeldStop, IsHeldUnaddressed, held}
-use Rattle.replay.specs.Settlement.{Advances, IsAlike, IsHeldDataless, IsSettled, LacksData, MayReplace}
+use Rattle.replay.specs.Settlement.{Advances, IsAlike, IsHeldDataless, IsSettled, LacksData, MayReplace, ends, ends_by}
 use Rattle.replay.specs.Shown.{fate_of, shown, standing_of, store_of, tenant_of}
-use Rattle.replay.proofs.Alike.{AreAlike, alike_byte, alike_front, alike_path, alike_writer, replaced_alike}
+use Rattle.replay.proofs.Alike.{AreAlike, alike_byte, alike_ends, alike_front, alike_path, alike_value, alike_writer, replaced_alike}
 use Rattle.replay.proofs.First.{first_length, shown_more}
 use Rattle.replay.proofs.Found.{held_as, live_by, retired_by, stop_by}
 use Rattle.replay.proofs.Laid.{get_below, shown_at, shown_set}
 
 -- Lists
 
-get_set_same : (hs : List Held) (q : ℕ) (h : Held) → q < length hs → slice_get (slice_set hs q h) q ≡ Some h
+pub get_set_same : (hs : List Held) (q : ℕ) (h : Held) → q < length hs → slice_get (slice_set hs q h) q ≡ Some h
 get_set_same [] q h l = absurd (omega arith)
 get_set_same (x ∷ hs) zero h l = refl
 get_set_same (x ∷ hs) (suc q) h l = get_set_same hs q h (omega arith)
 
-get_set_other : (hs : List Held) (q k : ℕ) (h : Held) → k ≢ q → slice_get (slice_set hs q h) k ≡ slice_get hs k
+pub get_set_other : (hs : List Held) (q k : ℕ) (h : Held) → k ≢ q → slice_get (slice_set hs q h) k ≡ slice_get hs k
 get_set_other [] q k h ne = refl
 get_set_other (x ∷ hs) zero zero h ne = absurd (ne refl)
 get_set_other (x ∷ hs) zero (suc k) h ne = refl
 get_set_other (x ∷ hs) (suc q) zero h ne = refl
 get_set_other (x ∷ hs) (suc q) (suc k) h ne = get_set_other hs q k h (λ e. ne (ap suc e))
 
-take_set : (n q : ℕ) (hs : List Held) (h : Held) → q < n → take n (slice_set hs q h) ≡ slice_set (take n hs) q h
+pub take_set : (n q : ℕ) (hs : List Held) (h : Held) → q < n → take n (slice_set hs q h) ≡ slice_set (take n hs) q h
 take_set zero q hs h l = absurd (omega arith)
 take_set (suc n) q [] h l = refl
 take_set (suc n) zero (x ∷ hs) h l = refl
 take_set (suc n) (suc q) (x ∷ hs) h l = ap (λ ys. x ∷ ys) (take_set n q hs h (omega arith))
 
-get_take : (n q : ℕ) (hs : List Held) → q < n → slice_get (take n hs) q ≡ slice_get hs q
+pub get_take : (n q : ℕ) (hs : List Held) → q < n → slice_get (take n hs) q ≡ slice_get hs q
 get_take zero q hs l = absurd (omega arith)
 get_take (suc n) q [] l = refl
 get_take (suc n) zero (x ∷ hs) l = refl
 get_take (suc n) (suc q) (x ∷ hs) l = get_take n q hs (omega arith)
 
-get_push : (hs ks : List Held) (q : ℕ) → q < length hs → slice_get (hs ++ ks) q ≡ slice_get hs q
+pub get_push : (hs ks : List Held) (q : ℕ) → q < length hs → slice_get (hs ++ ks) q ≡ slice_get hs q
 get_push [] ks q l = absurd (omega arith)
 get_push (x ∷ hs) ks zero l = refl
 get_push (x ∷ hs) ks (suc q) l = get_push hs ks q (omega arith)
@@ -115,6 +116,8 @@ kept_after P hs s who h is l =
       path = is.path ∙ ap (λ ts. how_many on_path (shown ts)) same;
       front = is.front ∙ ap (λ ts. front_of P (shown ts)) same;
       writers = λ r lt. is.writers r lt ∙ ap (λ ts. last_writer P (shown ts) r) same;
+      registers = λ r pos lt. ap (λ ts. value_of (shown ts) (last_writer P (shown ts) r)) (sym same) ∙ is.registers r pos lt;
+      count = is.count ∙ ap (λ ts. how_many (ends P) (shown ts)) same;
       bytes = λ x. ap (λ ts. byte_at P (shown ts) x) (sym same) ∙ is.bytes x;
     }
 
@@ -142,6 +145,11 @@ kept_before P hs s who t h is l e a =
       path = is.path ∙ alike_path P (shown first) (shown (take s.upto (slice_set hs who h))) alike;
       front = is.front ∙ alike_front P (shown first) (shown (take s.upto (slice_set hs who h))) alike;
       writers = λ r lt. is.writers r lt ∙ alike_writer P (shown first) (shown (take s.upto (slice_set hs who h))) r alike;
+      registers = λ r pos lt.
+          sym (alike_value P (shown first) (shown (take s.upto (slice_set hs who h))) (last_writer P (shown first) r) alike
+          ∙ ap (value_of (shown (take s.upto (slice_set hs who h)))) (alike_writer P (shown first) (shown (take s.upto (slice_set hs who h))) r alike))
+          ∙ is.registers r pos lt;
+      count = is.count ∙ alike_ends P (shown first) (shown (take s.upto (slice_set hs who h))) alike;
       bytes = λ x. sym (alike_byte P (shown first) (shown (take s.upto (slice_set hs who h))) x alike) ∙ is.bytes x;
     }
   where
@@ -165,9 +173,9 @@ kept_before P hs s who t h is l e a =
             never (subst Fact (sym is_t) (back (subst Fact is_h f)))
         go false g = never (subst Fact (get_set_other hs who q h (Rattle.inorder.proofs.Positions.not_eqb q who g)) f)
 
-pub settled_set : (P : Program) (hs : List Held) (s : Settled) (who : ℕ) (h : Held) → IsSettled P hs s → MayReplace P hs s.upto who h →
+pub settled_set : (P : Program) (hs : List Held) (s : Settled) (n who : ℕ) (h : Held) → IsSettled P hs s → MayReplace P hs n s.upto who h →
     IsSettled P (slice_set hs who h) s
-settled_set P hs s who h is may = go (leb s.upto who) refl (slice_get hs who) refl
+settled_set P hs s n who h is may = go (leb s.upto who) refl (slice_get hs who) refl
   where
     go : (b : Bool) → leb s.upto who ≡ b → (o : Option Held) → slice_get hs who ≡ o → IsSettled P (slice_set hs who h) s
     go true e o f = kept_after P hs s who h is (Rattle.std.proofs.Common.leb-true s.upto who e)
@@ -192,6 +200,8 @@ settled_push P hs s h is =
       path = is.path ∙ ap (λ ts. how_many on_path (shown ts)) same;
       front = is.front ∙ ap (λ ts. front_of P (shown ts)) same;
       writers = λ r lt. is.writers r lt ∙ ap (λ ts. last_writer P (shown ts) r) same;
+      registers = λ r pos lt. ap (λ ts. value_of (shown ts) (last_writer P (shown ts) r)) (sym same) ∙ is.registers r pos lt;
+      count = is.count ∙ ap (λ ts. how_many (ends P) (shown ts)) same;
       bytes = λ x. ap (λ ts. byte_at P (shown ts) x) (sym same) ∙ is.bytes x;
     }
 
@@ -258,6 +268,9 @@ settled_squashed P hs s s' h is there gone same = subst (IsSettled P hs) (sym sa
     no_store : stored P (tenant_of h) ≡ None
     no_store = ap (λ b. Rattle.inorder.specs.Memory.stored_by b (Rattle.inorder.specs.Tenants.kind_of P (tenant_of h)) (tenant_of h).fate (Rattle.instructions.specs.Instruction.width (Rattle.inorder.specs.Tenants.instr P (tenant_of h)).op) (tenant_of h).second.value) off
 
+    skips : (r : ℕ) → last_writer P (tenant_of h ∷ ts) r ≡ last_writer P ts r
+    skips r = ap (λ b. cond (b && eqb (destination_of P (tenant_of h)) r) (Some (length ts)) (last_writer P ts r)) off
+
     now : IsSettled P hs (record s { upto = s.upto + 1 })
     now = record {
       within = let b = get_below hs s.upto h there in omega arith;
@@ -268,7 +281,12 @@ settled_squashed P hs s s' h is there gone same = subst (IsSettled P hs) (sym sa
       path = is.path ∙ sym (ap (how_many on_path) more ∙ ap (λ b. cond b (suc (how_many on_path ts)) (how_many on_path ts)) off);
       front = is.front ∙ sym (ap (front_of P) more ∙ skipped);
       writers = λ r lt. is.writers r lt ∙ sym (ap (λ us. last_writer P us r) more
-          ∙ ap (λ b. cond (b && eqb (destination_of P (tenant_of h)) r) (Some (length ts)) (last_writer P ts r)) off);
+          ∙ skips r);
+      registers = λ r pos lt.
+          ap (λ us. value_of us (last_writer P us r)) more ∙ ap (value_of (tenant_of h ∷ ts)) (skips r)
+          ∙ value_of_more (tenant_of h) ts (last_writer P ts r) (last_writer_below P ts r) ∙ is.registers r pos lt;
+      count = is.count ∙ sym (ap (how_many (ends P)) more
+          ∙ ap (λ b. cond (b && not (is_first P (tenant_of h))) (suc (how_many (ends P) ts)) (how_many (ends P) ts)) off);
       bytes = λ x. ap (λ us. byte_at P us x) more ∙ ap (λ o. byte_after o x (byte_at P ts x)) no_store ∙ is.bytes x;
     }
       where
@@ -278,13 +296,13 @@ settled_squashed P hs s s' h is there gone same = subst (IsSettled P hs) (sym sa
           half = cond b (half_after (is_first P (tenant_of h))) (Rattle.inorder.specs.Unit.front_half P ts);
         }) off
 
-pub settled_retired : (P : Program) (hs : List Held) (s s' : Settled) (h : Held) (front : Front) (register : ℕ) (o : Option Store) →
+pub settled_retired : (P : Program) (hs : List Held) (s s' : Settled) (h : Held) (front : Front) (register value : ℕ) (o : Option Store) →
     IsSettled P hs s → slice_get hs s.upto ≡ Some h → h.standing ≡ HeldRetired → ((c : Stop) → h.fate ≢ HeldStops c) →
     front ≡ record { pc = h.next; half = half_after (is_first P (tenant_of h)) } → register ≡ destination_of P (tenant_of h) → register < 34 →
-    length s.writers ≡ 34 →
+    length s.writers ≡ 34 → length s.registers ≡ 34 → (0 < register → h.made ≡ Some value) →
     store_of o ≡ stored P (tenant_of h) → ¬ LacksData (store_of o) → Rattle.std.specs.Prelude.IfSome o (λ w. w.at + w.width ≤ length s.memory.items) →
-    Advances s front register o s' → IsSettled P hs s'
-settled_retired P hs s s' h front register o is there gone going is_front is_register small wide is_store whole fits adv = record {
+    Advances s front register value o s' → IsSettled P hs s'
+settled_retired P hs s s' h front register value o is there gone going is_front is_register small wide broad made is_store whole fits adv = record {
   within = let b = get_below hs s.upto h there in let u = adv.upto in omega arith;
   left = one_more hs s.upto s'.upto h IsHeldLive adv.upto there is.left (λ f. let e = sym gone ∙ f in absurd (cc));
   goes_on = λ q c lt f. one_more hs s.upto s'.upto h (λ x. IsHeldStop x c) adv.upto there (λ k l. is.goes_on k c l) (λ g. going c g.1) q lt f;
@@ -293,6 +311,12 @@ settled_retired P hs s s' h front register o is there gone going is_front is_reg
       ∙ sym (ap (how_many on_path) more ∙ ap (λ b. cond b (suc (how_many on_path ts)) (how_many on_path ts)) on);
   front = adv.front ∙ is_front ∙ sym (ap (front_of P) more ∙ goes);
   writers = writes_on;
+  registers = holds;
+  count =
+      adv.count ∙ ap (λ f. s.count + ends_by f.half) is_front ∙ ap (λ n. n + ends_by (half_after (is_first P (tenant_of h)))) is.count
+      ∙ counted (is_first P (tenant_of h)) (how_many (ends P) ts)
+      ∙ sym (ap (how_many (ends P)) more
+      ∙ ap (λ b. cond (b && not (is_first P (tenant_of h))) (suc (how_many (ends P) ts)) (how_many (ends P) ts)) on);
   bytes = λ x.
       ap (λ us. byte_at P us x) more
       ∙ ap (byte_after (stored P (tenant_of h)) x) (is.bytes x)
@@ -335,3 +359,31 @@ settled_retired P hs s s' h front register o is there gone going is_front is_reg
             let other : r ≢ register = λ f. Rattle.inorder.proofs.Positions.not_eqb (destination_of P (tenant_of h)) r e (sym is_register ∙ sym f) in
             get_or-set_other s.writers register r (Some s.upto) None other ∙ is.writers r lt
             ∙ sym (ap (λ b. cond b (Some (length ts)) (last_writer P ts r)) e)
+
+    counted : (b : Bool) (n : ℕ) → n + ends_by (half_after b) ≡ cond (not b) (suc n) n
+    counted true n = omega arith
+    counted false n = omega arith
+
+    holds : (r : ℕ) → 0 < r → r < 34 →
+        value_of (shown (take s'.upto hs)) (last_writer P (shown (take s'.upto hs)) r) ≡ Some (slice_index s'.registers r)
+    holds r pos lt =
+        ap (λ us. value_of us (last_writer P us r)) more
+        ∙ ap (λ b. value_of (tenant_of h ∷ ts) (cond (b && eqb (destination_of P (tenant_of h)) r) (Some (length ts)) (last_writer P ts r))) on
+        ∙ go (eqb (destination_of P (tenant_of h)) r) refl
+        ∙ ap (λ rs. Some (slice_index rs r)) (sym adv.registers)
+      where
+        go : (b : Bool) → eqb (destination_of P (tenant_of h)) r ≡ b →
+            value_of (tenant_of h ∷ ts) (cond (eqb (destination_of P (tenant_of h)) r) (Some (length ts)) (last_writer P ts r))
+            ≡ Some (slice_index (slice_set s.registers register value) r)
+        go true e =
+            let here : register ≡ r = is_register ∙ eqb-true (destination_of P (tenant_of h)) r e in
+            ap (λ b. value_of (tenant_of h ∷ ts) (cond b (Some (length ts)) (last_writer P ts r))) e
+            ∙ value_of_last (tenant_of h) ts ∙ made (omega arith)
+            ∙ ap Some (sym (ap (λ k. slice_index (slice_set s.registers register value) k) (sym here)
+            ∙ get_or-set_same s.registers register value 0 (omega arith)))
+        go false e =
+            let other : r ≢ register = λ f. Rattle.inorder.proofs.Positions.not_eqb (destination_of P (tenant_of h)) r e (sym is_register ∙ sym f) in
+            ap (λ b. value_of (tenant_of h ∷ ts) (cond b (Some (length ts)) (last_writer P ts r))) e
+            ∙ value_of_more (tenant_of h) ts (last_writer P ts r) (last_writer_below P ts r)
+            ∙ is.registers r pos lt
+            ∙ ap Some (sym (get_or-set_other s.registers register r value 0 other))

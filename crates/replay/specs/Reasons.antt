@@ -12,14 +12,14 @@ use Rattle.instructions.specs.Operations.{loaded}
 use Rattle.instructions.specs.declared.stop.Outcome.TheVariants.{Address}
 use Rattle.inorder.specs.Memory.{load_value, raw_at, sure_raw_at}
 use Rattle.inorder.specs.Speculation.{CanGuess}
-use Rattle.inorder.specs.Steps.{CanRetire}
+use Rattle.inorder.specs.Steps.{CanRetire, MayDeliver}
 use Rattle.inorder.specs.Tenants.{Addr, Busy, Guessed, Linked, Live, Miss, Open, Retired as HasRetired, Squashed as IsSquashed, Stopped, Tenant, Unlinked, computed, instr, kind_of, missing, operand}
 use Rattle.inorder.specs.Unit.{at, older, value_of}
 use Rattle.replay.specs.Shown.{tenant_of}
 use Rattle.replay.specs.declared.acting.Deed.{Deed}
 use Rattle.replay.specs.declared.acting.Deed.TheVariants.{Claim as ToClaim, Confirm as ToConfirm, Deliver as ToDeliver, Finish as ToFinish, Flush as ToFlush, Guess as ToGuess, Link as ToLink, Load as ToLoad, Mend as ToMend, Retire as ToRetire, Squash as ToSquash}
 use Rattle.replay.specs.declared.refusal.Refusal.{Refusal}
-use Rattle.replay.specs.declared.refusal.Refusal.TheVariants.{BadAddress, Ended, HasAsked, HasBegun, HasEnded, HasValue, NoAddress, NoByte, NoLoad, NoMiss, NotAsked, NotBegun, NotDone, NotGuessed, NotSure, OtherValue, NothingMade, NotLet, NotMissed, Older, Retired, Squashed, StoreAddress, Waits, Younger}
+use Rattle.replay.specs.declared.refusal.Refusal.TheVariants.{BadAddress, Ended, Gone, HasAsked, HasBegun, HasEnded, HasValue, NoAddress, NoByte, NoLoad, NoMiss, NotAsked, NotBegun, NotDone, NotGuessed, NotSure, OtherValue, NothingMade, NotLet, NotMissed, Older, Retired, Squashed, StoreAddress, Waits, Younger}
 use Rattle.replay.specs.declared.tenant.Fate.TheVariants.{Addr as HeldAddr, Miss as HeldMiss, Stops as HeldStops}
 use Rattle.replay.specs.declared.tenant.Standing.{Standing}
 use Rattle.replay.specs.declared.tenant.Standing.TheVariants.{Live as HeldLive, Retired as HeldRetired}
@@ -78,6 +78,7 @@ abbrev pub IsGone : List Tenant → ℕ → Refusal → Type 0
 IsGone ts p NotLet = at ts p ≡ None
 IsGone ts p Retired = Is ts p (λ t. t.standing ≡ HasRetired)
 IsGone ts p Squashed = Is ts p (λ t. t.standing ≡ IsSquashed)
+IsGone ts p Gone = Is ts p (λ t. t.standing ≢ Live)
 IsGone ts p _ = ⊥
 
 -- The tenant at position p is in flight
@@ -111,6 +112,7 @@ IsNoDeliver k ts p NotAsked = Is ts p (λ t. (b : Bool) → (operand k t).way �
 IsNoDeliver k ts p HasValue = Is ts p (λ t. (v : ℕ) × ((operand k t).value ≡ Some v))
 IsNoDeliver k ts p (NothingMade c) =
     Is ts p (λ t. ((operand k t).creator ≡ c) × (value_of (older ts p) c ≡ None))
+IsNoDeliver k ts p Gone = Is ts p (λ t. ¬ MayDeliver (older ts p) t k)
 IsNoDeliver k ts p r = ⊥
 
 -- Why the load at position p may not have its value

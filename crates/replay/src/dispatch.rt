@@ -5,6 +5,7 @@ ghost use Rattle.instructions.specs.Programs.{address, instr_of};
 ghost use Rattle.inorder.specs.Steps.{MayLet, MaySupply, new_tenant};
 ghost use Rattle.inorder.specs.Tenants.{made_at_let as made_at_let_by};
 ghost use Rattle.inorder.specs.Unit.{creator as creator_by, front_half, front_pc, how_many, next_station, next_tag, recent};
+ghost use Rattle.replay.specs.Dropping.{ComeLate, WaitsForKept};
 ghost use Rattle.replay.specs.Lets.{HasNoSupply, HasRoom, IsFit, IsNoLet, source_of, sizes_of, supply_of, unit_of};
 ghost use Rattle.replay.specs.Shown.{shown, tenant_of};
 
@@ -64,6 +65,7 @@ impl<'a> Unit<'a> {
     fn next_tag(&self, station: usize) -> u64
         requires fit { IsFit self.now }
         requires station { station ≡ next_station (sizes_of self.now) (recent (unit_of self.now)) }
+        requires known { self.now.uses.from ≤ station }
         ensures { result ≡ next_tag (sizes_of self.now) (recent (unit_of self.now)) }
     {
         self.first_tag + self.uses_of(station)
@@ -71,19 +73,22 @@ impl<'a> Unit<'a> {
 
     // How many tenants a station has had.
     fn uses_of(&self, station: usize) -> u64
-        requires { length self.now.tenants.items < 2 ^ 62 }
+        requires small { length self.now.tenants.items < 2 ^ 62 }
+        requires known { self.now.uses.from ≤ station }
         ensures value { result ≡ how_many (λ t. t.station == station) (shown self.now.tenants.items) }
         ensures small { result < 2 ^ 62 }
     {
-        match self.uses.as_slice().get(station) {
-            Some(uses) => *uses,
+        match self.uses.get(station) {
+            Some(uses) => uses,
             None => 0,
         }
     }
 
     // One tenant more.
     fn add(&mut self, tenant: Tenant) -> Result<(), AllocError>
-        requires { length self.old.tenants.items < 2 ^ 62 }
+        requires small { length self.old.tenants.items < 2 ^ 62 }
+        requires known { self.old.uses.from ≤ tenant.station }
+        requires waits { WaitsForKept self.old.tenants.items self.old.tenants.from tenant }
         ensures ok { OnOk result (self.new.tenants.items ≡ self.old.tenants.items ++ tenant ∷ []) }
         ensures err { OnErr result (self.new.tenants.items ≡ self.old.tenants.items) }
         ensures program { self.new.program ≡ self.old.program }
@@ -92,24 +97,26 @@ impl<'a> Unit<'a> {
         self.know(tenant.station)?;
         let uses = self.uses_of(tenant.station);
         self.tenants.push(tenant)?;
-        self.uses[tenant.station] = uses + 1;
+        self.uses.set(tenant.station, uses + 1);
         Ok(())
     }
 
     // A station has its count.
     fn know(&mut self, station: usize) -> Result<(), AllocError>
-        ensures known { OnOk result (station < length self.new.uses.items) }
+        ensures from { self.new.uses.from ≡ self.old.uses.from }
+        ensures there { OnOk result (station < length self.new.uses.items) }
         ensures tenants { self.new.tenants ≡ self.old.tenants }
+        ensures settled { self.new.settled ≡ self.old.settled }
         ensures program { self.new.program ≡ self.old.program }
         ensures sizes { sizes_of self.new ≡ sizes_of self.old }
     {
-        if station < self.uses.len() {
-            return Ok(());
+        let Some(end) = station.checked_add(1) else {
+            return Err(AllocError);
+        };
+        for _n in self.uses.len()..end {
+            self.uses.push(0)?;
         }
-        match station.checked_add(1) {
-            Some(n) => self.uses.resize(n, 0),
-            None => Err(AllocError),
-        }
+        Ok(())
     }
 
     // There is room for an instruction, and the path goes on with it.
@@ -144,13 +151,14 @@ impl<'a> Unit<'a> {
             (creator_by self.now.program.now (shown self.now.tenants.items) (first_of instr.now)) (supply_of s.first)) }
         ensures second { IfOk result (λ s. MaySupply self.now.program.now (unit_of self.now) station
             (creator_by self.now.program.now (shown self.now.tenants.items) (second_of instr.now)) (supply_of s.second)) }
+        ensures late { IfOk result (ComeLate self.now.program.now self.now.tenants.items self.now.settled.upto instr.now) }
         ensures err { IfErr result (λ k. HasNoSupply self.now.program.now (unit_of self.now) station
             (creator_by self.now.program.now (shown self.now.tenants.items) (source_of k instr.now))) }
     {
-        let Some(first) = self.supply(self.creator(instr.first()), station) else {
+        let Some(first) = self.supply(instr.first(), station) else {
             return Err(Source::First);
         };
-        let Some(second) = self.supply(self.creator(instr.second()), station) else {
+        let Some(second) = self.supply(instr.second(), station) else {
             return Err(Source::Second);
         };
         Ok(Supplies { first, second })
@@ -161,6 +169,7 @@ impl<'a> Unit<'a> {
         requires fit { IsFit self.now }
         requires inside { index < length self.now.program.now.code }
         requires station { station ≡ next_station (sizes_of self.now) (recent (unit_of self.now)) }
+        requires known { self.now.uses.from ≤ station }
         ensures { tenant_of result ≡ new_tenant self.now.program.now (sizes_of self.now) (unit_of self.now)
             index predicted (supply_of supplies.first) (supply_of supplies.second) }
     {
@@ -211,8 +220,12 @@ impl<'a> Unit<'a> {
         match self.supplies(&instr, station) {
             Err(k) => Ok(Err(NoLet::NoSupply(k))),
             Ok(supplies) => {
+                if station < self.uses.first() {
+                    return Err(AllocError);
+                }
                 let tenant = self.newcomer(index, predicted, station, supplies);
                 self.add(tenant)?;
+                self.forget();
                 Ok(Ok(supplies))
             }
         }

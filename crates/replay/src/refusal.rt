@@ -9,6 +9,8 @@ pub enum Refusal {
     NotLet,
     Retired,
     Squashed,
+    /// The tenant has left so long ago that it is dropped.
+    Gone,
     /// The tenant was claimed before.
     HasBegun,
     /// The tenant has its outcome.

@@ -48,8 +48,8 @@ impl<'a> Unit<'a> {
         ensures behind { IfSome result (λ q. who < q) }
         ensures none { IfNone result ((q : ℕ) → who < q → ¬ IsHeldLive (held self.now.tenants.items q)) }
     {
-        for q in who + 1..self.tenants.len() {
-            if is_live(self.tenant(q)) {
+        for q in self.settled.upto..self.tenants.len() {
+            if who < q && is_live(self.kept(q)) {
                 return Some(q);
             }
         }
@@ -63,7 +63,7 @@ impl<'a> Unit<'a> {
         ensures none { IfNone result ((q : ℕ) → q < who → ¬ IsHeldLive (held self.now.tenants.items q)) }
     {
         for q in self.settled.upto..who {
-            if is_live(self.tenant(q)) {
+            if is_live(self.kept(q)) {
                 return Some(q);
             }
         }
@@ -77,7 +77,7 @@ impl<'a> Unit<'a> {
         ensures none { IfNone result ((q : ℕ) → q < who → ¬ IsHeldMiss (held self.now.tenants.items q)) }
     {
         for q in self.settled.upto..who {
-            if is_miss(self.tenant(q)) {
+            if is_miss(self.kept(q)) {
                 return Some(q);
             }
         }
@@ -91,7 +91,7 @@ impl<'a> Unit<'a> {
         ensures none { IfNone result ((q : ℕ) → q < who → ¬ IsHeldUnaddressed self.now.program.now (held self.now.tenants.items q)) }
     {
         for q in self.settled.upto..who {
-            if self.is_unaddressed(self.tenant(q)) {
+            if self.is_unaddressed(self.kept(q)) {
                 return Some(q);
             }
         }
@@ -120,7 +120,7 @@ impl<'a> Unit<'a> {
         ensures none { IfNone result ((q : ℕ) (c : Stop) → q < who → ¬ IsHeldStop (held self.now.tenants.items q) c) }
     {
         for q in self.settled.upto..who {
-            if let Some(code) = stop_of(self.tenant(q)) {
+            if let Some(code) = stop_of(self.kept(q)) {
                 return Some((q, code));
             }
         }

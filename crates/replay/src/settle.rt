@@ -22,10 +22,18 @@ fn is_whole(stored: Option<Store>, size: usize) -> bool
     }
 }
 
+// What a tenant has written into its register; 0 where it writes none.
+fn written(register: usize, made: Option<u32>) -> Option<u32>
+    ensures { IfSome result (λ v. 0 < register → made ≡ Some v) }
+{
+    if register == 0 { Some(0) } else { made }
+}
+
 impl<'a> Unit<'a> {
     // Settles the oldest tenant that is not settled, which has retired; whether it could.
     fn settle_retired(&mut self, tenant: &Tenant) -> bool
         requires is { slice_get self.old.tenants.items self.old.settled.upto ≡ Some tenant.now }
+        requires small { self.old.settled.upto < 2 ^ 62 }
         requires retired { HasLeft tenant.now.standing }
         ensures tenants { self.new.tenants ≡ self.old.tenants }
         ensures program { self.new.program ≡ self.old.program }
@@ -39,12 +47,16 @@ impl<'a> Unit<'a> {
         if !is_whole(stored, self.settled.memory.len()) {
             return false;
         }
+        let register = self.instr(tenant).destination(tenant.half).number() as usize;
+        let Some(value) = written(register, tenant.made) else {
+            return false;
+        };
+        let half = self.half_behind(tenant);
         let front = Front {
             pc: tenant.next,
-            half: self.half_behind(tenant),
+            half,
         };
-        let register = self.instr(tenant).destination(tenant.half).number() as usize;
-        self.settled.advance(front, register, stored);
+        self.settled.advance(front, register, value, stored);
         true
     }
 
@@ -54,7 +66,7 @@ impl<'a> Unit<'a> {
         ensures program { self.new.program ≡ self.old.program }
         ensures sizes { sizes_of self.new ≡ sizes_of self.old }
     {
-        let Some(tenant) = self.tenant(self.settled.upto) else {
+        let Some(tenant) = self.kept(self.settled.upto) else {
             return false;
         };
         match tenant.standing {

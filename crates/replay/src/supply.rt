@@ -1,14 +1,15 @@
 //! How a new tenant is given its sources.
 ghost use Rattle.std.specs.Prelude.{◌≡◌, ◌<◌, ◌≤◌, ◌^◌, ℕ, IfSome, IfNone, IsTrue, length};
 ghost use Rattle.inorder.specs.Steps.{MayComeFrom, MaySupply, let_operand as let_operand_by};
-ghost use Rattle.inorder.specs.Unit.{value_of};
+ghost use Rattle.inorder.specs.Unit.{creator as creator_by, value_of};
+ghost use Rattle.replay.specs.Dropping.{ComesLate, IsLate};
 ghost use Rattle.replay.specs.Lets.{HasNoSupply, supply_of, unit_of};
 ghost use Rattle.replay.specs.Reasons.{IsHeldAt, held};
 ghost use Rattle.replay.specs.Shown.{operand_of, shown};
 
 use crate::tenant::{Operand, Tenant, Way};
 use crate::unit::Unit;
-use instructions::Kind;
+use instructions::{Kind, Reg};
 
 /// How a source is supplied: its value is known, or comes from its creator.
 #[derive(Clone, Copy)]
@@ -53,13 +54,16 @@ fn has_station(tenant: Option<Tenant>, station: usize) -> bool
 }
 
 impl<'a> Unit<'a> {
-    // What a tenant has made; 0 where there is none.
-    fn value(&self, creator: Option<usize>) -> Option<u32>
-        ensures { result ≡ value_of (shown self.now.tenants.items) creator }
+    // What who makes the newest value of a register has made; 0 where there is none.
+    fn value(&self, r: Reg, creator: Option<usize>) -> Option<u32>
+        requires { creator ≡ creator_by self.now.program.now (shown self.now.tenants.items) r }
+        ensures is { result ≡ value_of (shown self.now.tenants.items) creator }
+        ensures late { IfNone result (IsLate self.now.settled.upto creator) }
     {
         match creator {
             None => Some(0),
-            Some(q) => match self.tenant(q) {
+            Some(q) if q < self.settled.upto => Some(self.settled.registers[r.number() as usize]),
+            Some(q) => match self.kept(q) {
                 Some(tenant) => tenant.made,
                 None => None,
             },
@@ -68,13 +72,15 @@ impl<'a> Unit<'a> {
 
     // Somebody after a position has this station.
     fn is_let_again(&self, who: usize, station: usize) -> Option<usize>
-        requires { who < length self.now.tenants.items }
+        requires there { who < length self.now.tenants.items }
+        requires kept { self.now.tenants.from ≤ who }
         ensures some { IfSome result (λ q. IsHeldAt station (held self.now.tenants.items q)) }
         ensures behind { IfSome result (λ q. who < q) }
         ensures none { IfNone result ((q : ℕ) → who < q → ¬ IsHeldAt station (held self.now.tenants.items q)) }
     {
-        for q in who + 1..self.tenants.len() {
-            if has_station(self.tenant(q), station) {
+        let n = self.tenants.len();
+        for q in who + 1..n {
+            if has_station(self.kept(q), station) {
                 return Some(q);
             }
         }
@@ -83,13 +89,14 @@ impl<'a> Unit<'a> {
 
     // A source may come from its creator, where the new tenant has this station.
     fn may_come_from(&self, creator: Option<usize>, station: usize) -> bool
+        requires { IsLate self.now.settled.upto creator }
         ensures yes { IsTrue result → MayComeFrom self.now.program.now (unit_of self.now) station creator }
         ensures no { MayComeFrom self.now.program.now (unit_of self.now) station creator → IsTrue result }
     {
         let Some(q) = creator else {
             return false;
         };
-        let Some(tenant) = self.tenant(q) else {
+        let Some(tenant) = self.kept(q) else {
             return false;
         };
         match self.kind(&tenant) {
@@ -105,12 +112,17 @@ impl<'a> Unit<'a> {
         }
     }
 
-    /// How a source may be supplied.
-    pub(crate) fn supply(&self, creator: Option<usize>, station: usize) -> Option<Supplied>
-        ensures some { IfSome result (λ s. MaySupply self.now.program.now (unit_of self.now) station creator (supply_of s)) }
-        ensures none { IfNone result (HasNoSupply self.now.program.now (unit_of self.now) station creator) }
+    /// How a source may be supplied that reads a register.
+    pub(crate) fn supply(&self, r: Reg, station: usize) -> Option<Supplied>
+        ensures some { IfSome result (λ s. MaySupply self.now.program.now (unit_of self.now) station
+            (creator_by self.now.program.now (shown self.now.tenants.items) r) (supply_of s)) }
+        ensures late { IfSome result (ComesLate self.now.settled.upto
+            (creator_by self.now.program.now (shown self.now.tenants.items) r)) }
+        ensures none { IfNone result (HasNoSupply self.now.program.now (unit_of self.now) station
+            (creator_by self.now.program.now (shown self.now.tenants.items) r)) }
     {
-        match self.value(creator) {
+        let creator = self.creator(r);
+        match self.value(r, creator) {
             Some(v) => Some(Supplied::Known(v)),
             None => {
                 if self.may_come_from(creator, station) {

@@ -2,7 +2,7 @@
 use Rattle.std.proofs.Common.{◌≡◌, subst}
 use Rattle.events.specs.declared.event.Event.{Event}
 use Rattle.events.specs.declared.why.Why.{Why}
-use Rattle.events.specs.Told.{Refuses, Tells}
+use Rattle.events.specs.Told.{Begins, Refuses, Tells}
 use Rattle.replay.specs.declared.unit.Unit.{Unit as Lent}
 use Rattle.replay.specs.Settlement.{IsSettled}
 use Rattle.ruu_judge.specs.declared.owned.OwnedUnit.{OwnedUnit}
@@ -12,12 +12,12 @@ use Rattle.ruu_judge.specs.Units.{IsLegal, IsRefused, IsUnit}
 pub taken_settles : (u v : Lent) (event : Event) → Tells u event v → IsSettled u.program.now v.tenants.items v.settled
 taken_settles u v event t = subst (λ p. IsSettled p v.tenants.items v.settled) t.follows.program v.settles
 
-pub refused_settles : (u v : Lent) (why : Why) → Refuses u why v → IsSettled u.program.now v.tenants.items v.settled
-refused_settles u v why r = subst (λ p. IsSettled p v.tenants.items v.settled) r.follows.program v.settles
+pub refused_settles : (u v : Lent) (event : Event) (why : Why) → Refuses u (Begins event) why v → IsSettled u.program.now v.tenants.items v.settled
+refused_settles u v event why r = subst (λ p. IsSettled p v.tenants.items v.settled) r.follows.program v.settles
 
 -- what is true of units that borrow their program is true of those that own it
 pub legal : (u v : Lent) (event : Event) → Tells u event v → (o p : OwnedUnit) → IsUnit o u → IsUnit p v → IsLegal o event p
 legal u v event tells o p was is = record { before = u; after = v; was = was; is = is; tells = tells }
 
-pub refused : (u v : Lent) (why : Why) → Refuses u why v → (o p : OwnedUnit) → IsUnit o u → IsUnit p v → IsRefused o why p
-refused u v why refuses o p was is = record { before = u; after = v; was = was; is = is; refuses = refuses }
+pub refused : (u v : Lent) (event : Event) (why : Why) → Refuses u (Begins event) why v → (o p : OwnedUnit) → IsUnit o u → IsUnit p v → IsRefused o event why p
+refused u v event why refuses o p was is = record { before = u; after = v; was = was; is = is; refuses = refuses }

@@ -22,7 +22,7 @@ GoesOn _ _ = ⊥
 
 -- An event is refused
 abbrev pub IsStopped : Found → Found → Type 0
-IsStopped (Legal o) (Refused p item why) = IsRefused o why p
+IsStopped (Legal o) (Refused p item why) = IsRefused o item.event why p
 IsStopped _ _ = ⊥
 
 -- A judge has ended before

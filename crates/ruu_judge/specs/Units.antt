@@ -3,7 +3,7 @@ use Rattle.std.specs.Prelude.{⊤, ◌≡◌, ℕ, List, []}
 use Rattle.instructions.specs.Programs.{Program}
 use Rattle.events.specs.declared.event.Event.{Event}
 use Rattle.events.specs.declared.why.Why.{Why}
-use Rattle.events.specs.Told.{Refuses, Tells}
+use Rattle.events.specs.Told.{Begins, Refuses, Tells}
 use Rattle.replay.specs.declared.unit.Unit.{Unit as Lent}
 use Rattle.ruu_judge.specs.declared.owned.OwnedUnit.{OwnedUnit}
 use Rattle.ruu_judge.specs.declared.owned.Judged.{Judged}
@@ -34,17 +34,17 @@ pub record IsLegal (o : OwnedUnit) (event : Event) (p : OwnedUnit) : Type 0 wher
   pub tells : Tells before event after
 
 -- An event is refused for a reason that is true of the unit to which its legal steps lead
-pub record IsRefused (o : OwnedUnit) (why : Why) (p : OwnedUnit) : Type 0 where
+pub record IsRefused (o : OwnedUnit) (event : Event) (why : Why) (p : OwnedUnit) : Type 0 where
   pub before : Lent
   pub after : Lent
   pub was : IsUnit o before
   pub is : IsUnit p after
-  pub refuses : Refuses before why after
+  pub refuses : Refuses before (Begins event) why after
 
 -- What is found of an event
 abbrev pub IsVerdict : OwnedUnit → Event → Judged → Type 0
 IsVerdict o event (Legal p) = IsLegal o event p
-IsVerdict o event (Refused p why) = IsRefused o why p
+IsVerdict o event (Refused p why) = IsRefused o event why p
 IsVerdict o event NoMemory = ⊤
 
 -- Two units have the same fields

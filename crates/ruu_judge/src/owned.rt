@@ -1,4 +1,5 @@
 //! A unit that owns its program.
+ghost use Rattle.replay.specs.Dropping.{IsDropped};
 ghost use Rattle.replay.specs.Settlement.{AreUses, IsSettled};
 
 use crate::log::Item;
@@ -6,7 +7,7 @@ use crate::verdict::{legal_text, refused_text};
 use counted_io::Fault;
 use events::{Event, Issue, Judge, Why};
 use instructions::Program;
-use replay::{Settled, Tenant, Unit};
+use replay::{Settled, Tail, Tenant, Unit};
 use std::alloc::{AllocError, Global};
 
 /// What a judge allows beside the steps of the unit, and what `issue` means.
@@ -24,11 +25,12 @@ pub struct OwnedUnit {
     pub ring: usize,
     pub queue: usize,
     pub first_tag: u64,
-    pub tenants: Vec<Tenant>,
+    pub tenants: Tail<Tenant>,
     pub settled: Settled,
-    pub uses: Vec<u64>,
+    pub uses: Tail<u64>,
     pub ghost settles: { IsSettled program tenants.items settled },
     pub ghost counts: { AreUses tenants.items uses.items },
+    pub ghost drops: { IsDropped tenants.items tenants.from settled.upto },
 }
 
 /// A unit after an event.

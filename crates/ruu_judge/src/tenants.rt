@@ -70,7 +70,7 @@ fn fate_text(fate: Fate) -> &'static str {
 
 /// Adds a line for each tenant in flight, the oldest first.
 pub fn push_in_flight(out: &mut String, unit: &Unit<'_>) -> Result<(), AllocError> {
-    for who in 0..unit.tenants.len() {
+    for who in unit.settled.upto..unit.tenants.len() {
         let Some(tenant) = unit.tenant(who) else {
             break;
         };

@@ -39,15 +39,19 @@ fn counted(counts: Counts, unit: &Unit<'_>, tenant: &Tenant) -> Counts {
     }
 }
 
+// The settled tenants, and then one by one those after them.
 fn counts_of(unit: &Unit<'_>) -> Counts {
+    let settled = &unit.settled;
     let mut counts = Counts {
-        retired: 0,
-        squashed: 0,
-        whole: 0,
+        retired: settled.path as u64,
+        squashed: (settled.upto as u64).saturating_sub(settled.path as u64),
+        whole: settled.count as u64,
         stopped: false,
     };
-    for tenant in unit.tenants.as_slice() {
-        counts = counted(counts, unit, tenant);
+    for who in settled.upto..unit.tenants.len() {
+        if let Some(tenant) = unit.tenant(who) {
+            counts = counted(counts, unit, &tenant);
+        }
     }
     counts
 }

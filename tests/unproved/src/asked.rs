@@ -110,3 +110,12 @@ fn misses_calls_and_products_are_asked_alike(rt: HostRuntime) -> Result<(), Fail
         b".space 16\nori $1,$0,30\nL: mult $1,$1\nmflo $2\nandi $3,$2,4\nbeq $3,$0,E\njal F\nE: addu $4,$2,$4\nandi $3,$4,3\nbne $3,$0,G\nsw $4,0($0)\nG: addiu $1,$1,-1\nbne $1,$0,L\nbreak\nF: divu $4,$1\nmfhi $4\nlw $5,0($0)\njr $ra\n";
     is_asked_alike(&rt, rt.alloc(), listing)
 }
+
+// The queue is full, so that branches leave and nobody is let at their stations. Then a store leaves, and several are let in a
+// row, of which one is mispredicted: those on the wrong path are let where branches have left.
+#[test]
+fn a_wrong_path_tells_who_has_left(rt: HostRuntime) -> Result<(), Fail> {
+    let listing =
+        b".space 64\nori $1,$0,40\nL: sw $1,0($0)\nandi $2,$1,1\nbne $2,$0,N\nbne $0,$0,N\nbne $0,$0,N\nsw $1,4($0)\naddu $3,$3,$1\nN: bne $0,$0,L\naddiu $1,$1,-1\nbne $1,$0,L\nbreak\n";
+    is_asked_alike(&rt, rt.alloc(), listing)
+}

@@ -1,4 +1,6 @@
-//! Runs on threads, and what their gates are told; a core by hand, where nobody has met another.
+//! Runs on threads, and what their gates are told; a core by hand, where nobody has met another; and whom threads hint.
+mod active;
+mod hinting;
 mod raced;
 mod seen;
 mod shaken;

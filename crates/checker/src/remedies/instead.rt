@@ -1,20 +1,43 @@
 //! Instructions to write in place of a statement: of those of the tables the first that the listing language takes.
 
-use super::super::forms::has_offset;
 use super::super::statements::Statement;
-use super::lists::{INSTEAD, Instead};
+use super::lists::{INSTEAD, Instead, has_word};
 use super::numbered::{NUMBERED, WITH_NUMBER};
 use super::numbers::{bare_number, is_clear};
+use super::sentences::{sentence, write};
 use super::tried::{Number, tried};
 use isa::{Operands, form_of};
-use lexical::is_name;
 use std::alloc::{AllocError, Global};
 
-// The words before instructions to write.
-const WRITE: &str = "Write ";
-
 // Words of other assemblers that are also written without their second operand, where that is the first one.
-static SHORT: [&str; 6] = ["mul", "mulo", "rem", "remu", "subi", "subiu"];
+const SHORT: &str = "mul mulo rem remu subi subiu";
+
+// Operands of an example, and how many there are.
+struct Sample {
+    count: usize,
+    operands: [&'static [u8]; 3],
+    text: &'static str,
+}
+
+macro_rules! sample {
+    ($count:literal, $first:literal, $second:literal, $third:literal, $text:literal) => {
+        Sample {
+            count: $count,
+            operands: [$first, $second, $third],
+            text: $text,
+        }
+    };
+}
+
+static SAMPLES: [Sample; 7] = [
+    sample!(3, b"$t0", b"$t1", b"loop", " $t0,$t1,loop"),
+    sample!(3, b"$t0", b"$t1", b"$t2", " $t0,$t1,$t2"),
+    sample!(2, b"$t0", b"loop", b"", " $t0,loop"),
+    sample!(2, b"$t0", b"$t1", b"", " $t0,$t1"),
+    sample!(2, b"$t0", b"4($t1)", b"", " $t0,4($t1)"),
+    sample!(1, b"loop", b"", b"", " loop"),
+    sample!(1, b"$t0", b"", b"", " $t0"),
+];
 
 // The instructions of a table.
 fn in_table(
@@ -23,16 +46,8 @@ fn in_table(
     table: &[Instead],
 ) -> Result<Option<Vec<u8>>, AllocError> {
     for row in table {
-        let is_word = row.word.as_bytes().eq_ignore_ascii_case(statement.word);
-        if is_word && row.count == statement.count {
-            let found = tried(
-                alloc,
-                WRITE,
-                statement,
-                row.number,
-                row.lines,
-                statement.word,
-            )?;
+        if row.count == statement.count && has_word(row.words, statement.word) {
+            let found = tried(alloc, statement, row.number, row.lines, statement.word)?;
             if found.is_some() {
                 return Ok(found);
             }
@@ -51,14 +66,7 @@ fn in_pair(
 ) -> Result<Option<Vec<u8>>, AllocError> {
     for word in [by_number, by_register] {
         let lines = "@4 @1,@2,@3";
-        let found = tried(
-            alloc,
-            WRITE,
-            statement,
-            Number::AsItStands,
-            lines,
-            word.as_bytes(),
-        )?;
+        let found = tried(alloc, statement, Number::AsItStands, lines, word.as_bytes())?;
         if found.is_some() {
             return Ok(found);
         }
@@ -67,14 +75,7 @@ fn in_pair(
         return Ok(None);
     }
     let word = by_register.as_bytes();
-    tried(
-        alloc,
-        WRITE,
-        statement,
-        Number::Loaded,
-        "@4 @1,@2,$at",
-        word,
-    )
+    tried(alloc, statement, Number::Loaded, "@4 @1,@2,$at", word)
 }
 
 // An operation of three operands that differs in the kind of the last one.
@@ -91,41 +92,8 @@ fn of_other_kind(alloc: Global, statement: &Statement<'_>) -> Result<Option<Vec<
     Ok(None)
 }
 
-// A load or a store whose operands are in the other order, or whose address lacks its number or its register.
-fn with_address(alloc: Global, statement: &Statement<'_>) -> Result<Option<Vec<u8>>, AllocError> {
-    if statement.count != 2 || !has_offset(statement.word) {
-        return Ok(None);
-    }
-    let [_, second, _] = statement.operands;
-    let other = if is_name(second) {
-        (
-            "Data has no labels: write the number of the byte, from 0 on, as for byte 4 in ",
-            "@0 @1,4($zero)",
-        )
-    } else {
-        ("The register stands first: write ", "@0 @2,@1")
-    };
-    for (words, lines) in [other, (WRITE, "@0 @1,@2($zero)"), (WRITE, "@0 @1,0(@2)")] {
-        let found = tried(
-            alloc,
-            words,
-            statement,
-            Number::AsItStands,
-            lines,
-            statement.word,
-        )?;
-        if found.is_some() {
-            return Ok(found);
-        }
-    }
-    Ok(None)
-}
-
 // The statement without the zeros before its last operand, where nobody can mean an octal number.
-fn without_zeros<'a>(
-    alloc: Global,
-    statement: &Statement<'a>,
-) -> Result<Option<Vec<u8>>, AllocError> {
+fn without_zeros(alloc: Global, statement: &Statement<'_>) -> Result<Option<Vec<u8>>, AllocError> {
     let Some(number) = bare_number(statement) else {
         return Ok(None);
     };
@@ -138,8 +106,7 @@ fn without_zeros<'a>(
         3 => "@0 @1,@2,@4",
         _ => return Ok(None),
     };
-    let words = "There are no octal numbers: write ";
-    tried(alloc, words, statement, Number::AsItStands, lines, number)
+    tried(alloc, statement, Number::AsItStands, lines, number)
 }
 
 // The instructions for a statement with all its operands.
@@ -150,23 +117,13 @@ fn for_whole(alloc: Global, statement: &Statement<'_>) -> Result<Option<Vec<u8>>
             return Ok(found);
         }
     }
-    let found = of_other_kind(alloc, statement)?;
-    if found.is_some() {
-        return Ok(found);
-    }
-    let found = with_address(alloc, statement)?;
-    if found.is_some() {
-        return Ok(found);
-    }
-    without_zeros(alloc, statement)
+    of_other_kind(alloc, statement)
 }
 
 // Whether the word has three operands, of which the second may be left out where it is the first one.
 fn is_short(word: &[u8]) -> bool {
-    for other in SHORT {
-        if other.as_bytes().eq_ignore_ascii_case(word) {
-            return true;
-        }
+    if has_word(SHORT, word) {
+        return true;
     }
     match form_of(word, 3) {
         Ok(form) => !matches!(form.operands, Operands::RsRtLabel),
@@ -174,11 +131,8 @@ fn is_short(word: &[u8]) -> bool {
     }
 }
 
-/// The sentence with the instructions to write in place of a statement, if there are some.
-pub(crate) fn instead(
-    alloc: Global,
-    statement: &Statement<'_>,
-) -> Result<Option<Vec<u8>>, AllocError> {
+// The instructions for a statement, also where its second operand is left out.
+fn lines_for(alloc: Global, statement: &Statement<'_>) -> Result<Option<Vec<u8>>, AllocError> {
     let found = for_whole(alloc, statement)?;
     if found.is_some() || statement.count != 2 || !is_short(statement.word) {
         return Ok(found);
@@ -192,11 +146,57 @@ pub(crate) fn instead(
     for_whole(alloc, &whole)
 }
 
+/// The sentence with the instructions to write in place of a statement, if there are some.
+pub(crate) fn instead(
+    alloc: Global,
+    statement: &Statement<'_>,
+) -> Result<Option<Vec<u8>>, AllocError> {
+    if let Some(lines) = lines_for(alloc, statement)? {
+        return Ok(Some(write(alloc, lines.as_slice(), "")?));
+    }
+    let Some(lines) = without_zeros(alloc, statement)? else {
+        return Ok(None);
+    };
+    Ok(Some(write(alloc, lines.as_slice(), ": there are no octal numbers")?))
+}
+
+// A statement of a word and some operands.
+fn with_operands<'a>(
+    word: &'a [u8],
+    count: usize,
+    first: &'a [u8],
+    second: &'a [u8],
+    third: &'a [u8],
+) -> Statement<'a> {
+    Statement {
+        word,
+        count,
+        operands: [first, second, third],
+    }
+}
+
+/// The sentence with an example of a word of the tables, where its own operands do not fit.
+pub(crate) fn example(
+    alloc: Global,
+    statement: &Statement<'_>,
+) -> Result<Option<Vec<u8>>, AllocError> {
+    for sample in &SAMPLES {
+        let [first, second, third] = sample.operands;
+        let known = with_operands(statement.word, sample.count, first, second, third);
+        if let Some(lines) = for_whole(alloc, &known)? {
+            let (word, text) = (statement.word, sample.text);
+            let lines = lines.as_slice();
+            return Ok(Some(sentence(alloc, "For example write ", lines, " for ", word, text)?));
+        }
+    }
+    Ok(None)
+}
+
 /// Whether a word is one of the tables.
 pub(crate) fn is_known(word: &[u8]) -> bool {
     for table in [INSTEAD.as_slice(), WITH_NUMBER.as_slice()] {
         for row in table {
-            if row.word.as_bytes().eq_ignore_ascii_case(word) {
+            if has_word(row.words, word) {
                 return true;
             }
         }

@@ -3,19 +3,9 @@
 use super::super::clearing::Labels;
 use super::super::parts::{code, label_at};
 use super::super::statements::Statement;
-use super::sentences::Remedy;
+use super::sentences::{Remedy, counting};
 use super::words::is_one_away;
 use lexical::{before_comment, next_label, next_line};
-
-// A sentence with the place of a label.
-fn standing<'a>(sentence: &'static str, name: &'a [u8], line: u64) -> Remedy<'a> {
-    Remedy {
-        sentence,
-        text: name,
-        other: b"",
-        numbers: [line.cast_signed(), 0],
-    }
-}
 
 /// The remedy of a label that stands twice: the line of the first place.
 pub(crate) fn double<'a>(labels: &Labels<'_>, line: &'a [u8], number: u64) -> Option<Remedy<'a>> {
@@ -24,7 +14,8 @@ pub(crate) fn double<'a>(labels: &Labels<'_>, line: &'a [u8], number: u64) -> Op
         let name = &line[part.from..part.to];
         match labels.first(name) {
             Some(first) if labels.is_double(line, part, number) => {
-                return Some(standing("@4 stands first in line @6.", name, first.line));
+                let sentence = "Write another name: @4 stands first in line @6.";
+                return Some(counting(sentence, name, [first.line.cast_signed(), 0]));
             },
             _ => rest = behind,
         }
@@ -65,12 +56,10 @@ pub(crate) fn unknown<'a>(bytes: &'a [u8], statement: &Statement<'_>) -> Option<
         _ => third,
     };
     if let Some((label, line)) = first_like(bytes, name, true) {
-        return Some(standing(
-            "The case of letters counts: @4 stands in line @6.",
-            label,
-            line,
-        ));
+        let sentence = "Write @4, as in line @6: the case of letters counts.";
+        return Some(counting(sentence, label, [line.cast_signed(), 0]));
     }
     let (label, line) = first_like(bytes, name, false)?;
-    Some(standing("@4 stands in line @6.", label, line))
+    let sentence = "Is @4 meant, which stands in line @6?";
+    Some(counting(sentence, label, [line.cast_signed(), 0]))
 }

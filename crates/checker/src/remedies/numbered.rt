@@ -4,9 +4,9 @@ use super::lists::Instead;
 use super::tried::Number;
 
 macro_rules! instead {
-    ($number:ident, $word:literal, $count:literal, $lines:literal) => {
+    ($number:ident, $words:literal, $count:literal, $lines:literal) => {
         Instead {
-            word: $word,
+            words: $words,
             count: $count,
             number: Number::$number,
             lines: $lines,
@@ -15,7 +15,7 @@ macro_rules! instead {
 }
 
 /// The instructions to write in place of an operation whose last operand is a number, or of a branch whose second is.
-pub(crate) static WITH_NUMBER: [Instead; 46] = [
+pub(crate) static WITH_NUMBER: [Instead; 38] = [
     instead!(AsItStands, "blt", 3, "slti $at,@1,@2\nbne $at,$zero,@3"),
     instead!(Loaded, "blt", 3, "slt $at,@1,$at\nbne $at,$zero,@3"),
     instead!(AsItStands, "bge", 3, "slti $at,@1,@2\nbeq $at,$zero,@3"),
@@ -38,9 +38,7 @@ pub(crate) static WITH_NUMBER: [Instead; 46] = [
     instead!(Loaded, "bleu", 3, "sltu $at,$at,@1\nbeq $at,$zero,@3"),
     instead!(Loaded, "beq", 3, "beq @1,$at,@3"),
     instead!(Loaded, "bne", 3, "bne @1,$at,@3"),
-    instead!(Loaded, "mul", 3, "mult @2,$at\nmflo @1"),
-    instead!(Loaded, "mulo", 3, "mult @2,$at\nmflo @1"),
-    instead!(Loaded, "mult", 3, "mult @2,$at\nmflo @1"),
+    instead!(Loaded, "mul mulo mult", 3, "mult @2,$at\nmflo @1"),
     instead!(Loaded, "multu", 3, "multu @2,$at\nmflo @1"),
     instead!(Loaded, "div", 3, "div @2,$at\nmflo @1"),
     instead!(Loaded, "divu", 3, "divu @2,$at\nmflo @1"),
@@ -51,17 +49,11 @@ pub(crate) static WITH_NUMBER: [Instead; 46] = [
     instead!(Loaded, "sle", 3, "slt @1,$at,@2\nxori @1,@1,1"),
     instead!(Loaded, "sleu", 3, "sltu @1,$at,@2\nxori @1,@1,1"),
     instead!(Loaded, "nor", 3, "nor @1,@2,$at"),
-    instead!(Negative, "sub", 3, "addi @1,@2,@6"),
-    instead!(Loaded, "sub", 3, "sub @1,@2,$at"),
-    instead!(Negative, "subu", 3, "addiu @1,@2,@6"),
-    instead!(Loaded, "subu", 3, "subu @1,@2,$at"),
-    instead!(Negative, "subi", 3, "addi @1,@2,@6"),
-    instead!(Loaded, "subi", 3, "sub @1,@2,$at"),
-    instead!(Negative, "subiu", 3, "addiu @1,@2,@6"),
-    instead!(Loaded, "subiu", 3, "subu @1,@2,$at"),
-    instead!(IntoFirst, "li", 2, ""),
-    instead!(IntoFirst, "move", 2, ""),
-    instead!(IntoFirst, "mov", 2, ""),
+    instead!(Negative, "sub subi", 3, "addi @1,@2,@6"),
+    instead!(Loaded, "sub subi", 3, "sub @1,@2,$at"),
+    instead!(Negative, "subu subiu", 3, "addiu @1,@2,@6"),
+    instead!(Loaded, "subu subiu", 3, "subu @1,@2,$at"),
+    instead!(IntoFirst, "li move mov", 2, ""),
 ];
 
 /// An operation on registers, and the one whose last operand is a number.

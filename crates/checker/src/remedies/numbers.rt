@@ -1,7 +1,7 @@
 //! Remedies of numbers.
 
 use super::super::statements::Statement;
-use super::sentences::{Remedy, said};
+use super::sentences::{Remedy, counting, said};
 use lexical::{begins_number, number_in};
 
 /// The value, as 32 bits, of the third operand if that is a number, or else of the second.
@@ -65,12 +65,7 @@ fn without_zeros(number: &[u8]) -> &[u8] {
 // The remedy of a number of bytes that is no multiple of 4: the next one.
 fn space(number: &[u8]) -> Option<Remedy<'static>> {
     let whole = (number_in(number, 0, 65532)? | 3).wrapping_add(1);
-    Some(Remedy {
-        sentence: "Write .space @6.",
-        text: b"",
-        other: b"",
-        numbers: [i64::from(whole), 0],
-    })
+    Some(counting("Write .space @6.", b"", [i64::from(whole), 0]))
 }
 
 // The last operand of a statement of at most three.
@@ -112,7 +107,7 @@ pub(crate) fn bad_number(statement: &Statement<'_>) -> Option<Remedy<'static>> {
         return space(first);
     }
     if last_operand(statement).contains(&b'.') {
-        return Some(said("There are no fractions."));
+        return Some(said("Write a whole number: there are no fractions."));
     }
     None
 }

@@ -3,40 +3,26 @@
 use super::super::forms::takes_label;
 use super::super::statements::Statement;
 use super::registers::without_dollar;
-use super::sentences::{Remedy, naming, said};
-use isa::register_in;
+use super::sentences::{Remedy, counting, said};
 use lexical::{begins_number, parenthesized};
 
 // The remedy of an operand that is no register, number or address.
 fn operand<'a>(operand: &'a [u8]) -> Option<Remedy<'a>> {
     if let [b'\'', letter, b'\''] = operand {
-        return Some(Remedy {
-            sentence: "A character is written by its number: @6.",
-            text: b"",
-            other: b"",
-            numbers: [i64::from(*letter), 0],
-        });
+        let sentence = "Write @6: a character is written by its number.";
+        return Some(counting(sentence, b"", [i64::from(*letter), 0]));
     }
     if operand.contains(&b'[') {
-        return Some(said("The register of an address stands in parentheses, as 4($sp)."));
+        return Some(said("Write the register of an address in parentheses, as in 4($sp)."));
     }
     let register = match parenthesized(operand) {
-        Some((front, number)) if register_in(front).is_ok() && begins_number(number) => {
-            return Some(Remedy {
-                other: number,
-                ..naming(
-                    "The number stands before the register: write @8(@4).",
-                    front,
-                )
-            });
-        }
         Some((_, register)) => register,
         None => operand,
     };
     let found = without_dollar(register);
     let has_blank = operand.contains(&b' ') || operand.contains(&b'\t');
     if found.is_none() && has_blank && !operand.contains(&b'(') {
-        return Some(said("A comma stands between two operands."));
+        return Some(said("Write a comma between two operands."));
     }
     found
 }
@@ -48,7 +34,7 @@ pub(crate) fn odd_operand<'a>(statement: &Statement<'a>) -> Option<Remedy<'a>> {
         let is_label = takes_label(statement.word, statement.count, at);
         if is_label && begins_number(operands[at]) {
             return Some(said(
-                "A branch or a jump goes to a label: write its name, and the label there.",
+                "Write the name of a label, and that label where it leads: a branch or a jump goes to a label.",
             ));
         }
         let found = operand(operands[at]);

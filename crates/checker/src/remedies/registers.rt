@@ -27,14 +27,14 @@ fn is_named(name: &[u8], is_lowered: bool) -> bool {
 /// The remedy of an operand that names a register, where only its `$` is missing.
 pub(crate) fn without_dollar(operand: &[u8]) -> Option<Remedy<'_>> {
     if is_name(operand) && is_named(operand, false) {
-        return Some(naming("A register begins with $: write $@4.", operand));
+        return Some(naming("Write $@4: a register begins with $.", operand));
     }
     match operand {
         [b'r' | b'R', number @ ..] if decimal_in(number, 31).is_some() => {
-            Some(naming("A register begins with $: write $@4.", number))
+            Some(naming("Write $@4: a register begins with $.", number))
         }
         [b'x', number @ ..] if decimal_in(number, 31).is_some() => Some(naming(
-            "@4 is a register of RISC-V: here are $0 to $31, and their names.",
+            "Write one of $0 to $31, or a name, as $t0: @4 is a register of RISC-V.",
             operand,
         )),
         _ => None,
@@ -44,12 +44,12 @@ pub(crate) fn without_dollar(operand: &[u8]) -> Option<Remedy<'_>> {
 // The registers of the kind that a name with a number is of.
 fn range_of(name: &[u8]) -> Option<&'static str> {
     match name {
-        [b'0'..=b'9', ..] => Some("Registers are $0 to $31, and have names."),
-        [b't', b'0'..=b'9', ..] => Some("These registers are $t0 to $t9."),
-        [b's', b'0'..=b'9', ..] => Some("These registers are $s0 to $s8."),
-        [b'a', b'0'..=b'9', ..] => Some("These registers are $a0 to $a3."),
-        [b'v', b'0'..=b'9', ..] => Some("These registers are $v0 and $v1."),
-        [b'k', b'0'..=b'9', ..] => Some("These registers are $k0 and $k1."),
+        [b'0'..=b'9', ..] => Some("Write one of $0 to $31, or a name, as $t0."),
+        [b't', b'0'..=b'9', ..] => Some("Write one of $t0 to $t9."),
+        [b's', b'0'..=b'9', ..] => Some("Write one of $s0 to $s8."),
+        [b'a', b'0'..=b'9', ..] => Some("Write one of $a0 to $a3."),
+        [b'v', b'0'..=b'9', ..] => Some("Write $v0 or $v1."),
+        [b'k', b'0'..=b'9', ..] => Some("Write $k0 or $k1."),
         _ => None,
     }
 }
@@ -61,16 +61,20 @@ pub(crate) fn bad_register<'a>(statement: &Statement<'a>) -> Option<Remedy<'a>> 
             continue;
         };
         if is_named(name, true) && register_in(text).is_err() {
-            return Some(naming("Names of registers are in lower case: write @5.", text));
+            return Some(naming("Write @5: names of registers are in lower case.", text));
         }
         if register_in(text).is_err() && range_of(name).is_some() {
             return Some(said(range_of(name)?));
         }
         if name.starts_with(b"f") && !name.eq_ignore_ascii_case(b"fp") {
-            return Some(said("There are no registers of floating point."));
+            return Some(said(
+                "Write a general register, as $t0: there are none of floating point.",
+            ));
         }
         if name.eq_ignore_ascii_case(b"lo") || name.eq_ignore_ascii_case(b"hi") {
-            return Some(said("LO and HI are read by mflo and mfhi, and written by mtlo and mthi."));
+            return Some(said(
+                "Write mflo or mfhi to read LO or HI, and mtlo or mthi to write them.",
+            ));
         }
     }
     None

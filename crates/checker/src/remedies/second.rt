@@ -35,7 +35,7 @@ pub(crate) fn statement<'a>(code: &'a [u8]) -> Option<Remedy<'a>> {
             None => behind_blank(operand),
         };
         if let Some(word) = found {
-            return Some(naming("A line has one statement: write @4 in the next one.", word));
+            return Some(naming("Write @4 in the next line: a line has one statement.", word));
         }
         rest = after;
     }

@@ -26,11 +26,20 @@ pub(crate) fn said(sentence: &'static str) -> Remedy<'static> {
 
 /// A sentence with a text.
 pub(crate) fn naming<'a>(sentence: &'static str, text: &'a [u8]) -> Remedy<'a> {
+    counting(sentence, text, [0, 0])
+}
+
+/// A sentence with a text and numbers.
+pub(crate) fn counting<'a>(
+    sentence: &'static str,
+    text: &'a [u8],
+    numbers: [i64; 2],
+) -> Remedy<'a> {
     Remedy {
         sentence,
         text,
         other: b"",
-        numbers: [0, 0],
+        numbers,
     }
 }
 
@@ -74,6 +83,29 @@ fn push_known(
         said.push(shown)?;
     }
     Ok(())
+}
+
+/// A sentence in which lines are to be written, and after them a name with some words about it.
+pub(crate) fn sentence(
+    alloc: Global,
+    before: &str,
+    lines: &[u8],
+    between: &str,
+    name: &[u8],
+    after: &str,
+) -> Result<Vec<u8>, AllocError> {
+    let mut said = before.as_bytes().to_vec(alloc)?;
+    said.extend_from_slice(lines)?;
+    said.extend_from_slice(between.as_bytes())?;
+    said.extend_from_slice(name)?;
+    said.extend_from_slice(after.as_bytes())?;
+    said.push(b'.')?;
+    Ok(said)
+}
+
+/// The sentence in which lines are to be written, and the reason why, or nothing.
+pub(crate) fn write(alloc: Global, lines: &[u8], reason: &str) -> Result<Vec<u8>, AllocError> {
+    sentence(alloc, "Write ", lines, reason, b"", "")
 }
 
 /// The sentence of a remedy, filled.

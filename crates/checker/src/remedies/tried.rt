@@ -2,7 +2,7 @@
 
 use super::super::statements::Statement;
 use super::numbers::{loading, value_of};
-use super::sentences::{Remedy, filled, naming};
+use super::sentences::{Remedy, counting, filled, naming};
 use isa::{FaultKind, parse, register_in};
 use lexical::is_name;
 use std::alloc::{AllocError, Global};
@@ -17,8 +17,8 @@ pub(crate) enum Number {
     IntoFirst,
 }
 
-// Whether the listing language takes these lines, in a listing that has their labels.
-fn is_taken(alloc: Global, lines: &[u8]) -> Result<bool, AllocError> {
+/// Whether the listing language takes these lines, in a listing that has their labels.
+pub(crate) fn is_taken(alloc: Global, lines: &[u8]) -> Result<bool, AllocError> {
     match parse(alloc, lines) {
         Ok(_) => Ok(true),
         Err(fault) if fault.kind == FaultKind::Memory => Err(AllocError),
@@ -26,10 +26,9 @@ fn is_taken(alloc: Global, lines: &[u8]) -> Result<bool, AllocError> {
     }
 }
 
-// Lines in a row, behind some words.
-fn in_a_row(alloc: Global, words: &str, lines: &[u8]) -> Result<Vec<u8>, AllocError> {
+// Lines in a row.
+fn in_a_row(alloc: Global, lines: &[u8]) -> Result<Vec<u8>, AllocError> {
     let mut said = Vec::new(alloc);
-    said.extend_from_slice(words.as_bytes())?;
     for byte in lines {
         if *byte == b'\n' {
             said.extend_from_slice(b" and then ")?;
@@ -37,7 +36,6 @@ fn in_a_row(alloc: Global, words: &str, lines: &[u8]) -> Result<Vec<u8>, AllocEr
             said.push(*byte)?;
         }
     }
-    said.push(b'.')?;
     Ok(said)
 }
 
@@ -70,18 +68,12 @@ fn lines_before<'a>(
         Number::IntoFirst => (load.into, load.numbers),
         _ => ("", [0 - i64::from(value.cast_signed()), 0]),
     };
-    Some(Remedy {
-        sentence,
-        text,
-        other: b"",
-        numbers,
-    })
+    Some(counting(sentence, text, numbers))
 }
 
-/// Some words with lines behind them, if the language takes these lines.
+/// Lines in a row, if the language takes them.
 pub(crate) fn tried<'a>(
     alloc: Global,
-    words: &str,
     statement: &Statement<'a>,
     number: Number,
     lines: &'static str,
@@ -90,18 +82,12 @@ pub(crate) fn tried<'a>(
     let Some(before) = lines_before(statement, number, text) else {
         return Ok(None);
     };
-    let numbers = before.numbers;
-    let behind = Remedy {
-        sentence: lines,
-        text,
-        other: b"",
-        numbers,
-    };
+    let after = counting(lines, text, before.numbers);
     let mut all = filled(alloc, &before, statement)?;
-    let others = filled(alloc, &behind, statement)?;
+    let others = filled(alloc, &after, statement)?;
     all.extend_from_slice(others.as_slice())?;
     if is_taken(alloc, all.as_slice())? {
-        Ok(Some(in_a_row(alloc, words, all.as_slice())?))
+        Ok(Some(in_a_row(alloc, all.as_slice())?))
     } else {
         Ok(None)
     }

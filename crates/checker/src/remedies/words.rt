@@ -2,6 +2,7 @@
 
 use super::super::statements::Statement;
 use super::instead::is_known as is_instead;
+use super::lists::{NO_REALS, SENTENCES, row_of};
 use super::operands::odd_operand;
 use super::registers::bad_register;
 use super::sentences::{Remedy, naming, said};
@@ -55,6 +56,23 @@ pub(crate) fn is_known(word: &[u8]) -> bool {
     directive_text(word).is_some() || !matches!(form_of(word, 0), Err(FaultKind::UnknownOp))
 }
 
+// Whether a word is an operation of floating point: one with its kind after a dot, as `add.s`.
+fn is_of_reals(word: &[u8]) -> bool {
+    match word {
+        [first, .., b'.', b's' | b'S' | b'd' | b'D' | b'w' | b'W'] => *first != b'.',
+        _ => false,
+    }
+}
+
+/// What is said of a word for which no instruction with its operands is written, if anything is.
+pub(crate) fn row_of_word(word: &[u8]) -> Option<&'static str> {
+    let found = row_of(&SENTENCES, word);
+    if found.is_none() && is_of_reals(word) {
+        return Some(NO_REALS);
+    }
+    found
+}
+
 // The longest operation that a word is, but for one letter at its end.
 fn begun(word: &[u8]) -> Option<&'static str> {
     let [front @ .., _] = word else {
@@ -102,12 +120,14 @@ fn nearest(word: &[u8]) -> Option<Remedy<'static>> {
 fn label(code: &[u8], statement: &Statement<'_>) -> Option<&'static str> {
     let (front, colon) = cut(code, b':');
     if colon.is_some() && !is_name(trim(front)) {
-        return Some("A label begins with a letter, _ or ., and goes on with these and digits.");
+        return Some(
+            "Write another name: a label begins with a letter, _ or ., and goes on with these and digits.",
+        );
     }
     let [first, _, _] = statement.operands;
     let (next, _) = cut_word(first);
     if is_name(statement.word) && is_known(next) {
-        return Some("A colon stands behind a label: write @0:.");
+        return Some("Write @0: with a colon, as a label has.");
     }
     None
 }
@@ -121,7 +141,7 @@ fn meant(statement: &Statement<'_>) -> Option<Remedy<'static>> {
     if statement.count > 0 || !is_name(statement.word) || statement.word.starts_with(b".") {
         return None;
     }
-    Some(said("If it is a label, a colon stands behind it: write @0:."))
+    Some(said("If it is a label, write @0: with a colon."))
 }
 
 /// The remedy of a word that is no operation, and for which no instructions can be written: of its operands, of a label,
@@ -137,7 +157,7 @@ pub(crate) fn unknown<'a>(code: &[u8], statement: &Statement<'a>) -> Option<Reme
     }
     let [first, _, _] = statement.operands;
     if first.starts_with(b"=") {
-        return Some(said("There are no names for numbers: write the number."));
+        return Some(said("Write the number: there are no names for numbers."));
     }
     match label(code, statement) {
         Some(sentence) => Some(said(sentence)),

@@ -4,7 +4,7 @@ use Rattle.instructions.specs.Programs.{Program}
 use Rattle.inorder.specs.Unit.{Sizes}
 use Rattle.one_thread.specs.Changes.{run_from}
 use Rattle.one_thread.proofs.Ends.{left}
-use Rattle.chart.specs.declared.telling.Style.{Style}
+use Rattle.chart.specs.Styles.{Style}
 use Rattle.chart.specs.Rows.{kept}
 use Rattle.chart.specs.Watched.{GoesOn, Guides}
 use Rattle.chart.proofs.watching.tell_turns.Given as goal

@@ -5,6 +5,6 @@ use Rattle.checker.proofs.reach.reached.Given as goal
 abbrev pub invariant-loop : goal.invariant-loop
 invariant-loop l = record {
   size : length l.reached.items ≡ length l.program.code;
-  marked : HavePaths l.program l.reached.items;
-  listed : HavePathsTo l.program l.next.items;
+  marked : HavePaths l.paths l.program l.reached.items;
+  listed : HavePathsTo l.paths l.program l.next.items;
 }

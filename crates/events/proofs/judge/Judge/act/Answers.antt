@@ -12,4 +12,4 @@ returns-in-Ok-clause-ok c =
     (ap (λ p. p.now) c.in-Ok.ensures.program) c.in-Ok.ensures.sizes
 
 pub returns-in-Err-clause-err : goal.returns-in-Err-clause-err
-returns-in-Err-clause-err c = refuses_here c.args.self.now.unit c.act.new.self _ c.in-Err.ensures.same c.in-Err.ensures.err
+returns-in-Err-clause-err c = refuses_here c.args.self.now.unit c.act.new.self c.args.who c.args.deed c.in-Err.refusal c.in-Err.ensures.same c.in-Err.ensures.err

@@ -1,8 +1,8 @@
-use Rattle.std.proofs.Common.{◌≡◌, ◌∷◌, [], ap, refl, ◌∙◌, subst}
+use Rattle.std.proofs.Common.{◌≡◌, ◌∷◌, [], ap, inl, refl, sym, ◌∙◌, subst}
 use Rattle.std.specs.Prelude.{IfSome}
 use Rattle.replay.specs.declared.front.Front.{Front}
 use Rattle.replay.specs.declared.step.Step.TheVariants.{Let}
-use Rattle.events.proofs.Follow.{entered, then_untold, told_once, untold_then}
+use Rattle.events.proofs.Follow.{entered, let_refused, then_untold, told_once, untold_then}
 use Rattle.events.proofs.judge.Judge.dispatch.Goals as goal
 
 pub returns-in-Ok-clause-ok : goal.returns-in-Ok-clause-ok
@@ -28,3 +28,28 @@ returns-in-Ok-clause-ok c =
         goes = c.predicted-predicted.ensures;
       };
     }
+
+pub returns-then-not-goes_on_at-clause-err : goal.returns-then-not-goes_on_at-clause-err
+returns-then-not-goes_on_at-clause-err c = record {
+  told = [];
+  follows = c.mend_towards.ensures;
+  next = inl refl;
+  holds = sym (ap (λ (f : Front). f.pc) c.front-front.ensures);
+}
+
+pub returns-in_default-clause-err : goal.returns-in_default-clause-err
+returns-in_default-clause-err c = record {
+  told = [];
+  follows = c.mend_towards.ensures;
+  next = inl refl;
+  holds = sym (ap (λ (f : Front). f.pc) c.front-front.ensures);
+}
+
+pub returns-in-Err-clause-err : goal.returns-in-Err-clause-err
+returns-in-Err-clause-err c =
+    let same = rw c.in-Err.is at c.in_ok-reason.ensures.same in
+    let why = rw c.in-Err.is at c.in_ok-reason.ensures.err in
+    let_refused c.args.self.now.unit c.mend_towards.new.self.unit c.enter.new.self c.args.pc c.args.next c.in-Some.index c.predicted-predicted.result
+    c.in-Err.reason c.mend_towards.ensures same
+    (subst (λ n. IfSome c.args.pc (λ x. x ≡ n)) (sym c.in-Some.ensures.at) (c.if-not-goes_on_at.ensures refl))
+    c.predicted-predicted.ensures why

@@ -1,5 +1,9 @@
+use Rattle.std.proofs.Common.{Some}
 use Rattle.std.proofs.Common.{[]}
-use Rattle.events.proofs.Follow.{confirms_later, if_err, on_ok, refuses_after}
+use Rattle.replay.specs.declared.acting.Deed.TheVariants.{Confirm}
+use Rattle.replay.specs.declared.step.Step.TheVariants.{On}
+use Rattle.events.specs.Told.{IsRetiring, Only}
+use Rattle.events.proofs.Follow.{confirms_later, if_err, on_ok, only_confirming, refuses_as}
 use Rattle.events.proofs.judge.Judge.ready.Goals as goal
 
 pub returns-clause-ok : goal.returns-clause-ok
@@ -10,4 +14,5 @@ returns-clause-ok c =
 pub returns-clause-err : goal.returns-clause-err
 returns-clause-err c =
     if_err c.confirm_late.result _ _
-    (λ why r. refuses_after c.args.self.now.unit c.mend_late.new.self.unit c.confirm_late.new.self.unit [] why c.mend_late.ensures r) c.confirm_late.ensures.err
+    (λ why r. refuses_as c.args.self.now.unit c.mend_late.new.self.unit c.confirm_late.new.self.unit why
+    (Only (On c.args.who Confirm)) (IsRetiring (Some c.args.who)) c.mend_late.ensures r (only_confirming c.args.who)) c.confirm_late.ensures.err

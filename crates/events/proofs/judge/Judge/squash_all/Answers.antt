@@ -1,4 +1,6 @@
-use Rattle.events.proofs.Follow.{refuses_after, squashes_none, squashes_then}
+use Rattle.std.specs.List.{AllByRecursion}
+use Rattle.events.specs.Told.{IsSquashAfter}
+use Rattle.events.proofs.Follow.{all_after, refuses_after, squashes_none, squashes_then}
 use Rattle.events.proofs.judge.Judge.squash_all.Goals as goal
 
 pub loop-turn-init : goal.loop-turn-init
@@ -15,4 +17,5 @@ returns-then-not-more-clause-ok c =
 pub returns-in-Err-clause-err : goal.returns-in-Err-clause-err
 returns-in-Err-clause-err c =
     refuses_after c.args.self.now.unit c.loop-turn.self.unit c.squash_younger.new.self.unit c.loop-turn.invariant.told c.in-Err.why
-    c.loop-turn.invariant.follows c.in-Err.ensures.err
+    (AllByRecursion (IsSquashAfter c.args.who)) (AllByRecursion (IsSquashAfter c.args.who)) c.loop-turn.invariant.follows c.in-Err.ensures.err
+    (λ rr a. all_after c.args.who rr c.loop-turn.invariant.told a c.loop-turn.invariant.are)

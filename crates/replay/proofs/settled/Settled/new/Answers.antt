@@ -7,6 +7,11 @@ nones zero r = refl
 nones (suc n) zero = refl
 nones (suc n) (suc r) = nones n r
 
+zeros : (n r : ℕ) → ◌≡◌ {A = ℕ} (slice_index (replicate n 0) r) 0
+zeros zero r = refl
+zeros (suc n) zero = refl
+zeros (suc n) (suc r) = zeros n r
+
 pub returns : goal.returns
 returns c = record {
   within = omega arith;
@@ -16,5 +21,7 @@ returns c = record {
   path = refl;
   front = refl;
   writers = λ r lt. nones 34 r;
+  registers = λ r pos lt. ap Some (sym (zeros 34 r));
+  count = refl;
   bytes = λ x. ap (λ m. Some (slice_index m x)) (sym (c.in_ok-memory.ensures.items ∙ c.bytes.ensures.value));
 }

@@ -1,19 +1,30 @@
 use Rattle.std.proofs.Common.{rules, ◌≡◌, ◌+◌, ◌++◌, ◌∷◌, [], ap, sym, ◌∙◌, subst}
 use Rattle.std.specs.Prelude.{slice_index, slice_set}
+use Rattle.replay.specs.Dropping.{IsDropped, WaitsForKept}
+use Rattle.replay.specs.Numbered.{Numbered}
+use Rattle.replay.specs.declared.tenant.Tenant.{Tenant as Held}
 use Rattle.replay.specs.Settlement.{AreUses, IsSettled}
 use Rattle.replay.proofs.Counts.{uses_add}
+use Rattle.replay.proofs.Dropped.{dropped_push}
 use Rattle.replay.proofs.Settlement.{settled_push}
 use Rattle.replay.proofs.unit.Unit.add.Goals as goal
 
 pub invariant_of-self-2 : goal.invariant_of-self-2
 invariant_of-self-2 c =
-    let is : c.uses_of-uses.result ≡ slice_index c.know.new.self.uses.items c.args.tenant.station =
-    c.uses_of-uses.ensures.value ∙ sym (c.know.new.self.counts c.args.tenant.station) in
-    let items : c.push.new.self.items ≡ c.know.new.self.tenants.items ++ c.args.tenant ∷ [] = search rules in
+    let u = c.know.new.self in
+    let h = c.args.tenant in
+    let is : c.uses_of-uses.result ≡ slice_index u.uses.items h.station =
+    c.uses_of-uses.ensures.value ∙ sym (u.counts h.station) in
+    let items : c.push.new.self.items ≡ u.tenants.items ++ h ∷ [] = search rules in
+    let uses : c.set.new.self.items ≡ slice_set u.uses.items h.station (c.uses_of-uses.result + 1) = c.set.ensures.items in
+    let waits : WaitsForKept u.tenants.items u.tenants.from h =
+    subst (λ (t : Numbered Held). WaitsForKept t.items t.from h) (sym c.know.ensures.tenants) c.requires.waits in
     record {
-      settles = subst (λ hs. IsSettled c.know.new.self.program.now hs c.know.new.self.settled) (sym items)
-          (settled_push c.know.new.self.program.now c.know.new.self.tenants.items c.know.new.self.settled c.args.tenant c.know.new.self.settles);
-      counts = subst (λ hs. AreUses hs (slice_set c.know.new.self.uses.items c.args.tenant.station (c.uses_of-uses.result + 1))) (sym items)
-          (uses_add c.know.new.self.tenants.items c.know.new.self.uses.items c.args.tenant (c.uses_of-uses.result + 1) c.know.new.self.counts
-          c.in_ok-know.ensures.known (ap (λ n. n + 1) is));
+      settles = subst (λ hs. IsSettled u.program.now hs u.settled) (sym items) (settled_push u.program.now u.tenants.items u.settled h u.settles);
+      counts = subst (λ hs. AreUses hs c.set.new.self.items) (sym items)
+          (subst (AreUses (u.tenants.items ++ h ∷ [])) (sym uses)
+          (uses_add u.tenants.items u.uses.items h (c.uses_of-uses.result + 1) u.counts c.in_ok-know.ensures.there (ap (λ n. n + 1) is)));
+      drops = subst (λ n. IsDropped c.push.new.self.items n u.settled.upto) (sym c.push.ensures.from)
+          (subst (λ hs. IsDropped hs u.tenants.from u.settled.upto) (sym items)
+          (dropped_push u.tenants.items u.tenants.from u.settled.upto h u.drops u.settles.within waits));
     }

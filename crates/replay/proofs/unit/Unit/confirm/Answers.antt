@@ -95,8 +95,8 @@ returns-then-right-value-clause-err c = record {
 
 pub put-requires : goal.put-requires
 put-requires c =
-    replaces_live c.args.self.now.program.now c.args.self.now.tenants.items c.args.self.now.settled c.args.who c.in_ok-tenant.tenant _
-    c.args.self.now.settles c.in_ok-tenant.ensures.is c.in_ok-tenant.ensures.live refl
+    replaces_live c.args.self.now.program.now c.args.self.now.tenants.items c.args.self.now.tenants.from c.args.self.now.settled c.args.who c.in_ok-tenant.tenant _
+    c.args.self.now.settles c.args.self.now.drops c.in_ok-tenant.ensures.is c.in_ok-tenant.ensures.live refl refl refl
 
 pub returns-clause-ok : goal.returns-clause-ok
 returns-clause-ok c = record {

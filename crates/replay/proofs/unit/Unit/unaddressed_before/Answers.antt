@@ -10,7 +10,7 @@ loop-q-preserved c k less f = go (eqb k c.loop-q.q) refl
     go true e =
         let here = eqb-true k c.loop-q.q e in
         let yes = c.is_unaddressed.ensures.no
-        (subst (IsHeldUnaddressed c.args.self.now.program.now) (ap (held c.args.self.now.tenants.items) here ∙ sym c.tenant.ensures) f) in
+        (subst (IsHeldUnaddressed c.args.self.now.program.now) (ap (held c.args.self.now.tenants.items) here ∙ sym c.kept.ensures.is) f) in
         let never = c.if-is_unaddressed.false in
         absurd (cc)
     go false e = let other = not_eqb k c.loop-q.q e in c.loop-q.invariant k (omega arith) f

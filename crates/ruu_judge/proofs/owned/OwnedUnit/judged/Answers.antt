@@ -11,5 +11,5 @@ returns-in-Ok-found c =
 pub returns-in-Err : goal.returns-in-Err
 returns-in-Err c =
     let refuses = rw c.in-Err.is at c.in-Ok.ensures.err in
-    refused _ _ _ refuses _ _ (record { program = refl; ring = refl; queue = refl; tag = refl; tenants = refl })
+    refused _ _ _ _ refuses _ _ (record { program = refl; ring = refl; queue = refl; tag = refl; tenants = refl })
     (record { program = refuses.follows.program; ring = refl; queue = refl; tag = refl; tenants = refl })

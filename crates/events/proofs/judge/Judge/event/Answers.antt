@@ -1,0 +1,9 @@
+use Rattle.std.proofs.Common.{sym, subst}
+use Rattle.std.specs.Prelude.{IfErr, IfOk}
+use Rattle.events.specs.Told.{Begins, Refuses}
+use Rattle.events.proofs.judge.Judge.event.Goals as goal
+
+pub returns-in-Let-clause-err : goal.returns-in-Let-clause-err
+returns-in-Let-clause-err c =
+    subst (λ e. IfOk c.dispatch.result (λ answer. IfErr answer (λ why. Refuses c.args.self.now.unit (Begins e) why c.dispatch.new.self.unit)))
+    (sym c.in-Let.is) c.dispatch.ensures.err
