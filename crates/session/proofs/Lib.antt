@@ -10,7 +10,8 @@ pub mod WordsRead
 pub mod TableRows
 pub mod Renewing
 pub mod Looks
+pub mod Answered
 pub mod Played
-pub mod Advancing
+pub mod Tries
 pub mod EachVerb
 pub mod Undone

@@ -1,5 +1,8 @@
 -- Sessions whose words were looked at.
-use Rattle.std.proofs.Common.{◌≡◌, inl, inr, sym, ap, ◌∙◌, subst}
+use Rattle.std.proofs.Common.{◌≡◌, inl, inr, List, Option, refl, sym, ap, ◌∙◌, subst}
+use Rattle.inorder.specs.History.{IsLegal}
+use Rattle.instructions.proofs.Histories.{starts_same}
+use Rattle.session.specs.declared.units.Worker.{Worker}
 use Rattle.station.specs.Seats.{TheCore}
 use Rattle.session.specs.Moments.{GrowsLegally}
 use Rattle.session.specs.Sessions.{MayHaveLooked, OnlyLooked, TheSession}
@@ -8,6 +11,24 @@ use Rattle.session.proofs.Meetings.{back_on}
 
 same_core : (a b : TheSession) → OnlyLooked a b → b.core ≡ a.core
 same_core a b l = ap (λ (s : TheSession). s.core) l.kept
+
+same_units : (a b : TheSession) → OnlyLooked a b → b.units ≡ a.units
+same_units a b l = ap (λ (s : TheSession). s.units) l.kept
+
+-- What is true of the core and the units after a look
+pub at_core : (a b : TheSession) → OnlyLooked a b → (F : TheCore → Type 0) → F b.core → F a.core
+at_core a b l F f = subst F (same_core a b l) f
+
+pub at_both : (a b : TheSession) → OnlyLooked a b → (F : TheCore → List (Option Worker) → Type 0) → F b.core b.units → F a.core a.units
+at_both a b l F f = subst (λ (z : TheCore × List (Option Worker)). F z.0 z.1) (λ i. (same_core a b l i, same_units a b l i)) f
+
+-- No look at all
+pub looks_none : (s : TheSession) → IsLegal s.core.program s.core.sizes s.seen → OnlyLooked s s
+looks_none s legal = record {
+  grows = record { begins = starts_same s.seen; legal = legal };
+  kept = refl;
+  commits = record { core = refl; by = refl; ended = refl; shown = refl; state = refl };
+}
 
 -- Two looks are one
 pub looks_on : (a b c : TheSession) → OnlyLooked a b → OnlyLooked b c → OnlyLooked a c

@@ -2,7 +2,7 @@
 use Rattle.std.proofs.Common.{◌≡◌, inr, true, false, ℕ, ◌+◌, ◌<◌, List, [], ◌∷◌, ◌++◌, Result, Ok, Err, IfOk, arith, length, drop, get_or, refl, sym, ap, ◌∙◌, subst, add-one, append_assoc}
 use Rattle.std.proofs.lemmas.List.{drop_more}
 use Rattle.session.specs.declared.reading.Line.{Line}
-use Rattle.session.specs.Advances.{HasAddedText}
+use Rattle.session.specs.Texts.{HasAddedText}
 use Rattle.session.specs.Lines.{is_undo}
 use Rattle.session.specs.Sessions.{TheSession}
 use Rattle.session.specs.Undoing.{ComesTo, HasRun, LineComesTo, LineIsDone, SaysOnce, UndoSays, nothing_text}

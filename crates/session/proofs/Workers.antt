@@ -9,10 +9,9 @@ use Rattle.inorder.specs.OneHistory.{Adds}
 use Rattle.session.specs.declared.units.Claimed.{Claimed}
 use Rattle.session.specs.declared.units.Claimed.TheVariants as claimed
 use Rattle.session.specs.declared.units.Worker.{Worker}
-use Rattle.session.specs.Held.{claim_of, held_job}
 use Rattle.session.specs.Replies.{HoldsWhatIs}
 use Rattle.session.specs.Workers.{AreAtWork, AreWorkers, HasNone, HasUnit, IsAtWork, HoldsJob, IsWorker, StaySeen, UnitHasSeen}
-use Rattle.session.specs.Workers.{job_at, job_from, job_in, seen_at, seen_by_unit, station_held, worker_at}
+use Rattle.session.specs.Workers.{claim_of, held_job, job_at, job_from, job_in, seen_at, seen_by_unit, station_held, worker_at}
 use Rattle.instructions.proofs.Histories.{starts_same}
 use Rattle.session.proofs.Jobs.{job_later}
 use Rattle.station.specs.declared.answers.Claim.{Claim}

@@ -3,7 +3,8 @@ use Rattle.std.specs.Prelude.{◌≡◌, ℕ, zero, suc, ◌+◌, ◌%◌, ◌<�
 use Rattle.inorder.specs.declared.history.Entry.{Entry}
 use Rattle.inorder.specs.declared.history.Source.TheVariants.{First, Second}
 use Rattle.inorder.specs.Unit.{front_pc, next_station, recent}
-use Rattle.back.specs.Backs.{unit_in}
+use Rattle.back.specs.Backs.{IsSameBack, TheBack, unit_in}
+use Rattle.back.specs.declared.answers.Commit.{Commit}
 use Rattle.ruu_words.specs.declared.station.StationState.{StationState}
 use Rattle.ruu_words.specs.declared.station.StationState.TheVariants as state
 use Rattle.station.specs.declared.answers.Seen.{Seen}
@@ -15,7 +16,7 @@ use Rattle.session.specs.declared.replies.Row.{Row}
 use Rattle.session.specs.declared.units.Worker.{Worker}
 use Rattle.session.specs.Accounts.{IsOperandTold}
 use Rattle.session.specs.Moments.{IsBetween}
-use Rattle.session.specs.Replies.{IsLook}
+use Rattle.session.specs.Replies.{IsCommit, IsLook}
 use Rattle.session.specs.Workers.{job_at}
 
 -- The job is of the tenant with this tag at a station
@@ -101,3 +102,13 @@ pub record IsOldestTold (core : TheCore) (old new : List Entry) (units : List (O
   pub ahead : Ahead
   pub ring : IsRingTold core old middle head ahead
   pub row : IsOldest core middle new units head oldest
+
+-- The words of the oldest tenant's station were read, and after that the back has committed
+pub record HasCommittedTold (core : TheCore) (from to : TheBack) (old new : List Entry)
+    (units : List (Option Worker)) (commit : Commit) (oldest : Option (ℕ × Row)) : Type 0 where
+  pub middle : List Entry
+  pub looked : TheBack
+  pub same : IsSameBack from looked
+  pub oldest_is : IsOldestTold core old middle units oldest
+  pub says : IsCommit looked to middle new commit
+  pub shown : to.shown ≡ from.shown

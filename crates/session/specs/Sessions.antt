@@ -29,8 +29,7 @@ use Rattle.session.specs.declared.replies.Reply.TheVariants as say
 use Rattle.session.specs.declared.units.Worker.{Worker}
 use Rattle.session.specs.Units.{unit_count}
 use Rattle.session.specs.Accounts.{HasTurned, IsLinkTold, IsOperandTold}
-use Rattle.session.specs.Retiring.{HasCommittedTold}
-use Rattle.session.specs.Rows.{IsRingTold, IsRowSeen}
+use Rattle.session.specs.Rows.{HasCommittedTold, IsRingTold, IsRowSeen}
 use Rattle.session.specs.Replies.{IsCreatorNow, IsInfoSeen, IsLook, IsRecovery, IsRefresh, IsRefreshAt, IsRest, IsShown}
 use Rattle.session.specs.Moments.{GrowsLegally}
 use Rattle.session.specs.Renewals.{HasBegunAgain, HasStayed}
@@ -110,6 +109,21 @@ pub record OnlyLooked (old new : TheSession) : Type 0 where
   pub grows : GrowsLegally old.core old.seen new.seen
   pub kept : new ≡ record old { seen = new.seen; commits = new.commits; fronts = new.fronts }
   pub commits : KeepsCommits old new
+
+-- The front has made a step that is no rest: all but the front is as it was
+pub record FrontHasStepped (old new : TheSession) : Type 0 where
+  pub grows : GrowsLegally old.core old.seen new.seen
+  pub kept : new ≡ record old { seen = new.seen; fronts = new.fronts; touched = new.touched; rested = false }
+
+-- A unit has made a step
+pub record UnitHasStepped (old new : TheSession) : Type 0 where
+  pub grows : GrowsLegally old.core old.seen new.seen
+  pub kept : new ≡ record old { seen = new.seen; units = new.units }
+
+-- The back has made a step
+pub record BackHasStepped (old new : TheSession) : Type 0 where
+  pub grows : GrowsLegally old.core old.seen new.seen
+  pub kept : new ≡ record old { seen = new.seen; commits = new.commits }
 
 -- The words may have been looked at
 abbrev pub MayHaveLooked : TheSession → TheSession → Type 0
@@ -242,10 +256,10 @@ Answers old new ask.Take (say.Taken snap) = HasTaken old new snap
 Answers old new ask.Take say.Gone = new ≡ old
 Answers old new ask.Learn say.Learnt = HasLearnt old new
 Answers old new (ask.Look station) (say.Look seen) =
-    IsStationOf old station × IsLook old.core old.seen new.seen station seen
+    IsStationOf old station × IsLook old.core old.seen new.seen station seen × KeepsCommits old new
 Answers old new (ask.Creator register) (say.Creator made) =
     (register < register_count)
-    × IsCreatorNow old.core old.seen new.seen old.told register made
+    × IsCreatorNow old.core old.seen new.seen old.told register made × KeepsCommits old new
 Answers old new ask.Touched (say.Touched count) = (count ≡ old.touched) × (new ≡ old)
 Answers old new (ask.Info station) (say.Info info) =
     IsStationOf old station
@@ -283,25 +297,13 @@ after_command (ask.Turn given) old new =
 after_command ask.Recover old new =
     record old { seen = new.seen; fronts = new.fronts; touched = new.touched; rested = false }
 after_command (ask.Claim unit station) old new =
-    record old { seen = new.seen; commits = new.commits; units = new.units }
+    record old { seen = new.seen; commits = new.commits; fronts = new.fronts; units = new.units }
 after_command (ask.Finish unit station) old new = record old { seen = new.seen; units = new.units }
-after_command ask.Refresh old new = record old { seen = new.seen; commits = new.commits }
-after_command (ask.RefreshAt station) old new = record old { seen = new.seen; commits = new.commits }
-after_command ask.Commit old new =
-    record old { seen = new.seen; commits = new.commits; fronts = new.fronts }
 after_command ask.Show old new =
     record old { seen = new.seen; commits = new.commits; mark = new.mark }
 after_command ask.Take old new = record old { snapper = new.snapper }
 after_command ask.Learn old new = record old { snapper = new.snapper }
-after_command (ask.Look station) old new = record old { seen = new.seen; fronts = new.fronts }
-after_command (ask.Creator register) old new = record old { seen = new.seen; fronts = new.fronts }
 after_command ask.Touched old new = old
-after_command (ask.Info station) old new = record old { seen = new.seen; commits = new.commits }
-after_command (ask.Operand station k) old new = record old { seen = new.seen; commits = new.commits }
-after_command (ask.Link station k) old new = record old { seen = new.seen; commits = new.commits }
-after_command (ask.Station station) old new = record old { seen = new.seen; commits = new.commits }
-after_command ask.Ring old new =
-    record old { seen = new.seen; commits = new.commits; fronts = new.fronts }
 after_command ask.Rest old new =
     record old { seen = new.seen; fronts = new.fronts; told = new.told; rested = new.rested }
 after_command (ask.Meet one other) old new =
@@ -311,7 +313,6 @@ after_command (ask.Meet one other) old new =
       commits = new.commits;
       fronts = new.fronts;
     }
-after_command ask.Report old new = record old { seen = new.seen; commits = new.commits }
 after_command ask.Renew old new =
     record old {
       core = new.core;
@@ -322,6 +323,7 @@ after_command ask.Renew old new =
       told = new.told;
       rested = new.rested;
     }
+after_command command old new = record old { seen = new.seen; commits = new.commits; fronts = new.fronts }
 
 -- A command was answered so
 pub record IsReplied (old new : TheSession) (command : Command) (reply : Reply) : Type 0 where

@@ -1,5 +1,5 @@
 -- Tables: all stations, and who creates which register.
-use Rattle.std.specs.Prelude.{◌≡◌, ℕ, zero, suc, Bool, true, false, not, List, [], ◌∷◌, ◌++◌}
+use Rattle.std.specs.Prelude.{◌≡◌, ℕ, zero, suc, ◌+◌, ◌-◌, nat_lt, Bool, true, false, not, List, [], ◌++◌, if◌then◌else◌}
 use Rattle.instructions.specs.Registers.{register_count}
 use Rattle.front.specs.declared.answers.Made.TheVariants.{Base}
 use Rattle.session.specs.declared.commands.Command.{Command}
@@ -40,26 +40,19 @@ pub record HasRow (old new : TheSession) (command : Command) (before after : Lis
   pub row : IsRow old new command text
   pub written : after ≡ before ++ text
 
--- The rows of these commands, the last one first
-abbrev pub AreRows : TheSession → List Command → List ℕ → TheSession → Type 0
-AreRows first [] text last = (text ≡ []) × (last ≡ first)
-AreRows first (command ∷ earlier) text last =
-    (middle : TheSession) × (before : List ℕ) × (told : List ℕ)
-    × AreRows first earlier before middle
-    × IsRow middle last command told
-    × (text ≡ before ++ told)
+-- The command of a row: of the stations, then of the registers, and of the ring last
+abbrev pub row_command : (ring row : ℕ) → Command
+row_command ring row =
+    if nat_lt row ring then ask.Station row
+    else if nat_lt row (ring + register_count) then ask.Creator (row - ring) else ask.Ring
 
--- The questions for so many stations
-abbrev pub of_stations : ℕ → List Command
-of_stations zero = []
-of_stations (suc s) = ask.Station s ∷ of_stations s
-
--- The questions for the creators of so many registers, behind earlier commands
-abbrev pub of_registers : ℕ → List Command → List Command
-of_registers zero earlier = earlier
-of_registers (suc r) earlier = ask.Creator r ∷ of_registers r earlier
+-- So many rows, from the first on
+abbrev pub AreRows : (ring : ℕ) → TheSession → ℕ → List ℕ → TheSession → Type 0
+AreRows ring first zero text last = (text ≡ []) × (last ≡ first)
+AreRows ring first (suc n) text last =
+    (middle : TheSession) × (before : List ℕ) × AreRows ring first n before middle
+    × HasRow middle last (row_command ring n) before text
 
 -- The table of a session
 abbrev pub IsTable : TheSession → TheSession → List ℕ → Type 0
-IsTable old new text =
-    AreRows old (ask.Ring ∷ of_registers register_count (of_stations old.core.sizes.ring)) text new
+IsTable old new text = AreRows old.core.sizes.ring old (old.core.sizes.ring + register_count + 1) text new

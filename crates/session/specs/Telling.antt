@@ -7,12 +7,12 @@ use Rattle.session.specs.declared.reading.Line.TheVariants.{Asks, Help, List as 
 use Rattle.session.specs.declared.verbs.Verb.{Verb}
 use Rattle.session.specs.declared.verbs.Verb.TheVariants as verb
 use Rattle.session.specs.declared.replies.Reply.{Reply}
-use Rattle.session.specs.Advances.{TurnsSay}
-use Rattle.session.specs.Help.{help_text}
+use Rattle.session.specs.declared.help.TheConstants.{HELP}
 use Rattle.session.specs.Tables.{IsTable}
 use Rattle.session.specs.Commands.{verb_name}
 use Rattle.session.specs.Sessions.{IsReplied, OnlyLooked, TheSession}
 use Rattle.session.specs.Texts.{IsLineOf}
+use Rattle.session.specs.Turns.{TurnsSay}
 
 -- The text that names the operands of a command
 abbrev pub operands_of_verb : Verb → List ℕ
@@ -62,6 +62,6 @@ LineSays old new number Table text = IsTable old new text
 LineSays old new number Queue text = OnlyLooked old new
 LineSays old new number (Turns goal) text = TurnsSay goal number old new text
 LineSays old new number Undo text = (text ≡ []) × (new ≡ old)
-LineSays old new number Help text = (text ≡ help_text) × (new ≡ old)
+LineSays old new number Help text = (text ≡ HELP.now) × (new ≡ old)
 LineSays old new number AsksList text = new ≡ old
 LineSays old new number Quit text = (text ≡ []) × (new ≡ old)

@@ -167,6 +167,12 @@ pub record BeginsWith (text words : List ℕ) : Type 0 where
   pub more : List ℕ
   pub is : text ≡ words ++ more
 
+-- A text was added of which this is true
+pub record HasAddedText (Fact : List ℕ → Type 0) (before after : List ℕ) : Type 0 where
+  pub text : List ℕ
+  pub fact : Fact text
+  pub written : after ≡ before ++ text
+
 -- The line of a refusal, by the number of the line of the script
 abbrev pub refused_line : ℕ → Refusal → List ℕ
 refused_line number refusal =

@@ -4,12 +4,14 @@ use Rattle.instructions.specs.Histories.{StartsWith}
 use Rattle.inorder.specs.declared.history.Entry.{Entry}
 use Rattle.session.specs.declared.units.Claimed.{Claimed}
 use Rattle.session.specs.declared.units.Claimed.TheVariants as claimed
+use Rattle.session.specs.declared.units.Held.{Held}
 use Rattle.session.specs.declared.units.Worker.{Worker}
-use Rattle.session.specs.Held.{claim_of, held_job}
 use Rattle.session.specs.declared.producers.Producer.{Producer}
 use Rattle.session.specs.declared.replies.Finished.{Finished}
 use Rattle.session.specs.Accounts.{IsAwaited, IsFinish}
 use Rattle.session.specs.Replies.{IsClaim}
+use Rattle.station.specs.declared.answers.Claim.{Claim}
+use Rattle.station.specs.declared.answers.Claim.TheVariants as claim
 use Rattle.station.specs.declared.job.Job.{Job}
 use Rattle.station.specs.Claiming.{Holds}
 use Rattle.station.specs.Seats.{Caller, TheCore}
@@ -62,6 +64,27 @@ pub record HasUnit (old new : List (Option Worker)) (unit by : ℕ) (job : Optio
   pub job_is : worker.job ≡ job
   pub number : (w : Worker) → worker_at old unit ≡ Some w → w.seat.by ≡ by
   pub others : (at : ℕ) → at ≢ unit → worker_at new at ≡ worker_at old at
+
+-- The job with these fields
+abbrev pub held_job : Held → Job
+held_job h =
+    record {
+      station = h.station;
+      tag = h.tag;
+      index = h.index;
+      half = h.half;
+      pc = h.pc;
+      predicted = h.predicted;
+      first = h.a;
+      second = h.b;
+    }
+
+-- The answer of a claim, with its job
+abbrev pub claim_of : Claimed → Claim
+claim_of (claimed.Job held) = claim.Job (held_job held)
+claim_of claimed.NotOpen = claim.NotOpen
+claim_of (claimed.Waiting tag k) = claim.Waiting tag k
+claim_of (claimed.Moved tag) = claim.Moved tag
 
 -- The job that a claim gave
 abbrev pub job_from : Claimed → Option Job

@@ -1,9 +1,8 @@
 //! Answers that turns are taken up to.
 ghost use Rattle.std.specs.Prelude.{◌≡◌};
-ghost use Rattle.session.specs.Advances.{is_blocked, is_miss, is_stale, shows};
 ghost use Rattle.session.specs.Commands.{event_named};
 
-use crate::replies::{Finished, Reply};
+use crate::replies::Reply;
 use back::Refresh;
 use station::{Finish, StationState};
 
@@ -33,35 +32,18 @@ pub(crate) fn event_in(name: &[u8]) -> Option<Event>
     }
 }
 
-fn is_blocked(refresh: &Refresh) -> bool
-    ensures { result ≡ is_blocked refresh.now }
-{
-    matches!(refresh, Refresh::Blocked { .. })
-}
-
-fn is_miss(finished: &Finished) -> bool
-    ensures { result ≡ is_miss finished.now.answer finished.now.seen.state }
-{
-    match (finished.answer, finished.seen.state) {
-        (Finish::Finished, StationState::Miss) => true,
-        _ => false,
-    }
-}
-
-fn is_stale(finish: &Finish) -> bool
-    ensures { result ≡ is_stale finish.now }
-{
-    matches!(finish, Finish::Stale)
-}
-
 /// The answer shows the event.
-pub(crate) fn shows(event: Event, reply: &Reply) -> bool
-    ensures { result ≡ shows event reply.now }
-{
+pub(crate) fn shows(event: Event, reply: &Reply) -> bool {
     match (event, reply) {
-        (Event::Blocked, Reply::Refresh(refreshed)) => is_blocked(&refreshed.answer),
-        (Event::Misprediction, Reply::Finish(finished)) => is_miss(finished),
-        (Event::Stale, Reply::Finish(finished)) => is_stale(&finished.answer),
+        (Event::Blocked, Reply::Refresh(refreshed)) => matches!(
+            refreshed.answer,
+            Refresh::Blocked { .. }
+        ),
+        (Event::Misprediction, Reply::Finish(finished)) => {
+            matches!(finished.answer, Finish::Finished)
+                && matches!(finished.seen.state, StationState::Miss)
+        }
+        (Event::Stale, Reply::Finish(finished)) => matches!(finished.answer, Finish::Stale),
         _ => false,
     }
 }

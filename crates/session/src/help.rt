@@ -1,6 +1,5 @@
 //! The commands, as they are told to who asks for them.
 ghost use Rattle.std.specs.Prelude.{◌≡◌, IfOk, string_bytes};
-ghost use Rattle.session.specs.Help.{help_text};
 
 use std::alloc::{AllocError, Global};
 
@@ -44,7 +43,7 @@ quit          ends the script
 
 /// The text of `HELP`.
 pub(crate) fn help(alloc: Global) -> Result<String, AllocError>
-    ensures { IfOk result (λ text. string_bytes text ≡ help_text) }
+    ensures { IfOk result (λ text. string_bytes text ≡ HELP.now) }
 {
     format!(in alloc; "{HELP}")
 }

@@ -2,12 +2,8 @@
 //! and the transcript of what is answered.
 #![tactic(auto)]
 
-mod accounts;
-mod advance;
-mod advances;
 mod answer_words;
 mod calls;
-mod choices;
 mod commands;
 mod events;
 mod front_calls;
@@ -16,25 +12,21 @@ mod lines;
 mod listed;
 mod meeting;
 mod names;
-mod oldest;
 mod operands;
-mod order;
 mod parties;
 mod play;
 mod producers;
 mod queue;
 mod reading;
-mod reads;
 mod renewal;
 mod replies;
-mod reports;
-mod retiring;
 mod rows;
 mod script;
 mod session;
 mod shown;
 mod tables;
 mod texts;
+mod turns;
 mod undo;
 mod units;
 mod verbs;

@@ -1,16 +1,16 @@
 //! What is told of a line of a script.
-ghost use Rattle.std.specs.Prelude.{◌≡◌, true, false, IfOk, string_bytes};
-ghost use Rattle.session.specs.Advances.{HasTurnedUpTo, is_nowhere};
+ghost use Rattle.std.specs.Prelude.{◌≡◌, true, false, IfOk, [], string_bytes};
 ghost use Rattle.session.specs.Telling.{LineSays, miscounted_text, operands_of_verb, unknown_text, wants_text};
+ghost use Rattle.session.specs.Turns.{HasTried, is_nowhere};
 ghost use Rattle.session.specs.Undoing.{LineIsDone};
 
-use crate::advances::advances;
 use crate::help::help;
 use crate::listed::list;
 use crate::reading::{Goal, Line};
 use crate::session::Session;
 use crate::tables::table;
 use crate::texts::line_of;
+use crate::turns::turns;
 use crate::verbs::{Verb, word};
 use back::Naming;
 use instructions::{Predictor, Program};
@@ -64,7 +64,7 @@ fn is_nowhere(program: &Program, goal: Goal) -> bool
 }
 
 // Turns up to a goal, where an instruction is at its pc.
-fn turns<P: Predictor + Drop, J: Naming, R: Wait>(
+fn turns_to<P: Predictor + Drop, J: Naming, R: Wait>(
     wait: &R,
     alloc: Global,
     session: &mut Session<'_, P, J>,
@@ -74,12 +74,12 @@ fn turns<P: Predictor + Drop, J: Naming, R: Wait>(
     ensures nowhere { IfOk result (λ text. is_nowhere session.old.core.program goal ≡ true
         → session.new ≡ session.old) }
     ensures turns { IfOk result (λ text. is_nowhere session.old.core.program goal ≡ false
-        → HasTurnedUpTo goal number session.old session.new (string_bytes text)) }
+        → HasTried number session.old session.new [] (string_bytes text)) }
 {
     if is_nowhere(session.program(), goal) {
         return format!(in alloc; "line {number}: no instruction is at this pc\n");
     }
-    advances(wait, alloc, session, number, goal)
+    turns(wait, alloc, session, number, goal)
 }
 
 // Does what the line of this number asks for, and gives the text for it. A line without a command has an empty text, and
@@ -105,7 +105,7 @@ fn said<P: Predictor + Drop, J: Naming, R: Wait>(
         }
         Line::Table => table(wait, alloc, session),
         Line::Queue => session.queue(alloc),
-        Line::Turns(goal) => turns(wait, alloc, session, number, goal),
+        Line::Turns(goal) => turns_to(wait, alloc, session, number, goal),
         Line::Help => help(alloc),
         Line::List => list(alloc, session.program()),
     }

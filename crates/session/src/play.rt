@@ -1,5 +1,5 @@
 //! A session that is driven by a seed.
-ghost use Rattle.std.specs.Prelude.{◌≡◌, ◌≢◌, ◌<◌, ◌≤◌, ◌+◌, ◌-◌, ◌^◌, ◌⊎◌, IfErr, IfNone, IfOk, IsSome, OnOk, [], length};
+ghost use Rattle.std.specs.Prelude.{◌≡◌, ◌≢◌, ◌<◌, ◌≤◌, ◌+◌, ◌-◌, ◌^◌, ◌⊎◌, IfErr, IfNone, IfOk, IsSome, OnOk, []};
 ghost use Rattle.counted_io.specs.Counted.{failures_of, known_by};
 ghost use Rattle.session.specs.Plays.{ArePlayed, HasPlayed, HasPlayedPart, IsPlayed, IsWrittenBehind};
 ghost use Rattle.session.specs.Scripts.{write_failures};
@@ -18,12 +18,12 @@ use std::alloc::{AllocError, Global};
 use std::io::Write;
 use std::sync::Wait;
 
-// The command that a number names, modulo how many there are.
-fn named(choices: &[Command], choice: u32) -> Command
-    requires { 0 < length choices.now }
-{
-    let at = choice as usize % choices.len();
-    choices[at]
+// The command that a number names, modulo how many there are; a commit where there is none.
+fn named(choices: &[Command], choice: u32) -> Command {
+    if choices.is_empty() {
+        return Command::Commit;
+    }
+    choices[choice as usize % choices.len()]
 }
 
 // The line of the command that the seed names of those that make sense; none where the run has ended.

@@ -1,7 +1,6 @@
 //! Tables: all stations, and who creates which register.
-ghost use Rattle.std.specs.Prelude.{◌≡◌, true, false, IfOk, OnOk, [], string_bytes};
-ghost use Rattle.instructions.specs.Registers.{register_count};
-ghost use Rattle.session.specs.Tables.{AreRows, EndsWith, HasRow, IsTable, RowSays, has_row, of_registers, of_stations};
+ghost use Rattle.std.specs.Prelude.{◌≡◌, ◌≤◌, true, false, IfOk, OnOk, [], string_bytes};
+ghost use Rattle.session.specs.Tables.{EndsWith, HasRow, IsTable, RowSays, has_row, row_command};
 
 use crate::commands::Command;
 use crate::replies::Reply;
@@ -66,41 +65,18 @@ fn push_row<P: Predictor + Drop, J: Naming, R: Wait>(
     out.push_str(row.as_str())
 }
 
-// The rows of all stations.
-fn push_stations<P: Predictor + Drop, J: Naming, R: Wait>(
-    wait: &R,
-    alloc: Global,
-    session: &mut Session<'_, P, J>,
-    out: &mut String,
-) -> Result<(), AllocError>
-    requires { string_bytes out.old ≡ [] }
-    ensures { OnOk result
-        (AreRows session.old (of_stations session.old.core.sizes.ring)
-        (string_bytes out.new) session.new) }
+// The command of a row: of the stations, then of the registers, and of the ring last.
+fn row_command(ring: usize, row: usize) -> Command
+    requires { ring ≤ 32 }
+    ensures { result ≡ row_command ring row }
 {
-    let ring = session.ring();
-    for station in 0..ring as u32 {
-        push_row(wait, alloc, session, Command::Station(station), out)?;
+    if row < ring {
+        Command::Station(row as u32)
+    } else if row < ring + 34 {
+        Command::Creator((row - ring) as u32)
+    } else {
+        Command::Ring
     }
-    Ok(())
-}
-
-// The rows of all stations, and of all registers behind them.
-fn rows_of_all<P: Predictor + Drop, J: Naming, R: Wait>(
-    wait: &R,
-    alloc: Global,
-    session: &mut Session<'_, P, J>,
-) -> Result<String, AllocError>
-    ensures { IfOk result (λ text. AreRows session.old
-        (of_registers register_count (of_stations session.old.core.sizes.ring))
-        (string_bytes text) session.new) }
-{
-    let mut out = String::new(alloc);
-    push_stations(wait, alloc, session, &mut out)?;
-    for register in 0..34 {
-        push_row(wait, alloc, session, Command::Creator(register), &mut out)?;
-    }
-    Ok(out)
 }
 
 /// The table of a session: a row for each station that is not free, who creates which register, and the ring. Each row
@@ -112,7 +88,10 @@ pub(crate) fn table<P: Predictor + Drop, J: Naming, R: Wait>(
 ) -> Result<String, AllocError>
     ensures { IfOk result (λ text. IsTable session.old session.new (string_bytes text)) }
 {
-    let mut out = rows_of_all(wait, alloc, session)?;
-    push_row(wait, alloc, session, Command::Ring, &mut out)?;
+    let mut out = String::new(alloc);
+    let ring = session.ring();
+    for row in 0..ring + 35 {
+        push_row(wait, alloc, session, row_command(ring, row), &mut out)?;
+    }
     Ok(out)
 }

@@ -1,6 +1,6 @@
 //! Commands that are taken back, and lines that are done several times.
 ghost use Rattle.std.specs.Prelude.{◌≡◌, IfOk, OnOk, string_bytes};
-ghost use Rattle.session.specs.Advances.{HasAddedText};
+ghost use Rattle.session.specs.Texts.{HasAddedText};
 ghost use Rattle.session.specs.Undoing.{ComesTo, HasRun, LineComesTo, UndoSays, nothing_text};
 
 use crate::lines::told;

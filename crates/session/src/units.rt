@@ -1,6 +1,7 @@
 //! The units of a session, and the jobs that they hold.
 ghost use Rattle.std.specs.Prelude.{◌≡◌, ◌<◌, IfOk, None, Some, slice_set, vec_len};
 ghost use Rattle.station.specs.Seats.{IsSameSeat};
+ghost use Rattle.session.specs.Rows.{IsHolder};
 ghost use Rattle.session.specs.Workers.{AreAtWork, AreWorkers, HasNone, IsAtWork, IsWorker, job_at, station_held, worker_at};
 ghost use Rattle.session.specs.declared.units.Worker.{Worker};
 
@@ -52,6 +53,24 @@ pub(crate) fn held_station(units: &Vec<Option<Worker>>, unit: usize) -> Option<u
         ) => Some(job.station()),
         _ => None,
     }
+}
+
+/// The unit that holds a job of the tenant with this tag at a station.
+pub(crate) fn holder(units: &Vec<Option<Worker>>, station: usize, tag: u32) -> Option<usize>
+    ensures { IsHolder units.now.items station tag result }
+{
+    for at in 0..units.len() {
+        match &units[at] {
+            Some(
+                Worker {
+                    seat: _,
+                    job: Some(job),
+                },
+            ) if job.station() == station && job.tag() == tag => return Some(at),
+            _ => {}
+        }
+    }
+    None
 }
 
 /// A place for each unit, none of which is made.

@@ -1,9 +1,8 @@
 //! Claims and finishes by the units of a session.
 ghost use Rattle.std.specs.Prelude.{◌≡◌, ◌<◌, None, Some, vec_len};
 ghost use Rattle.station.specs.Seats.{IsSameSeat};
-ghost use Rattle.session.specs.Held.{claim_of, held_job};
 ghost use Rattle.session.specs.Moments.{GrowsLegally};
-ghost use Rattle.session.specs.Workers.{AreWorkers, HasClaimed, UnitHasFinished, job_at, job_from, station_held};
+ghost use Rattle.session.specs.Workers.{AreWorkers, HasClaimed, UnitHasFinished, claim_of, held_job, job_at, job_from, station_held};
 
 use crate::calls;
 use crate::replies::Finished;

@@ -1,39 +1,66 @@
-//! The commands that make sense for a session as it is.
+//! The commands that make sense for a session as it is, of which a seed names one.
 use super::Session;
-use crate::choices::{PLAYERS, choice_of_row, may_commit, may_turn, or_commit};
 use crate::commands::Command;
-use crate::rows;
-use crate::units::held_station;
+use crate::replies::Row;
+use crate::shown::indexed;
 use back::Naming;
-use instructions::Predictor;
+use instructions::{Kind, Predictor, Program};
+use station::{SourceState, StationState};
 use std::alloc::{AllocError, Global};
 
+/// How many units the chosen commands are for.
+const PLAYERS: usize = 3;
+
+// A claim would find what it needs: a store needs its address alone.
+fn is_ready(program: &Program, row: &Row) -> bool {
+    let is_store = match indexed(program, row.first.info.index) {
+        Some(instr) => matches!(instr.op().kind(), Kind::Stores),
+        None => false,
+    };
+    !matches!(row.first.seen.state, SourceState::Wait)
+        && (is_store || !matches!(row.second.seen.state, SourceState::Wait))
+}
+
+// The command that makes sense for the tenant of a station, where this unit holds no job.
+fn choice_of_row(
+    program: &Program,
+    station: u32,
+    row: &Row,
+    idle: Option<usize>,
+) -> Option<Command> {
+    match (row.seen.state, idle) {
+        (StationState::Open, Some(unit)) if is_ready(program, row) => {
+            Some(Command::Claim(unit, station))
+        }
+        (StationState::Miss, _) => Some(Command::Recover),
+        (StationState::Addr, _) => Some(Command::Refresh),
+        _ => None,
+    }
+}
+
+// A commit may find something to do, where this is the oldest tenant's station.
+fn may_commit(oldest: &Option<(usize, Row)>) -> bool {
+    match oldest {
+        Some((_, row)) => matches!(
+            row.seen.state,
+            StationState::Addr | StationState::Done | StationState::Stop
+        ),
+        None => true,
+    }
+}
+
 impl<'a, P: Predictor + Drop, J: Naming> Session<'a, P, J> {
-    ghost use Rattle.std.specs.Prelude.{◌<◌, IfNone, IfOk, IfSome, IsSome, OnOk, length};
+    ghost use Rattle.std.specs.Prelude.{◌<◌, IfNone, IfOk, IsSome, OnOk};
     ghost use Rattle.session.specs.Sessions.{MayHaveLooked, OnlyLooked};
 
     // The first of the units that holds no job, if one does not.
     fn idle(&self) -> Option<usize> {
         for unit in 0..PLAYERS {
-            if held_station(&self.units, unit).is_none() {
+            if self.finish_of(unit).is_none() {
                 return Some(unit);
             }
         }
         None
-    }
-
-    // The finishes of jobs that units hold.
-    fn push_finishes(&self, choices: &mut Vec<Command>) -> Result<(), AllocError> {
-        let ring = self.core.ring();
-        for unit in 0..PLAYERS {
-            match held_station(&self.units, unit) {
-                Some(station) if station < ring => {
-                    choices.push(Command::Finish(unit, station as u32))?;
-                }
-                _ => {}
-            }
-        }
-        Ok(())
     }
 
     // The command for a station's tenant, where this unit holds no job.
@@ -46,15 +73,14 @@ impl<'a, P: Predictor + Drop, J: Naming> Session<'a, P, J> {
         requires { station < self.old.core.sizes.ring }
         ensures { OnOk result (OnlyLooked self.old self.new) }
     {
-        let (core, all, back) = (&self.core, &mut self.all, &mut self.back);
-        let row = rows::row(core, all, back, &self.units, station as usize);
+        let row = self.row(station as usize);
         if let Some(choice) = choice_of_row(self.program, station, &row, idle) {
             choices.push(choice)?;
         }
         Ok(())
     }
 
-    // The commands for the tenants of all stations.
+    // The commands for the tenants of all stations, and the finishes of jobs that units hold.
     fn push_of_stations(&mut self, choices: &mut Vec<Command>) -> Result<(), AllocError>
         ensures { OnOk result (MayHaveLooked self.old self.new) }
     {
@@ -63,37 +89,39 @@ impl<'a, P: Predictor + Drop, J: Naming> Session<'a, P, J> {
         for station in 0..ring as u32 {
             self.push_of_station(choices, station, idle)?;
         }
+        for unit in 0..PLAYERS {
+            if let Some(finish) = self.finish_of(unit) {
+                choices.push(finish)?;
+            }
+        }
         Ok(())
     }
 
-    // A turn, where it may find something to do.
+    // A turn, where a station is free, and an instruction stands at the next pc.
     fn push_turn(&mut self, choices: &mut Vec<Command>) -> Result<(), AllocError>
         ensures { OnOk result (OnlyLooked self.old self.new) }
     {
-        let (core, all, back) = (&self.core, &mut self.all, &mut self.back);
-        let (head, ahead) = rows::ring(core, all, &mut self.front, back);
-        if may_turn(self.program, &head, &ahead) {
+        let (head, ahead) = self.ends();
+        if head.free > 0 && self.program.fetch(ahead.pc).is_some() {
             choices.push(Command::Turn(None))?;
         }
         Ok(())
     }
 
-    // A commit, where it may find something to do.
+    // A commit, where it may find something to do or nothing else makes sense.
     fn push_commit(&mut self, choices: &mut Vec<Command>) -> Result<(), AllocError>
         ensures { OnOk result (OnlyLooked self.old self.new) }
     {
-        let (core, all, back) = (&self.core, &mut self.all, &mut self.back);
-        let oldest = rows::oldest(core, all, &mut self.front, back, &self.units);
-        if may_commit(&oldest) {
+        let oldest = self.oldest();
+        if may_commit(&oldest) || choices.is_empty() {
             choices.push(Command::Commit)?;
         }
         Ok(())
     }
 
-    /// The commands that make sense now, of which there is one at least; none where the run has ended.
+    /// The commands that make sense now; none where the run has ended.
     pub(crate) fn choices(&mut self, alloc: Global) -> Result<Option<Vec<Command>>, AllocError>
         ensures looks { OnOk result (MayHaveLooked self.old self.new) }
-        ensures some { IfOk result (λ found. IfSome found (λ choices. 0 < length choices.items)) }
         ensures ended { IfOk result (λ found. IfNone found (IsSome self.new.commits.ended)) }
     {
         if self.back.ended().is_some() {
@@ -102,9 +130,7 @@ impl<'a, P: Predictor + Drop, J: Naming> Session<'a, P, J> {
         let mut choices = Vec::new(alloc);
         self.push_turn(&mut choices)?;
         self.push_of_stations(&mut choices)?;
-        self.push_finishes(&mut choices)?;
         self.push_commit(&mut choices)?;
-        or_commit(&mut choices)?;
         Ok(Some(choices))
     }
 }

@@ -1,24 +1,60 @@
-//! The calls of a session that drive its core: by the front, by units, and by the back.
+//! The calls of a session that drive its core: by the front, by units, and by the back. Each stands between two meetings
+//! with the seat that has seen all.
+ghost use Rattle.std.specs.Prelude.{◌≡◌};
+ghost use Rattle.front.specs.Fronts.{TurnsTo};
+ghost use Rattle.front.specs.Training.{given_or};
+
 use super::Session;
 use crate::names::UNITS;
-use crate::replies::{Refusal, Reply};
-use crate::retiring::commit;
-use crate::units::held_station;
-use crate::working::finish_by;
-use crate::{accounts, calls, front_calls};
-use back::Naming;
+use crate::replies::{Refreshed, Refusal, Reply};
+use crate::units::{Claimed, held_station};
+use crate::working::{claim_by, finish_by};
+use back::{Commit as Committed, Naming};
+use front::{Front, Turn as Turned};
 use instructions::Predictor;
+use station::Core;
+
+// A turn by the front. A given guess stands in for the predictor's.
+fn turn_by<P: Predictor + Drop>(core: &Core, front: &mut Front<'_, P>, given: Option<u32>) -> Turned
+    requires { front.old.core ≡ core.now }
+    ensures core { front.new.core ≡ core.now }
+    ensures told { front.new.told ≡ front.old.told }
+    ensures reply { TurnsTo (given_or given P.Predicts) P.Learns core.now front.old front.new
+        result }
+{
+    match given {
+        Some(next) => front.turn_to(core, next),
+        None => front.turn(core),
+    }
+}
 
 impl<'a, P: Predictor + Drop, J: Naming> Session<'a, P, J> {
-    ghost use Rattle.session.specs.Sessions.{IsReplied};
+    ghost use Rattle.std.specs.Prelude.{◌≡◌, ◌<◌, ◌-◌, ◌^◌, None};
+    ghost use Rattle.back.specs.Backs.{back_state};
+    ghost use Rattle.session.specs.Replies.{IsCommit, IsTurn};
+    ghost use Rattle.session.specs.Sessions.{BackHasStepped, FrontHasStepped, IsReplied, UnitHasStepped};
+    ghost use Rattle.session.specs.Units.{unit_count};
+    ghost use Rattle.session.specs.Workers.{HasClaimed, job_at};
     ghost use Rattle.session.specs.declared.commands.Command.TheVariants.{Claim, Commit, Finish, Recover, Refresh, RefreshAt, Turn};
+
+    // A turn of the front. A given guess stands in for the predictor's.
+    fn dispatch(&mut self, given: Option<u32>) -> Turned
+        ensures stays { FrontHasStepped self.old self.new }
+        ensures reply { IsTurn self.old.core given self.old.seen self.new.seen result }
+    {
+        self.rested = false;
+        let (core, all, front) = (&self.core, &mut self.all, &mut self.front);
+        front.meet(core, all);
+        let answer = turn_by(core, front, given);
+        front.meet(core, all);
+        answer
+    }
 
     pub(super) fn turn(&mut self, given: Option<u32>) -> Reply
         ensures { IsReplied self.old self.new (Turn given) result }
     {
-        self.rested = false;
-        let (core, all, back) = (&self.core, &mut self.all, &mut self.back);
-        let (turn, info) = accounts::turn(core, all, &mut self.front, back, given);
+        let turn = self.dispatch(given);
+        let info = self.info_of_let(turn);
         Reply::Turn(turn, info)
     }
 
@@ -26,7 +62,24 @@ impl<'a, P: Predictor + Drop, J: Naming> Session<'a, P, J> {
         ensures { IsReplied self.old self.new Recover result }
     {
         self.rested = false;
-        Reply::Recovery(front_calls::recover(&self.core, &mut self.all, &mut self.front))
+        let (core, all, front) = (&self.core, &mut self.all, &mut self.front);
+        front.meet(core, all);
+        let answer = front.recover(core);
+        front.meet(core, all);
+        Reply::Recovery(answer)
+    }
+
+    // A claim by the unit at a place, which holds no job.
+    fn issue(&mut self, unit: usize, station: usize) -> Claimed
+        requires unit { unit < unit_count }
+        requires station { station < self.old.core.sizes.ring }
+        requires free { job_at self.old.units unit ≡ None }
+        ensures stays { UnitHasStepped self.old self.new }
+        ensures reply { HasClaimed self.old.core self.old.seen self.new.seen self.old.units self.new.units
+            unit station result }
+    {
+        let (core, all, units) = (&self.core, &mut self.all, &mut self.units);
+        claim_by(core, all, units, unit, station)
     }
 
     pub(super) fn claim(&mut self, unit: usize, station: u32) -> Reply
@@ -42,9 +95,8 @@ impl<'a, P: Predictor + Drop, J: Naming> Session<'a, P, J> {
         if held_station(&self.units, unit).is_some() {
             return Reply::Refused(Refusal::HoldsJob);
         }
-        let (core, all, back) = (&self.core, &mut self.all, &mut self.back);
-        let units = &mut self.units;
-        let (answer, from) = accounts::claim(core, all, back, units, unit, station as usize);
+        let answer = self.issue(unit, station as usize);
+        let from = self.awaited(station as usize, &answer);
         Reply::Claim(answer, from)
     }
 
@@ -70,7 +122,12 @@ impl<'a, P: Predictor + Drop, J: Naming> Session<'a, P, J> {
     pub(super) fn refresh(&mut self) -> Reply
         ensures { IsReplied self.old self.new Refresh result }
     {
-        Reply::Refresh(calls::refresh(&self.core, &mut self.all, &mut self.back))
+        let (core, all, back) = (&self.core, &mut self.all, &mut self.back);
+        back.meet(core, all);
+        let answer = back.refresh(core);
+        let woken = back.woken();
+        back.meet(core, all);
+        Reply::Refresh(Refreshed { answer, woken })
     }
 
     pub(super) fn refresh_at(&mut self, station: u32) -> Reply
@@ -80,7 +137,25 @@ impl<'a, P: Predictor + Drop, J: Naming> Session<'a, P, J> {
             return Reply::Refused(Refusal::NoStation);
         }
         let (core, all, back) = (&self.core, &mut self.all, &mut self.back);
-        Reply::Refresh(calls::refresh_at(core, all, back, station as usize))
+        back.meet(core, all);
+        let answer = back.refresh_at(core, station as usize);
+        let woken = back.woken();
+        back.meet(core, all);
+        Reply::Refresh(Refreshed { answer, woken })
+    }
+
+    // A commit by the back.
+    fn retire(&mut self) -> Committed
+        requires { (back_state self.old.commits).count < 2 ^ 64 - 1 }
+        ensures stays { BackHasStepped self.old self.new }
+        ensures shown { self.new.commits.shown ≡ self.old.commits.shown }
+        ensures reply { IsCommit self.old.commits self.new.commits self.old.seen self.new.seen result }
+    {
+        let (core, all, back) = (&self.core, &mut self.all, &mut self.back);
+        back.meet(core, all);
+        let answer = back.commit(core);
+        back.meet(core, all);
+        answer
     }
 
     pub(super) fn commit(&mut self) -> Reply
@@ -89,8 +164,8 @@ impl<'a, P: Predictor + Drop, J: Naming> Session<'a, P, J> {
         if self.back.n() == u64::MAX {
             return Reply::Refused(Refusal::NoCount);
         }
-        let (core, all, back) = (&self.core, &mut self.all, &mut self.back);
-        let (answer, oldest) = commit(core, all, &mut self.front, back, &self.units);
+        let oldest = self.oldest();
+        let answer = self.retire();
         Reply::Commit(answer, oldest)
     }
 }

@@ -1,7 +1,6 @@
 //! The loads and stores of a session.
 use super::Session;
 use crate::queue::Accesses;
-use crate::rows;
 use back::Naming;
 use instructions::Predictor;
 use std::alloc::{AllocError, Global};
@@ -11,11 +10,10 @@ impl<'a, P: Predictor + Drop, J: Naming> Session<'a, P, J> {
     ghost use Rattle.session.specs.Sessions.{OnlyLooked};
 
     // The station of the oldest tenant; the first one where nobody is live.
-    fn oldest(&mut self) -> usize
+    fn oldest_station(&mut self) -> usize
         ensures { OnlyLooked self.old self.new }
     {
-        let (core, all, back) = (&self.core, &mut self.all, &mut self.back);
-        let (head, _) = rows::ring(core, all, &mut self.front, back);
+        let (head, _) = self.ends();
         head.station.unwrap_or(0)
     }
 
@@ -24,8 +22,7 @@ impl<'a, P: Predictor + Drop, J: Naming> Session<'a, P, J> {
         requires { station < self.old.core.sizes.ring }
         ensures { OnOk result (OnlyLooked self.old self.new) }
     {
-        let (core, all, back) = (&self.core, &mut self.all, &mut self.back);
-        let row = rows::row(core, all, back, &self.units, station);
+        let row = self.row(station);
         queue.push(self.program, station, &row)
     }
 
@@ -35,7 +32,7 @@ impl<'a, P: Predictor + Drop, J: Naming> Session<'a, P, J> {
         ensures { OnOk result (OnlyLooked self.old self.new) }
     {
         let mut queue = Accesses::new(alloc);
-        let oldest = self.oldest() % self.core.ring();
+        let oldest = self.oldest_station() % self.core.ring();
         for at in 0..self.core.ring() {
             let station = (oldest + at) % self.core.ring();
             self.push_access(&mut queue, station)?;

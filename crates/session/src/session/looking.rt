@@ -2,7 +2,6 @@
 use super::Session;
 use crate::names::register_of;
 use crate::replies::{Refusal, Reply};
-use crate::{accounts, front_calls, producers, reads, rows};
 use back::Naming;
 use instructions::Predictor;
 use station::Source;
@@ -17,18 +16,17 @@ impl<'a, P: Predictor + Drop, J: Naming> Session<'a, P, J> {
         if self.core.ring() <= station as usize {
             return Reply::Refused(Refusal::NoStation);
         }
-        let (core, all, front) = (&self.core, &mut self.all, &mut self.front);
-        Reply::Look(front_calls::look(core, all, front, station as usize))
+        Reply::Look(self.read_station(station as usize))
     }
 
     pub(super) fn creator(&mut self, register: u32) -> Reply
         ensures { IsReplied self.old self.new (Creator register) result }
     {
-        let core = &self.core;
+        let _ = &self.core;
         let Some(named) = register_of(register) else {
             return Reply::Refused(Refusal::NoRegister);
         };
-        Reply::Creator(front_calls::creator(core, &mut self.all, &mut self.front, named))
+        Reply::Creator(self.read_creator(named))
     }
 
     pub(super) fn touched(&mut self) -> Reply
@@ -43,8 +41,7 @@ impl<'a, P: Predictor + Drop, J: Naming> Session<'a, P, J> {
         if self.core.ring() <= station as usize {
             return Reply::Refused(Refusal::NoStation);
         }
-        let (core, all, back) = (&self.core, &mut self.all, &mut self.back);
-        Reply::Info(reads::info(core, all, back, station as usize))
+        Reply::Info(self.read_info(station as usize))
     }
 
     pub(super) fn operand(&mut self, station: u32, k: Source) -> Reply
@@ -53,9 +50,7 @@ impl<'a, P: Predictor + Drop, J: Naming> Session<'a, P, J> {
         if self.core.ring() <= station as usize {
             return Reply::Refused(Refusal::NoStation);
         }
-        let (core, all, back) = (&self.core, &mut self.all, &mut self.back);
-        let operand = accounts::operand(core, all, back, station as usize, k);
-        Reply::Operand(k, operand)
+        Reply::Operand(k, self.whole_operand(station as usize, k))
     }
 
     pub(super) fn link(&mut self, station: u32, k: Source) -> Reply
@@ -64,8 +59,7 @@ impl<'a, P: Predictor + Drop, J: Naming> Session<'a, P, J> {
         if self.core.ring() <= station as usize {
             return Reply::Refused(Refusal::NoStation);
         }
-        let (core, all, back) = (&self.core, &mut self.all, &mut self.back);
-        Reply::Link(producers::linked_producer(core, all, back, station as usize, k))
+        Reply::Link(self.linked(station as usize, k))
     }
 
     pub(super) fn station(&mut self, station: u32) -> Reply
@@ -74,15 +68,13 @@ impl<'a, P: Predictor + Drop, J: Naming> Session<'a, P, J> {
         if self.core.ring() <= station as usize {
             return Reply::Refused(Refusal::NoStation);
         }
-        let (core, all, back) = (&self.core, &mut self.all, &mut self.back);
-        Reply::Station(rows::row(core, all, back, &self.units, station as usize))
+        Reply::Station(self.row(station as usize))
     }
 
     pub(super) fn ring_told(&mut self) -> Reply
         ensures { IsReplied self.old self.new Ring result }
     {
-        let (core, all, back) = (&self.core, &mut self.all, &mut self.back);
-        let (head, ahead) = rows::ring(core, all, &mut self.front, back);
+        let (head, ahead) = self.ends();
         Reply::Ring(head, ahead)
     }
 }

@@ -2,44 +2,64 @@
 use super::Session;
 use crate::commands::Command;
 use crate::names::UNITS;
-use crate::order::order;
 use crate::units::held_station;
 use back::Naming;
 use instructions::Predictor;
 use std::alloc::{AllocError, Global};
 
 impl<'a, P: Predictor + Drop, J: Naming> Session<'a, P, J> {
-    ghost use Rattle.std.specs.Prelude.{◌≡◌, ◌<◌, IfOk};
-    ghost use Rattle.back.specs.Backs.{back_state};
-    ghost use Rattle.session.specs.Order.{IsHeldJob, IsTurnOrder};
+    ghost use Rattle.std.specs.Prelude.{◌<◌};
 
-    // A unit that holds the job of a station of the ring, with that station.
-    fn held(&self) -> Option<(usize, u32)>
-        ensures { IsHeldJob self.now result }
+    /// The finish of the job that the unit at a place holds, if it holds one of the ring.
+    pub(super) fn finish_of(&self, unit: usize) -> Option<Command>
+        requires { unit < 64 }
     {
-        let ring = self.core.ring();
+        match held_station(&self.units, unit) {
+            Some(station) if station < self.core.ring() => {
+                Some(Command::Finish(unit, station as u32))
+            }
+            _ => None,
+        }
+    }
+
+    fn held(&self) -> Option<Command> {
         for unit in 0..UNITS {
-            match held_station(&self.units, unit) {
-                Some(station) if station < ring => return Some((unit, station as u32)),
-                _ => {}
+            if let Some(finish) = self.finish_of(unit) {
+                return Some(finish);
             }
         }
         None
     }
 
-    /// The commands that the next turn tries before a commit, where this is the oldest tenant's station.
-    pub(crate) fn order(&self, alloc: Global, oldest: usize) -> Result<Vec<Command>, AllocError>
-        requires { oldest < self.now.core.sizes.ring }
-        ensures { IfOk result (λ order. IsTurnOrder self.now oldest order.items) }
-    {
-        let held = self.held();
-        order(alloc, self.back.ended(), held, self.core.ring(), oldest)
+    // Adds all that the unit on one thread does before a retirement: recovery, dispatch, the claim of each tenant from
+    // the oldest on, and a load.
+    fn push_all(&self, order: &mut Vec<Command>, oldest: usize) -> Result<(), AllocError> {
+        order.push(Command::Recover)?;
+        order.push(Command::Turn(None))?;
+        let ring = self.core.ring();
+        for at in 0..ring {
+            let station = (oldest % ring + at) % ring;
+            order.push(Command::Claim(0, station as u32))?;
+        }
+        order.push(Command::Refresh)?;
+        Ok(())
+    }
+
+    /// The commands that the next turn tries, where this is the oldest tenant's station, with a commit last. After the
+    /// end of the run that is the only one. A job that a unit holds is finished before all else.
+    pub(crate) fn order(&self, alloc: Global, oldest: usize) -> Result<Vec<Command>, AllocError> {
+        let mut order = Vec::new(alloc);
+        match (self.back.ended(), self.held()) {
+            (Some(_), _) => {}
+            (None, Some(finish)) => order.push(finish)?,
+            (None, None) => self.push_all(&mut order, oldest)?,
+        }
+        order.push(Command::Commit)?;
+        Ok(order)
     }
 
     /// The pc of the instruction that retires next.
-    pub(crate) fn next_retired(&self) -> u32
-        ensures { result ≡ (back_state self.now.commits).pc }
-    {
+    pub(crate) fn next_retired(&self) -> u32 {
         self.back.pc()
     }
 }

@@ -1,4 +1,4 @@
-use Rattle.session.specs.Advances.{HasAddedText}
+use Rattle.session.specs.Texts.{HasAddedText}
 use Rattle.session.specs.Undoing.{ComesTo}
 use Rattle.session.proofs.undo.push_told.Given as goal
 

@@ -1,0 +1,29 @@
+use Rattle.std.proofs.Common.{◌≡◌, rules, subst}
+use Rattle.back.specs.Backs.{unit_in}
+use Rattle.inorder.specs.Unit.{front_pc, next_station, recent}
+use Rattle.session.specs.declared.replies.Ahead.{Ahead}
+use Rattle.session.specs.Moments.{GrowsLegally}
+use Rattle.session.specs.Rows.{IsAhead, IsAheadOf}
+use Rattle.session.specs.Sessions.{TheSession}
+use Rattle.station.specs.Seats.{TheCore}
+use Rattle.session.proofs.session.Session.read_path.Goals as goal
+
+pub returns-clause-stays : goal.returns-clause-stays
+returns-clause-stays g c = record {
+  grows = subst (λ (s : TheSession). GrowsLegally s.core s.seen c.meet.new.other.seen) c.self.view_is
+      (record { begins = c.meet.ensures.other_history.begins; legal = c.meet.ensures.other_history.legal });
+  kept = search rules;
+  commits = search rules;
+}
+
+pub returns-clause-reply : goal.returns-clause-reply
+returns-clause-reply g c =
+    let core = c.self.inside.core in
+    let seen = c.meet.new.self.seen in
+    let told : Ahead = record { station = c.next_station-station.result; pc = c.next_pc-pc.result } in
+    let says : IsAheadOf core seen told = record {
+      station = subst (λ (k : TheCore). told.station ≡ next_station core.sizes (recent (unit_in k seen))) c.meet.ensures.core c.next_station-station.ensures;
+      pc = subst (λ (k : TheCore). told.pc ≡ front_pc (unit_in k seen).tenants) c.meet.ensures.core c.next_pc-pc.ensures;
+    } in
+    subst (λ (s : TheSession). IsAhead s.core s.seen c.meet.new.other.seen told) c.self.view_is
+    (record { before = seen; behind = seen; begins = c.meet.ensures.told; ends = c.meet.ensures.other_told; fact = says })
