@@ -2,7 +2,6 @@
 use crate::asked::{Asked, Wanted};
 use crate::lines::Lines;
 use crate::stages::{format_of, judged_stages};
-use crate::verdict::{legal_text, push_event, refused_text, unread_text};
 use counted_io::Fault;
 use events::{Event, Judge, Unread, event_in};
 use grading::stations_compared;
@@ -11,6 +10,7 @@ use lexical::{before_comment, cut};
 use sheets::Held;
 use std::alloc::{AllocError, AllocFailed, Global};
 use std::io::Read;
+use verdicts::{Item, legal_text, push_event, refused_text, unread_text};
 
 /// How the program ends: its text on standard output, and its status.
 #[derive(Drop)]
@@ -24,14 +24,6 @@ pub const LEGAL: u8 = 0;
 pub const REFUSED: u8 = 1;
 
 pub const UNREAD: u8 = 4;
-
-/// An event, with its line in the log, and its cycle where the log has cycles.
-#[derive(Clone, Copy)]
-pub struct Item {
-    pub line: u64,
-    pub cycle: Option<u64>,
-    pub event: Event,
-}
 
 // A let whose predicted next pc is not known yet, and the events after it.
 #[derive(Drop)]

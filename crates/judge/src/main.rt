@@ -6,10 +6,7 @@ mod grades;
 mod lines;
 mod log;
 mod options;
-mod reasons;
 mod stages;
-mod tenants;
-mod verdict;
 
 use answers::read_listing;
 use asked::{Asked, NoJudging, Wanted, requested};

@@ -1,7 +1,7 @@
 //! Logs that tell in which cycle each stage of an instruction is.
 use crate::asked::Asked;
 use crate::lines::Lines;
-use crate::log::{Ended, Item, Judging, UNREAD};
+use crate::log::{Ended, Judging, UNREAD};
 use counted_io::Fault;
 use instructions::Program;
 use lexical::cut;
@@ -11,6 +11,7 @@ use sheets::{
 };
 use std::alloc::{AllocError, Global};
 use std::io::Read;
+use verdicts::Item;
 
 /// The most bytes of such a log.
 pub const MOST_BYTES: usize = 0x1000_0000;

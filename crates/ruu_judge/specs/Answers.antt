@@ -2,7 +2,7 @@
 use Rattle.std.specs.Prelude.{⊤, ◌≡◌, ◌⊎◌}
 use Rattle.events.specs.declared.event.Event.{Event}
 use Rattle.events.specs.declared.why.Why.{Why}
-use Rattle.ruu_judge.specs.declared.log.Item.{Item}
+use Rattle.verdicts.specs.declared.verdict.Item.{Item}
 use Rattle.ruu_judge.specs.declared.owned.OwnedUnit.{OwnedUnit}
 use Rattle.ruu_judge.specs.declared.held.Found.{Found}
 use Rattle.ruu_judge.specs.declared.held.Found.TheVariants.{Legal, Refused, NoMemory}

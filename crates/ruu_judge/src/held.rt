@@ -2,12 +2,12 @@
 ghost use Rattle.std.specs.Prelude.{◌≡◌};
 ghost use Rattle.ruu_judge.specs.Answers.{IsAnswer, IsAsBefore};
 
-use crate::log::{Item, code_of};
+use crate::log::code_of;
 use crate::owned::{Judged, OwnedUnit, Rules};
-use crate::verdict::unread_text;
 use counted_io::Fault;
 use events::{Event, Issue, Unread, Why, event_in};
 use std::alloc::Global;
+use verdicts::{Item, unread_text};
 
 /// What a judge has found up to now.
 #[derive(Drop)]

@@ -10,10 +10,7 @@ mod log;
 mod loose;
 mod making;
 mod owned;
-mod reasons;
 mod slot;
-mod tenants;
-mod verdict;
 
 use held::{Answer, Held};
 use making::{NotMade, made, rules_of};

@@ -2,13 +2,12 @@
 ghost use Rattle.replay.specs.Dropping.{IsDropped};
 ghost use Rattle.replay.specs.Settlement.{AreUses, IsSettled};
 
-use crate::log::Item;
-use crate::verdict::{legal_text, refused_text};
 use counted_io::Fault;
 use events::{Event, Issue, Judge, Why};
 use instructions::Program;
 use replay::{Settled, Tail, Tenant, Unit};
 use std::alloc::{AllocError, Global};
+use verdicts::{Item, legal_text, refused_text};
 
 /// What a judge allows beside the steps of the unit, and what `issue` means.
 #[derive(Clone, Copy)]
