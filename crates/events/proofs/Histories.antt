@@ -38,9 +38,10 @@ taken_allowed P C U Renew m = absurd m
 
 run_allowed : (P : Program) (C : Sizes) (ss : List UnitStep) → MayRun P C 0 empty_unit ss → AreAllowed P C (by_one ss)
 run_allowed P C [] m = tt
-run_allowed P C (s ∷ ss) m =
-    (run_allowed P C ss m.0,
-    subst (λ U. Allowed P C U 0 s) (sym (run_reached P C ss)) (taken_allowed P C (run_on P C 0 empty_unit ss) s m.1))
+run_allowed P C (s ∷ ss) m = (
+  run_allowed P C ss m.0,
+  subst (λ U. Allowed P C U 0 s) (sym (run_reached P C ss)) (taken_allowed P C (run_on P C 0 empty_unit ss) s m.1),
+)
 
 -- what the events say, one after another
 record AreSaid (u : Held) (events : List Event) (v : Held) : Type 0 where

@@ -30,7 +30,9 @@ impl Grading<'_> {
             Refused::By(Why::NotLet(_)) => {
                 self.push_later(&mut out, "is not issued yet", placed.row, Sort::Let)?;
             }
-            Refused::By(Why::OtherProducer(..) | Why::Gone(_) | Why::Nobody) => out.push_str("is not possible")?,
+            Refused::By(Why::OtherProducer(..) | Why::Gone(_) | Why::Nobody) => out.push_str(
+                "is not possible",
+            )?,
         }
         Ok(out)
     }
