@@ -49,7 +49,8 @@ By crate and file of `specs/`, with lines:
 
 - The check: the toolchain's kernel, its model of machine instructions, and the clauses of the kit's libraries.
 - The compilers: LLVM, and Rattle's own, with which each program is run as well.
-- The C library, the operating system and the processor; standard streams and files pass on their bytes.
+- The C library (`libruu_judge` has three axioms on its allocator), the operating system and the processor; standard streams and
+  files pass on their bytes.
 """
 
 
