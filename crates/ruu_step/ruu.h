@@ -28,7 +28,7 @@ enum {
     RUU_UNALIGNED = 3,
     RUU_RANGE = 4,
     RUU_BADPC = 5,
-    RUU_NO_OPERATION = -1, /* the word at the pc is no operation */
+    RUU_NO_OPERATION = -1, /* the word at the pc encodes no operation */
     RUU_SIZES = -2         /* sizes that no program has */
 };
 
