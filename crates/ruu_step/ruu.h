@@ -128,7 +128,7 @@ int32_t ruu_judge_new(const uint8_t *RUU_RESTRICT listing, size_t bytes, size_t 
 
 /* Tells a judge the next line of the log, `bytes` bytes, with a line feed at its end or without. A let at which a predictor is
  * asked (a branch, jr or jalr) says what it predicted, as in "let 0x00400004 -> 0x00400008"; one that does not is taken to be
- * predicted in order. */
+ * predicted at pc + 4. */
 int32_t ruu_judge_event(struct ruu_judge *RUU_RESTRICT judge, const uint8_t *RUU_RESTRICT text, size_t bytes);
 
 /* Writes the text of the verdict, as `./ruu judge` prints it for a log of the lines told up to now, into `text`, as much of it
