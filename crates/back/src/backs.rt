@@ -6,7 +6,7 @@ ghost use Rattle.snapshots.specs.Snapshots.{opening};
 
 use inorder::Committed;
 use instructions::{Config, Memory, Program, Stop};
-use snapshots::{Naming, Publisher, Snapper};
+use snapshots::{OfProgram, Publisher, Snapper};
 use station::{BackSeat, Core, a_number_is_of_its_part, what_is_seen_is_legal};
 use std::alloc::Global;
 use std::marker::Model;
@@ -14,7 +14,7 @@ use std::marker::Model;
 /// The commit side: the back's seat, the memory and the committed registers, pc and count of instructions, and
 /// the publisher of snapshots. To a contract it is what its seat has seen, and how it ended. It is no `Drop`:
 /// the one that holds it ends it.
-pub struct Back<J: Naming> {
+pub struct Back<J: OfProgram> {
     pub(crate) seat: BackSeat,
     pub(crate) committed: Committed,
     // the value for LO of a first half that has retired, until its second half does
@@ -25,7 +25,7 @@ pub struct Back<J: Naming> {
     pub(crate) publisher: Publisher<J>,
 }
 
-impl<J: Naming> Model for Back<J> {
+impl<J: OfProgram> Model for Back<J> {
     ghost use Rattle.back.specs.Backs.{TheBack, back_of};
     ghost use Rattle.back.specs.Kept.{BackIsKept};
 
@@ -38,7 +38,7 @@ impl<J: Naming> Model for Back<J> {
 }
 
 // The parts of a back that need memory. The publisher comes last, since it could not be given up without Wait.
-fn parts<J: Naming>(
+fn parts<J: OfProgram>(
     alloc: Global,
     program: &Program,
     config: &Config,
@@ -52,7 +52,7 @@ fn parts<J: Naming>(
     Ok((committed, publisher, snapper))
 }
 
-impl<J: Naming> Back<J> {
+impl<J: OfProgram> Back<J> {
     /// A back at the start of a program, and the first snapper of what it shows. There can be as many snappers
     /// at once as the configuration has places. At a refusal the seat is given back.
     pub fn new(

@@ -9,7 +9,7 @@ use crate::answers::Commit;
 use crate::backs::Back;
 use inorder::{Committed, wrapped};
 use instructions::{Half, Instr, Kind, Stop, pc_plus_4};
-use snapshots::Naming;
+use snapshots::OfProgram;
 use station::{Core, Last, Retire};
 
 // The value that an instruction writes that is done with v. A jump that links writes its return address.
@@ -96,7 +96,7 @@ fn commit_tenant(
 {
     let waits = low_value(instr, half, last);
     if waits.is_none() {
-        committed.settle(waited);
+        committed.write_low(waited);
         commit_last(committed, instr, half, last);
     }
     waits
@@ -111,7 +111,7 @@ fn stop(last: Last) -> Option<Stop>
     }
 }
 
-impl<J: Naming> Back<J> {
+impl<J: OfProgram> Back<J> {
     /// Retires the oldest live tenant, if it can retire, and commits it: what it made goes into its register,
     /// and a store writes memory. What the first half of an instruction made waits for the second. Once it has
     /// answered `Ended` it makes no step any more.

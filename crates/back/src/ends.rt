@@ -6,10 +6,10 @@ ghost use Rattle.inorder.specs.Runs.{state_in};
 
 use crate::backs::Back;
 use instructions::{End, Ending};
-use snapshots::Naming;
+use snapshots::OfProgram;
 use std::sync::Wait;
 
-impl<J: Naming> Back<J> {
+impl<J: OfProgram> Back<J> {
     /// The outcome of the run if it ends now: the code that `commit` answered with `Ended`, or `Limit` where it did not.
     pub fn outcome(&self) -> Ending
         ensures { result ≡ ending_of self.now.ended }

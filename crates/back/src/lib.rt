@@ -18,5 +18,5 @@ mod still;
 pub use answers::{Commit, Refresh};
 pub use backs::Back;
 pub use laws::a_back_enters_behind_a_renewal;
-pub use snapshots::{Gone, Mark, Naming, NoPlace, Snap, Snapper};
+pub use snapshots::{Gone, Mark, NoPlace, OfProgram, Snap, Snapper};
 pub use still::BackStill;

@@ -13,7 +13,7 @@ use crate::answers::Refresh;
 use crate::backs::Back;
 use crate::port::{Tried, try_load};
 use inorder::{Committed, wrapped};
-use snapshots::Naming;
+use snapshots::OfProgram;
 use station::{BackSeat, Core};
 
 // Tries the loads from the head on, up to the first that gets its value.
@@ -112,7 +112,7 @@ fn try_at(
     }
 }
 
-impl<J: Naming> Back<J> {
+impl<J: OfProgram> Back<J> {
     /// Answers the oldest load with its address that no store blocks, from the data of an older store or from
     /// memory. It goes through the stations from the oldest live tenant's on. It looks at a load first, and at
     /// the older stores afterwards, the youngest one first; and at a blocked load once more.

@@ -7,10 +7,10 @@ ghost use Rattle.back.specs.Backs.{IsSameBack, SeesMore};
 
 use crate::backs::Back;
 use instructions::Half;
-use snapshots::Naming;
+use snapshots::OfProgram;
 use station::{Core, LinkWord, Part, SeatOf, Seen, Source, SourceState, StationState};
 
-impl<J: Naming> Back<J> {
+impl<J: OfProgram> Back<J> {
     /// The word of a station.
     pub fn look(&mut self, core: &Core, station: usize) -> Seen<StationState>
         requires core { self.old.core ≡ core.now }

@@ -5,10 +5,10 @@ ghost use Rattle.back.specs.Backs.{back_state};
 
 use crate::backs::Back;
 use instructions::Memory;
-use snapshots::{Mark, Naming, Snap};
+use snapshots::{Mark, OfProgram, Snap};
 use std::sync::Wait;
 
-impl<J: Naming> Back<J> {
+impl<J: OfProgram> Back<J> {
     /// Shows the committed state to the snappers, by one step. It waits for those that are reading. At an
     /// error nothing is shown.
     pub fn show<R: Wait>(&mut self, wait: &R) -> Result<Mark, Memory>

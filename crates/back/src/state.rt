@@ -4,9 +4,9 @@ ghost use Rattle.inorder.specs.Callers.{head_station};
 ghost use Rattle.back.specs.Backs.{back_state, unit_in};
 
 use crate::backs::Back;
-use snapshots::Naming;
+use snapshots::OfProgram;
 
-impl<J: Naming> Back<J> {
+impl<J: OfProgram> Back<J> {
     /// The pc of the instruction that is committed next.
     pub fn pc(&self) -> u32
         ensures { result ≡ (back_state self.now).pc }

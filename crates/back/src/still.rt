@@ -6,14 +6,14 @@ ghost use Rattle.back.specs.Stills.{GoesOnForBack, head_at, still_of};
 
 use crate::backs::Back;
 use inorder::Committed;
-use snapshots::{Naming, Publisher};
+use snapshots::{OfProgram, Publisher};
 use station::{BackSeat, what_is_seen_is_legal};
 use std::marker::Model;
 use std::snapshot::Snapshot;
 
 /// A back without a core: the memory and the committed registers, pc and count, what waits for LO between two
 /// halves, and the publisher, so that snappers and marks stay good. It is no `Drop`: it enters a core again.
-pub struct BackStill<J: Naming> {
+pub struct BackStill<J: OfProgram> {
     state: Committed,
     // what a first half has made for LO
     waits: Option<u32>,
@@ -23,7 +23,7 @@ pub struct BackStill<J: Naming> {
     given_back: Snapshot<BackSeat>,
 }
 
-impl<J: Naming> Model for BackStill<J> {
+impl<J: OfProgram> Model for BackStill<J> {
     ghost use Rattle.std.specs.Prelude.{None};
     ghost use Rattle.back.specs.Kept.{BackIsKept};
     ghost use Rattle.back.specs.Stills.{TheStillBack};
@@ -41,7 +41,7 @@ impl<J: Naming> Model for BackStill<J> {
         BackIsKept J.program b.given_back.value b.state b.waits b.head None b.publisher };
 }
 
-impl<J: Naming> Back<J> {
+impl<J: OfProgram> Back<J> {
     /// The back leaves its core, and gives its seat back. It has not ended. Tenants may be in flight, and between
     /// the two halves of an instruction what the first has made waits on.
     pub fn leave(self) -> (BackSeat, BackStill<J>)
@@ -75,7 +75,7 @@ impl<J: Naming> Back<J> {
     }
 }
 
-impl<J: Naming> BackStill<J> {
+impl<J: OfProgram> BackStill<J> {
     // Enters the core of a seat whose oldest live tenant, if there is one, stands at this station.
     fn enter_at(self, seat: BackSeat, head: usize) -> Back<J>
         requires goes_on { GoesOnForBack self.core self.seen seat }

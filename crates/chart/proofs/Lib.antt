@@ -1,7 +1,7 @@
 pub mod Lists
 pub mod Spelled
 pub mod Taken
-pub mod BooksKept
+pub mod LiveRowsKept
 pub mod Turns
 pub mod WholeRuns
 pub mod LivePositions

@@ -108,7 +108,7 @@ held_stations turn rows = held_map station_in turn same no_rows rows
     same r None = refl
     same r (Some store) = refl
 
--- the books behind a turn, before the loads that are blocked are looked for
+-- the live rows behind a turn, before the loads that are blocked are looked for
 abbrev pub unheld : SoFar → Turn → List Station → SoFar
 unheld k answer W = record (next_kept k answer W) { rows = rows_behind k answer W }
 
@@ -152,7 +152,7 @@ module _ (P : Program) (C : Sizes) (U V : UpdateUnit) (k : SoFar) (n : Named P U
       let there = slice_there S m (omega (arith, wide)) in
       let w : Station = there.0 in
       let seen = all_seen (raised k.turns) S 0 k.rows in
-      let row : Row = record { position = k.lets; let_at = raised k.turns; ran = None; held = None; settled = None; station = w } in
+      let row : Row = record { position = k.lets; let_at = raised k.turns; ran = None; held = None; resolved_at = None; station = w } in
       let new : newcomer k Let S ≡ Some row = ap (λ o. let_row Let o k.lets (raised k.turns)) there.1 in
       let next : raised (length U.tenants) ≡ length V.tenants = omega (arith, one.count, small) in
       record {

@@ -82,7 +82,7 @@ held_by turn r (Some store) =
       let_at = r.let_at;
       ran = r.ran;
       held = Some (record { store = store; turn = turn });
-      settled = r.settled;
+      resolved_at = r.resolved_at;
       station = r.station;
     }
 

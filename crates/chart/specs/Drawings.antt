@@ -71,29 +71,29 @@ mark_after_ran ran h turn mark =
     ++ (times (turn - ran - 1 - held_turns ran h) (codes "-") ++ mark)
 
 -- The mark of a load that got its value, or of a miss that was mended
-abbrev pub settled_mark : Kind → List ℕ
-settled_mark Loads = codes "V"
-settled_mark _ = codes "M"
+abbrev pub resolved_mark : Kind → List ℕ
+resolved_mark Loads = codes "V"
+resolved_mark _ = codes "M"
 
 -- The picture from the turn on at which a tenant was claimed and finished
 abbrev pub behind_ran : Kind → (ran : ℕ) → Option Held → Option ℕ → (turn : ℕ) → (mark : List ℕ) → List ℕ
 behind_ran k ran h None turn mark = mark_after_ran ran h turn mark
-behind_ran k ran h (Some settled) turn mark =
-    mark_after_ran ran h settled (settled_mark k)
-    ++ mark_behind (codes "=") settled turn mark
+behind_ran k ran h (Some resolved_at) turn mark =
+    mark_after_ran ran h resolved_at (resolved_mark k)
+    ++ mark_behind (codes "=") resolved_at turn mark
 
 -- The picture behind the turn of the let
 abbrev pub behind_let : Kind → (let_at : ℕ) → Option ℕ → Option Held → Option ℕ → (turn : ℕ) → (mark : List ℕ)
     → List ℕ
-behind_let k let_at None h settled turn mark = mark_behind (codes ".") let_at turn mark
-behind_let k let_at (Some ran) h settled turn mark =
-    mark_behind (codes ".") let_at ran (codes "X") ++ behind_ran k ran h settled turn mark
+behind_let k let_at None h resolved_at turn mark = mark_behind (codes ".") let_at turn mark
+behind_let k let_at (Some ran) h resolved_at turn mark =
+    mark_behind (codes ".") let_at ran (codes "X") ++ behind_ran k ran h resolved_at turn mark
 
 -- The picture of a tenant, up to a turn and with a mark for that
 abbrev pub picture : Row → (turn : ℕ) → (mark : List ℕ) → List ℕ
 picture r turn mark =
     times (indent r.let_at) (codes " ")
-    ++ (codes "L" ++ behind_let (kind r.station.instr.op) r.let_at r.ran r.held r.settled turn mark)
+    ++ (codes "L" ++ behind_let (kind r.station.instr.op) r.let_at r.ran r.held r.resolved_at turn mark)
 
 -- The mark at the end of a line: how the tenant has left, or that it is still live
 abbrev pub way_mark : Option Way → List ℕ

@@ -1,4 +1,4 @@
--- The books behind a turn.
+-- The live rows behind a turn.
 use Rattle.std.specs.Prelude.{length, is_some, List}
 use Rattle.one_thread.specs.declared.bench.Turn.{Turn}
 use Rattle.one_thread.specs.declared.station.Station.{Station}

@@ -9,7 +9,7 @@ use Rattle.one_thread.specs.declared.station.Station.{Station}
 use Rattle.chart.specs.declared.row.Phase.{Phase}
 use Rattle.chart.specs.declared.row.Phase.TheVariants.{Waiting, Address, Done, Miss, Stop}
 use Rattle.chart.specs.declared.row.Row.{Row}
-use Rattle.chart.specs.declared.books.Books.{Books}
+use Rattle.chart.specs.declared.live_rows.LiveRows.{LiveRows}
 use Rattle.chart.specs.declared.lines.Line.{Line}
 use Rattle.chart.specs.Styles.{Style, styled}
 use Rattle.counted_io.specs.Counted.{raised}
@@ -29,10 +29,10 @@ ran_by turn Waiting _ ran = Some turn
 ran_by turn _ _ ran = ran
 
 -- The turn at which a load got its value, or a miss was mended
-abbrev pub settled_turn : (turn : ℕ) → (before behind : Phase) → Option ℕ → Option ℕ
-settled_turn turn Address Done settled = Some turn
-settled_turn turn Miss Done settled = Some turn
-settled_turn turn _ _ settled = settled
+abbrev pub resolved_turn : (turn : ℕ) → (before behind : Phase) → Option ℕ → Option ℕ
+resolved_turn turn Address Done resolved_at = Some turn
+resolved_turn turn Miss Done resolved_at = Some turn
+resolved_turn turn _ _ resolved_at = resolved_at
 
 -- The row of a tenant behind a turn that left it in this station
 abbrev pub seen : (turn : ℕ) → Row → Station → Row
@@ -42,7 +42,7 @@ seen turn r w =
       let_at = r.let_at;
       ran = ran_by turn (phase_of r.station.stage) (phase_of w.stage) r.ran;
       held = r.held;
-      settled = settled_turn turn (phase_of r.station.stage) (phase_of w.stage) r.settled;
+      resolved_at = resolved_turn turn (phase_of r.station.stage) (phase_of w.stage) r.resolved_at;
       station = w;
     }
 
@@ -81,7 +81,7 @@ staying answer live rows =
 -- The row of a tenant that was let, by the station behind those before it
 abbrev pub let_row : Turn → Option Station → (position turn : ℕ) → Option Row
 let_row Let (Some w) position turn =
-    Some (record { position = position; let_at = turn; ran = None; held = None; settled = None; station = w })
+    Some (record { position = position; let_at = turn; ran = None; held = None; resolved_at = None; station = w })
 let_row _ _ position turn = None
 
 -- The rows, and one more if there is one
@@ -116,7 +116,7 @@ abbrev pub awaited : (register : ℕ) → List Row → Option ℕ
 awaited register rows =
     if can_be_written register then unmade (writer_of register rows) else None
 
--- The books
+-- The live rows
 
 -- How a run is told; counts of the turns that were made, the tenants that were let and those that have retired; the
 -- rows of the live ones, the oldest first; and the lines that are drawn
@@ -128,8 +128,8 @@ pub record SoFar : Type 0 where
   pub rows : List Row
   pub lines : List Line
 
--- The content of the books
-abbrev pub kept : Books → SoFar
+-- The content of the live rows
+abbrev pub kept : LiveRows → SoFar
 kept b =
     record {
       style = styled b.style;

@@ -11,14 +11,14 @@ use Rattle.isa.specs.InstrText.{text_of}
 use Rattle.isa.specs.Listing.{instruction_lines}
 use Rattle.isa.specs.RegisterNames.{register}
 use Rattle.isa.specs.declared.listing.fault.FaultKind.{FaultKind}
-use Rattle.isa.specs.declared.listing.instr_text.Naming.{Naming}
+use Rattle.isa.specs.declared.listing.instr_text.RegisterStyle.{RegisterStyle}
 use Rattle.one_thread.specs.declared.station.Station.{Station}
 use Rattle.chart.specs.declared.source.Source.{Source as Kept}
 use Rattle.chart.specs.Names.{naming_of}
 
 -- The lines of a listing, the number of the line of each instruction, and the way in which most registers are written
 pub record Source : Type 0 where
-  pub naming : Naming
+  pub naming : RegisterStyle
   pub lines : List (List ℕ)
   pub numbers : List ℕ
 

@@ -5,7 +5,7 @@ ghost use Rattle.instructions.specs.Instruction.{kind as kind_of};
 ghost use Rattle.chart.specs.Drawings.{axis, axis_above, axis_label, behind_ran, columns_head, ruler, half_label, held_label, held_turns as held_turns_of};
 ghost use Rattle.chart.specs.Drawings.{line, lines_text, mark_after_ran, mark_behind, padded, picture, rest_text};
 ghost use Rattle.chart.specs.Sources.{sourced};
-ghost use Rattle.chart.specs.Drawings.{round as round_of, settled_mark as settled_mark_of, tenant_text, times, way_mark as way_mark_of};
+ghost use Rattle.chart.specs.Drawings.{round as round_of, resolved_mark as resolved_mark_of, tenant_text, times, way_mark as way_mark_of};
 
 use crate::event::Way;
 use crate::lines::Line;
@@ -95,8 +95,8 @@ fn push_mark(
     out.push_str(mark)
 }
 
-fn settled_mark(kind: Kind) -> &'static str
-    ensures { result.now ≡ settled_mark_of kind }
+fn resolved_mark(kind: Kind) -> &'static str
+    ensures { result.now ≡ resolved_mark_of kind }
 {
     match kind {
         Kind::Loads => "V",
@@ -140,14 +140,14 @@ fn push_behind_ran(
     mark: &str,
 ) -> Result<(), AllocError>
     ensures { OnOk result (string_bytes out.new ≡ string_bytes out.old ++ behind_ran
-        (kind_of row.now.station.instr.op) ran row.now.held row.now.settled turn mark.now) }
+        (kind_of row.now.station.instr.op) ran row.now.held row.now.resolved_at turn mark.now) }
 {
-    match row.settled {
+    match row.resolved_at {
         None => push_mark_after_ran(out, ran, row.held, turn, mark),
-        Some(settled) => {
+        Some(resolved_at) => {
             let kind = row.station.instr.to_instr().op().kind();
-            push_mark_after_ran(out, ran, row.held, settled, settled_mark(kind))?;
-            push_mark(out, "=", settled, turn, mark)
+            push_mark_after_ran(out, ran, row.held, resolved_at, resolved_mark(kind))?;
+            push_mark(out, "=", resolved_at, turn, mark)
         }
     }
 }

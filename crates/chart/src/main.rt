@@ -3,13 +3,13 @@
 
 mod answering;
 mod blocked;
-mod books;
 mod drawing;
 mod event;
 mod kanata;
 mod laws;
 mod leaving;
 mod lines;
+mod live_rows;
 mod log_file;
 mod naming;
 mod pictures;
@@ -22,7 +22,7 @@ mod watched;
 mod watching;
 
 use answering::chart;
-use command_line::{Charted, REFUSED, charted, end, is_standard_input, refuse, words};
+use command_line::{Charted, REFUSED, end, is_standard_input, parse_chart, refuse, words};
 use counted_io::{ClosedStreams, Counted};
 use log_file::{NoLog, open_log};
 use std::fs::{File, Metadata};
@@ -41,7 +41,7 @@ fn main(rt: HostRuntime) -> ExitCode {
         Ok(words) => words,
         Err(no_run) => return refuse(&rt, &no_run),
     };
-    match charted(rt.alloc(), words.as_slice()) {
+    match parse_chart(rt.alloc(), words.as_slice()) {
         Ok(asked) => start(&rt, &asked),
         Err(no_run) => refuse(&rt, &no_run),
     }

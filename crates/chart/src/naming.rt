@@ -2,16 +2,16 @@
 ghost use Rattle.std.specs.Prelude.{◌≡◌};
 ghost use Rattle.chart.specs.Names.{begins as begins_by, count as count_of, in_comment as in_comment_by, naming_of as naming_in};
 
-use crate::books::counted;
-use isa::Naming;
+use crate::live_rows::counted;
+use isa::RegisterStyle;
 
 // A byte begins a register behind its `$`.
-fn begins(naming: Naming, byte: u8) -> bool
+fn begins(naming: RegisterStyle, byte: u8) -> bool
     ensures { result ≡ begins_by naming byte }
 {
     match naming {
-        Naming::Names => byte.is_ascii_lowercase(),
-        Naming::Numbers => byte.is_ascii_digit(),
+        RegisterStyle::Names => byte.is_ascii_lowercase(),
+        RegisterStyle::Numbers => byte.is_ascii_digit(),
     }
 }
 
@@ -23,7 +23,7 @@ fn in_comment(before: bool, byte: u8) -> bool
 }
 
 // How many registers of a listing are written so, outside of its comments.
-fn count(naming: Naming, bytes: &[u8]) -> u64
+fn count(naming: RegisterStyle, bytes: &[u8]) -> u64
     ensures { result ≡ count_of naming bytes.now }
 {
     let mut count = 0;
@@ -39,12 +39,12 @@ fn count(naming: Naming, bytes: &[u8]) -> u64
 }
 
 /// By names, where more registers have one than a number.
-pub(crate) fn naming_of(bytes: &[u8]) -> Naming
+pub(crate) fn naming_of(bytes: &[u8]) -> RegisterStyle
     ensures { result ≡ naming_in bytes.now }
 {
-    if count(Naming::Numbers, bytes) < count(Naming::Names, bytes) {
-        Naming::Names
+    if count(RegisterStyle::Numbers, bytes) < count(RegisterStyle::Names, bytes) {
+        RegisterStyle::Names
     } else {
-        Naming::Numbers
+        RegisterStyle::Numbers
     }
 }

@@ -1,7 +1,7 @@
 //! The row of a live tenant.
 ghost use Rattle.std.specs.Prelude.{◌≡◌};
 ghost use Rattle.chart.specs.Blocked.{held_by};
-ghost use Rattle.chart.specs.Rows.{phase_of as phase_in, ran_by as ran_in, settled_turn, seen};
+ghost use Rattle.chart.specs.Rows.{phase_of as phase_in, ran_by as ran_in, resolved_turn, seen};
 
 use one_thread::{Stage, Station};
 
@@ -42,7 +42,7 @@ pub struct Row {
     /// The store that has blocked a load last.
     pub held: Option<Held>,
     /// The turn at which a load got its value, or a miss was mended.
-    pub settled: Option<u64>,
+    pub resolved_at: Option<u64>,
     pub station: Station,
 }
 
@@ -69,13 +69,13 @@ fn ran_by(turn: u64, before: Phase, behind: Phase, ran: Option<u64>) -> Option<u
     }
 }
 
-fn settled_by(turn: u64, before: Phase, behind: Phase, settled: Option<u64>) -> Option<u64>
-    ensures { result ≡ settled_turn turn before behind settled }
+fn resolved_by(turn: u64, before: Phase, behind: Phase, resolved_at: Option<u64>) -> Option<u64>
+    ensures { result ≡ resolved_turn turn before behind resolved_at }
 {
     match (before, behind) {
         (Phase::Address, Phase::Done) => Some(turn),
         (Phase::Miss, Phase::Done) => Some(turn),
-        _ => settled,
+        _ => resolved_at,
     }
 }
 
@@ -91,7 +91,7 @@ impl Row {
             let_at: self.let_at,
             ran: ran_by(turn, before, behind, self.ran),
             held: self.held,
-            settled: settled_by(turn, before, behind, self.settled),
+            resolved_at: resolved_by(turn, before, behind, self.resolved_at),
             station,
         }
     }

@@ -7,14 +7,14 @@ ghost use Rattle.chart.specs.Sources.{code_at as code_in, line_of as line_in, so
 
 use crate::naming::naming_of;
 use instructions::Program;
-use isa::Naming;
+use isa::RegisterStyle;
 use lexical::{before_comment, next_line};
 use std::alloc::{AllocError, Global};
 
 /// The lines of a listing, the number of the line of each instruction, and the way in which most registers are written.
 #[derive(Drop)]
 pub struct Source<'a> {
-    pub(crate) naming: Naming,
+    pub(crate) naming: RegisterStyle,
     lines: Vec<&'a [u8]>,
     numbers: Vec<u64>,
 }

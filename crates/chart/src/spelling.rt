@@ -5,8 +5,8 @@ ghost use Rattle.chart.specs.Drawings.{tenant_text as tenant_text_of};
 ghost use Rattle.chart.specs.Sources.{as_named, first_name as first_name_in, in_word as in_word_by, name_for as name_in, name_one as name_one_by};
 ghost use Rattle.chart.specs.Sources.{named as named_in, names_in as names_of, register_of as register_by, sourced, text_or, words, words_left};
 
-use crate::books::counted;
 use crate::drawing::half_text;
+use crate::live_rows::counted;
 use crate::source::Source;
 use instructions::Reg;
 use isa::{InstrText, register_in};

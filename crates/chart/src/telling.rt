@@ -4,10 +4,10 @@ ghost use Rattle.chart.specs.Rows.{kept};
 ghost use Rattle.chart.specs.Sources.{sourced};
 ghost use Rattle.chart.specs.Telling.{first_text, last_text, turn_by};
 
-use crate::books::Books;
 use crate::drawing::{push_lines, push_rest};
 use crate::event::Event;
 use crate::kanata::{push_events, push_head, push_tick};
+use crate::live_rows::LiveRows;
 use crate::source::Source;
 use std::alloc::{AllocError, Global};
 
@@ -57,15 +57,15 @@ pub(crate) fn turn(alloc: Global, style: &Style<'_>, events: &[Event]) -> Result
 }
 
 /// The text behind the last turn.
-pub(crate) fn last(alloc: Global, books: &mut Books<'_>) -> Result<String, AllocError>
-    ensures { IfOk result (λ text. string_bytes text ≡ last_text (kept books.old)) }
+pub(crate) fn last(alloc: Global, live_rows: &mut LiveRows<'_>) -> Result<String, AllocError>
+    ensures { IfOk result (λ text. string_bytes text ≡ last_text (kept live_rows.old)) }
 {
     let mut out = String::new(alloc);
-    let style = books.style;
+    let style = live_rows.style;
     if let Format::Chart = style.format {
-        books.close()?;
-        push_lines(alloc, &mut out, style.source, books.lines.as_slice())?;
-        push_rest(&mut out, style.rows, books.lets)?;
+        live_rows.close()?;
+        push_lines(alloc, &mut out, style.source, live_rows.lines.as_slice())?;
+        push_rest(&mut out, style.rows, live_rows.lets)?;
     }
     Ok(out)
 }

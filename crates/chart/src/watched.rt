@@ -5,7 +5,7 @@ ghost use Rattle.inorder.specs.Runs.{end_of, end_state};
 ghost use Rattle.chart.specs.Styles.{styled};
 ghost use Rattle.chart.specs.Watched.{IsBegun, IsTold, guides, sizes_by};
 
-use crate::books::Books;
+use crate::live_rows::LiveRows;
 use crate::telling::{Style, first, last};
 use crate::watching::{tell, tell_turns};
 use counted_io::{Counted, Fault};
@@ -46,10 +46,10 @@ pub fn watch<P: Predictor + Drop, C: Chooser + Drop, W: Write>(
 {
     let mut bench = Bench::new(alloc, program, config, predictor)?;
     let mut order = order;
-    let mut books = Books::new(alloc, style);
+    let mut live_rows = LiveRows::new(alloc, style);
     let limit = u64::from(config.limit());
     tell(first(alloc, style.format), writer)?;
-    tell_turns(alloc, &mut bench, &mut order, &mut books, limit, writer)?;
-    tell(last(alloc, &mut books), writer)?;
+    tell_turns(alloc, &mut bench, &mut order, &mut live_rows, limit, writer)?;
+    tell(last(alloc, &mut live_rows), writer)?;
     Ok(bench.run(limit))
 }

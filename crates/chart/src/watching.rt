@@ -12,7 +12,7 @@ ghost use Rattle.chart.specs.Rows.{kept};
 ghost use Rattle.chart.specs.Telling.{turn_text};
 ghost use Rattle.chart.specs.Watched.{GivesUpTo, GoesOn, Guides, IsBegun, IsThrough};
 
-use crate::books::Books;
+use crate::live_rows::LiveRows;
 use crate::telling::turn;
 use counted_io::{Counted, Fault, write_whole};
 use instructions::Predictor;
@@ -24,16 +24,16 @@ use std::io::Write;
 fn bench_text<P: Predictor + Drop>(
     alloc: Global,
     bench: &Bench<'_, P>,
-    books: &mut Books<'_>,
+    live_rows: &mut LiveRows<'_>,
     answer: Turn,
 ) -> Result<String, AllocError>
     ensures kept { OnOk result
-        (kept books.new ≡ next_kept (kept books.old) answer bench.now.pipeline.window) }
-    ensures text { IfOk result (λ text. string_bytes text ≡ turn_text (kept books.old)
-        (events (kept books.old) answer bench.now.pipeline.window)) }
+        (kept live_rows.new ≡ next_kept (kept live_rows.old) answer bench.now.pipeline.window) }
+    ensures text { IfOk result (λ text. string_bytes text ≡ turn_text (kept live_rows.old)
+        (events (kept live_rows.old) answer bench.now.pipeline.window)) }
 {
-    let style = books.style;
-    let events = books.turn(alloc, answer, bench)?;
+    let style = live_rows.style;
+    let events = live_rows.turn(alloc, answer, bench)?;
     turn(alloc, &style, events.as_slice())
 }
 
@@ -65,25 +65,25 @@ pub(crate) fn tell<W: Write>(
 fn tell_turn<P: Predictor + Drop, W: Write>(
     alloc: Global,
     bench: &Bench<'_, P>,
-    books: &mut Books<'_>,
+    live_rows: &mut LiveRows<'_>,
     answer: Turn,
     writer: &mut Counted<W>,
 ) -> Result<(), Fault>
     requires { failures_of writer.old < 2 ^ 64 - 1 }
     ensures kept { OnOk result
-        (kept books.new ≡ next_kept (kept books.old) answer bench.now.pipeline.window) }
+        (kept live_rows.new ≡ next_kept (kept live_rows.old) answer bench.now.pipeline.window) }
     ensures says { OnOk result (Gives W.contents writer.old writer.new (turn_text
-        (kept books.old) (events (kept books.old) answer bench.now.pipeline.window))) }
+        (kept live_rows.old) (events (kept live_rows.old) answer bench.now.pipeline.window))) }
     ensures quiet { OnOk result (failures_of writer.new ≡ failures_of writer.old) }
     ensures write { IfErr result (λ fault. fault ≡ Fault.Write →
         failures_of writer.new ≡ failures_of writer.old + 1) }
     ensures part { OnErr result (GivesUpTo W.contents writer.old writer.new (turn_text
-        (kept books.old) (events (kept books.old) answer bench.now.pipeline.window))) }
+        (kept live_rows.old) (events (kept live_rows.old) answer bench.now.pipeline.window))) }
     ensures quiet_memory { IfErr result (λ fault. fault ≡ Fault.Memory →
         failures_of writer.new ≡ failures_of writer.old) }
     ensures read { IfErr result (λ fault. fault ≢ Fault.Read) }
 {
-    let text = bench_text(alloc, bench, books, answer);
+    let text = bench_text(alloc, bench, live_rows, answer);
     tell(text, writer)
 }
 
@@ -92,17 +92,17 @@ pub(crate) fn tell_turns<P: Predictor + Drop, C: Chooser + Drop, W: Write>(
     alloc: Global,
     bench: &mut Bench<'_, P>,
     order: &mut C,
-    books: &mut Books<'_>,
+    live_rows: &mut LiveRows<'_>,
     limit: u64,
     writer: &mut Counted<W>,
 ) -> Result<(), Fault>
     requires { failures_of writer.old < 2 ^ 64 - 1 }
     ensures through { OnOk result ((f : Style) (Q : Program) (D : Sizes) (first : Guides P C)
         (start : Option (List ℕ)) →
-        GoesOn P.Predicts P.Learns C.Chooses f Q D limit bench.old order.old (kept books.old)
+        GoesOn P.Predicts P.Learns C.Chooses f Q D limit bench.old order.old (kept live_rows.old)
         first start (known_by W.contents writer.old) →
         IsThrough P.Predicts P.Learns C.Chooses f Q D limit bench.new order.new
-        (kept books.new) first start (known_by W.contents writer.new)) }
+        (kept live_rows.new) first start (known_by W.contents writer.new)) }
     ensures ends { OnOk result
         (run_from bench.new.pipeline limit ≡ run_from bench.old.pipeline limit) }
     ensures stays { OnOk result
@@ -115,14 +115,14 @@ pub(crate) fn tell_turns<P: Predictor + Drop, C: Chooser + Drop, W: Write>(
     ensures read { IfErr result (λ fault. fault ≢ Fault.Read) }
     ensures begun { OnErr result ((f : Style) (Q : Program) (D : Sizes) (first : Guides P C)
         (start : Option (List ℕ)) →
-        GoesOn P.Predicts P.Learns C.Chooses f Q D limit bench.old order.old (kept books.old)
+        GoesOn P.Predicts P.Learns C.Chooses f Q D limit bench.old order.old (kept live_rows.old)
         first start (known_by W.contents writer.old) →
         IsBegun P.Predicts P.Learns C.Chooses f Q D limit first start
         (known_by W.contents writer.new)) }
 {
     'turns: while bench.count() < limit {
         let answer = bench.turn_by(order);
-        tell_turn(alloc, bench, books, answer, writer)?;
+        tell_turn(alloc, bench, live_rows, answer, writer)?;
         if let Turn::Over(_) = answer {
             return Ok(());
         }

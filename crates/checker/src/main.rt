@@ -20,7 +20,7 @@ mod summary;
 mod warnings;
 
 use checking::check;
-use command_line::{Checked, REFUSED, checked, end, is_standard_input, refuse, words};
+use command_line::{Checked, REFUSED, end, is_standard_input, parse_check, refuse, words};
 use counted_io::{ClosedStreams, Counted};
 use std::fs::File;
 use std::io::Read;
@@ -34,7 +34,7 @@ fn main(rt: HostRuntime) -> ExitCode {
         Ok(words) => words,
         Err(no_run) => return refuse(&rt, &no_run),
     };
-    match checked(rt.alloc(), words.as_slice()) {
+    match parse_check(rt.alloc(), words.as_slice()) {
         Ok(asked) => check_file(&rt, &asked),
         Err(no_run) => refuse(&rt, &no_run),
     }

@@ -10,7 +10,7 @@ use Rattle.station.specs.Finishing.{OnlyUnits}
 use Rattle.station.specs.Quiet.{IsQuiet}
 use Rattle.station.specs.Seats.{Caller, TheCore}
 use Rattle.client.specs.declared.seats.Seats.{Seats}
-use Rattle.client.specs.Hands.{AreAll, HaveHeard, HasHeardMore}
+use Rattle.client.specs.ByHand.{AreAll, HaveHeard, HasHeardMore}
 use Rattle.client.proofs.Histories.{at_least, same_between}
 use Rattle.instructions.proofs.Histories.{starts_on}
 

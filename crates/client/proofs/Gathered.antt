@@ -7,7 +7,7 @@ use Rattle.inorder.specs.History.{entry}
 use Rattle.inorder.specs.OneHistory.{Adds}
 use Rattle.inorder.specs.Unit.{Sizes}
 use Rattle.station.specs.Seats.{Caller, IsSameSeat, TheCore}
-use Rattle.client.specs.Hands.{HasHeardMore}
+use Rattle.client.specs.ByHand.{HasHeardMore}
 use Rattle.instructions.proofs.Histories.{starts_on}
 
 pub later : (core : TheCore) (v w : Caller) → IsSameSeat v w → w.spare ≡ v.spare → Adds core.program core.sizes v.by v.seen w.seen [] → HasHeardMore core v w

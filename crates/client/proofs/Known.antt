@@ -12,7 +12,7 @@ use Rattle.ruu_words.specs.Views.{IsSpare}
 use Rattle.station.specs.Seats.{Caller, TheCore}
 use Rattle.client.specs.declared.seats.Seats.{Seats}
 use Rattle.client.specs.Done.{GoesOnAlone, HaveDone}
-use Rattle.client.specs.Hands.{AreAll, HaveMetTwice, HasHeardMore}
+use Rattle.client.specs.ByHand.{AreAll, HaveMetTwice, HasHeardMore}
 use Rattle.client.proofs.Histories.{at_least, own-append, same_between}
 use Rattle.instructions.proofs.Histories.{starts_on, starts_same}
 use Rattle.inorder.proofs.Histories.{none_from, own_else, own_here}

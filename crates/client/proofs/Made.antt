@@ -5,7 +5,7 @@ use Rattle.ruu_words.specs.Views.{IsSpare, half, other_half}
 use Rattle.station.specs.Making.{first_unit, other_units}
 use Rattle.station.specs.Quiet.{SplitsShareNumbers, UnitsAreNumbered}
 use Rattle.client.specs.declared.seats.Seats.{Seats}
-use Rattle.client.specs.Hands.{IsUnits}
+use Rattle.client.specs.ByHand.{IsUnits}
 
 pub no_third : UnitsAreNumbered → SplitsShareNumbers → (s : Seats) → s.one.by ≡ first_unit → s.one.spare ≡ half other_units → s.other.by ≡ other_units.first
     → s.other.spare ≡ other_half other_units → (n : ℕ) → IsUnit n → IsUnits s n

@@ -11,7 +11,7 @@ use Rattle.station.specs.Claiming.{ClaimAnswers}
 use Rattle.station.specs.Seats.{Caller, IsSameSeat, TheCore}
 use Rattle.station.specs.Writeback.{FinishAnswers}
 use Rattle.client.specs.declared.seats.Seats.{Seats}
-use Rattle.client.specs.Hands.{AreAll}
+use Rattle.client.specs.ByHand.{AreAll}
 use Rattle.client.proofs.Begins.{claim_begins, finish_begins}
 use Rattle.instructions.proofs.Histories.{starts_on, starts_same}
 

@@ -16,7 +16,7 @@ use Rattle.station.specs.Seats.{TheCore}
 use Rattle.client.specs.declared.seats.Seats.{Seats}
 use Rattle.client.specs.Chains.{IsChain}
 use Rattle.client.specs.Done.{HaveDone}
-use Rattle.client.specs.Hands.{AreNew}
+use Rattle.client.specs.ByHand.{AreNew}
 use Rattle.client.proofs.First.{predicts as predicts_it}
 use Rattle.instructions.proofs.Histories.{starts_same}
 

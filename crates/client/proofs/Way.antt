@@ -24,7 +24,7 @@ use Rattle.station.specs.Quiet.{ClaimsGiveJobs, IsClaimable, IsLetAs, LetsAreOut
 use Rattle.station.specs.Seats.{Caller, IsSameSeat, TheCore}
 use Rattle.station.specs.Writeback.{FinishAnswers, job_outcome}
 use Rattle.client.specs.declared.seats.Seats.{Seats}
-use Rattle.client.specs.Hands.{AreAll, HaveHeard, KnowsUnits}
+use Rattle.client.specs.ByHand.{AreAll, HaveHeard, KnowsUnits}
 use Rattle.client.specs.Works.{HasBothValues, HasCome, unit_at}
 use Rattle.client.proofs.Begins.{claim_begins, finish_begins}
 use Rattle.client.proofs.Alone.{Stand, only_units, quiet, stand_on, stand_still}

@@ -2,9 +2,9 @@
 ghost use Rattle.std.specs.Prelude.{◌≡◌, ◌<◌, IfOk, IsTrue};
 ghost use Rattle.client.specs.Chains.{IsChain, IsSecondOutcome, WorksOut};
 ghost use Rattle.client.specs.Done.{HasReady, InAll, CallLeads};
-ghost use Rattle.client.specs.Hands.{AreAll};
+ghost use Rattle.client.specs.ByHand.{AreAll};
 
-use crate::hand::{ask_next, claim_next, finish_next, let_next};
+use crate::by_hand::{ask_next, claim_next, finish_next, let_next};
 use crate::seats::{Seats, make};
 use instructions::{Config, Half, Kind, Memory, Outcome, Program, outcome_of};
 use station::{

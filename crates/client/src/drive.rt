@@ -2,7 +2,7 @@
 ghost use Rattle.std.specs.Prelude.{◌≡◌, ◌<◌, IfOk, length};
 ghost use Rattle.inorder.specs.Unit.{next_station, recent};
 ghost use Rattle.station.specs.Letting.{MayLetOut};
-ghost use Rattle.client.specs.Hands.{AreAll, KnowsUnits};
+ghost use Rattle.client.specs.ByHand.{AreAll, KnowsUnits};
 ghost use Rattle.client.specs.Works.{HasBothValues, HaveWorked, IsFirstOutcome, IsWorked, unit_at};
 
 use crate::seats::{Seats, gather, make};

@@ -4,9 +4,9 @@
 //! between: then all seats are in one hand again, and the next instruction gets a first tag.
 #![tactic(auto)]
 
+mod by_hand;
 mod chain;
 mod drive;
-mod hand;
 mod seats;
 
 pub use chain::{is_chain, second_outcome};

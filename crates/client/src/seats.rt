@@ -3,7 +3,7 @@ ghost use Rattle.std.specs.Prelude.{IfOk};
 ghost use Rattle.inorder.specs.Callers.{GoesOn};
 ghost use Rattle.inorder.specs.History.{unit_of};
 ghost use Rattle.station.specs.Renewals.{HasNobody};
-ghost use Rattle.client.specs.Hands.{AreAll, AreNew, AreSeatsRenewed, HaveHeard};
+ghost use Rattle.client.specs.ByHand.{AreAll, AreNew, AreSeatsRenewed, HaveHeard};
 
 use instructions::{Config, Memory, Program};
 use station::{

@@ -7,7 +7,7 @@ use Rattle.command_line.specs.declared.reading_watched.Values.{Values}
 use Rattle.command_line.specs.Reading.{AreRefused}
 use Rattle.command_line.specs.Rings.{AreSizes, HasOddRing, HaveSizes, IsBadRingIn, IsOddRing, IsRinged, greatest}
 use Rattle.command_line.specs.Values.{IsNumberFrom}
-use Rattle.command_line.specs.Watched.{AreValues, HasWatchedRun}
+use Rattle.command_line.specs.RunRequest.{AreValues, HasWatchedRun}
 use Rattle.clap.specs.Words.{Row, first_of}
 
 -- a ring size of the rows that is refused, where they hold their values with any number

@@ -7,7 +7,7 @@ use Rattle.command_line.specs.Reading.{HoldsIn}
 use Rattle.command_line.specs.Rings.{greatest}
 use Rattle.command_line.specs.Tool.{chart_word}
 use Rattle.command_line.specs.Values.{IsNumberFrom, is_true, text_behind}
-use Rattle.command_line.specs.Watched.{HasWatchedRun, IsWatchedBy}
+use Rattle.command_line.specs.RunRequest.{HasWatchedRun, IsWatchedBy}
 
 -- run, log, count of rows and flag are those that the rows hold
 pub record IsChartedBy (rows : List Row) (charted : Charted) : Type 0 where

@@ -6,7 +6,7 @@ pub mod Seeds
 pub mod Logs
 pub mod Steps
 pub mod Run
-pub mod Watched
+pub mod RunRequest
 pub mod Chart
 pub mod Commits
 pub mod Check

@@ -19,7 +19,7 @@ use std::convert::AsStr;
 
 /// The run whose chart the words ask for, of which the first is the program's name. Where they are refused, `NoRun`
 /// has what to print, and `status` gives the exit status.
-pub fn charted<'a, S: AsStr>(alloc: Global, words: &'a [S]) -> Result<Charted<'a>, NoRun>
+pub fn parse_chart<'a, S: AsStr>(alloc: Global, words: &'a [S]) -> Result<Charted<'a>, NoRun>
     ensures ok { IfOk result (IsChartedIn (map S.text words.entry.now)) }
     ensures err { IfErr result
         (IsNoRunFor chart_word (map S.text words.entry.now) HasChart (HasOddRing HasChart)) }

@@ -16,7 +16,7 @@ use std::convert::AsStr;
 
 /// The check that the words ask for, of which the first is the program's name. Where they are refused, `NoRun` has
 /// what to print, and `status` gives the exit status.
-pub fn checked<'a, S: AsStr>(alloc: Global, words: &'a [S]) -> Result<Checked<'a>, NoRun>
+pub fn parse_check<'a, S: AsStr>(alloc: Global, words: &'a [S]) -> Result<Checked<'a>, NoRun>
     ensures ok { IfOk result (IsCheckedIn (map S.text words.entry.now)) }
     ensures err { IfErr result
         (IsNoRunFor check_word (map S.text words.entry.now) NamesFile NoneOdd) }

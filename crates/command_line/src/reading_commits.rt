@@ -16,7 +16,7 @@ use std::convert::AsStr;
 
 /// The log that the words ask for, of which the first is the program's name. Where they are refused, `NoRun` has what
 /// to print, and `status` gives the exit status.
-pub fn committed<'a, S: AsStr>(alloc: Global, words: &'a [S]) -> Result<Logged<'a>, NoRun>
+pub fn parse_commits<'a, S: AsStr>(alloc: Global, words: &'a [S]) -> Result<Logged<'a>, NoRun>
     ensures ok { IfOk result (IsCommittedIn (map S.text words.entry.now)) }
     ensures err { IfErr result
         (IsNoRunFor commits_word (map S.text words.entry.now) CanBeLogged NoneOdd) }

@@ -19,7 +19,7 @@ use std::convert::AsStr;
 
 /// The unit that the words ask to drive, of which the first is the program's name. Where they are refused, `NoRun` has
 /// what to print, and `status` gives the exit status.
-pub fn driven<'a, S: AsStr>(alloc: Global, words: &'a [S]) -> Result<ByHand<'a>, NoRun>
+pub fn parse_drive<'a, S: AsStr>(alloc: Global, words: &'a [S]) -> Result<ByHand<'a>, NoRun>
     ensures ok { IfOk result (IsDrivenIn (map S.text words.entry.now)) }
     ensures err { IfErr result
         (IsNoRunFor drive_word (map S.text words.entry.now) CanBeDriven NoneOdd) }

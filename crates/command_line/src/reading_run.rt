@@ -19,7 +19,7 @@ use std::convert::AsStr;
 
 /// The run that the words ask for, of which the first is the program's name. Where they are refused, `NoRun` has what
 /// to print, and `status` gives the exit status.
-pub fn asked<'a, S: AsStr>(alloc: Global, words: &'a [S]) -> Result<Asked<'a>, NoRun>
+pub fn parse_run<'a, S: AsStr>(alloc: Global, words: &'a [S]) -> Result<Asked<'a>, NoRun>
     ensures ok { IfOk result (IsAskedIn (map S.text words.entry.now)) }
     ensures err { IfErr result
         (IsNoRunFor run_word (map S.text words.entry.now) HasAskedRun (HasOddRing HasAskedRun)) }

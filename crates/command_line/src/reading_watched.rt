@@ -3,11 +3,11 @@ ghost use Rattle.std.specs.Prelude.{IfOk, IfErr};
 ghost use Rattle.clap.specs.Words.{found_of, rows_of};
 ghost use Rattle.command_line.specs.Reading.{IsUsage};
 ghost use Rattle.command_line.specs.Rings.{IsBadRingIn};
-ghost use Rattle.command_line.specs.Watched.{AreValues, HasWatchedRun, IsWatchedBy};
+ghost use Rattle.command_line.specs.RunRequest.{AreValues, HasWatchedRun, IsWatchedBy};
 
 use crate::entries::{file, number, predictor, seed};
 use crate::ring::with_ring;
-use crate::{BranchPredictor, NoRun, Watched};
+use crate::{BranchPredictor, NoRun, RunRequest};
 use clap::ArgMatches;
 use std::alloc::Global;
 
@@ -51,7 +51,7 @@ pub(crate) fn watched<'a>(
     program: &str,
     matches: &ArgMatches<'a>,
     values: Values<'a>,
-) -> Result<Watched<'a>, NoRun>
+) -> Result<RunRequest<'a>, NoRun>
     requires { AreValues (rows_of (found_of matches.now)) values }
     ensures ok { IfOk result (IsWatchedBy (rows_of (found_of matches.now))) }
     ensures err { IfErr result (IsBadRingIn (rows_of (found_of matches.now))) }
@@ -64,7 +64,7 @@ pub(crate) fn watched<'a>(
         seed,
     } = values;
     let config = with_ring(alloc, program, matches, queue, 2, limit, 0xffff_ffff)?;
-    Ok(Watched {
+    Ok(RunRequest {
         file,
         config,
         predictor,

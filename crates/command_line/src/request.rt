@@ -32,7 +32,7 @@ pub struct Asked<'a> {
 /// A run of the one-thread unit that is watched turn by turn. Its units and turns are those of a run that is asked for
 /// nothing more.
 #[derive(Clone, Copy)]
-pub struct Watched<'a> {
+pub struct RunRequest<'a> {
     /// The file of the listing.
     pub file: &'a str,
     pub config: Config,
@@ -44,7 +44,7 @@ pub struct Watched<'a> {
 /// A run whose chart is asked for.
 #[derive(Clone, Copy)]
 pub struct Charted<'a> {
-    pub run: Watched<'a>,
+    pub run: RunRequest<'a>,
     /// The file that gets the log, by a name that is neither `-` nor that of the listing.
     pub log: Option<&'a str>,
     /// So many instructions get a row at most.

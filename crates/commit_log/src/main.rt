@@ -13,7 +13,9 @@ mod pipe;
 mod word;
 
 use answering::log_commits;
-use command_line::{Exit, Line, Logged, REFUSED, committed, end, is_standard_input, refuse, words};
+use command_line::{
+    Exit, Line, Logged, REFUSED, end, is_standard_input, parse_commits, refuse, words,
+};
 use counted_io::{ClosedStreams, Counted};
 use pipe::Pipe;
 use std::fs::File;
@@ -33,7 +35,7 @@ fn log_asked(rt: &HostRuntime) -> ExitCode {
         Ok(words) => words,
         Err(no_run) => return refuse(rt, &no_run),
     };
-    match committed(rt.alloc(), words.as_slice()) {
+    match parse_commits(rt.alloc(), words.as_slice()) {
         Ok(asked) => log(rt, &asked),
         Err(no_run) => refuse(rt, &no_run),
     }

@@ -6,7 +6,7 @@ mod renewal;
 mod turning;
 
 use crate::ends::{Refusal, Run};
-use back::{Back, Naming};
+use back::{Back, OfProgram};
 use counts::CountSeat;
 use hints::Ring;
 use instructions::Ending;
@@ -18,7 +18,7 @@ use workers::{Bounds, RunState, Turns};
 pub const PATIENCE: u32 = 4;
 
 /// The commit side of a run: the back, the seat that it counts with, its turns, and what the run would be refused for.
-pub struct Committer<K: Naming + Bounds + Ring> {
+pub struct Committer<K: OfProgram + Bounds + Ring> {
     back: Back<K>,
     count: CountSeat,
     limit: u32,
@@ -27,7 +27,7 @@ pub struct Committer<K: Naming + Bounds + Ring> {
     wanting: Option<Refusal>,
 }
 
-impl<K: Naming + Bounds + Ring> Model for Committer<K> {
+impl<K: OfProgram + Bounds + Ring> Model for Committer<K> {
     ghost use Rattle.committing.specs.Committing.{IsCommitter, TheCommitter, committer_of};
 
     ghost Value = { TheCommitter };
@@ -38,7 +38,7 @@ impl<K: Naming + Bounds + Ring> Model for Committer<K> {
         IsCommitter K.counts K.config (committer_of c.back c.turns c.wanting) c.count c.limit };
 }
 
-impl<K: Naming + Bounds + Ring> Committer<K> {
+impl<K: OfProgram + Bounds + Ring> Committer<K> {
     ghost use Rattle.std.specs.Prelude.{◌≡◌, IfSome, None, Some};
     ghost use Rattle.committing.specs.Committing.{HasCounted, committer_of};
     ghost use Rattle.committing.specs.RunEnds.{HasRun, TellsRenewals};

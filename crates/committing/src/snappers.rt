@@ -1,6 +1,6 @@
 //! Starts the snapshot threads of a run.
 use crate::watch::watch;
-use back::{Naming, Snapper};
+use back::{OfProgram, Snapper};
 use hints::Ring;
 use std::sync::Wait;
 use std::thread::Scope;
@@ -10,7 +10,7 @@ use workers::{Bounds, Gate, RunState};
 fn start_snapper<
     's,
     E: 's,
-    K: Naming + Bounds + Ring + Send + Sync + 's,
+    K: OfProgram + Bounds + Ring + Send + Sync + 's,
     G: Gate + Sync + 's,
     R: Wait + Sync + 's,
 >(
@@ -31,7 +31,7 @@ fn start_snapper<
 pub fn start_snappers<
     's,
     E: 's,
-    K: Naming + Bounds + Ring + Send + Sync + 's,
+    K: OfProgram + Bounds + Ring + Send + Sync + 's,
     G: Gate + Sync + 's,
     R: Wait + Sync + 's,
 >(

@@ -2,12 +2,12 @@
 ghost use Rattle.snapshots.specs.Snapshots.{IsSnapshotOf};
 
 use hints::Ring;
-use snapshots::{Naming, Snap, Snapper};
+use snapshots::{OfProgram, Snap, Snapper};
 use std::sync::Wait;
 use workers::{Bounds, Gate, RunState};
 
 // Passes a snapshot to the gate, with the number of its place. Its caller owes that it is one of the program.
-fn pass_snapshot<K: Naming, G: Gate>(gate: &G, place: u32, snap: &Snap)
+fn pass_snapshot<K: OfProgram, G: Gate>(gate: &G, place: u32, snap: &Snap)
     requires { IsSnapshotOf K.program snap.now }
 {
     gate.seen(place, snap);
@@ -15,7 +15,7 @@ fn pass_snapshot<K: Naming, G: Gate>(gate: &G, place: u32, snap: &Snap)
 
 /// Takes snapshots and passes them to the gate: the first at once, and one more each time that a snapshot was shown, or
 /// the run is over.
-pub(crate) fn watch<K: Naming + Bounds + Ring, G: Gate, R: Wait>(
+pub(crate) fn watch<K: OfProgram + Bounds + Ring, G: Gate, R: Wait>(
     wait: &R,
     state: &RunState<K>,
     gate: &G,

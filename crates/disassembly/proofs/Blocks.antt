@@ -11,7 +11,7 @@ use Rattle.lexical.specs.Label.{labels_of, statement_of}
 use Rattle.instructions.specs.declared.op.Op.{Op}
 use Rattle.instructions.specs.declared.op.Op.TheVariants.{Beq, Bne, Blez, Bgtz, Bltz, Bgez, J, Jal}
 use Rattle.instructions.specs.declared.instr.Instr.{Instr}
-use Rattle.isa.specs.declared.listing.instr_text.Naming.TheVariants.{Names}
+use Rattle.isa.specs.declared.listing.instr_text.RegisterStyle.TheVariants.{Names}
 use Rattle.instructions.specs.Instruction.{instr_with}
 use Rattle.instructions.specs.Targets.{names_target}
 use Rattle.instructions.specs.Programs.{address}

@@ -11,7 +11,7 @@ use Rattle.instructions.specs.declared.op.Op.TheVariants.{Addu}
 use Rattle.instructions.specs.declared.instr.Instr.{Instr}
 use Rattle.isa.specs.declared.listing.slot.Slot.{Slot}
 use Rattle.isa.specs.declared.listing.slot.Slot.TheVariants.{Into, First, Second, S16, U16, U5, Label, Offset}
-use Rattle.isa.specs.declared.listing.instr_text.Naming.TheVariants.{Names}
+use Rattle.isa.specs.declared.listing.instr_text.RegisterStyle.TheVariants.{Names}
 use Rattle.isa.specs.Report.{hex8}
 use Rattle.isa.specs.Forms.{operation_word, slots_of}
 use Rattle.isa.specs.InstrText.{register_text, signed_text, label_text, operand_text, with_operands_text, is_nop, text_of, Fits, AllFit, IsSignedHalf, IsWritable}

@@ -2,7 +2,7 @@
 use Rattle.std.specs.Prelude.{⊤, ◌≡◌, ℕ, zero, suc, ◌+◌, ◌≤◌, ◌<◌, Bool, true, false, ◌&&◌, nat_le, List, [], ◌∷◌, ◌++◌, length, replicate, None, Ok, codes, slice_index, slice_index_or, ◌==◌, if◌then◌else◌}
 use Rattle.std.specs.List.{flat_map, list_all}
 use Rattle.instructions.specs.declared.instr.Instr.{Instr}
-use Rattle.isa.specs.declared.listing.instr_text.Naming.TheVariants.{Names}
+use Rattle.isa.specs.declared.listing.instr_text.RegisterStyle.TheVariants.{Names}
 use Rattle.std.specs.Fmt.{decimal}
 use Rattle.std.specs.Int.{w32, from_le_bytes}
 use Rattle.isa.specs.Report.{hexadecimal}

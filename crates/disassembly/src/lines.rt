@@ -4,7 +4,7 @@ ghost use Rattle.disassembly.specs.Writing.{as_line, code_line, label_line};
 
 use crate::meaning::address_of;
 use instructions::Instr;
-use isa::{InstrText, Label, Naming};
+use isa::{InstrText, Label, RegisterStyle};
 use std::alloc::AllocError;
 
 /// Adds the line of an instruction. Its target is the label of the address.
@@ -13,7 +13,7 @@ pub fn push_line(out: &mut String, instr: &Instr) -> Result<(), AllocError>
         ≡ string_bytes out.old ++ as_line (code_line instr.now)) }
 {
     let text = InstrText {
-        naming: Naming::Names,
+        naming: RegisterStyle::Names,
         instr: *instr,
     };
     write!(out, "        {text}\n")

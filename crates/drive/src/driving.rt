@@ -1,5 +1,5 @@
 //! A unit that is driven from standard input.
-use crate::hand::go_by_hand;
+use crate::interactive::go_by_hand;
 use command_line::{ByHand, Exit, Refusal, refused};
 use counted_io::Counted;
 use std::fs::File;

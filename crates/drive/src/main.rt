@@ -2,9 +2,9 @@
 #![tactic(auto)]
 
 mod driving;
-mod hand;
+mod interactive;
 
-use command_line::{REFUSED, driven, end, refuse, words};
+use command_line::{REFUSED, end, parse_drive, refuse, words};
 use counted_io::ClosedStreams;
 use driving::drive;
 use std::process::ExitCode;
@@ -17,7 +17,7 @@ fn main(rt: HostRuntime) -> ExitCode {
         Ok(words) => words,
         Err(no_run) => return refuse(&rt, &no_run),
     };
-    match driven(rt.alloc(), words.as_slice()) {
+    match parse_drive(rt.alloc(), words.as_slice()) {
         Ok(hand) => end(&rt, drive(&rt, &rt, &hand)),
         Err(no_run) => refuse(&rt, &no_run),
     }

@@ -2,7 +2,7 @@
 use crate::example::Example;
 use answers::read_listing;
 use bench::alone;
-use command::{asked, go};
+use command::{go, parse_run};
 use counted_io::Counted;
 use inorder::{Ended, Machine};
 use instructions::{Config, End, Ending, NotTaken, Program};
@@ -14,7 +14,7 @@ use std::sync::Wait;
 use std::thread::Threads;
 
 /// Options that change no report.
-pub const FORMS: &[&[&str]] = &[
+pub const OPTION_SETS: &[&[&str]] = &[
     &["--alone"],
     &["--alone", "--units", "4", "--turns", "1"],
     &["--units", "1"],
@@ -80,7 +80,7 @@ pub fn run<T: Threads + Wait + Sync, G: Gate + Sync>(
     gate: &G,
 ) -> io::Result<Answer> {
     let words = words(alloc, options, form)?;
-    let Ok(asked) = asked(alloc, words.as_slice()) else {
+    let Ok(asked) = parse_run(alloc, words.as_slice()) else {
         return Err(mistake());
     };
     let mut text = Counted::new(Vec::new(alloc));
@@ -117,7 +117,7 @@ pub fn in_order(alloc: Global, options: &[&str], listing: &[u8]) -> io::Result<V
 // The configuration that the options of a listing ask for.
 fn config(alloc: Global, options: &[&str]) -> io::Result<Config> {
     let words = words(alloc, options, &[])?;
-    match asked(alloc, words.as_slice()) {
+    match parse_run(alloc, words.as_slice()) {
         Ok(asked) => Ok(asked.config),
         Err(_) => Err(mistake()),
     }

@@ -8,7 +8,7 @@ mod slow;
 mod times;
 
 use example::Example;
-use forms::{Answer, FORMS, HELD, from_bytes_to_bytes, in_order, is_named_twice, run};
+use forms::{Answer, HELD, OPTION_SETS, from_bytes_to_bytes, in_order, is_named_twice, run};
 use pool::Open;
 use slow::Slow;
 use std::env;
@@ -98,7 +98,7 @@ fn tell_forms<T: Threads + Wait + Sync>(
     status: u8,
 ) -> io::Result<()> {
     let listing = example.listing.as_slice();
-    for form in FORMS {
+    for form in OPTION_SETS {
         if !is_named_twice(options, form)
             && !run(wait, rt.alloc(), options, form, listing, &Open)?.is(status, example)
         {

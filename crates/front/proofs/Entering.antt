@@ -8,7 +8,7 @@ use Rattle.inorder.specs.Unit.{Sizes, UpdateUnit, at, front_half, front_pc, next
 use Rattle.inorder.proofs.Positions.{at_below}
 use Rattle.station.specs.Seats.{Caller}
 use Rattle.front.specs.declared.path.base_state.Base.{Base}
-use Rattle.front.specs.declared.path.counted.Counted.{Counted}
+use Rattle.front.specs.declared.path.counted.CountedTable.{CountedTable}
 use Rattle.front.specs.declared.path.counted.Table.{Table}
 use Rattle.front.specs.declared.path.Path.{Path}
 use Rattle.front.specs.declared.path.record.Record.{Record}
@@ -31,7 +31,7 @@ no_notes [] e = refl
 no_notes (n ∷ ns) e = absurd (cc e)
 
 -- the front that has rested
-pub still_of : (P : Program) (v : Caller) (path : Path) (creators : Counted) → IsFront P v path creators true → FrontIsStill v path.base creators
+pub still_of : (P : Program) (v : Caller) (path : Path) (creators : CountedTable) → IsFront P v path creators true → FrontIsStill v path.base creators
 still_of P v path creators f =
     let r = f.rests refl in
     record {
@@ -42,7 +42,7 @@ still_of P v path creators f =
       told = r.told;
     }
 
-pub goes_on_here : (P : Program) (v : Caller) (path : Path) (creators : Counted) → IsFront P v path creators true → GoesOnForFront v.core v.seen v
+pub goes_on_here : (P : Program) (v : Caller) (path : Path) (creators : CountedTable) → IsFront P v path creators true → GoesOnForFront v.core v.seen v
 goes_on_here P v path creators f = record {
   by_is = f.by_is;
   program = refl;
@@ -94,7 +94,7 @@ module _ (P : Program) (C : Sizes) (U V : UpdateUnit) (same : V.tenants ≡ U.te
       one = all ∙ (ap (λ z. length z) (sym same) ∙ sym all')
 
 -- The front at the new seat
-pub entered : (v w : Caller) (base new : Base) (creators : Counted) (path : Path) (P : Program) →
+pub entered : (v w : Caller) (base new : Base) (creators : CountedTable) (path : Path) (P : Program) →
     FrontIsStill v base creators → GoesOnForFront v.core v.seen w → P ≡ w.core.program →
     IsLegal w.core.program w.core.sizes w.seen
     → path.records ≡ [] → path.base ≡ new → next_at w.core w.seen ≡ new.station % w.core.sizes.ring → rested_at new ≡ length (unit_of w.core.program w.core.sizes w.seen).tenants
@@ -122,7 +122,7 @@ entered v w base new creators path P s g program legal none is station told regi
     }
 
 -- where it left, the base has the next station
-pub still_next : (v w : Caller) (base : Base) (creators : Counted) → FrontIsStill v base creators →
+pub still_next : (v w : Caller) (base : Base) (creators : CountedTable) → FrontIsStill v base creators →
     GoesOnForFront v.core v.seen w → next_at w.core w.seen ≡ next_at v.core v.seen →
     next_at w.core w.seen ≡ base.station % w.core.sizes.ring
 still_next v w base creators s g e = e ∙ ((s.knows.begun (no_notes s.knows.notes s.knows.are)).station ∙ ap (λ (z : Sizes). base.station % z.ring) (sym g.sizes))

@@ -31,7 +31,7 @@ use Rattle.front.specs.declared.path.record.Record.{Record}
 use Rattle.front.specs.Fronts.{AddsNothing, HasRested, IsFront, IsUnused}
 use Rattle.front.specs.Knows.{FrontKnows}
 use Rattle.front.specs.CreateTable.{HasTable, table_entry_in, table_entry, maker_of}
-use Rattle.front.specs.declared.path.counted.Counted.{Counted}
+use Rattle.front.specs.declared.path.counted.CountedTable.{CountedTable}
 use Rattle.front.specs.declared.path.counted.Table.{Table}
 use Rattle.front.specs.declared.path.counted.Maker.{Maker}
 use Rattle.front.proofs.TableStays.{still_has_table}
@@ -41,7 +41,7 @@ use Rattle.front.proofs.Splitting.{stays}
 use Rattle.front.proofs.Stays.{still_knows}
 
 -- a call that added nothing
-pub still_front : (core : TheCore) (P : Program) (v w : Caller) (path : Path) (creators : Counted) (rested : Bool) → v.core ≡ core → IsFront P v path creators rested → IsSameSeat v w
+pub still_front : (core : TheCore) (P : Program) (v w : Caller) (path : Path) (creators : CountedTable) (rested : Bool) → v.core ≡ core → IsFront P v path creators rested → IsSameSeat v w
     → Adds core.program core.sizes v.by v.seen w.seen [] → IsFront P w path creators rested
 still_front core P v w path creators rested e f same adds =
     let Fact : TheCore → Type 0 = λ c. Adds c.program c.sizes front v.seen w.seen [] in
@@ -65,7 +65,7 @@ still_front core P v w path creators rested e f same adds =
     }
 
 -- after a call that knows
-pub front_again : (core : TheCore) (P : Program) (v w : Caller) (path path' : Path) (creators creators' : Counted) (rested rested' : Bool) →
+pub front_again : (core : TheCore) (P : Program) (v w : Caller) (path path' : Path) (creators creators' : CountedTable) (rested rested' : Bool) →
     v.core ≡ core → IsFront P v path creators rested → IsSameSeat v w
     → IsLegal core.program core.sizes w.seen → FrontKnows core.program core.sizes (unit_of core.program core.sizes w.seen) path'.records path'.base
     → HasTable core.program (unit_of core.program core.sizes w.seen) (rested_at path'.base) creators'.table → (rested' ≡ true → HasRested core w.seen path') → IsFront P w path' creators' rested'
@@ -185,7 +185,7 @@ forgotten P U told T all entries deep = record {
         go true f lt = absurd (let le = leb-true told n.at f in omega (arith, le, lt))
 
 -- a seat that has let nothing
-pub new_front : (core : TheCore) (P : Program) (v : Caller) (path : Path) (creators : Counted) →
+pub new_front : (core : TheCore) (P : Program) (v : Caller) (path : Path) (creators : CountedTable) →
     IsUnused core v → P ≡ core.program → IsLegal v.core.program v.core.sizes v.seen →
     path.records ≡ [] → IsFirstBase v.core.program v.core.sizes v.seen path.base → creators.table.entries ≡ replicate 34 None →
     length creators.table.latest ≡ 32 → IsFront P v path creators false

@@ -6,7 +6,7 @@ use Rattle.instructions.specs.declared.op.Half.{Half}
 use Rattle.inorder.specs.Unit.{front_half, front_pc, next_station, recent}
 use Rattle.station.specs.Seats.{Caller}
 use Rattle.front.specs.declared.path.Path.{Path}
-use Rattle.front.specs.declared.path.counted.Counted.{Counted}
+use Rattle.front.specs.declared.path.counted.CountedTable.{CountedTable}
 use Rattle.front.specs.Fronts.{IsFront, TheFront, front_unit}
 use Rattle.front.specs.Knows.{IsFolded}
 use Rattle.front.specs.Path.{next_half, pc_behind, rested_at, station_of_next}
@@ -15,7 +15,7 @@ use Rattle.front.proofs.Places.{known_half, known_pc, known_place}
 use Rattle.inorder.specs.History.{unit_of}
 use Rattle.inorder.specs.Unit.{UpdateUnit}
 
-module _ {S : Type 0} (P : Program) (seat : Caller) (path : Path) (creators : Counted) (rested : Bool) (f : TheFront S) (is : IsFront P seat path creators rested)
+module _ {S : Type 0} (P : Program) (seat : Caller) (path : Path) (creators : CountedTable) (rested : Bool) (f : TheFront S) (is : IsFront P seat path creators rested)
     (core : f.core ≡ seat.core) (seen : f.seen ≡ seat.seen) where
   same_unit : unit_of seat.core.program seat.core.sizes seat.seen ≡ front_unit f
   same_unit i = unit_of (sym core i).program (sym core i).sizes (sym seen i)

@@ -164,7 +164,7 @@ module _ {P : Program} {C : Sizes} {old h : List Entry} {records : List Record} 
             record { p = f.one.at; tenant = subst (λ (z : Record). IsTenant (unit_of P C new) f.one.at z.station z.tag (HasLeft seen.value)) f.what still }
 
         pub can_fetch : {half : Half} {ring : ℕ} → half ≡ next_half base records → QueueSays P C (unit_of P C new) i false → seen.tag ≢ last_tag → seen.tag ≤ last_tag → station < ring →
-            ring ≡ C.ring → CanFetch P C new records (record { instr = i; half = half; pc = pc; station = station; left = seen.value })
+            ring ≡ C.ring → CanFetch P C new records (record { instr = i; half = half; pc = pc; station = station; last_value = seen.value })
         can_fetch half_is q ne most small ring_is =
             let tag : next_tag C (recent (unit_of P C new)) ≡ seen.tag = stays P C (λ U. next_tag C (recent U) ≡ seen.tag) (tag_stable P C seen.tag) h new more
             (next_tag_is P C h a.adds.legal seen sees_next free) in

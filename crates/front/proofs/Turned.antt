@@ -58,7 +58,7 @@ lets_since P C begin old new station tag pc predicted a l =
 
 module _ {S : Type 0} (Predicts : S → ℕ → Instr → ℕ → S → Type 0) (Learns : S → ℕ → ℕ → S → Type 0) (P : Program) (C : Sizes) (begin old new : List Entry) (records : List Record) (base : Base)
     (k : FrontKnows P C (unit_of P C begin) records base) (adds : Adds P C front begin old [])
-    (f : Fetched) (oldest : OldestLeft C (unit_of P C old) records f.left) (ring : ℕ) (ring_is : ring ≡ C.ring) (path path' : Path) (path_is : path.records ≡ records) (predicted tag : ℕ)
+    (f : Fetched) (oldest : OldestLeft C (unit_of P C old) records f.last_value) (ring : ℕ) (ring_is : ring ≡ C.ring) (path path' : Path) (path_is : path.records ≡ records) (predicted tag : ℕ)
     (d : IsDispatched P C old new f predicted tag) where
   abbrev point : List Entry
   point = d.lets.point
@@ -67,7 +67,7 @@ module _ {S : Type 0} (Predicts : S → ℕ → Instr → ℕ → S → Type 0) 
   knows_there = still_knows d.lets.before
       (still_knows adds k)
 
-  told_there : (left : Option Record) → Releases ring f.left path left path' → (s s' : S) →
+  told_there : (left : Option Record) → Releases ring f.last_value path left path' → (s s' : S) →
       IsTold Learns (leaver_of left) s s' →
       IsTold Learns (leaver_in P (last_of (untold (rested_at base) (unit_of P C point).tenants) f.station)) s s'
   told_there None r s s' told =
@@ -88,14 +88,14 @@ module _ {S : Type 0} (Predicts : S → ℕ → Instr → ℕ → S → Type 0) 
       go (n ∷ ns) e =
           let one : n.what ≡ x = head_of n.what x (whats ns) path'.records (sym (ap whats e) ∙ (sym knows_there.are ∙ are)) in
           let gone = oldest x path'.records are full in
-          let still = stays P C (λ U. IsTenant U gone.p x.station x.tag (HasLeft f.left)) (left_stable P C gone.p x.station x.tag f.left) old point d.lets.before gone.tenant in
-          let left : IsLeft (unit_of P C point) n.what f.left = subst (λ z. IsLeft (unit_of P C point) z f.left) (sym one) (record { p = gone.p; tenant = still }) in
+          let still = stays P C (λ U. IsTenant U gone.p x.station x.tag (HasLeft f.last_value)) (left_stable P C gone.p x.station x.tag f.last_value) old point d.lets.before gone.tenant in
+          let left : IsLeft (unit_of P C point) n.what f.last_value = subst (λ z. IsLeft (unit_of P C point) z f.last_value) (sym one) (record { p = gone.p; tenant = still }) in
           let place = next_is P C point d.lets.before.legal records base (IsFolded (unit_of P C point) (rested_at base)) knows_there n ns e full in
           let its : IsTold Learns (leaver_if n.what.guessed n.what.pc n.what.next) s s' = subst (λ (z : Record). IsTold Learns (leaver_if z.guessed z.pc z.next) s s') (sym one) told in
           subst (λ z. IsTold Learns (leaver_in P (last_of (untold (rested_at base) (unit_of P C point).tenants) z)) s s') (sym d.lets.station_is)
-          (oldest_told Learns P C point d.lets.before.legal records base knows_there n ns e place f.left left s s' its)
+          (oldest_told Learns P C point d.lets.before.legal records base knows_there n ns e place f.last_value left s s' its)
 
-  pub is_let : (left : Option Record) → Releases ring f.left path left path' → (s s' : S) →
+  pub is_let : (left : Option Record) → Releases ring f.last_value path left path' → (s s' : S) →
       Guesses Predicts Learns (leaver_of left) f.instr f.half f.pc predicted s s' →
       IsLet Predicts Learns P C (rested_at base) begin new s s' f.station tag f.pc
   unfolding lets_since

@@ -42,4 +42,4 @@ OldestLeft C U records left =
 -- In what was seen the instruction can be let, and the oldest has left if all stations have had a tenant
 pub record CanFetch (P : Program) (C : Sizes) (seen : List Entry) (records : List Record) (f : Fetched) : Type 0 where
   pub next : CanBeLet P C seen f
-  pub oldest : OldestLeft C (unit_of P C seen) records f.left
+  pub oldest : OldestLeft C (unit_of P C seen) records f.last_value

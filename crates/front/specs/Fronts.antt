@@ -13,7 +13,7 @@ use Rattle.front.specs.declared.answers.Made.{Made}
 use Rattle.front.specs.declared.answers.Recovery.{Recovery}
 use Rattle.front.specs.declared.answers.Rest.{Rest}
 use Rattle.front.specs.declared.answers.Turn.{Turn}
-use Rattle.front.specs.declared.path.counted.Counted.{Counted}
+use Rattle.front.specs.declared.path.counted.CountedTable.{CountedTable}
 use Rattle.front.specs.declared.path.base_state.Base.{Base}
 use Rattle.front.specs.declared.path.Path.{Path}
 use Rattle.front.specs.CreateTable.{HasTable}
@@ -29,7 +29,7 @@ abbrev pub KnowsPath : TheCore → List Entry → Path → Type 0
 KnowsPath core seen path = FrontKnows core.program core.sizes (unit_of core.program core.sizes seen) path.records path.base
 
 -- The create vector is that of the unit, without the tenants that there were when the front last rested
-abbrev pub KnowsTable : TheCore → List Entry → Base → Counted → Type 0
+abbrev pub KnowsTable : TheCore → List Entry → Base → CountedTable → Type 0
 KnowsTable core seen base creators =
     HasTable core.program (unit_of core.program core.sizes seen) (rested_at base) creators.table
 
@@ -60,7 +60,7 @@ pub record HasRested (core : TheCore) (seen : List Entry) (path : Path) : Type 0
   pub told : rested_at path.base ≡ length (unit_of core.program core.sizes seen).tenants
 
 -- The seat is the front's, the path is what it knows, and the create vector is that of the unit
-pub record IsFront (P : Program) (seat : Caller) (path : Path) (creators : Counted) (rested : Bool) : Type 0 where
+pub record IsFront (P : Program) (seat : Caller) (path : Path) (creators : CountedTable) (rested : Bool) : Type 0 where
   pub by_is : seat.by ≡ front
   pub program : P ≡ seat.core.program
   pub legal : IsLegal seat.core.program seat.core.sizes seat.seen

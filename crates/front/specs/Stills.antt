@@ -7,7 +7,7 @@ use Rattle.inorder.specs.Unit.{next_station, recent}
 use Rattle.station.specs.Renewals.{HasNobody, IsNotRenewed, IsRenewed, Seats}
 use Rattle.station.specs.Seats.{Caller, TheCore}
 use Rattle.front.specs.declared.path.base_state.Base.{Base}
-use Rattle.front.specs.declared.path.counted.Counted.{Counted}
+use Rattle.front.specs.declared.path.counted.CountedTable.{CountedTable}
 use Rattle.front.specs.CreateTable.{HasTable}
 use Rattle.front.specs.Knows.{FrontKnows}
 use Rattle.front.specs.Path.{rested_at}
@@ -21,7 +21,7 @@ pub record TheStillFront (S : Type 0) : Type 0 where
   pub touched : ℕ
 
 -- Nobody was live when the front left with this seat, and the base is all that it knows of the path
-pub record FrontIsStill (seat : Caller) (base : Base) (creators : Counted) : Type 0 where
+pub record FrontIsStill (seat : Caller) (base : Base) (creators : CountedTable) : Type 0 where
   pub legal : IsLegal seat.core.program seat.core.sizes seat.seen
   pub nobody : HasNobody (unit_of seat.core.program seat.core.sizes seat.seen)
   pub knows : FrontKnows seat.core.program seat.core.sizes (unit_of seat.core.program seat.core.sizes seat.seen) [] base

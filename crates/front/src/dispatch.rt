@@ -10,7 +10,7 @@ ghost use Rattle.front.specs.Questions.{Asks, IsDispatched, MayAskFor};
 ghost use Rattle.station.specs.Seats.{IsSameSeat};
 
 use crate::fetch::Fetched;
-use crate::path::{Counted, Path};
+use crate::path::{CountedTable, Path};
 use crate::supply::supply;
 use inorder::history::Source;
 use instructions::Program;
@@ -40,7 +40,7 @@ pub fn dispatch(
     core: &Core,
     seat: &mut FrontSeat,
     path: &mut Path,
-    creators: &mut Counted,
+    creators: &mut CountedTable,
     next: &Fetched,
     predicted: u32,
 ) -> u32

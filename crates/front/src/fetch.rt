@@ -23,7 +23,7 @@ pub struct Fetched {
     pub half: Half,
     pub pc: u32,
     pub station: usize,
-    pub left: u32,
+    pub last_value: u32,
 }
 
 /// The instruction that can be let next, or why none can.
@@ -66,6 +66,6 @@ pub fn fetch(
         half,
         pc,
         station,
-        left: ahead.value,
+        last_value: ahead.value,
     })
 }

@@ -12,7 +12,7 @@ mod record;
 
 use crate::fetch::Fetched;
 pub use base_state::Base;
-pub use counted::{Counted, Creators};
+pub use counted::{CountedTable, Creators};
 use inorder::wrapped;
 use instructions::{Half, pc_plus_4};
 use record::new_record;
@@ -87,7 +87,7 @@ impl Path {
 
     /// If each station has a record, drops the oldest, whose station the next tenant gets, and moves the value that
     /// its tenant left into the base registers.
-    pub fn release(&mut self, creators: &mut Counted, ring: usize, left: u32) -> Option<Record>
+    pub fn release(&mut self, creators: &mut CountedTable, ring: usize, left: u32) -> Option<Record>
         requires { 0 < ring }
         ensures reply { Releases ring left self.old result self.new }
         ensures table { creators.new.table ≡ creators.old.table }
@@ -131,7 +131,7 @@ impl Path {
     }
 
     /// Adds the record of a new tenant, the youngest, and enters the tenant as the newest writer of its register.
-    pub fn enter(&mut self, creators: &mut Counted, next: &Fetched, tag: u32, predicted: u32)
+    pub fn enter(&mut self, creators: &mut CountedTable, next: &Fetched, tag: u32, predicted: u32)
         requires room { length self.old.records < 32 }
         requires station { next.now.station < 32 }
         ensures records { self.new.records ≡ self.old.records ++ record_for

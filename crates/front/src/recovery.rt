@@ -8,7 +8,7 @@ ghost use Rattle.front.specs.Recoveries.{ScanFinds, IsCut, IsMissAt, RecoverAnsw
 ghost use Rattle.station.specs.Seats.{IsSameSeat};
 
 use crate::answers::Recovery;
-use crate::path::{Counted, Path};
+use crate::path::{CountedTable, Path};
 use station::{Core, FrontSeat, StationState};
 
 /// A miss: the position of its record, its station, and where it goes on.
@@ -55,7 +55,7 @@ fn squash_behind(
     core: &Core,
     seat: &mut FrontSeat,
     path: &mut Path,
-    creators: &mut Counted,
+    creators: &mut CountedTable,
     missed: Missed,
 ) -> usize
     requires core { seat.old.core ≡ core.now }
@@ -88,7 +88,7 @@ pub fn recover_on(
     core: &Core,
     seat: &mut FrontSeat,
     path: &mut Path,
-    creators: &mut Counted,
+    creators: &mut CountedTable,
 ) -> Recovery
     requires core { seat.old.core ≡ core.now }
     requires by { seat.old.by ≡ front }

@@ -2,12 +2,12 @@
 ghost use Rattle.std.specs.Prelude.{◌≡◌, ◌<◌};
 ghost use Rattle.front.specs.CreateTable.{IsSupplied, IsTouched};
 
-use crate::path::{Counted, Path};
+use crate::path::{CountedTable, Path};
 use instructions::Reg;
 use station::Supply;
 
 /// The source of a new tenant that reads this register. The last tenant of its own station leaves.
-pub fn supply(path: &Path, creators: &mut Counted, own: usize, r: Reg) -> Supply
+pub fn supply(path: &Path, creators: &mut CountedTable, own: usize, r: Reg) -> Supply
     ensures value { IsSupplied creators.old.table own path.now.base r result }
     ensures table { creators.new.table ≡ creators.old.table }
     ensures small { r < 34 }

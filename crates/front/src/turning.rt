@@ -12,7 +12,7 @@ ghost use Rattle.station.specs.Seats.{IsSameSeat};
 use crate::answers::Turn;
 use crate::dispatch::dispatch;
 use crate::fetch::{Fetched, fetch};
-use crate::path::{Counted, Path};
+use crate::path::{CountedTable, Path};
 use crate::training::leaver;
 use instructions::{Leaver, Predictor, Program, guess, tell};
 use station::{Core, FrontSeat};
@@ -39,7 +39,7 @@ pub fn turn_on<P: Predictor>(
     core: &Core,
     seat: &mut FrontSeat,
     path: &mut Path,
-    creators: &mut Counted,
+    creators: &mut CountedTable,
     program: &Program,
     predictor: &mut P,
     given: Option<u32>,
@@ -63,7 +63,7 @@ pub fn turn_on<P: Predictor>(
         Ok(next) => next,
         Err(turn) => return turn,
     };
-    let departed = path.release(creators, core.ring(), next.left);
+    let departed = path.release(creators, core.ring(), next.last_value);
     let leaver = leaver(departed);
     let predicted = predict(predictor, leaver, &next, given);
     let tag = dispatch(core, seat, path, creators, &next, predicted);

@@ -4,7 +4,7 @@ use crate::register::push_register;
 use crate::said::{Sort, said};
 use events::Why;
 use inorder::history::Source;
-use isa::{Hexadecimal, InstrText, Naming};
+use isa::{Hexadecimal, InstrText, RegisterStyle};
 use replay::{Fate, NoLet, Refusal};
 use sheets::{Placed, Stage};
 use std::alloc::AllocError;
@@ -123,7 +123,7 @@ impl Grading<'_> {
         match self.judge.unit.program.fetch(front) {
             Some(instr) => {
                 let text = InstrText {
-                    naming: Naming::Names,
+                    naming: RegisterStyle::Names,
                     instr,
                 };
                 write!(out, "the path goes on with {text}")

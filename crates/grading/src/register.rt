@@ -1,6 +1,6 @@
 //! The name of a register.
 use instructions::{Instr, Op, Reg};
-use isa::{InstrText, Naming};
+use isa::{InstrText, RegisterStyle};
 use std::alloc::AllocError;
 
 /// Adds the name of a register, as an instruction that reads it alone has it.
@@ -10,7 +10,7 @@ pub(crate) fn push_register(out: &mut String, register: Reg) -> Result<(), Alloc
         33 => out.push_str("HI"),
         _ => {
             let text = InstrText {
-                naming: Naming::Names,
+                naming: RegisterStyle::Names,
                 instr: Instr::new(Op::Jr, Reg::ZERO, register, Reg::ZERO, 0),
             };
             let alloc = *out.allocator();

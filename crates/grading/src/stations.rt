@@ -2,7 +2,7 @@
 use crate::register::push_register;
 use inorder::history::Source;
 use instructions::{Half, Kind, Reg};
-use isa::{Hexadecimal, InstrText, Naming};
+use isa::{Hexadecimal, InstrText, RegisterStyle};
 use replay::{Fate, Operand, Standing, Tenant, Unit};
 use sheets::{Awaited, Held};
 use std::alloc::{AllocError, Global};
@@ -351,7 +351,7 @@ impl Comparing<'_> {
                 Some(tenant) if self.is_unheld(position, &tenant) => {
                     let number = self.number_of(position);
                     let text = InstrText {
-                        naming: Naming::Names,
+                        naming: RegisterStyle::Names,
                         instr: self.unit.instr(&tenant),
                     };
                     write!(out, "row {number}, {text}, waits in no station\n")?;

@@ -9,8 +9,8 @@ use mathlib.Core.Option.{some, some-ne-none, some-injective}
 use lib.ListN.{get_elem?}
 use Rattle.crossbeam_queue.specs.Fifo.{Admits, Learns, Pops, Pushes}
 use Rattle.crossbeam_queue.proofs.Lists.{at_set}
-use Rattle.hints.specs.declared.hands.Hand.{Hand}
-use Rattle.hints.specs.Hinted.{Hinted, ThreadKnows, Move, by_thread, hand, hints_of, putting, taking}
+use Rattle.hints.specs.declared.deals.Deal.{Deal}
+use Rattle.hints.specs.Hinted.{Hinted, ThreadKnows, Move, by_thread, deal, hints_of, putting, taking}
 
 abbrev keep : Bool → ℕ → List ℕ → List ℕ
 keep b x xs = cond b (x ∷ xs) xs
@@ -31,29 +31,29 @@ hints_snoc : (ms : List Move) (t x : ℕ) → hints_of (ms ++ record { by = t; h
 hints_snoc [] t x = refl
 hints_snoc (m ∷ ms) t x = ap (λ l. m.hint ∷ l) (hints_snoc ms t x)
 
-at_inside : (views : List Hand) (t : ℕ) (v : Hand) → get_elem? views t ≡ some v → t < length views
+at_inside : (views : List Deal) (t : ℕ) (v : Deal) → get_elem? views t ≡ some v → t < length views
 at_inside [] t v e = absurd (some-ne-none v (sym e))
 at_inside (u ∷ us) zero v e = omega arith
 at_inside (u ∷ us) (suc t) v e = let h = at_inside us t v e in omega arith
 
-apart_of : (views : List Hand) (t j : ℕ) (v : Hand) → get_elem? views t ≡ some v → length views ≤ j → t ≢ j
+apart_of : (views : List Deal) (t j : ℕ) (v : Deal) → get_elem? views t ≡ some v → length views ≤ j → t ≢ j
 apart_of views t j v at far e = let h = at_inside views t v at in absurd (omega arith)
 
 -- the last view is the new one, at the end
-at_end : (l : List Hand) (a b : Hand) (j : ℕ) → get_elem? (l ++ a ∷ []) j ≡ some b → (get_elem? l j ≡ some b) ⊎ ((j ≡ length l) × (a ≡ b))
+at_end : (l : List Deal) (a b : Deal) (j : ℕ) → get_elem? (l ++ a ∷ []) j ≡ some b → (get_elem? l j ≡ some b) ⊎ ((j ≡ length l) × (a ≡ b))
 at_end [] a b zero e = inr (refl, some-injective a b e)
 at_end [] a b (suc j) e = absurd (some-ne-none b (sym e))
 at_end (x ∷ xs) a b zero e = inl e
 at_end (x ∷ xs) a b (suc j) e = ⊎_elim (λ h. inl h) (λ (t : (j ≡ length xs) × (a ≡ b)). inr (ap suc t.0, t.1)) (at_end xs a b j e)
 
-set_knows : (puts takes : List Move) (views : List Hand) (t : ℕ) (w : Hand) → ThreadKnows puts takes t w
-    → ((j : ℕ) (u : Hand) → j ≢ t → get_elem? views j ≡ some u → ThreadKnows puts takes j u)
-    → (j : ℕ) (u : Hand) → get_elem? (set views t w) j ≡ some u → ThreadKnows puts takes j u
+set_knows : (puts takes : List Move) (views : List Deal) (t : ℕ) (w : Deal) → ThreadKnows puts takes t w
+    → ((j : ℕ) (u : Deal) → j ≢ t → get_elem? views j ≡ some u → ThreadKnows puts takes j u)
+    → (j : ℕ) (u : Deal) → get_elem? (set views t w) j ≡ some u → ThreadKnows puts takes j u
 set_knows puts takes views t w own rest j u e =
-    ⊎_elim (λ (h : (j ≡ t) × (w ≡ u)). subst (λ (y : ℕ × Hand). ThreadKnows puts takes y.0 y.1) (λ i. (sym h.0 i, h.1 i)) own)
+    ⊎_elim (λ (h : (j ≡ t) × (w ≡ u)). subst (λ (y : ℕ × Deal). ThreadKnows puts takes y.0 y.1) (λ i. (sym h.0 i, h.1 i)) own)
     (λ (h : (j ≢ t) × (get_elem? views j ≡ some u)). rest j u h.0 h.1) (at_set views t j w u e)
 
-pub begins : (n : ℕ) → Hinted n [] (hand [] [] ∷ [])
+pub begins : (n : ℕ) → Hinted n [] (deal [] [] ∷ [])
 begins n = record {
   puts = [];
   takes = [];
@@ -63,23 +63,23 @@ begins n = record {
   nobody_else = λ t far. record { put = refl; taken = refl };
 }
   where
-    one : (t : ℕ) (v : Hand) → get_elem? (hand [] [] ∷ []) t ≡ some v → ThreadKnows [] [] t v
-    one zero v e = record { put = ap (λ (u : Hand). u.put) (sym (some-injective _ _ e)); taken = ap (λ (u : Hand). u.taken) (sym (some-injective _ _ e)) }
+    one : (t : ℕ) (v : Deal) → get_elem? (deal [] [] ∷ []) t ≡ some v → ThreadKnows [] [] t v
+    one zero v e = record { put = ap (λ (u : Deal). u.put) (sym (some-injective _ _ e)); taken = ap (λ (u : Deal). u.taken) (sym (some-injective _ _ e)) }
     one (suc t) v e = absurd (some-ne-none v (sym e))
 
-pub admits : (n : ℕ) → Admits (Hinted n) (hand [] [])
+pub admits : (n : ℕ) → Admits (Hinted n) (deal [] [])
 admits n items views h = record {
   puts = h.puts;
   takes = h.takes;
   in_order = h.in_order;
   stations = h.stations;
   knows = λ j u e. ⊎_elim (λ was. h.knows j u was)
-      (λ (t : (j ≡ length views) × (hand [] [] ≡ u)). subst (λ z. ThreadKnows h.puts h.takes j z) t.1 (h.nobody_else j (let e' = t.0 in omega arith)))
-      (at_end views (hand [] []) u j e);
-  nobody_else = λ j far. h.nobody_else j (let long = length-append views (hand [] [] ∷ []) in omega arith);
+      (λ (t : (j ≡ length views) × (deal [] [] ≡ u)). subst (λ z. ThreadKnows h.puts h.takes j z) t.1 (h.nobody_else j (let e' = t.0 in omega arith)))
+      (at_end views (deal [] []) u j e);
+  nobody_else = λ j far. h.nobody_else j (let long = length-append views (deal [] [] ∷ []) in omega arith);
 }
 
-pub pushes : (n room t : ℕ) (v : Hand) (x : ℕ) → x < n → Pushes (Hinted n) room t v x (λ w. w ≡ putting x v)
+pub pushes : (n room t : ℕ) (v : Deal) (x : ℕ) → x < n → Pushes (Hinted n) room t v x (λ w. w ≡ putting x v)
 pushes n room t v x low items views _ h at =
     let w = putting x v in
     let puts = h.puts ++ record { by = t; hint = x } ∷ [] in
@@ -102,7 +102,7 @@ pushes n room t v x low items views _ h at =
     one n x low zero d k = low
     one n x low (suc i) d k = absurd (omega arith)
 
-pub takes : (n t : ℕ) (v : Hand) → Pops (Hinted n) t v (λ x w. (x < n) × (w ≡ taking x v))
+pub takes : (n t : ℕ) (v : Deal) → Pops (Hinted n) t v (λ x w. (x < n) × (w ≡ taking x v))
 takes n t v x items views h at =
     let w = taking x v in
     let gone = h.takes ++ record { by = t; hint = x } ∷ [] in
@@ -122,5 +122,5 @@ takes n t v x items views h at =
     )
 
 -- of a full or an empty queue nothing is kept
-pub learns : (n t : ℕ) (v : Hand) → Learns (Hinted n) t v (λ _. Unit {0})
+pub learns : (n t : ℕ) (v : Deal) → Learns (Hinted n) t v (λ _. Unit {0})
 learns n t v items views h at = tt

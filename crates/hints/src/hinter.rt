@@ -1,5 +1,5 @@
 //! A thread's end of a queue of hints.
-use crate::hands::Hand;
+use crate::deals::Deal;
 use crossbeam_queue::Pass;
 use std::marker::Model;
 
@@ -7,7 +7,7 @@ use std::marker::Model;
 /// `Hints::pop` count, so that a thread has called them as often as it has offered and asked.
 #[derive(Drop)]
 pub struct Hinter {
-    pub(crate) pass: Pass<u32, Hand>,
+    pub(crate) pass: Pass<u32, Deal>,
     pub(crate) offered: u64,
     pub(crate) asked: u64,
 }
@@ -20,7 +20,7 @@ impl Model for Hinter {
 
     ghost view = { λ h. record {
       of = h.pass.table_id;
-      hand = h.pass.me.0.client;
+      deal = h.pass.me.0.client;
       offered = h.offered;
       asked = h.asked;
     } };

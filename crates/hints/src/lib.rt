@@ -2,10 +2,10 @@
 //! of one ring, and they are taken in the order in which they were put, each once.
 #![tactic(auto)]
 
-mod hands;
+mod deals;
 mod hinter;
 mod queue;
 
-pub use hands::{Hand, Ring};
+pub use deals::{Deal, Ring};
 pub use hinter::Hinter;
 pub use queue::Hints;

@@ -2,7 +2,7 @@
 ghost use Rattle.std.specs.Prelude.{◌≡◌, ◌<◌, ◌≤◌, IfNone, IfOk, IfSome, IsFalse, IsTrue};
 ghost use Rattle.hints.specs.Hinted.{HasAskedForHint, HasOffered, IsEndOf, fresh, putting, taking};
 
-use crate::hands::{Below, Hand, Puts, Ring, Takes};
+use crate::deals::{Below, Deal, Puts, Ring, Takes};
 use crate::hinter::Hinter;
 use crossbeam_queue::RuledArrayQueue;
 use std::alloc::{AllocError, Global};
@@ -13,7 +13,7 @@ use std::sync::Wait;
 /// many stations there are.
 #[derive(Drop)]
 pub struct Hints<J: Ring> {
-    queue: RuledArrayQueue<u32, Hand, Below<J>>,
+    queue: RuledArrayQueue<u32, Deal, Below<J>>,
     ring: usize,
 }
 
@@ -57,8 +57,8 @@ impl<J: Ring> Hints<J> {
         requires of { IsEndOf self.now hinter.old }
         requires station { station < self.now.ring }
         ensures of { IsEndOf self.now hinter.new }
-        ensures put { IsTrue result → hinter.new.hand ≡ putting station hinter.old.hand }
-        ensures dropped { IsFalse result → hinter.new.hand ≡ hinter.old.hand }
+        ensures put { IsTrue result → hinter.new.deal ≡ putting station hinter.old.deal }
+        ensures dropped { IsFalse result → hinter.new.deal ≡ hinter.old.deal }
         ensures offered { HasOffered hinter.old hinter.new }
     {
         hinter.offered = hinter.offered.wrapping_add(1);
@@ -75,8 +75,8 @@ impl<J: Ring> Hints<J> {
         ensures of { IsEndOf self.now hinter.new }
         ensures station { IfSome result (λ station. station < self.now.ring) }
         ensures taken { IfSome result (λ station.
-            hinter.new.hand ≡ taking station hinter.old.hand) }
-        ensures kept { IfNone result (hinter.new.hand ≡ hinter.old.hand) }
+            hinter.new.deal ≡ taking station hinter.old.deal) }
+        ensures kept { IfNone result (hinter.new.deal ≡ hinter.old.deal) }
         ensures asked { HasAskedForHint hinter.old hinter.new }
     {
         hinter.asked = hinter.asked.wrapping_add(1);

@@ -27,4 +27,4 @@ pub mod Moves
 pub mod Plain
 pub mod Progress
 pub mod Climbing
-pub mod Still
+pub mod Quiescent

@@ -131,7 +131,7 @@ impl Committed {
     }
 
     /// Writes LO, if a value waits for it.
-    pub fn settle(&mut self, low: Option<u32>)
+    pub fn write_low(&mut self, low: Option<u32>)
         ensures { self.new ≡ ahead_by low self.old }
     {
         if let Some(low) = low {

@@ -14,8 +14,8 @@ use Rattle.instructions.specs.declared.instr.Instr.{Instr}
 use Rattle.isa.specs.declared.listing.fault.FaultKind.{FaultKind}
 use Rattle.isa.specs.declared.listing.slot.Slot.{Slot}
 use Rattle.isa.specs.declared.listing.slot.Slot.TheVariants.{Into, First, Second, S16, U16, U5, Label, Offset}
-use Rattle.isa.specs.declared.listing.instr_text.Naming.{Naming}
-use Rattle.isa.specs.declared.listing.instr_text.Naming.TheVariants.{Numbers, Names}
+use Rattle.isa.specs.declared.listing.instr_text.RegisterStyle.{RegisterStyle}
+use Rattle.isa.specs.declared.listing.instr_text.RegisterStyle.TheVariants.{Numbers, Names}
 use Rattle.isa.specs.RegisterNames.{register, register_number}
 use Rattle.isa.specs.Operands.{label, offset_and_register}
 use Rattle.isa.specs.Report.{hex_digit, hex8}
@@ -59,7 +59,7 @@ by_name : all_under (λ r. is_number (register (register_text Names r)) r) 32 �
 unfolding register register_number decimal_in decimal numeral digits
 by_name = refl
 
-pub register_of : (naming : Naming) (r : ℕ) → r < 32 → register (register_text naming r) ≡ Ok r
+pub register_of : (naming : RegisterStyle) (r : ℕ) → r < 32 → register (register_text naming r) ≡ Ok r
 register_of Numbers r h = number_is _ r (under (λ r. is_number (register (register_text Numbers r)) r) 32 r by_number h)
 register_of Names r h = number_is _ r (under (λ r. is_number (register (register_text Names r)) r) 32 r by_name h)
 
@@ -71,7 +71,7 @@ names_inner : all_under (λ r. list_all inner (register_text Names r)) 32 ≡ tr
 unfolding digits
 names_inner = refl
 
-pub register_part : (naming : Naming) (r : ℕ) → r < 32 → IsPart (register_text naming r)
+pub register_part : (naming : RegisterStyle) (r : ℕ) → r < 32 → IsPart (register_text naming r)
 register_part Numbers r h = of_all inner (register_text Numbers r) (under (λ r. list_all inner (register_text Numbers r)) 32 r numbers_inner h)
 register_part Names r h = of_all inner (register_text Names r) (under (λ r. list_all inner (register_text Names r)) 32 r names_inner h)
 
@@ -138,7 +138,7 @@ parenthesized_of xs ys h px py =
     rw (before_at signed_byte (λ b. b == 40) not_open xs 40 (ys ++ 41 ∷ []) h refl, after_open xs (ys ++ 41 ∷ []) h, closed ys, part_trimmed xs px, part_trimmed ys py)
     refl
 
-pub offset_of : (naming : Naming) (n r : ℕ) → IsSignedHalf n → r < 32
+pub offset_of : (naming : RegisterStyle) (n r : ℕ) → IsSignedHalf n → r < 32
     → offset_and_register (signed_text n ++ (codes "(" ++ (register_text naming r ++ codes ")"))) ≡ Ok (n, r)
 unfolding offset_and_register
 offset_of naming n r half small =
@@ -151,7 +151,7 @@ offset_of naming n r half small =
     )
     refl
 
-pub offset_part : (naming : Naming) (n r : ℕ) → IsSignedHalf n → r < 32
+pub offset_part : (naming : RegisterStyle) (n r : ℕ) → IsSignedHalf n → r < 32
     → IsPart (signed_text n ++ (codes "(" ++ (register_text naming r ++ codes ")")))
 offset_part naming n r half small = before (signed_text n) (signed_part n half)
   where
@@ -164,7 +164,7 @@ offset_part naming n r half small = before (signed_text n) (signed_part n half)
 
 -- ---- any operand
 
-pub fill_of : (naming : Naming) (i : Instr) (s : Slot) (p : Parsed) → Fits i s → fill s (operand_text naming s i) p ≡ Ok (with_slot i s p)
+pub fill_of : (naming : RegisterStyle) (i : Instr) (s : Slot) (p : Parsed) → Fits i s → fill s (operand_text naming s i) p ≡ Ok (with_slot i s p)
 unfolding fill
 fill_of naming i Into p h = rw (register_of naming i.target h) refl
 fill_of naming i First p h = rw (register_of naming i.first h) refl
@@ -175,7 +175,7 @@ fill_of naming i U5 p h = rw (number_of 0 31 i.number h (omega arith)) refl
 fill_of naming i Label p h = rw (label_of i.number) refl
 fill_of naming i Offset p h = rw (offset_of naming i.number i.first h.0 h.1) refl
 
-pub part_is : (naming : Naming) (i : Instr) (s : Slot) → Fits i s → IsPart (operand_text naming s i)
+pub part_is : (naming : RegisterStyle) (i : Instr) (s : Slot) → Fits i s → IsPart (operand_text naming s i)
 part_is naming i Into h = register_part naming i.target h
 part_is naming i First h = register_part naming i.first h
 part_is naming i Second h = register_part naming i.second h
@@ -187,12 +187,12 @@ part_is naming i Offset h = offset_part naming i.number i.first h.0 h.1
 
 -- ---- all operands
 
-pub filled_of : (naming : Naming) (i : Instr) (ss : List Slot) (p : Parsed) → AllFit i ss
+pub filled_of : (naming : RegisterStyle) (i : Instr) (ss : List Slot) (p : Parsed) → AllFit i ss
     → filled ss (map (λ s. operand_text naming s i) ss) p ≡ Ok (with_slots i ss p)
 unfolding filled
 filled_of naming i [] p h = refl
 filled_of naming i (s ∷ ss) p h = rw (fill_of naming i s p h.0) (filled_of naming i ss (with_slot i s p) h.1)
 
-pub parts_are : (naming : Naming) (i : Instr) (ss : List Slot) → AllFit i ss → AreParts (map (λ s. operand_text naming s i) ss)
+pub parts_are : (naming : RegisterStyle) (i : Instr) (ss : List Slot) → AllFit i ss → AreParts (map (λ s. operand_text naming s i) ss)
 parts_are naming i [] h = tt
 parts_are naming i (s ∷ ss) h = (part_is naming i s h.0, parts_are naming i ss h.1)

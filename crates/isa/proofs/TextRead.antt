@@ -11,7 +11,7 @@ use Rattle.lexical.specs.Operand.{operands}
 use Rattle.instructions.specs.declared.op.Op.{Op}
 use Rattle.instructions.specs.declared.op.Op.TheVariants.{Addu, Sll}
 use Rattle.instructions.specs.declared.instr.Instr.{Instr}
-use Rattle.isa.specs.declared.listing.instr_text.Naming.{Naming}
+use Rattle.isa.specs.declared.listing.instr_text.RegisterStyle.{RegisterStyle}
 use Rattle.instructions.specs.Instruction.{instr_with}
 use Rattle.isa.specs.Forms.{is_operation, form_with, form_of, form_as_written, operation_word, slots_of}
 use Rattle.isa.specs.Statement.{Parsed, bare, is_word, instruction, with_operands, statement, filled, gives_code}
@@ -158,7 +158,7 @@ nop_stands Sll target first second number h w =
     rw (no_target, no_first, no_number) (rw (no_target, no_first, no_number) at whole)
 nop_stands op target first second number h w = absurd (cc)
 
-module _ (naming : Naming) (i : Instr) (w : IsWritable i) where
+module _ (naming : RegisterStyle) (i : Instr) (w : IsWritable i) where
   instruction_is : instruction (operation_word i.op) (map (λ s. operand_text naming s i) (slots_of i.op)) ≡ Ok (said_of i)
   unfolding instruction
   instruction_is =
@@ -183,7 +183,7 @@ module _ (naming : Naming) (i : Instr) (w : IsWritable i) where
 abbrev pub spoken : Instr → Parsed
 spoken i = if is_nop i then nothing else said_of i
 
-pub text_spoken : (naming : Naming) (i : Instr) → IsWritable i → statement (text_of naming i) ≡ gives_code (spoken i)
+pub text_spoken : (naming : RegisterStyle) (i : Instr) → IsWritable i → statement (text_of naming i) ≡ gives_code (spoken i)
 text_spoken naming i w = elim (cases_Bool (is_nop i)) [
   | inl nop ↦ rw nop nop_read
   | inr other ↦ rw other (whole_statement naming i w)

@@ -8,8 +8,8 @@ use Rattle.instructions.specs.declared.op.Op.TheVariants.{Sll}
 use Rattle.instructions.specs.declared.instr.Instr.{Instr}
 use Rattle.isa.specs.declared.listing.slot.Slot.{Slot}
 use Rattle.isa.specs.declared.listing.slot.Slot.TheVariants.{Into, First, Second, S16, U16, U5, Label, Offset}
-use Rattle.isa.specs.declared.listing.instr_text.Naming.{Naming}
-use Rattle.isa.specs.declared.listing.instr_text.Naming.TheVariants.{Numbers, Names}
+use Rattle.isa.specs.declared.listing.instr_text.RegisterStyle.{RegisterStyle}
+use Rattle.isa.specs.declared.listing.instr_text.RegisterStyle.TheVariants.{Numbers, Names}
 use Rattle.instructions.specs.Registers.{general_count}
 use Rattle.isa.specs.Report.{hex8}
 use Rattle.isa.specs.Statement.{Parsed, bare, gives_code, with_target, with_first_source, with_second_source, with_number, with_label}
@@ -33,12 +33,12 @@ name_or r None = decimal r
 name_or r (Some name) = name
 
 -- a register after its `$`
-abbrev pub register_word : Naming → ℕ → List ℕ
+abbrev pub register_word : RegisterStyle → ℕ → List ℕ
 register_word Numbers r = decimal r
 register_word Names r = name_or r (slice_get names r)
 
 -- a register as an operand
-abbrev pub register_text : Naming → ℕ → List ℕ
+abbrev pub register_text : RegisterStyle → ℕ → List ℕ
 register_text naming r = codes "$" ++ register_word naming r
 
 -- a number as two's complement, in decimal
@@ -52,7 +52,7 @@ label_text address = codes "L" ++ hex8 address
 -- ---- instructions
 
 -- an operand of an instruction
-abbrev pub operand_text : Naming → Slot → Instr → List ℕ
+abbrev pub operand_text : RegisterStyle → Slot → Instr → List ℕ
 operand_text naming Into i = register_text naming i.target
 operand_text naming First i = register_text naming i.first
 operand_text naming Second i = register_text naming i.second
@@ -88,7 +88,7 @@ abbrev pub is_nop : Instr → Bool
 is_nop i = is_nop_by i.op i
 
 -- an instruction as a listing writes it
-abbrev pub text_of : Naming → Instr → List ℕ
+abbrev pub text_of : RegisterStyle → Instr → List ℕ
 text_of naming i =
     if is_nop i then codes "nop"
     else with_operands_text (operation_word i.op) (map (λ s. operand_text naming s i) (slots_of i.op))
@@ -168,5 +168,5 @@ pub record Says (line : List ℕ) (i : Instr) : Type 0 where
 -- any number of blanks.
 abbrev pub TextIsReadBack : Type 0
 TextIsReadBack =
-    (naming : Naming) (i : Instr) (indent : ℕ) → IsWritable i
+    (naming : RegisterStyle) (i : Instr) (indent : ℕ) → IsWritable i
     → Says (replicate indent 32 ++ text_of naming i) i

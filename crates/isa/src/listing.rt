@@ -22,7 +22,7 @@ pub use directive::directive_text;
 use fault::fault_at;
 pub use fault::{FaultKind, TextFault};
 pub use form::{Form, form_of, forms};
-pub use instr_text::{InstrText, Label, Naming, text_is_read_back};
+pub use instr_text::{InstrText, Label, RegisterStyle, text_is_read_back};
 use instructions::{Instr, Program};
 use labels::{Labels, address_of};
 pub use law::the_first_fault_is_named;

@@ -9,5 +9,5 @@ mod watcher;
 mod went;
 
 pub use running::go;
-pub use watcher::{Watcher, watch};
+pub use watcher::{ProgressWatcher, watch};
 pub use went::{Went, end, refused, written};

@@ -11,12 +11,12 @@ use std::marker::Model;
 
 /// Holds units where a shaker does, and tells each tally where there is a teller.
 #[derive(Drop)]
-pub struct Watcher<'a> {
+pub struct ProgressWatcher<'a> {
     teller: Option<Teller<'a>>,
     shaker: Option<Shaker>,
 }
 
-impl<'a> Model for Watcher<'a> {
+impl<'a> Model for ProgressWatcher<'a> {
     ghost use Rattle.std.specs.Prelude.{ℕ, Option};
 
     // the seed by which it shakes, if it does
@@ -25,7 +25,7 @@ impl<'a> Model for Watcher<'a> {
     ghost view = { λ w. w.shaker };
 }
 
-impl Gate for Watcher<'_> {
+impl Gate for ProgressWatcher<'_> {
     fn held(&self, unit: u32, _station: u32) -> bool {
         match &self.shaker {
             Some(shaker) => shaker.holds(unit),
@@ -43,7 +43,7 @@ impl Gate for Watcher<'_> {
 }
 
 /// Tells and shakes a run as is asked for.
-pub fn watch<'a>(rt: &'a HostRuntime, asked: &Asked<'_>) -> Result<Watcher<'a>, AllocError>
+pub fn watch<'a>(rt: &'a HostRuntime, asked: &Asked<'_>) -> Result<ProgressWatcher<'a>, AllocError>
     ensures { IfOk result (λ w. w ≡ asked.now.shake) }
 {
     let shaker = match asked.shake {
@@ -55,5 +55,5 @@ pub fn watch<'a>(rt: &'a HostRuntime, asked: &Asked<'_>) -> Result<Watcher<'a>, 
     } else {
         None
     };
-    Ok(Watcher { teller, shaker })
+    Ok(ProgressWatcher { teller, shaker })
 }

@@ -17,7 +17,7 @@ use Rattle.one_thread.specs.declared.station.Stage.{Stage}
 use Rattle.one_thread.specs.declared.station.Stage.TheVariants.{Open as Opens, Addr as HasAddr, Done as IsDone, Miss as Misses, Stops}
 use Rattle.one_thread.specs.declared.station.Station.{Station}
 use Rattle.one_thread.specs.Changes.{registers_of}
-use Rattle.one_thread.specs.Givers.{given_at, gives}
+use Rattle.one_thread.specs.Producers.{given_at, gives}
 use Rattle.one_thread.specs.Leaves.{HasEnded, OldestHasEnded}
 use Rattle.one_thread.specs.Steps.{IsFirstStep}
 use Rattle.one_thread.specs.StandsFor.{StandsForSome, sizes}

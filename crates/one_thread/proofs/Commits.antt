@@ -9,7 +9,7 @@ use Rattle.inorder.specs.Memory.{stored}
 use Rattle.inorder.specs.Steps.{CanRetire, IsNoRetiredStop, retired}
 use Rattle.inorder.specs.Tenants.{Addr, Done, Tenant, computed_next, instr, is_first, kind_of}
 use Rattle.inorder.proofs.Sound.{IsSoundAt}
-use Rattle.inorder.specs.Still.{IsNotBusy}
+use Rattle.inorder.specs.Quiescent.{IsNotBusy}
 use Rattle.one_thread.specs.declared.pipeline.Pipeline.{Pipeline}
 use Rattle.one_thread.specs.Changes.{ahead_of, registers_of}
 use Rattle.one_thread.specs.Leavers.{told_at, told_of}

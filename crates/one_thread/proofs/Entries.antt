@@ -4,7 +4,7 @@ use Rattle.std.proofs.Common.{◌≡◌, ◌<◌, ◌≤◌, ◌-◌, ℕ, zero,
 use Rattle.std.proofs.Common.{length-take, true≢false}
 use Rattle.std.specs.Prelude.{slice_get, is_some, min}
 use Rattle.one_thread.specs.declared.station.Station.{Station}
-use Rattle.one_thread.specs.Givers.{given_at}
+use Rattle.one_thread.specs.Producers.{given_at}
 use Rattle.one_thread.specs.Loads.{entries, entry_at, load_in, waits, waits_at, with_entry}
 use Rattle.one_thread.proofs.Scan.{get_left, take_left}
 

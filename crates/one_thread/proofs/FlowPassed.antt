@@ -31,7 +31,7 @@ pub record IsFilled (b : Pipeline) : Type 0 where
   pub completed : HaveCompleted b.window
 
 settled_first : (b : Pipeline) (w : Station) → IsFilled b → slice_get b.window 0 ≡ Some w → settled_at (slice_get b.window 0) ≡ true
-settled_first b w d is = ap settled_at is ∙ (d.completed 0 w is).0.settled
+settled_first b w d is = ap settled_at is ∙ (d.completed 0 w is).0.resolved
 
 pub filled_ended : (b : Pipeline) (w : Station) → IsFilled b → slice_get b.window 0 ≡ Some w → HasEnded (length b.committed.memory) w.instr w.stage
 filled_ended b w d is = subst (OldestHasEnded (length b.committed.memory)) is (some_leaves b d.unit (settled_first b w d is))
@@ -61,7 +61,7 @@ passes h b later w e = grind (arith, common_steps)
 
 -- the oldest of a window retires
 record Passed (b later : Pipeline) (answer : Turn) : Type 0 where
-  settles : settled_at (slice_get b.window 0) ≡ true
+  resolves : settled_at (slice_get b.window 0) ≡ true
   to : RetiresTo b (slice_get b.window 0) answer later
 
 passed : (b later : Pipeline) (w : Station) → IsFilled b → slice_get b.window 0 ≡ Some w → later ≡ passed_from (is_first_half w.instr.op w.half) b w →
@@ -72,7 +72,7 @@ pub passed_comes : (b later : Pipeline) (w : Station) → IsFilled b → slice_g
     Comes b (answer_by (is_first_half w.instr.op w.half)) later
 passed_comes b later w d is e =
     let p = passed b later w d is e in
-    retire_comes b later (answer_by (is_first_half w.instr.op w.half)) d.unit d.goes_on p.settles p.to
+    retire_comes b later (answer_by (is_first_half w.instr.op w.half)) d.unit d.goes_on p.resolves p.to
 
 -- The result of the run is as before
 
@@ -85,7 +85,7 @@ pub passed_runs : (b later : Pipeline) (w : Station) → IsFilled b → slice_ge
 passed_runs b later w d is e limit less =
     let h : Bool = is_first_half w.instr.op w.half in
     let p = passed b later w d is e in
-    runs_by h b later d.unit (passed_comes b later w d is e) (moves_as b later (Some ToRetire) (answer_by h) (retires_as b later (answer_by h) d.unit d.goes_on p.settles p.to)) limit less
+    runs_by h b later d.unit (passed_comes b later w d is e) (moves_as b later (Some ToRetire) (answer_by h) (retires_as b later (answer_by h) d.unit d.goes_on p.resolves p.to)) limit less
 
 -- and less is to be done
 

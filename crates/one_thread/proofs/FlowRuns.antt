@@ -14,7 +14,7 @@ use Rattle.lsq.specs.declared.entry.Entry.{Entry}
 use Rattle.one_thread.specs.Changes.{CanClaim, LoadGives, registers_of}
 use Rattle.one_thread.specs.Flow.{HaveCompleted, completed_by, load_of, loaded_behind}
 use Rattle.one_thread.specs.CompletedRing.{stores}
-use Rattle.one_thread.specs.Givers.{gives}
+use Rattle.one_thread.specs.Producers.{gives}
 use Rattle.one_thread.specs.Loads.{AreInside, entries, load_in, loaded_over, value_by, waits_by}
 use Rattle.one_thread.specs.Notes.{miss_in}
 use Rattle.one_thread.specs.Possible.{ToLoad, ToRecover, ToRun}

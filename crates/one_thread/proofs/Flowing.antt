@@ -7,7 +7,7 @@ use Rattle.inorder.specs.Unit.{half_after}
 use Rattle.inorder.proofs.SettledRegisters.{length_registers}
 use Rattle.one_thread.specs.Changes.{registers_of}
 use Rattle.one_thread.specs.Flow.{HasCompleted, HaveCompleted, WritesLow}
-use Rattle.one_thread.specs.Givers.{NoneGives}
+use Rattle.one_thread.specs.Producers.{NoneGives}
 use Rattle.one_thread.specs.Notes.{miss_in, settled_at}
 use Rattle.one_thread.specs.StandsFor.{StandsForSome}
 use Rattle.one_thread.specs.Window.{half_behind, half_in, next_after, next_in}
@@ -23,14 +23,14 @@ use Rattle.one_thread.proofs.Settled.{settled_no_miss}
 pub registers_all : (b : Pipeline) → StandsForSome b → length (registers_of b) ≡ 34
 registers_all b h = ap (λ s. length s.registers) (ahead_stands b h.unit h.reached h.stands) ∙ length_registers b.program.now h.unit.tenants
 
--- All of them are settled, and none is a miss
+-- All of them are resolved, and none is a miss
 
 pub completed_settled : (W : List Station) → HaveCompleted W → (k : ℕ) → k < length W → settled_at (slice_get W k) ≡ true
 completed_settled W h k l = at (slice_get W k) refl
   where
     at : (o : Option Station) → slice_get W k ≡ o → settled_at o ≡ true
     at None e = let there = slice_get-some W k l in absurd (cc (e, there.1))
-    at (Some w) e = (h k w e).0.settled
+    at (Some w) e = (h k w e).0.resolved
 
 pub completed_no_miss : (W : List Station) → HaveCompleted W → NoneGives miss_in W
 completed_no_miss W h k l = settled_no_miss W k (completed_settled W h k l)

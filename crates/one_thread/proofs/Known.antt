@@ -7,7 +7,7 @@ use Rattle.inorder.specs.Tenants.{Live, Tenant}
 use Rattle.inorder.specs.Unit.{UpdateUnit}
 use Rattle.inorder.proofs.Sound.{IsSound}
 use Rattle.inorder.specs.Moves.{IsReached}
-use Rattle.inorder.specs.Still.{AreStill}
+use Rattle.inorder.specs.Quiescent.{AreQuiescent}
 use Rattle.inorder.proofs.OneCaller.Left.{ahead_middle}
 use Rattle.inorder.proofs.OneCaller.Sequences.{sound_of}
 use Rattle.one_thread.specs.declared.pipeline.Pipeline.{Pipeline}
@@ -26,19 +26,19 @@ ahead_stands b U r s =
 pub record Knows (b : Pipeline) (U : UpdateUnit) : Type 0 where
   pub sound : IsSound b.program.now U.tenants
   pub stops : AllByRecursion IsNoRetiredStop U.tenants
-  pub still : AreStill U.tenants
+  pub still : AreQuiescent U.tenants
   pub registers : registers_of b ≡ (ahead b.program.now U.tenants).registers
 
 pub knows : (b : Pipeline) (U : UpdateUnit) → b.over ≡ None → IsReached b.program.now (sizes b) U → StandsFor b U → Knows b U
 knows b U none r s =
-    let over : AllByRecursion IsNoRetiredStop U.tenants × AreStill U.tenants = subst (OverIs U.tenants) none s.over in
+    let over : AllByRecursion IsNoRetiredStop U.tenants × AreQuiescent U.tenants = subst (OverIs U.tenants) none s.over in
     record { sound = sound_of b.program.now (sizes b) U r; stops = over.0; still = over.1; registers = ap (λ c. c.registers) (ahead_stands b U r s) }
 
 -- the split of a unit at a live tenant that was found
 pub record IsSplit (b : Pipeline) (ys : List Tenant) (t : Tenant) (ts : List Tenant) : Type 0 where
   pub sound : IsSound b.program.now (ys ++ t ∷ ts)
   pub stops : AllByRecursion IsNoRetiredStop (ys ++ t ∷ ts)
-  pub still : AreStill (ys ++ t ∷ ts)
+  pub still : AreQuiescent (ys ++ t ∷ ts)
   pub registers : registers_of b ≡ (ahead b.program.now (ys ++ t ∷ ts)).registers
   pub before : registers_of b ≡ (ahead b.program.now ts).registers
 
@@ -50,7 +50,7 @@ split_of b U ys t ts k e live =
     record {
       sound = s;
       stops = subst (AllByRecursion IsNoRetiredStop) e k.stops;
-      still = subst AreStill e k.still;
+      still = subst AreQuiescent e k.still;
       registers = g;
       before = g ∙ ap (λ c. c.registers) (ahead_middle P ys t ts live s);
     }

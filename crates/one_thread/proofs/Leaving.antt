@@ -21,7 +21,7 @@ use Rattle.inorder.proofs.Halves.{completes_if}
 use Rattle.inorder.proofs.SettledRegisters.{committed_if}
 use Rattle.inorder.proofs.Sound.{IsSound, IsSoundAt}
 use Rattle.inorder.specs.Moves.{IsReached, Leads, with_tenants}
-use Rattle.inorder.specs.Still.{AreStill}
+use Rattle.inorder.specs.Quiescent.{AreQuiescent}
 use Rattle.inorder.proofs.OneCaller.Alike.{still_put, stops_put}
 use Rattle.inorder.proofs.OneCaller.Left.{ahead_middle, committed_middle}
 use Rattle.inorder.proofs.OneCaller.Middle.{all_from, at_middle, sound_from, still_from}
@@ -108,7 +108,7 @@ leave b later answer w h none e ended to U r s = go (found P U.tenants 0 w (ap (
     C : Sizes
     C = sizes b
 
-    over' : AllByRecursion IsNoRetiredStop U.tenants × AreStill U.tenants
+    over' : AllByRecursion IsNoRetiredStop U.tenants × AreQuiescent U.tenants
     over' = subst (OverIs U.tenants) none s.over
 
     go : Found P U.tenants 0 w → MovedAs b U (Some ToRetire) answer later
@@ -132,8 +132,8 @@ leave b later answer w h none e ended to U r s = go (found P U.tenants 0 w (ap (
         stops : AllByRecursion IsNoRetiredStop (ys ++ t ∷ ts)
         stops = subst (AllByRecursion IsNoRetiredStop) d.split over'.0
 
-        still : AreStill (ys ++ t ∷ ts)
-        still = subst AreStill d.split over'.1
+        still : AreQuiescent (ys ++ t ∷ ts)
+        still = subst AreQuiescent d.split over'.1
 
         first : length (window P ts) ≡ 0
         first = sym d.place

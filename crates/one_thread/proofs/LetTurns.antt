@@ -15,7 +15,7 @@ use Rattle.inorder.specs.Tenants.{Live, Retired, Tenant, instr}
 use Rattle.inorder.specs.Unit.{Sizes, UpdateUnit, front_half, front_pc, how_many, next_station, recent}
 use Rattle.inorder.proofs.Sound.{IsSound}
 use Rattle.inorder.specs.Moves.{IsLink, IsReached, with_let}
-use Rattle.inorder.specs.Still.{AreStill}
+use Rattle.inorder.specs.Quiescent.{AreQuiescent}
 use Rattle.inorder.proofs.OneCaller.Creators.{IsAt, found_at}
 use Rattle.inorder.proofs.OneCaller.Dispatch.{LetRun, MayEnter, let_run}
 use Rattle.inorder.proofs.OneCaller.Sequences.{all_more, all_recent, all_weaker, committed_on, link_quiet, reach_on, sound_of, stands_of}
@@ -64,7 +64,7 @@ let_turn b later f pr place none room most long to small predicts pe pl wl ll re
     ts : List Tenant
     ts = U.tenants
 
-    over : AllByRecursion IsNoRetiredStop ts × AreStill ts
+    over : AllByRecursion IsNoRetiredStop ts × AreQuiescent ts
     over = subst (OverIs ts) none s.over
 
     sound' : IsSound P ts
@@ -149,8 +149,8 @@ let_turn b later f pr place none room most long to small predicts pe pl wl ll re
             no_stop : IsNoRetiredStop k.tenant
             no_stop = λ q. let no : Live ≡ Retired = sym live ∙ q in absurd (cc)
 
-            free : Rattle.inorder.specs.Still.IsNotBusy k.tenant.fate
-            free = subst Rattle.inorder.specs.Still.IsNotBusy (sym k.alike.fate) tt
+            free : Rattle.inorder.specs.Quiescent.IsNotBusy k.tenant.fate
+            free = subst Rattle.inorder.specs.Quiescent.IsNotBusy (sym k.alike.fate) tt
 
             same : committed P V.tenants ≡ committed P ts
             same = committed_on P C 0 U steps V k.leads sound' (all_more IsNoRetire k.links (LetStep a.index pr k.first k.second ∷ []) (all_weaker IsLink IsNoRetire link_quiet k.links k.are) (tt, tt))

@@ -33,7 +33,7 @@ use Rattle.one_thread.specs.declared.station.Stage.TheVariants.{Done as IsDone}
 use Rattle.one_thread.specs.declared.station.Station.{Station}
 use Rattle.one_thread.specs.Blocked.{IsUnblocked}
 use Rattle.one_thread.specs.Changes.{registers_of}
-use Rattle.one_thread.specs.Givers.{gives}
+use Rattle.one_thread.specs.Producers.{gives}
 use Rattle.one_thread.specs.Loads.{entries, load_in, loaded_over, value_by, waits, waits_by}
 use Rattle.one_thread.specs.StandsFor.{sizes}
 use Rattle.one_thread.specs.Window.{stage_of, station_of, window}

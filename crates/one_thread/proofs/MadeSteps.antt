@@ -11,7 +11,7 @@ use Rattle.one_thread.specs.declared.pipeline.Pipeline.{Pipeline}
 use Rattle.one_thread.specs.declared.window.Missed.{Missed}
 use Rattle.one_thread.specs.declared.station.Station.{Station}
 use Rattle.one_thread.specs.Changes.{CanClaim, LoadGives, LoadsAt, RunsAt, registers_of}
-use Rattle.one_thread.specs.Givers.{FirstGives, gives}
+use Rattle.one_thread.specs.Producers.{FirstGives, gives}
 use Rattle.one_thread.specs.Leaves.{RetiresTo}
 use Rattle.one_thread.specs.Loads.{load_in}
 use Rattle.one_thread.specs.Notes.{settled_at}

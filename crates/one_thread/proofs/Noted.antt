@@ -5,7 +5,7 @@ use Rattle.std.proofs.Common.{⊎_elim, arith, length-append}
 use Rattle.std.specs.Prelude.{slice_get}
 use Rattle.std.proofs.lemmas.Bool.{cases_lt}
 use Rattle.one_thread.specs.declared.station.Station.{Station}
-use Rattle.one_thread.specs.Givers.{NoneGives, given_at, gives}
+use Rattle.one_thread.specs.Producers.{NoneGives, given_at, gives}
 use Rattle.one_thread.specs.Notes.{AreNoted, AreSettled, miss_in}
 use Rattle.one_thread.specs.Window.{miss_of}
 use Rattle.one_thread.proofs.Scan.{get_end, get_left}

@@ -12,7 +12,7 @@ use Rattle.inorder.specs.Committed.{ahead}
 use Rattle.inorder.specs.Loads.{queue_of}
 use Rattle.inorder.specs.Steps.{IsNoRetiredStop}
 use Rattle.inorder.specs.Tenants.{Fate, Live, Standing, Tenant, instr, is_live, kind_of, missing_of, stands_live}
-use Rattle.inorder.specs.Still.{AreStill, IsNotBusy}
+use Rattle.inorder.specs.Quiescent.{AreQuiescent, IsNotBusy}
 use Rattle.inorder.proofs.OneCaller.Left.{ahead_middle}
 use Rattle.inorder.proofs.OneCaller.Middle.{sound_from}
 use Rattle.inorder.proofs.Sound.{IsSound}
@@ -21,7 +21,7 @@ use Rattle.lsq.specs.LoadRule.{answer_over}
 use Rattle.one_thread.specs.declared.execute.Operands.{Operands}
 use Rattle.one_thread.specs.declared.possible.Step.{Step}
 use Rattle.one_thread.specs.declared.station.Station.{Station}
-use Rattle.one_thread.specs.Givers.{gives}
+use Rattle.one_thread.specs.Producers.{gives}
 use Rattle.one_thread.specs.Loads.{entries, load_in, loaded_over, value_by, waits_by}
 use Rattle.one_thread.specs.Notes.{miss_in}
 use Rattle.one_thread.specs.Possible.{Possible, answered_by, can_be_claimed, can_be_loaded, can_recover, each_that, is_answered, is_miss, is_open}
@@ -124,7 +124,7 @@ pub live_is : (st : Standing) → stands_live st ≡ true → st ≡ Live
 live_is st e = grind (arith, common_steps)
 
 -- ys are the tenants after those that are gone over
-pub claims_alike : (P : Program) (regs : List ℕ) (ys U : List Tenant) → IsSound P (ys ++ U) → AreStill U → AllByRecursion IsNoRetiredStop U →
+pub claims_alike : (P : Program) (regs : List ℕ) (ys U : List Tenant) → IsSound P (ys ++ U) → AreQuiescent U → AllByRecursion IsNoRetiredStop U →
     regs ≡ (ahead P (ys ++ U)).registers → AreAlike (operands_in regs) (can_be_claimed P) P U
 claims_alike P regs ys [] s h ns e = tt
 claims_alike P regs ys (t ∷ ts) s h ns e =
@@ -149,7 +149,7 @@ load_by : (P : Program) (regs mem : List ℕ) (ts : List Tenant) (i : Instr) (k 
     is_some (loaded_over (entries regs (window P ts) (length (window P ts))) mem i.op (waits_by k (stage_of f))) ≡ answered_by P ts i k f
 load_by P regs mem ts i k f same = grind (arith, common_steps, answer_alike)
 
-pub loads_alike : (P : Program) (regs mem : List ℕ) (ys U : List Tenant) → IsSound P (ys ++ U) → AreStill U → AllByRecursion IsNoRetiredStop U →
+pub loads_alike : (P : Program) (regs mem : List ℕ) (ys U : List Tenant) → IsSound P (ys ++ U) → AreQuiescent U → AllByRecursion IsNoRetiredStop U →
     regs ≡ (ahead P (ys ++ U)).registers → AreAlike (load_in regs mem) (can_be_loaded P) P U
 loads_alike P regs mem ys [] s h ns e = tt
 loads_alike P regs mem ys (t ∷ ts) s h ns e =

@@ -18,7 +18,7 @@ use Rattle.inorder.proofs.Sound.{IsSound}
 use Rattle.lsq.specs.declared.entry.Entry.{Entry}
 use Rattle.lsq.specs.Entries.{bytes}
 use Rattle.lsq.specs.LoadRule.{answer_over, by_lacking, lacks_address, overlaps, youngest_from, meets}
-use Rattle.inorder.specs.Still.{AreStill}
+use Rattle.inorder.specs.Quiescent.{AreQuiescent}
 use Rattle.inorder.proofs.OneCaller.Left.{retired_all}
 use Rattle.inorder.proofs.Commits.{live_not}
 use Rattle.one_thread.specs.declared.station.Station.{Station}
@@ -98,7 +98,7 @@ entries_end registers xs w =
     ∙ ap (λ l. with_entry (entries registers xs (length xs)) (cond (reaches_memory w.instr.op) (Some (entry_behind registers l w)) None)) (take_middle xs (w ∷ []))
 
 -- The whole queue
-pub queue_like : (P : Program) (ts : List Tenant) → IsSound P ts → AllByRecursion IsNoRetiredStop ts → AreStill ts →
+pub queue_like : (P : Program) (ts : List Tenant) → IsSound P ts → AllByRecursion IsNoRetiredStop ts → AreQuiescent ts →
     AreLike (queue_of P ts) (entries (ahead P ts).registers (window P ts) (length (window P ts)))
 queue_like P [] s n h = tt
 queue_like P (t ∷ ts) s n h = go t.standing refl (queue_like P ts s.1 n.1 h.1)

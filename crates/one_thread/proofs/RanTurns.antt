@@ -11,7 +11,7 @@ use Rattle.inorder.specs.Steps.{IsNoRetiredStop, MayClaim, finished}
 use Rattle.inorder.specs.Tenants.{Fate, Open, Tenant, computed, instr, kind_of}
 use Rattle.inorder.specs.Unit.{Sizes}
 use Rattle.inorder.specs.Moves.{Leads, with_tenants}
-use Rattle.inorder.specs.Still.{IsNotBusy}
+use Rattle.inorder.specs.Quiescent.{IsNotBusy}
 use Rattle.inorder.proofs.OneCaller.Execution.{ActRun, claimed, ran_run, ran_steps}
 use Rattle.inorder.proofs.OneCaller.Middle.{all_from, sound_from, still_from}
 use Rattle.inorder.proofs.OneCaller.Sequences.{reach_on}
@@ -20,7 +20,7 @@ use Rattle.one_thread.specs.declared.execute.Operands.{Operands}
 use Rattle.one_thread.specs.declared.pipeline.Pipeline.{Pipeline}
 use Rattle.one_thread.specs.declared.station.Station.{Station}
 use Rattle.one_thread.specs.Changes.{registers_of}
-use Rattle.one_thread.specs.Givers.{gives}
+use Rattle.one_thread.specs.Producers.{gives}
 use Rattle.one_thread.specs.StandsFor.{sizes}
 use Rattle.one_thread.specs.Window.{operands_by, operands_in, source_in, stage_of, station_after, station_of, where_open, window}
 use Rattle.one_thread.proofs.Noted.{given_station}

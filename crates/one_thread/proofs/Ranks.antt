@@ -14,7 +14,7 @@ use Rattle.one_thread.specs.declared.station.Stage.{Stage}
 use Rattle.one_thread.specs.declared.station.Stage.TheVariants.{Done}
 use Rattle.one_thread.specs.Loads.{load_in, waits_by}
 use Rattle.one_thread.specs.Notes.{miss_in}
-use Rattle.one_thread.specs.Givers.{gives}
+use Rattle.one_thread.specs.Producers.{gives}
 use Rattle.one_thread.specs.Stages.{RecoversTo}
 use Rattle.one_thread.specs.Turns.{digit, rank}
 use Rattle.one_thread.specs.Window.{miss_of, operands_in, station_after, station_mended, where_open}

@@ -1,11 +1,11 @@
--- What a settled station does not give.
+-- What a resolved station does not give.
 use Rattle.std.proofs.Common.{rules, ◌≡◌, ℕ, true, false, List, Option, None}
 use Rattle.std.specs.Prelude.{slice_get, is_some}
 use Rattle.instructions.specs.declared.op.Kind.{Kind}
 use Rattle.one_thread.specs.declared.execute.Operands.{Operands}
 use Rattle.one_thread.specs.declared.station.Stage.{Stage}
 use Rattle.one_thread.specs.declared.station.Station.{Station}
-use Rattle.one_thread.specs.Givers.{gives}
+use Rattle.one_thread.specs.Producers.{gives}
 use Rattle.one_thread.specs.Loads.{waits_by}
 use Rattle.one_thread.specs.Notes.{miss_in, settled_at, settled_by}
 use Rattle.one_thread.specs.Window.{where_open}

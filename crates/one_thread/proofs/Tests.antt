@@ -10,10 +10,10 @@ use Rattle.inorder.specs.Committed.{ahead}
 use Rattle.inorder.specs.Steps.{IsNoRetiredStop}
 use Rattle.inorder.specs.Tenants.{Live, Retired, Squashed, Standing, Tenant, instr, missing_of, stands_live}
 use Rattle.inorder.proofs.Sound.{IsSound}
-use Rattle.inorder.specs.Still.{AreStill}
+use Rattle.inorder.specs.Quiescent.{AreQuiescent}
 use Rattle.one_thread.specs.declared.execute.Operands.{Operands}
 use Rattle.one_thread.specs.declared.station.Station.{Station}
-use Rattle.one_thread.specs.Givers.{NoneGives, given_at, gives}
+use Rattle.one_thread.specs.Producers.{NoneGives, given_at, gives}
 use Rattle.one_thread.specs.Notes.{miss_in}
 use Rattle.one_thread.specs.Turns.{IsNoMiss}
 use Rattle.one_thread.specs.Window.{miss_of, operands_by, source_in, stage_of, station_of, window}
@@ -76,6 +76,6 @@ pub record HasSources (P : Program) (regs : List ℕ) (t : Tenant) (ts : List Te
   pub second : t.second.value ≡ source_in regs (window P ts) (second_of (instr P t))
 
 pub has_sources : (P : Program) (regs : List ℕ) (t : Tenant) (ts : List Tenant) → IsSound P (t ∷ ts) →
-    AreStill (t ∷ ts) → AllByRecursion IsNoRetiredStop ts → regs ≡ (ahead P ts).registers → t.standing ≡ Live →
+    AreQuiescent (t ∷ ts) → AllByRecursion IsNoRetiredStop ts → regs ≡ (ahead P ts).registers → t.standing ≡ Live →
     HasSources P regs t ts
 has_sources P regs t ts s h ns e live = grind (arith, common_steps, source_worth)

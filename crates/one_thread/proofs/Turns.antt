@@ -13,13 +13,13 @@ use Rattle.inorder.specs.Steps.{IsNoRetiredStop}
 use Rattle.inorder.specs.Tenants.{Fate, Miss, Tenant}
 use Rattle.inorder.specs.Unit.{Sizes, UpdateUnit}
 use Rattle.inorder.specs.Moves.{IsSquash, Leads, with_tenants}
-use Rattle.inorder.specs.Still.{AreStill}
+use Rattle.inorder.specs.Quiescent.{AreQuiescent}
 use Rattle.inorder.proofs.OneCaller.Recovery.{RecoverRun, gone, mended_to, recover_run}
 use Rattle.inorder.proofs.OneCaller.Sequences.{all_weaker, committed_on, reach_on, sound_of, squash_quiet}
 use Rattle.one_thread.specs.declared.bench.Turn.TheVariants.{Recovered}
 use Rattle.one_thread.specs.declared.pipeline.Pipeline.{Pipeline}
 use Rattle.one_thread.specs.declared.station.Station.{Station}
-use Rattle.one_thread.specs.Givers.{NoneGives, gives}
+use Rattle.one_thread.specs.Producers.{NoneGives, gives}
 use Rattle.one_thread.specs.Leavers.{leaver}
 use Rattle.one_thread.specs.Notes.{miss_in}
 use Rattle.one_thread.specs.Stages.{RecoversTo}
@@ -69,7 +69,7 @@ pub stand_on : (b : Pipeline) (W : List Station) (U V : UpdateUnit) → b.over �
     StandsFor b U → committed b.program.now V.tenants ≡ committed b.program.now U.tenants → ((s : ℕ) →
     leaver b.program.now V.tenants s ≡ leaver b.program.now U.tenants s) →
     LeavesSame b.program.now U.tenants V.tenants → W ≡ window b.program.now V.tenants →
-    AllByRecursion IsNoRetiredStop V.tenants → AreStill V.tenants →
+    AllByRecursion IsNoRetiredStop V.tenants → AreQuiescent V.tenants →
     StandsFor (record b { window = W }) V
 stand_on b W U V none s c l k w ns still = search rules
 
@@ -88,7 +88,7 @@ recovered_turn b later none to rest U r s = subst (MovedAs b U (Some (ToRecover 
     C : Sizes
     C = sizes b
 
-    over : AllByRecursion IsNoRetiredStop U.tenants × AreStill U.tenants
+    over : AllByRecursion IsNoRetiredStop U.tenants × AreQuiescent U.tenants
     over = subst (OverIs U.tenants) none s.over
 
     now : Pipeline
@@ -126,7 +126,7 @@ recovered_turn b later none to rest U r s = subst (MovedAs b U (Some (ToRecover 
                   (committed_on P C 0 U steps V leads (sound_of P C U r) (tt, all_weaker IsSquash IsNoRetire squash_quiet k.squashes k.are))
                   (λ n. leaver_recover P n ys t ts to.x f.found.live ∙ ap (λ X. leaver P X n) (sym f.found.split))
                   (subst (λ X. LeavesSame P X V.tenants) (sym f.found.split) (same_recover P ys t ts to.x f.found.live)) shown
-                  (k.stops (subst (AllByRecursion IsNoRetiredStop) f.found.split over.0)) (k.still (subst AreStill f.found.split over.1));
+                  (k.stops (subst (AllByRecursion IsNoRetiredStop) f.found.split over.0)) (k.still (subst AreQuiescent f.found.split over.1));
               does = record {
                 goes_on = over.0;
                 ys = ys;

@@ -7,7 +7,7 @@ use Rattle.instructions.specs.Instruction.{is_first_half, is_low, is_pair}
 use Rattle.instructions.specs.Programs.{Program, instr_at}
 use Rattle.instructions.specs.declared.instr.Instr.{Instr}
 use Rattle.instructions.specs.declared.op.Half.TheVariants.{High, Low}
-use Rattle.inorder.specs.Still.{AreStill}
+use Rattle.inorder.specs.Quiescent.{AreQuiescent}
 use Rattle.inorder.specs.Steps.{IsNoRetiredStop}
 use Rattle.inorder.specs.Tenants.{Tenant, behind, behind_by, instr, is_first, on_path}
 use Rattle.inorder.specs.Unit.{front_half, front_pc, half_after}
@@ -78,7 +78,7 @@ alone b w h none e low = go (found P U 0 w (ap (λ W. slice_get W 0) (sym h.stan
     sound' : IsSound P U
     sound' = sound_of P (sizes b) h.unit h.reached
 
-    over' : AllByRecursion IsNoRetiredStop U × AreStill U
+    over' : AllByRecursion IsNoRetiredStop U × AreQuiescent U
     over' = subst (OverIs U) none h.stands.over
 
     go : Found P U 0 w → b.low ≡ None
@@ -104,7 +104,7 @@ whole_next b flow placed whole =
     let U = unit.unit.tenants in
     let W = window_of x flow in
     let sound : IsSound P U = sound_of P (sizes (filled x W)) unit.unit unit.reached in
-    let over : AllByRecursion IsNoRetiredStop U × AreStill U = subst (OverIs U) f.flowing.goes_on unit.stands.over in
+    let over : AllByRecursion IsNoRetiredStop U × AreQuiescent U = subst (OverIs U) f.flowing.goes_on unit.stands.over in
     let pc : front_pc U ≡ flow.future.pc =
     front_worth P U sound over.0
     ∙ ap (λ c. next_in c.pc (window P U)) (sym unit.stands.committed)

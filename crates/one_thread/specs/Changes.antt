@@ -13,7 +13,7 @@ use Rattle.one_thread.specs.declared.memory_port.Answered.{Answered}
 use Rattle.one_thread.specs.declared.pipeline.Pipeline.{Pipeline}
 use Rattle.one_thread.specs.declared.station.Stage.TheVariants.{Done}
 use Rattle.one_thread.specs.declared.station.Station.{Station}
-use Rattle.one_thread.specs.Givers.{NoneGives, gives}
+use Rattle.one_thread.specs.Producers.{NoneGives, gives}
 use Rattle.one_thread.specs.Loads.{load_in}
 use Rattle.one_thread.specs.Notes.{miss_in}
 use Rattle.one_thread.specs.Stages.{NextIs}

@@ -55,7 +55,7 @@ completed_by w o value = station_after w o
 
 -- A station has completed: it has ended, and by no stop, and has made what it writes
 pub record HasCompleted (w : Station) : Type 0 where
-  pub settled : settled_by (kind w.instr.op) w.stage ≡ true
+  pub resolved : settled_by (kind w.instr.op) w.stage ≡ true
   pub goes_on : (c : Stop) → w.stage ≢ Stops c
   pub made : w.destination ≢ 0 → is_some w.made ≡ true
 

@@ -1,7 +1,7 @@
 pub mod Decoding
 pub mod Window
 pub mod Slots
-pub mod Givers
+pub mod Producers
 pub mod Loads
 pub mod Notes
 pub mod Stages

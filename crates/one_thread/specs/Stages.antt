@@ -7,7 +7,7 @@ use Rattle.one_thread.specs.declared.execute.Ready.{Ready}
 use Rattle.one_thread.specs.declared.memory_port.Answered.{Answered}
 use Rattle.one_thread.specs.declared.window.Missed.{Missed}
 use Rattle.one_thread.specs.declared.station.Station.{Station}
-use Rattle.one_thread.specs.Givers.{FirstGives, NoneGives}
+use Rattle.one_thread.specs.Producers.{FirstGives, NoneGives}
 use Rattle.one_thread.specs.Loads.{load_in}
 use Rattle.one_thread.specs.Notes.{miss_in}
 use Rattle.one_thread.specs.Window.{accesses, half_in, next_in, operands_in, reaches_memory, station_mended}

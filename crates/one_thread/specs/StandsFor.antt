@@ -14,7 +14,7 @@ use Rattle.one_thread.specs.Leavers.{leaver}
 use Rattle.one_thread.specs.Window.{window}
 use Rattle.inorder.specs.Moves.{IsReached}
 use Rattle.inorder.specs.Plain.{WasPlain}
-use Rattle.inorder.specs.Still.{AreStill}
+use Rattle.inorder.specs.Quiescent.{AreQuiescent}
 
 -- The sizes of the fields, as those of a unit
 abbrev pub sizes : Pipeline → Sizes
@@ -34,7 +34,7 @@ NoStopRetired ts = AllByRecursion IsNoRetiredStop ts
 
 -- The unit goes on, and every delivery that is due was made; or it has ended with a code
 abbrev pub OverIs : List Tenant → Option Stop → Type 0
-OverIs ts None = NoStopRetired ts × AreStill ts
+OverIs ts None = NoStopRetired ts × AreQuiescent ts
 OverIs ts (Some c) = HasStopped ts c
 
 -- The fields are those of the unit U

@@ -15,7 +15,7 @@ use Rattle.one_thread.specs.declared.window.Missed.{Missed}
 use Rattle.one_thread.specs.declared.station.Station.{Station}
 use Rattle.one_thread.specs.Changes.{CanClaim, LoadGives, NextOf, NoneLoads, NoneRecovers, NoneRuns, registers_of}
 use Rattle.one_thread.specs.Choices.{step_made}
-use Rattle.one_thread.specs.Givers.{gives}
+use Rattle.one_thread.specs.Producers.{gives}
 use Rattle.one_thread.specs.Loads.{load_in}
 use Rattle.one_thread.specs.Notes.{settled_at}
 use Rattle.one_thread.specs.Possible.{Possible, ToLet, ToLoad, ToRecover, ToRetire, ToRun}

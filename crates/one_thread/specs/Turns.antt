@@ -25,7 +25,7 @@ use Rattle.one_thread.specs.Blocked.{IsUnblocked}
 use Rattle.one_thread.specs.StandsFor.{HasStopped, NoStopRetired, StandsFor, sizes}
 use Rattle.inorder.specs.Moves.{IsDeliver, IsLink, IsReached, IsSquash, Leads}
 use Rattle.inorder.specs.Plain.{StaysPlain}
-use Rattle.inorder.specs.Still.{AreStill}
+use Rattle.inorder.specs.Quiescent.{AreQuiescent}
 
 -- A tenant that is no live miss
 abbrev pub IsNoMiss : Tenant → Type 0
@@ -73,7 +73,7 @@ pub record Runs (P : Program) (C : Sizes) (age : ℕ) (U V : UpdateUnit) : Type 
   pub delivers : List Step
   pub are : AllByRecursion IsDeliver delivers
   pub leads : Leads P C 0 U (delivers ++ On (length ts) Finish ∷ On (length ts) Claim ∷ []) V
-  pub every : AreStill V.tenants
+  pub every : AreQuiescent V.tenants
 
 -- The load of this age, which has its address and which no store blocks, gets its value, and every delivery that is
 -- due is made
@@ -88,7 +88,7 @@ pub record LoadsOne (P : Program) (C : Sizes) (age : ℕ) (U V : UpdateUnit) : T
   pub delivers : List Step
   pub are : AllByRecursion IsDeliver delivers
   pub leads : Leads P C 0 U (delivers ++ On (length ts) Load ∷ []) V
-  pub every : AreStill V.tenants
+  pub every : AreQuiescent V.tenants
 
 -- The oldest live tenant retires
 pub record Retires (P : Program) (C : Sizes) (U V : UpdateUnit) : Type 0 where

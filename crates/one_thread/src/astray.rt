@@ -16,7 +16,7 @@ use instructions::Predictor;
 impl<'a> Pipeline<'a> {
     // Lets what is predicted after the next instruction, as long as anything can be let. None of it is claimed before the
     // next instruction has squashed it, so a predictor alone notices it: it is told who has left each station, and asked.
-    fn lets_astray<P: Predictor>(&mut self, predictor: &mut P, flow: &Flow, predicted: u32)
+    fn let_astray<P: Predictor>(&mut self, predictor: &mut P, flow: &Flow, predicted: u32)
         requires { IsUpcoming self.old flow.now predicted }
         ensures astray { HasGoneAstray self.new flow.now predicted }
         ensures rest { self.new ≡ record self.old { leavers = self.new.leavers } }
@@ -44,7 +44,7 @@ impl<'a> Pipeline<'a> {
     /// and squashed.
     #[cold]
     #[inline(never)]
-    pub fn mends<P: Predictor>(
+    pub fn mend<P: Predictor>(
         &mut self,
         predictor: &mut P,
         flow: &mut Flow,
@@ -58,7 +58,7 @@ impl<'a> Pipeline<'a> {
         ensures order { in_order self.new flow.new ≡ in_order self.new flow.old }
         ensures rest { self.new ≡ record self.old { leavers = self.new.leavers } }
     {
-        self.lets_astray(predictor, flow, predicted);
+        self.let_astray(predictor, flow, predicted);
         let instr = fetch_known(self.code.as_slice(), flow.future.pc);
         let half = flow.half;
         let completed = flow.completed(instr, None, half, predicted, done, content);

@@ -126,7 +126,7 @@ impl<'a, P: Predictor + Drop> Bench<'a, P> {
 
     // Turns until an instruction retires, and else tells why the unit ended.
     #[inline(always)]
-    fn retires_one(&mut self) -> Option<Stop>
+    fn retire_one(&mut self) -> Option<Stop>
         requires { self.old.pipeline.committed.count < 2 ^ 64 - 1 }
         ensures program { self.new.pipeline.program ≡ self.old.pipeline.program }
         ensures ends { RetiresOne result self.old.pipeline self.new.pipeline }
@@ -142,12 +142,12 @@ impl<'a, P: Predictor + Drop> Bench<'a, P> {
 
     // Turns as long as all live tenants have completed. Answers the count at which to look for that again.
     #[inline(always)]
-    fn streams(&mut self, limit: u64) -> u64
+    fn stream(&mut self, limit: u64) -> u64
         ensures program { self.new.pipeline.program ≡ self.old.pipeline.program }
         ensures more { self.old.pipeline.committed.count ≤ self.new.pipeline.committed.count }
         ensures ends { run_from self.new.pipeline limit ≡ run_from self.old.pipeline limit }
     {
-        self.pipeline.streams(&mut self.predictor, limit)
+        self.pipeline.stream(&mut self.predictor, limit)
     }
 
     // Turns until it stops, or its count has reached a limit.
@@ -158,12 +158,12 @@ impl<'a, P: Predictor + Drop> Bench<'a, P> {
         loop {
             let before = self.pipeline.committed.count();
             if again <= before {
-                again = self.streams(limit);
+                again = self.stream(limit);
             }
             if limit <= self.pipeline.committed.count() {
                 return Ending::Limit;
             }
-            if let Some(code) = self.retires_one() {
+            if let Some(code) = self.retire_one() {
                 return Ending::Stop(code);
             }
         }

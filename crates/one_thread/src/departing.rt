@@ -15,7 +15,7 @@ use instructions::Leaver;
 impl<'a> Pipeline<'a> {
     // Retires the oldest instruction, whatever there is to do.
     #[inline(always)]
-    fn departs_any(&mut self, flow: &mut Flow) -> Option<Leaver>
+    fn depart_any(&mut self, flow: &mut Flow) -> Option<Leaver>
         requires flow { Flows self.old flow.old }
         requires some { 2 ≤ length (window_of self.old flow.old) }
         requires count { self.old.committed.count < 2 ^ 64 - 1 }
@@ -30,7 +30,7 @@ impl<'a> Pipeline<'a> {
     // Retires the oldest instruction, which is no half: it leaves with its number of accesses and goes on at `next`. Answers
     // what a predictor is to be told.
     #[inline(always)]
-    fn departs_counted(
+    fn depart_counted(
         &mut self,
         flow: &mut Flow,
         accesses: usize,
@@ -51,7 +51,7 @@ impl<'a> Pipeline<'a> {
     /// Retires the oldest instruction of a flow where nothing can enter before. Answers what a predictor is to be told
     /// of who has left its station. Where there is nothing to do but to count it, nothing else is looked at.
     #[inline(always)]
-    pub fn departs(&mut self, flow: &mut Flow) -> Option<Leaver>
+    pub fn depart(&mut self, flow: &mut Flow) -> Option<Leaver>
         requires flow { Flows self.old flow.old }
         requires some { 2 ≤ length (window_of self.old flow.old) }
         requires count { self.old.committed.count < 2 ^ 64 - 1 }
@@ -61,15 +61,15 @@ impl<'a> Pipeline<'a> {
         let oldest = flow.ring.oldest();
         let (leaves, pc, next) = (oldest.leaves, oldest.pc, oldest.next);
         match leaves {
-            Leaves::Told => self.departs_counted(flow, 0, next, Some(Leaver { pc, next })),
-            Leaves::Any => self.departs_any(flow),
-            _ => self.departs_counted(flow, leaves.accesses(), next, None),
+            Leaves::Told => self.depart_counted(flow, 0, next, Some(Leaver { pc, next })),
+            Leaves::Any => self.depart_any(flow),
+            _ => self.depart_counted(flow, leaves.accesses(), next, None),
         }
     }
 
     /// Retires the oldest instruction of a flow where nothing can enter before.
     #[inline(always)]
-    pub fn leaves_flow(&mut self, flow: &mut Flow)
+    pub fn leave_flow(&mut self, flow: &mut Flow)
         requires flow { Flows self.old flow.old }
         requires some { 2 ≤ length (window_of self.old flow.old) }
         requires count { self.old.committed.count < 2 ^ 64 - 1 }
@@ -84,7 +84,7 @@ impl<'a> Pipeline<'a> {
             to_do limit self.new < to_do limit self.old }
     {
         let station = flow.ring.station();
-        let told = self.departs(flow);
+        let told = self.depart(flow);
         leave_untold(&mut self.leavers, station, told);
     }
 }

@@ -3,7 +3,7 @@ ghost use Rattle.std.specs.Prelude.{◌⊎◌, ◌≡◌, ◌<◌, suc, length, 
 ghost use Rattle.instructions.specs.declared.op.Half.TheVariants.{Low};
 ghost use Rattle.one_thread.specs.Decoding.{HasInstr, IsDecoded, IsKnownThere, IsWhole};
 ghost use Rattle.one_thread.specs.Flow.{CanEnter, Flows, HasEntered, HasPlace, Reopens, Upcoming, enters_as, in_order};
-ghost use Rattle.one_thread.specs.Givers.{Chosen};
+ghost use Rattle.one_thread.specs.Producers.{Chosen};
 
 use crate::decoded::Decoded;
 use crate::fetch::{fetch, fetch_known};
@@ -63,7 +63,7 @@ impl<'a> Pipeline<'a> {
     // is left as it was let. All but the oldest `from` were let in a row with it: a miss is mended unless a load is among
     // these, whose value may be there only once a younger instruction was claimed. What it does may be known.
     #[inline(always)]
-    fn runs_next<P: Predictor>(
+    fn run_next<P: Predictor>(
         &mut self,
         predictor: &mut P,
         flow: &mut Flow,
@@ -94,7 +94,7 @@ impl<'a> Pipeline<'a> {
                 Self::stays(flow, instr, predicted);
                 return None;
             }
-            self.mends(predictor, flow, predicted, done, operands.b);
+            self.mend(predictor, flow, predicted, done, operands.b);
             return Some(flow.ring.len());
         }
         let completed = flow.completed(instr, known, half, predicted, done, operands.b);
@@ -102,8 +102,8 @@ impl<'a> Pipeline<'a> {
         Some(closed(flow, predicted, done.next, from))
     }
 
-    // A half of a pair enters. It is another function for each caller, as `enters_behind` is.
-    fn runs_half<P: Predictor, const FULL: bool>(
+    // A half of a pair enters. It is another function for each caller, as `enter_after` is.
+    fn run_half<P: Predictor, const FULL: bool>(
         &mut self,
         predictor: &mut P,
         flow: &mut Flow,
@@ -117,7 +117,7 @@ impl<'a> Pipeline<'a> {
         ensures rest { self.new ≡ record self.old { leavers = self.new.leavers } }
     {
         let half = flow.half;
-        self.runs_next(predictor, flow, left, station, from, half, None)
+        self.run_next(predictor, flow, left, station, from, half, None)
     }
 
     // Whether the next instruction is half of a pair.
@@ -163,7 +163,7 @@ impl<'a> Pipeline<'a> {
     /// a way of their own, compiled apart. With `FULL` the ring is full then: it is another function for each of its two
     /// callers, since LLVM puts one of this size into its caller only where that is the only one.
     #[inline(always)]
-    pub fn enters_behind<P: Predictor, const FULL: bool>(
+    pub fn enter_after<P: Predictor, const FULL: bool>(
         &mut self,
         predictor: &mut P,
         flow: &mut Flow,
@@ -180,31 +180,31 @@ impl<'a> Pipeline<'a> {
         match self.known(flow) {
             Some(Kind::Computes) => {
                 let known = Some(Kind::Computes);
-                self.runs_next(predictor, flow, left, station, from, low, known)
+                self.run_next(predictor, flow, left, station, from, low, known)
             },
             Some(Kind::Loads) => {
                 let known = Some(Kind::Loads);
-                self.runs_next(predictor, flow, left, station, from, low, known)
+                self.run_next(predictor, flow, left, station, from, low, known)
             },
             Some(Kind::Stores) => {
                 let known = Some(Kind::Stores);
-                self.runs_next(predictor, flow, left, station, from, low, known)
+                self.run_next(predictor, flow, left, station, from, low, known)
             },
             Some(Kind::Jumps) => {
                 let known = Some(Kind::Jumps);
-                self.runs_next(predictor, flow, left, station, from, low, known)
+                self.run_next(predictor, flow, left, station, from, low, known)
             },
             _ if self.is_half(flow) => {
-                self.runs_half::<P, FULL>(predictor, flow, left, station, from)
+                self.run_half::<P, FULL>(predictor, flow, left, station, from)
             },
-            _ => self.runs_next(predictor, flow, left, station, from, low, None),
+            _ => self.run_next(predictor, flow, left, station, from, low, None),
         }
     }
 
     /// Lets the next instruction, and runs it as far as it comes, where all but the oldest `from` were let in a row with
     /// it. Answers how many have completed for good, or None where it is left as it was let.
     #[inline(always)]
-    pub fn enters_flow<P: Predictor>(
+    pub fn enter_flow<P: Predictor>(
         &mut self,
         predictor: &mut P,
         flow: &mut Flow,
@@ -219,6 +219,6 @@ impl<'a> Pipeline<'a> {
     {
         let station = flow.ring.station_at(flow.ring.len());
         let left = take_leaver(&mut self.leavers, station);
-        self.enters_behind::<P, false>(predictor, flow, left, station, from)
+        self.enter_after::<P, false>(predictor, flow, left, station, from)
     }
 }

@@ -1,15 +1,15 @@
 //! Execution.
 ghost use Rattle.std.specs.Prelude.{⊤, ◌≡◌, ◌<◌, ◌≤◌, [], ◌∷◌, ◌++◌, length, take, slice_get, Some, None};
 ghost use Rattle.one_thread.specs.Changes.{CanClaim, RunsAt};
-ghost use Rattle.one_thread.specs.Givers.{gives};
+ghost use Rattle.one_thread.specs.Producers.{gives};
 ghost use Rattle.one_thread.specs.Stages.{FirstReady};
 ghost use Rattle.one_thread.specs.Window.{operands_in, station_after};
 
-use crate::ahead::Ahead;
 use crate::pipeline::Pipeline;
 use crate::source::source;
 use crate::station::{Stage, Station};
 use crate::window::Window;
+use crate::with_pending_low::WithPendingLow;
 use instructions::{Kind, Outcome, outcome_of};
 
 /// The sources of a tenant that can be claimed; 0 for one that is not there and not needed.
@@ -28,7 +28,7 @@ pub struct Ready {
 
 // What a station needs, if it can be claimed after the first `i`.
 #[inline(always)]
-fn sources(window: &Window, ahead: &Ahead, i: usize, station: &Station) -> Option<Operands>
+fn sources(window: &Window, ahead: &WithPendingLow, i: usize, station: &Station) -> Option<Operands>
     requires there { i < length window.now }
     requires is { slice_get window.now i ≡ Some station.now }
     ensures { result ≡ operands_in ahead.now.registers (take i window.now) station.now }
@@ -47,7 +47,7 @@ fn sources(window: &Window, ahead: &Ahead, i: usize, station: &Station) -> Optio
 
 /// What the station at `i` needs, if it can be claimed.
 #[inline(always)]
-pub fn sources_at(window: &Window, ahead: &Ahead, i: usize) -> Option<Operands>
+pub fn sources_at(window: &Window, ahead: &WithPendingLow, i: usize) -> Option<Operands>
     requires { i ≤ length window.now }
     ensures { result ≡ gives (operands_in ahead.now.registers) window.now i }
 {
@@ -59,10 +59,10 @@ pub fn sources_at(window: &Window, ahead: &Ahead, i: usize) -> Option<Operands>
 
 /// The oldest station that can be claimed.
 #[inline(always)]
-pub fn oldest_ready(window: &Window, ahead: &Ahead) -> Option<Ready>
+pub fn oldest_ready(window: &Window, ahead: &WithPendingLow) -> Option<Ready>
     ensures { FirstReady ahead.now.registers window.now result }
 {
-    for at in window.settled()..window.len() {
+    for at in window.resolved()..window.len() {
         if let Some(operands) = sources_at(window, ahead, at) {
             return Some(Ready { at, operands });
         }
@@ -91,7 +91,7 @@ fn finished(station: &Station, outcome: Outcome) -> Station
 impl<'a> Pipeline<'a> {
     /// Claims and finishes a tenant that can be claimed.
     #[inline(always)]
-    pub fn claims(&mut self, ready: Ready)
+    pub fn claim(&mut self, ready: Ready)
         requires { CanClaim self.old ready }
         ensures window { RunsAt self.old ready self.new }
         ensures rest { self.new ≡ record self.old { window = self.new.window } }

@@ -123,7 +123,7 @@ impl Flow {
         let destination = instr.destination_by(known, completed.half);
         self.ring.push(station, completed);
         self.future
-            .follows(destination, completed.value, completed.next);
+            .follow(destination, completed.value, completed.next);
         self.half = self.half_behind(instr, known, completed.half);
         match instr.kind_by(known) {
             Kind::Loads => self.accesses += 1,

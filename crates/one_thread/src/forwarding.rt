@@ -4,10 +4,10 @@ ghost use Rattle.instructions.specs.Instruction.{width};
 ghost use Rattle.lsq.specs.LoadRule.{answer_over as answer_by};
 ghost use Rattle.one_thread.specs.Loads.{address_of as address_by, entries, entry_at as entry_in};
 
-use crate::ahead::Ahead;
 use crate::source::source;
 use crate::station::Stage;
 use crate::window::Window;
+use crate::with_pending_low::WithPendingLow;
 use arrayvec::ArrayVec;
 use inorder::{access_entry, access_width};
 use instructions::{Kind, Op};
@@ -24,7 +24,7 @@ fn address_of(stage: Stage) -> Option<u32>
 }
 
 // What the queue holds of the tenant at `i`, if that reaches memory.
-fn entry_at(window: &Window, ahead: &Ahead, i: usize) -> Option<Entry>
+fn entry_at(window: &Window, ahead: &WithPendingLow, i: usize) -> Option<Entry>
     requires { i ≤ length window.now }
     ensures { result ≡ entry_in ahead.now.registers window.now (slice_get window.now i) i }
 {
@@ -40,7 +40,7 @@ fn entry_at(window: &Window, ahead: &Ahead, i: usize) -> Option<Entry>
 
 /// The rule's answer to the tenant at `i`, a load of this address, by what the queue holds of the first `i` tenants.
 #[inline(never)]
-pub fn answer_at(window: &Window, ahead: &Ahead, i: usize, op: Op, address: u32) -> Answer
+pub fn answer_at(window: &Window, ahead: &WithPendingLow, i: usize, op: Op, address: u32) -> Answer
     requires { i ≤ length window.now }
     ensures { result ≡ answer_by (entries ahead.now.registers window.now i) address (width op) }
 {

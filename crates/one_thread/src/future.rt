@@ -4,9 +4,9 @@ ghost use Rattle.inorder.specs.Machine.{write};
 ghost use Rattle.instructions.specs.Instruction.{first_of, second_of};
 ghost use Rattle.one_thread.specs.Futures.{Foresees, GoesOnBehind};
 
-use crate::ahead::Ahead;
 use crate::decoded::Decoded;
 use crate::execute::Operands;
+use crate::with_pending_low::WithPendingLow;
 use instructions::Reg;
 
 /// What each register holds after the live tenants, and where the path goes on. The values are the future file of
@@ -34,7 +34,7 @@ impl Future {
 
     /// Moves on after a station that writes this value to a register, if that is not register 0, and goes on at `next`.
     #[inline(always)]
-    pub fn follows(&mut self, destination: Reg, value: u32, next: u32)
+    pub fn follow(&mut self, destination: Reg, value: u32, next: u32)
         requires { length self.old.values ≡ 34 }
         ensures values { self.new.values ≡ write self.old.values destination value }
         ensures on { (made : Option ℕ) → (destination ≢ 0 → made ≡ Some value) →
@@ -48,7 +48,7 @@ impl Future {
     }
 
     /// The values where nobody is live.
-    pub fn behind(ahead: &Ahead) -> Future
+    pub fn behind(ahead: &WithPendingLow) -> Future
         requires { length ahead.now.registers ≡ 34 }
         ensures values { result.values ≡ slice_set ahead.now.registers 0 0 }
         ensures on { Foresees result ahead.now.registers ahead.now.pc [] }

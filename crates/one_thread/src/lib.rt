@@ -1,7 +1,6 @@
 //! The one-thread unit: an out-of-order core that one caller turns.
 #![tactic(auto)]
 
-mod ahead;
 mod astray;
 mod bench;
 mod choices;
@@ -30,6 +29,7 @@ mod station;
 mod steps;
 mod streaming;
 mod window;
+mod with_pending_low;
 
 pub use bench::{Bench, Turn};
 pub use chooser::{Chooser, Order, Seeded};

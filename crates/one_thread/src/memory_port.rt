@@ -2,15 +2,15 @@
 ghost use Rattle.std.specs.Prelude.{⊤, ◌≡◌, ◌<◌, ◌≤◌, ◌+◌, length};
 ghost use Rattle.instructions.specs.Instruction.{width as width_in};
 ghost use Rattle.one_thread.specs.Changes.{LoadGives, LoadsAt};
-ghost use Rattle.one_thread.specs.Givers.{gives};
+ghost use Rattle.one_thread.specs.Producers.{gives};
 ghost use Rattle.one_thread.specs.Loads.{AreInside, load_in, value_by as value_of, waits as waits_of};
 ghost use Rattle.one_thread.specs.Stages.{FirstAnswered};
 
-use crate::ahead::Ahead;
 use crate::forwarding::answer_at;
 use crate::pipeline::Pipeline;
 use crate::station::{Stage, Station};
 use crate::window::Window;
+use crate::with_pending_low::WithPendingLow;
 use inorder::Committed;
 use instructions::{Kind, Op, loaded};
 use lsq::Answer;
@@ -50,7 +50,7 @@ pub fn value_by(answer: Answer, committed: &Committed, op: Op, address: u32) -> 
 
 // The value of the load at `i`, if it is one with its address that is not blocked.
 #[inline(always)]
-pub fn value_at(window: &Window, ahead: &Ahead, i: usize) -> Option<u32>
+pub fn value_at(window: &Window, ahead: &WithPendingLow, i: usize) -> Option<u32>
     requires there { i < length window.now }
     requires inside { AreInside (length ahead.now.memory) window.now }
     ensures { result ≡ gives (load_in ahead.now.registers ahead.now.memory) window.now i }
@@ -64,11 +64,11 @@ pub fn value_at(window: &Window, ahead: &Ahead, i: usize) -> Option<u32>
 
 /// The oldest load with its address that is not blocked.
 #[inline(always)]
-pub fn oldest_answered(window: &Window, ahead: &Ahead) -> Option<Answered>
+pub fn oldest_answered(window: &Window, ahead: &WithPendingLow) -> Option<Answered>
     requires { AreInside (length ahead.now.memory) window.now }
     ensures { FirstAnswered ahead.now.registers ahead.now.memory window.now result }
 {
-    for at in window.settled()..window.len() {
+    for at in window.resolved()..window.len() {
         if let Some(value) = value_at(window, ahead, at) {
             return Some(Answered { at, value });
         }

@@ -5,10 +5,10 @@ ghost use Rattle.one_thread.specs.Changes.{ahead_of};
 ghost use Rattle.one_thread.specs.StandsFor.{StandsFor, StandsForSome};
 ghost use Rattle.inorder.specs.Unit.{empty_unit};
 
-use crate::ahead::Ahead;
 use crate::decoded::Decoded;
 use crate::fetch::decode_all;
 use crate::window::Window;
+use crate::with_pending_low::WithPendingLow;
 use inorder::Committed;
 use instructions::{Config, Leaver, Memory, Program, Stop};
 use std::alloc::Global;
@@ -62,10 +62,10 @@ impl<'a> Pipeline<'a> {
 
     /// The state that a new tenant finds where nobody is live.
     #[inline(always)]
-    pub fn ahead(&self) -> Ahead<'_>
+    pub fn ahead(&self) -> WithPendingLow<'_>
         ensures { result ≡ ahead_of self.now }
     {
-        Ahead {
+        WithPendingLow {
             committed: &self.committed,
             low: &self.low,
         }

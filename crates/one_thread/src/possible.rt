@@ -103,7 +103,7 @@ impl<'a> Pipeline<'a> {
         ensures { steps.new.items ≡ steps.old.items ++
             retirement_of (slice_get self.now.window 0) }
     {
-        if self.window.is_settled(0) {
+        if self.window.is_resolved(0) {
             steps.push(Step::Retire);
         }
     }
@@ -141,7 +141,7 @@ impl<'a> Pipeline<'a> {
         if let Some(answered) = oldest_answered(&self.window, &ahead) {
             return Some(Step::Load(answered));
         }
-        if self.window.is_settled(0) {
+        if self.window.is_resolved(0) {
             return Some(Step::Retire);
         }
         None
@@ -169,7 +169,7 @@ impl<'a> Pipeline<'a> {
                 Turn::Let
             }
             Step::Run(ready) => {
-                self.claims(ready);
+                self.claim(ready);
                 Turn::Ran(ready.at)
             }
             Step::Load(answered) => {

@@ -36,7 +36,7 @@ impl<'a> Pipeline<'a> {
           low = None;
         } }
     {
-        self.committed.settle(self.low);
+        self.committed.write_low(self.low);
         self.low = None;
         if let Stage::Addr(address) = oldest.stage {
             let second = oldest.instr.second();

@@ -2,7 +2,7 @@
 ghost use Rattle.std.specs.Prelude.{⊤, ◌≡◌, ◌<◌, ◌≤◌, length};
 ghost use Rattle.one_thread.specs.Departing.{ahead_to, run_in};
 ghost use Rattle.one_thread.specs.Flow.{CanRestore, Flows, HasGoneRound, in_order};
-ghost use Rattle.one_thread.specs.Givers.{Chosen};
+ghost use Rattle.one_thread.specs.Producers.{Chosen};
 
 use crate::flow::Flow;
 use crate::pipeline::Pipeline;
@@ -13,7 +13,7 @@ impl<'a> Pipeline<'a> {
     // The ring is full: as long as the count has not reached a limit and the next can enter, the oldest leaves and the
     // next enters its station. Answers whether each has completed.
     #[inline(always)]
-    fn rounds<P: Predictor>(&mut self, predictor: &mut P, flow: &mut Flow, limit: u64) -> bool
+    fn round<P: Predictor>(&mut self, predictor: &mut P, flow: &mut Flow, limit: u64) -> bool
         requires flow { Flows self.old flow.old }
         requires full { length flow.old.ring.completed ≡ self.old.ring }
         requires below { self.old.committed.count < limit }
@@ -27,13 +27,13 @@ impl<'a> Pipeline<'a> {
     {
         loop {
             let station = flow.ring.station();
-            let left = self.departs(flow);
+            let left = self.depart(flow);
             if limit <= self.committed.count() || !self.can_enter(flow) {
                 leave_untold(&mut self.leavers, station, left);
                 return true;
             }
             let from = flow.ring.len();
-            let Some(_) = self.enters_behind::<P, true>(predictor, flow, left, station, from) else {
+            let Some(_) = self.enter_after::<P, true>(predictor, flow, left, station, from) else {
                 return false;
             };
         }
@@ -58,16 +58,16 @@ impl<'a> Pipeline<'a> {
                 return from;
             };
             if !fits {
-                self.leaves_flow(flow);
+                self.leave_flow(flow);
                 from = flow.ring.len();
                 continue;
             }
-            let Some(closed) = self.enters_flow(predictor, flow, from) else {
+            let Some(closed) = self.enter_flow(predictor, flow, from) else {
                 return from;
             };
             from = closed;
             if flow.ring.len() == self.ring {
-                if !self.rounds(predictor, flow, limit) {
+                if !self.round(predictor, flow, limit) {
                     return flow.ring.len();
                 }
                 from = flow.ring.len();

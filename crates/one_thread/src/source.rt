@@ -2,9 +2,9 @@
 ghost use Rattle.std.specs.Prelude.{◌≡◌, ◌≤◌, ℕ, IfSome, Option, length, option_copied, take};
 ghost use Rattle.one_thread.specs.Window.{register_after, register_in, source_in};
 
-use crate::ahead::Ahead;
 use crate::station::Station;
 use crate::window::Window;
+use crate::with_pending_low::WithPendingLow;
 use instructions::Reg;
 
 // The youngest of these tenants that writes register `r`.
@@ -28,7 +28,7 @@ fn youngest_writer(tenants: &[Station], r: Reg) -> Option<&Station>
 /// What register `r` is worth to the tenant at `i`, if that was made: the youngest older tenant that writes it has it, or else
 /// the committed registers.
 #[inline(always)]
-pub fn source(window: &Window, ahead: &Ahead, i: usize, r: Reg) -> Option<u32>
+pub fn source(window: &Window, ahead: &WithPendingLow, i: usize, r: Reg) -> Option<u32>
     requires { i ≤ length window.now }
     ensures { result ≡ source_in ahead.now.registers (take i window.now) r }
 {

@@ -173,7 +173,7 @@ impl<'a> Pipeline<'a> {
     }
 
     // The registers are those that are committed, and the oldest tenant is that of the flow.
-    fn restores_order(&mut self, flow: &Flow)
+    fn restore_order(&mut self, flow: &Flow)
         requires code { IsDecoded self.old.code.items self.old.program.now }
         requires there { AreThere self.old.program.now flow.now.ring.completed }
         requires all { length flow.now.future.values ≡ 34 }
@@ -193,7 +193,7 @@ impl<'a> Pipeline<'a> {
         requires flow { CanRestore (in_order self.old flow.now) flow.now from }
         ensures { self.new ≡ restored (in_order self.old flow.now) flow.now from }
     {
-        self.restores_order(flow);
+        self.restore_order(flow);
         self.window.clear();
         for i in 0..flow.ring.len() {
             let station = self.station_at_exit(flow, from, i);
@@ -207,22 +207,22 @@ impl<'a> Pipeline<'a> {
     /// Turns as long as all live tenants have completed and the count has not reached a limit. Answers the count at
     /// which to look for that again: what keeps the unit out of it leaves within a ring of instructions.
     #[inline(always)]
-    pub fn streams<P: Predictor>(&mut self, predictor: &mut P, limit: u64) -> u64
+    pub fn stream<P: Predictor>(&mut self, predictor: &mut P, limit: u64) -> u64
         requires unit { StandsForSome self.old }
         ensures unit { StandsForSome self.new }
         ensures program { self.new.program ≡ self.old.program }
         ensures more { self.old.committed.count ≤ self.new.committed.count }
         ensures ends { run_from self.new limit ≡ run_from self.old limit }
     {
-        if self.over.is_some() || self.ring < 2 || self.window.settled() < self.window.len() {
+        if self.over.is_some() || self.ring < 2 || self.window.resolved() < self.window.len() {
             return 0;
         }
-        self.streams_on(predictor, limit)
+        self.stream_on(predictor, limit)
     }
 
-    // Turns where nothing that is live waits, as `streams` makes them.
+    // Turns where nothing that is live waits, as `stream` makes them.
     #[inline(never)]
-    fn streams_on<P: Predictor>(&mut self, predictor: &mut P, limit: u64) -> u64
+    fn stream_on<P: Predictor>(&mut self, predictor: &mut P, limit: u64) -> u64
         requires unit { StandsForSome self.old }
         requires goes_on { self.old.over ≡ None }
         requires two { 2 ≤ self.old.ring }

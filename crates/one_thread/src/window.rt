@@ -1,7 +1,7 @@
 //! The stations of the live tenants, the oldest first.
 ghost use Rattle.std.specs.Prelude.{◌≡◌, ◌<◌, ◌≤◌, ◌-◌, [], ◌∷◌, ◌++◌, length, take, drop, slice_get, slice_set, option_copied, false, IfOk, None, Some};
 ghost use Rattle.circular_buffer.specs.Buffer.{buffer};
-ghost use Rattle.one_thread.specs.Givers.{gives};
+ghost use Rattle.one_thread.specs.Producers.{gives};
 ghost use Rattle.one_thread.specs.Notes.{AreSettled, miss_in, settled_at, settled_by};
 ghost use Rattle.one_thread.specs.Stages.{FirstMiss, RecoversTo};
 ghost use Rattle.one_thread.specs.Window.{accesses as accesses_of, miss_of};
@@ -20,12 +20,12 @@ pub struct Missed {
     pub next: u32,
 }
 
-/// At most 32 stations. It knows of its oldest how many are settled, so that nobody looks at these again.
+/// At most 32 stations. It knows of its oldest how many are resolved, so that nobody looks at these again.
 #[derive(Drop)]
 pub struct Window {
     stations: HeapCircularBuffer<Station>,
     // as many of the oldest are done, stops, or stores with their address
-    settled: usize,
+    resolved: usize,
     // no station is a miss unless this is set
     missed: bool,
 }
@@ -41,11 +41,11 @@ impl Model for Window {
 
     ghost view = { λ w. w.stations.items };
 
-    ghost invariant = { λ w. (w.stations.capacity ≡ 32) × AreNoted w.missed w.settled w.stations.items };
+    ghost invariant = { λ w. (w.stations.capacity ≡ 32) × AreNoted w.missed w.resolved w.stations.items };
 }
 
 // A tenant at this stage is done, stops, or is a store with its address.
-fn settles(kind: Kind, stage: Stage) -> bool
+fn resolves(kind: Kind, stage: Stage) -> bool
     ensures { result ≡ settled_by kind stage }
 {
     match stage {
@@ -81,7 +81,7 @@ impl Window {
         let stations = HeapCircularBuffer::with_capacity(alloc, 32)?;
         Ok(Window {
             stations,
-            settled: 0,
+            resolved: 0,
             missed: false,
         })
     }
@@ -93,20 +93,20 @@ impl Window {
         self.stations.len()
     }
 
-    /// As many of the oldest are settled; more may be.
-    pub fn settled(&self) -> usize
+    /// As many of the oldest are resolved; more may be.
+    pub fn resolved(&self) -> usize
         ensures { AreSettled result self.now }
     {
-        self.settled
+        self.resolved
     }
 
-    /// The tenant at `i` is settled.
-    pub fn is_settled(&self, i: usize) -> bool
+    /// The tenant at `i` is resolved.
+    pub fn is_resolved(&self, i: usize) -> bool
         ensures { result ≡ settled_at (slice_get self.now i) }
     {
         match self.peek(i) {
             None => false,
-            Some(station) => settles(station.instr.kind(), station.stage),
+            Some(station) => resolves(station.instr.kind(), station.stage),
         }
     }
 
@@ -175,7 +175,7 @@ impl Window {
         if !self.missed {
             return None;
         }
-        for at in self.settled..self.len() {
+        for at in self.resolved..self.len() {
             if let Some(next) = self.next_at(at) {
                 return Some(Missed { at, next });
             }
@@ -183,16 +183,16 @@ impl Window {
         None
     }
 
-    // More of the oldest may be settled.
-    fn settle(&mut self)
+    // More of the oldest may be resolved.
+    fn resolve(&mut self)
         ensures { self.new ≡ self.old }
     {
         let len = self.len();
-        let mut settled = self.settled;
-        while settled < len && self.is_settled(settled) {
-            settled += 1;
+        let mut resolved = self.resolved;
+        while resolved < len && self.is_resolved(resolved) {
+            resolved += 1;
         }
-        self.settled = settled;
+        self.resolved = resolved;
     }
 
     /// The tenant at `i` has come further.
@@ -200,9 +200,9 @@ impl Window {
         ensures { self.new ≡ slice_set self.old i station }
     {
         self.missed = misses(self.missed, station.stage);
-        self.settled = self.settled.min(i);
+        self.resolved = self.resolved.min(i);
         replace(&mut self.stations, i, station);
-        self.settle();
+        self.resolve();
     }
 
     /// All tenants after the oldest miss leave, and it goes on where it has to.
@@ -233,7 +233,7 @@ impl Window {
             Ok(()) => {}
             Err(_) => {}
         }
-        self.settle();
+        self.resolve();
     }
 
     /// Takes all out.
@@ -241,7 +241,7 @@ impl Window {
         ensures { self.new ≡ [] }
     {
         self.stations.clear();
-        self.settled = 0;
+        self.resolved = 0;
         self.missed = false;
     }
 
@@ -251,6 +251,6 @@ impl Window {
         ensures { self.new ≡ drop 1 self.old }
     {
         let _ = self.stations.pop_front();
-        self.settled = self.settled.saturating_sub(1);
+        self.resolved = self.resolved.saturating_sub(1);
     }
 }

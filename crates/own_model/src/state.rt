@@ -165,7 +165,7 @@ impl ArchitecturalState {
             self.low = Some(made);
             return;
         }
-        self.committed.settle(self.low);
+        self.committed.write_low(self.low);
         self.low = None;
         self.committed.advance(instr.destination(half), made, next);
     }

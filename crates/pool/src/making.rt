@@ -6,7 +6,7 @@ ghost use Rattle.workers.specs.Turns.{untaken};
 
 use crate::dispatch::{Begin, Dispatcher};
 use crate::terms::{Owned, Term};
-use back::{Back, Naming, Snapper};
+use back::{Back, OfProgram, Snapper};
 use committing::Committer;
 use counts::{CountSeat, Counts};
 use hints::{Hints, Ring};
@@ -41,7 +41,7 @@ pub(crate) fn make_state<K: Bounds + Ring>(
 }
 
 /// Makes the commit side of a run, its first term, and its first snapper.
-pub(crate) fn make<K: Naming + Bounds + Ring, P: Predictor + Drop, G, R>(
+pub(crate) fn make<K: OfProgram + Bounds + Ring, P: Predictor + Drop, G, R>(
     run: &RunShared<'_, G, R>,
     state: &RunState<K>,
     count: CountSeat,

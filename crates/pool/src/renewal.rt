@@ -5,7 +5,7 @@ ghost use Rattle.workers.specs.Configured.{configured_sizes};
 
 use crate::dispatch::Dispatcher;
 use crate::terms::{Owned, Term};
-use back::Naming;
+use back::OfProgram;
 use committing::{Committer, Refusal};
 use front::a_front_enters_behind_a_renewal;
 use hints::Ring;
@@ -15,7 +15,7 @@ use workers::{Bounds, RunState};
 
 /// The next term, at another core, whose tags begin again, where there is memory for it. The back leaves the old core and
 /// enters the other one, and goes on with the turns that are left. Without memory it enters the old core again.
-pub(crate) fn renew<K: Naming + Bounds + Ring, P: Predictor + Drop>(
+pub(crate) fn renew<K: OfProgram + Bounds + Ring, P: Predictor + Drop>(
     committer: &mut Committer<K>,
     alloc: Global,
     state: &RunState<K>,

@@ -6,7 +6,7 @@ ghost use Rattle.pool.specs.Terms.{MayBegin};
 
 use crate::making::{RunShared, make, make_state};
 use crate::terms::{Term, run_terms};
-use back::Naming;
+use back::OfProgram;
 use committing::{Committer, Refusal, Run, start_snappers};
 use counts::{CountSeat, Counts};
 use hints::Ring;
@@ -21,7 +21,7 @@ use workers::{Bounds, Gate, RunState};
 // Makes the sides of a run, runs its terms in threads, and answers how it ended when each thread has.
 fn run_in_threads<
     'x,
-    K: Naming + Bounds + Ring + Send + Sync,
+    K: OfProgram + Bounds + Ring + Send + Sync,
     P: Predictor + Drop + Send,
     G: Gate + Sync,
     R: Threads + Wait + Sync,
@@ -60,7 +60,7 @@ fn run_in_threads<
 
 // Makes the state of a run, and carries it out. A large value is dropped by a call, which is one step of the proof.
 fn run_named<
-    K: Naming + Bounds + Ring + Send + Sync,
+    K: OfProgram + Bounds + Ring + Send + Sync,
     P: Predictor + Drop + Send,
     G: Gate + Sync,
     R: Threads + Wait + Sync,

@@ -8,7 +8,7 @@ use crate::dispatch::Dispatcher;
 use crate::making::RunShared;
 use crate::renewal::renew;
 use crate::starting::start_dispatch;
-use back::Naming;
+use back::OfProgram;
 use committing::Committer;
 use counts::WorkerSeat;
 use hints::Ring;
@@ -41,7 +41,7 @@ pub(crate) struct Term<P: Predictor + Drop> {
 fn commit_in_threads<
     'x,
     'c,
-    K: Naming + Bounds + Ring + Send + Sync,
+    K: OfProgram + Bounds + Ring + Send + Sync,
     P: Predictor + Drop + Send,
     G: Gate + Sync,
     R: Threads + Wait + Sync,
@@ -94,7 +94,7 @@ fn commit_in_threads<
 
 /// Runs one term after another, each at a renewed core, until the run is over.
 pub(crate) fn run_terms<
-    K: Naming + Bounds + Ring + Send + Sync,
+    K: OfProgram + Bounds + Ring + Send + Sync,
     P: Predictor + Drop + Send,
     G: Gate + Sync,
     R: Threads + Wait + Sync,

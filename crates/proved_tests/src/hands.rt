@@ -5,7 +5,7 @@ ghost use Rattle.station.specs.Claiming.{Holds};
 ghost use Rattle.station.specs.Seats.{IsSameSeat};
 
 use crate::same::same;
-use back::{Back, Naming, Snapper};
+use back::{Back, OfProgram, Snapper};
 use front::{Front, Turn};
 use instructions::{Config, NotTaken, Outcome, Predictor, Program};
 use isa::parse;
@@ -156,7 +156,7 @@ pub fn finishes(
 }
 
 /// The back of a core, and the first snapper of what it shows.
-pub fn back_at<J: Naming>(
+pub fn back_at<J: OfProgram>(
     alloc: Global,
     core: &Core,
     seat: BackSeat,
@@ -179,7 +179,7 @@ pub fn back_at<J: Naming>(
 pub type Hands<'a, J> = (Core, Front<'a, NotTaken>, Back<J>, Snapper<J>, UnitSeat);
 
 /// The core, with the stations that the configuration has. Its front has taken these turns.
-pub fn by_hand<'a, J: Naming>(
+pub fn by_hand<'a, J: OfProgram>(
     rt: &impl Abort,
     setup: &'a Setup,
     ring: usize,

@@ -3,13 +3,13 @@ ghost use Rattle.std.specs.Prelude.{◌≡◌};
 
 use crate::hands::{Setup, by_hand, set_up};
 use crate::same::same;
-use back::Naming;
+use back::OfProgram;
 use std::marker::Brand;
 use std::process::Abort;
 use std::sync::Wait;
 use std::test::Fail;
 
-fn has_one_snapper<J: Naming, R: Wait + Abort>(rt: &R, setup: &Setup) -> Result<(), Fail>
+fn has_one_snapper<J: OfProgram, R: Wait + Abort>(rt: &R, setup: &Setup) -> Result<(), Fail>
     requires { setup.now.program ≡ J.program }
 {
     let (_core, _front, back, mut snapper, _unit) = by_hand::<J>(rt, setup, 4, &[])?;

@@ -4,7 +4,7 @@ ghost use Rattle.snapshots.specs.Snapshots.{IsSnapshotOf};
 
 use crate::same::same;
 use instructions::Memory;
-use snapshots::{Gone, Mark, Naming, Publisher, Snap, Snapper};
+use snapshots::{Gone, Mark, OfProgram, Publisher, Snap, Snapper};
 use std::alloc::Global;
 use std::sync::Wait;
 use std::test::*;
@@ -14,7 +14,7 @@ use std::thread::{Scope, Threads, yield_now};
 // A program that puts 1, 2 and 3 into registers 1, 2 and 3.
 struct ThreeAdds;
 
-impl Naming for ThreeAdds {
+impl OfProgram for ThreeAdds {
     ghost use Rattle.std.specs.Prelude.{[], ◌∷◌};
     ghost use Rattle.instructions.specs.declared.op.Op.TheVariants.{Addiu};
 
@@ -29,7 +29,7 @@ impl Naming for ThreeAdds {
 
 fn after_one() -> Snap
     ensures n { result.n ≡ 1 }
-    ensures snap { IsSnapshotOf ⟦<ThreeAdds as Naming>⟧.program result }
+    ensures snap { IsSnapshotOf ⟦<ThreeAdds as OfProgram>⟧.program result }
 {
     let mut registers = [0; 34];
     registers[1] = 1;
@@ -42,7 +42,7 @@ fn after_one() -> Snap
 
 fn after_three() -> Snap
     ensures n { result.n ≡ 3 }
-    ensures snap { IsSnapshotOf ⟦<ThreeAdds as Naming>⟧.program result }
+    ensures snap { IsSnapshotOf ⟦<ThreeAdds as OfProgram>⟧.program result }
 {
     let mut registers = [0; 34];
     registers[1] = 1;

@@ -3,7 +3,7 @@ ghost use Rattle.std.specs.Prelude.{◌≡◌};
 
 use crate::hands::{Setup, by_hand, finishes, let_at, set_up};
 use crate::same::same;
-use back::{Back, Naming, Refresh};
+use back::{Back, OfProgram, Refresh};
 use instructions::Program;
 use station::{Core, UnitSeat};
 use std::marker::Brand;
@@ -16,7 +16,7 @@ use std::test::Fail;
 type Woken = ((u32, Refresh), (u32, u32), (Refresh, u32));
 
 // The back names the station that waits for the load; the unit that works there names the next one.
-fn woken_in_turn<J: Naming>(
+fn woken_in_turn<J: OfProgram>(
     rt: &impl Abort,
     core: &Core,
     program: &Program,
@@ -39,7 +39,7 @@ fn woken_in_turn<J: Naming>(
     )
 }
 
-fn woken_by_a_load<J: Naming, R: Wait + Abort>(rt: &R, setup: &Setup) -> Result<(), Fail>
+fn woken_by_a_load<J: OfProgram, R: Wait + Abort>(rt: &R, setup: &Setup) -> Result<(), Fail>
     requires { setup.now.program ≡ J.program }
 {
     let lets = [

@@ -3,9 +3,9 @@
 
 ghost use Rattle.std.specs.Prelude.{◌≡◌, false};
 
-use command_line::{Asked, NoRun, REFUSED, asked, is_standard_input, refuse, words};
+use command_line::{Asked, NoRun, REFUSED, is_standard_input, parse_run, refuse, words};
 use counted_io::{ClosedStreams, Counted};
-use on_threads::{Watcher, end, go, watch};
+use on_threads::{ProgressWatcher, end, go, watch};
 use std::fs::File;
 use std::io::Read;
 use std::process::ExitCode;
@@ -20,7 +20,7 @@ fn main(rt: HostRuntime) -> ExitCode {
         Ok(words) => words,
         Err(no_run) => return refuse(&rt, &no_run),
     };
-    match asked(rt.alloc(), words.as_slice()) {
+    match parse_run(rt.alloc(), words.as_slice()) {
         Ok(asked) => start(&rt, &rt, &asked),
         Err(no_run) => refuse(&rt, &no_run),
     }
@@ -45,7 +45,7 @@ fn run_from<T: Threads + Wait + Sync, R: Read + Drop>(
     rt: &HostRuntime,
     asked: &Asked<'_>,
     input: Option<R>,
-    watcher: &Watcher<'_>,
+    watcher: &ProgressWatcher<'_>,
 ) -> ExitCode
     requires threads { asked.now.alone ≡ false }
 {

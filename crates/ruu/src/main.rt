@@ -2,9 +2,9 @@
 #![tactic(auto)]
 
 use command::go;
-use command_line::{Asked, NoRun, REFUSED, asked, is_standard_input, refuse, words};
+use command_line::{Asked, NoRun, REFUSED, is_standard_input, parse_run, refuse, words};
 use counted_io::{ClosedStreams, Counted};
-use on_threads::{Watcher, end, watch};
+use on_threads::{ProgressWatcher, end, watch};
 use std::fs::File;
 use std::io::Read;
 use std::process::ExitCode;
@@ -19,7 +19,7 @@ fn main(rt: HostRuntime) -> ExitCode {
         Ok(words) => words,
         Err(no_run) => return refuse(&rt, &no_run),
     };
-    match asked(rt.alloc(), words.as_slice()) {
+    match parse_run(rt.alloc(), words.as_slice()) {
         Ok(asked) => start(&rt, &rt, &asked),
         Err(no_run) => refuse(&rt, &no_run),
     }
@@ -41,7 +41,7 @@ fn run_from<T: Threads + Wait + Sync, R: Read + Drop>(
     rt: &HostRuntime,
     asked: &Asked<'_>,
     input: Option<R>,
-    watcher: &Watcher<'_>,
+    watcher: &ProgressWatcher<'_>,
 ) -> ExitCode {
     let reader = input.map(Counted::new);
     let mut writer = Counted::new(rt.stdout());

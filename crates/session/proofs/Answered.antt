@@ -9,7 +9,7 @@ use Rattle.session.specs.declared.replies.Info.{Info}
 use Rattle.session.specs.declared.replies.Reply.TheVariants as say
 use Rattle.session.specs.declared.replies.Row.{Row}
 use Rattle.session.specs.declared.units.Claimed.{Claimed}
-use Rattle.session.specs.declared.units.Worker.{Worker}
+use Rattle.session.specs.declared.units.UnitJob.{UnitJob}
 use Rattle.session.specs.Accounts.{IsAwaited, IsOfLet}
 use Rattle.session.specs.Moments.{GrowsLegally}
 use Rattle.session.specs.Replies.{IsCommit, IsTurn}
@@ -50,7 +50,7 @@ claim_replied a b c unit station answer from step claims looks awaited =
       says = (
         record {
           middle = b.seen;
-          claims = subst (λ (us : List (Option Worker)). HasClaimed a.core a.seen b.seen a.units us unit station answer) units claims;
+          claims = subst (λ (us : List (Option UnitJob)). HasClaimed a.core a.seen b.seen a.units us unit station answer) units claims;
           from_is = subst (λ (k : TheCore). IsAwaited k b.seen c.seen station answer from) same awaited;
         },
         subst (λ (k : TheBack). IsSameBack k c.commits) commits looks.commits,

@@ -2,7 +2,7 @@
 use Rattle.std.proofs.Common.{◌≡◌, inl, inr, List, Option, refl, sym, ap, ◌∙◌, subst}
 use Rattle.inorder.specs.History.{IsLegal}
 use Rattle.instructions.proofs.Histories.{starts_same}
-use Rattle.session.specs.declared.units.Worker.{Worker}
+use Rattle.session.specs.declared.units.UnitJob.{UnitJob}
 use Rattle.station.specs.Seats.{TheCore}
 use Rattle.session.specs.Moments.{GrowsLegally}
 use Rattle.session.specs.Sessions.{MayHaveLooked, OnlyLooked, TheSession}
@@ -19,8 +19,8 @@ same_units a b l = ap (λ (s : TheSession). s.units) l.kept
 pub at_core : (a b : TheSession) → OnlyLooked a b → (F : TheCore → Type 0) → F b.core → F a.core
 at_core a b l F f = subst F (same_core a b l) f
 
-pub at_both : (a b : TheSession) → OnlyLooked a b → (F : TheCore → List (Option Worker) → Type 0) → F b.core b.units → F a.core a.units
-at_both a b l F f = subst (λ (z : TheCore × List (Option Worker)). F z.0 z.1) (λ i. (same_core a b l i, same_units a b l i)) f
+pub at_both : (a b : TheSession) → OnlyLooked a b → (F : TheCore → List (Option UnitJob) → Type 0) → F b.core b.units → F a.core a.units
+at_both a b l F f = subst (λ (z : TheCore × List (Option UnitJob)). F z.0 z.1) (λ i. (same_core a b l i, same_units a b l i)) f
 
 -- No look at all
 pub looks_none : (s : TheSession) → IsLegal s.core.program s.core.sizes s.seen → OnlyLooked s s

@@ -4,7 +4,7 @@ use Rattle.instructions.specs.Histories.{StartsWith}
 use Rattle.back.specs.Backs.{IsSameBack, TheBack}
 use Rattle.session.specs.declared.parties.Party.{Party}
 use Rattle.session.specs.declared.parties.Party.TheVariants.{Back, Front, Unit}
-use Rattle.session.specs.declared.units.Worker.{Worker}
+use Rattle.session.specs.declared.units.UnitJob.{UnitJob}
 use Rattle.session.specs.Sessions.{HasToldAll, IsSomebody, seen_by, StaysAsSeen, TheSession, TwoHaveMet}
 use Rattle.session.specs.Workers.{StaySeen, seen_at}
 use Rattle.instructions.proofs.Histories.{starts_on}
@@ -18,7 +18,7 @@ module _ (old new : TheSession) where
       keeps Back = back
       keeps (Unit u) = units.keeps u
 
-units_on : (a b c : List (Option Worker)) → StaySeen a b → StaySeen b c → StaySeen a c
+units_on : (a b c : List (Option UnitJob)) → StaySeen a b → StaySeen b c → StaySeen a c
 units_on a b c s t = record { keeps = λ at. starts_on (seen_at a at) (seen_at b at) (seen_at c at) (s.keeps at) (t.keeps at); jobs = λ at. t.jobs at ∙ s.jobs at }
 
 pub back_on : (a b c : TheBack) → IsSameBack a b → IsSameBack b c → IsSameBack a c

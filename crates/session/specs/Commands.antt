@@ -16,7 +16,7 @@ use Rattle.inorder.specs.declared.history.Source.TheVariants.{First, Second}
 use Rattle.session.specs.declared.parties.Party.{Party}
 use Rattle.session.specs.declared.parties.Party.TheVariants as party
 use Rattle.session.specs.Units.{unit_named}
-use Rattle.session.specs.Words.{Texts, is_empty}
+use Rattle.session.specs.Tokens.{Texts, is_empty}
 
 -- The word of a command
 abbrev pub verb_name : Verb → List ℕ

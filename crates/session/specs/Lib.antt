@@ -1,4 +1,4 @@
-pub mod Words
+pub mod Tokens
 pub mod Units
 pub mod Commands
 pub mod Lines

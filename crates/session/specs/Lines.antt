@@ -11,7 +11,7 @@ use Rattle.session.specs.declared.reading.Line.TheVariants as line
 use Rattle.session.specs.declared.verbs.Verb.{Verb}
 use Rattle.session.specs.declared.verbs.Verb.TheVariants as verb
 use Rattle.session.specs.Commands.{command_of, only_event, only_number, only_pc, verb_name, without_operands}
-use Rattle.session.specs.Words.{Texts, is_empty}
+use Rattle.session.specs.Tokens.{Texts, is_empty}
 
 -- The event or the pc up to which turns are taken
 abbrev pub goal_of : Texts → Option Goal

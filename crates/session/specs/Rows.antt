@@ -10,10 +10,10 @@ use Rattle.ruu_words.specs.declared.station.StationState.TheVariants as state
 use Rattle.station.specs.declared.answers.Seen.{Seen}
 use Rattle.station.specs.declared.job.Job.{Job}
 use Rattle.station.specs.Seats.{TheCore}
-use Rattle.session.specs.declared.replies.Ahead.{Ahead}
+use Rattle.session.specs.declared.replies.NextFetch.{NextFetch}
 use Rattle.session.specs.declared.replies.Head.{Head}
 use Rattle.session.specs.declared.replies.Row.{Row}
-use Rattle.session.specs.declared.units.Worker.{Worker}
+use Rattle.session.specs.declared.units.UnitJob.{UnitJob}
 use Rattle.session.specs.Accounts.{IsOperandTold}
 use Rattle.session.specs.Moments.{IsBetween}
 use Rattle.session.specs.Replies.{IsCommit, IsLook}
@@ -25,19 +25,19 @@ pub record IsJobAt (station tag : ℕ) (job : Job) : Type 0 where
   pub tag_is : job.tag ≡ tag
 
 -- The unit at this place holds a job of the tenant
-pub record HoldsJobOf (units : List (Option Worker)) (station tag at : ℕ) : Type 0 where
+pub record HoldsJobOf (units : List (Option UnitJob)) (station tag at : ℕ) : Type 0 where
   pub job : Job
   pub held : job_at units at ≡ Some job
   pub of : IsJobAt station tag job
 
 -- Who holds the job of the tenant with this tag at a station
-abbrev pub IsHolder : List (Option Worker) → (station tag : ℕ) → Option ℕ → Type 0
+abbrev pub IsHolder : List (Option UnitJob) → (station tag : ℕ) → Option ℕ → Type 0
 IsHolder units station tag (Some at) = HoldsJobOf units station tag at
 IsHolder units station tag None =
     (at : ℕ) (job : Job) → at < length units → job_at units at ≡ Some job → ¬ IsJobAt station tag job
 
 -- The words of a station
-pub record IsRowSeen (core : TheCore) (old new : List Entry) (units : List (Option Worker)) (station : ℕ)
+pub record IsRowSeen (core : TheCore) (old new : List Entry) (units : List (Option UnitJob)) (station : ℕ)
     (row : Row) : Type 0 where
   pub seen : IsLook core old new station row.seen
   pub unit : IsHolder units station row.seen.tag row.unit
@@ -73,39 +73,39 @@ abbrev pub IsHeadSeen : TheCore → List Entry → List Entry → (tail : ℕ) �
 IsHeadSeen core old new tail head = AreLookedAt core old new tail core.sizes.ring head
 
 -- Where the path goes on, by what was seen
-pub record IsAheadOf (core : TheCore) (seen : List Entry) (ahead : Ahead) : Type 0 where
+pub record IsAheadOf (core : TheCore) (seen : List Entry) (ahead : NextFetch) : Type 0 where
   pub station : ahead.station ≡ next_station core.sizes (recent (unit_in core seen))
   pub pc : ahead.pc ≡ front_pc (unit_in core seen).tenants
 
 -- Where the path goes on, at a moment
-abbrev pub IsAhead : TheCore → List Entry → List Entry → Ahead → Type 0
+abbrev pub IsAhead : TheCore → List Entry → List Entry → NextFetch → Type 0
 IsAhead core old new ahead = IsBetween old new (λ before behind. IsAheadOf core behind ahead)
 
 -- The ring: its oldest tenant, and where the path goes on
-pub record IsRingTold (core : TheCore) (old new : List Entry) (head : Head) (ahead : Ahead) : Type 0 where
+pub record IsRingTold (core : TheCore) (old new : List Entry) (head : Head) (ahead : NextFetch) : Type 0 where
   pub middle : List Entry
   pub ahead_is : IsAhead core old middle ahead
   pub head_is : IsHeadSeen core middle new ahead.station head
 
 -- The words of the oldest tenant's station, if one is live
-abbrev pub IsOldest : TheCore → List Entry → List Entry → List (Option Worker) → Head → Option (ℕ × Row)
+abbrev pub IsOldest : TheCore → List Entry → List Entry → List (Option UnitJob) → Head → Option (ℕ × Row)
     → Type 0
 IsOldest core old new units head None = (s : ℕ) → head.station ≡ Some s → core.sizes.ring ≤ s
 IsOldest core old new units head (Some found) =
     (head.station ≡ Some found.0) × IsRowSeen core old new units found.0 found.1
 
 -- The oldest tenant, before a commit
-pub record IsOldestTold (core : TheCore) (old new : List Entry) (units : List (Option Worker))
+pub record IsOldestTold (core : TheCore) (old new : List Entry) (units : List (Option UnitJob))
     (oldest : Option (ℕ × Row)) : Type 0 where
   pub middle : List Entry
   pub head : Head
-  pub ahead : Ahead
+  pub ahead : NextFetch
   pub ring : IsRingTold core old middle head ahead
   pub row : IsOldest core middle new units head oldest
 
 -- The words of the oldest tenant's station were read, and after that the back has committed
 pub record HasCommittedTold (core : TheCore) (from to : TheBack) (old new : List Entry)
-    (units : List (Option Worker)) (commit : Commit) (oldest : Option (ℕ × Row)) : Type 0 where
+    (units : List (Option UnitJob)) (commit : Commit) (oldest : Option (ℕ × Row)) : Type 0 where
   pub middle : List Entry
   pub looked : TheBack
   pub same : IsSameBack from looked

@@ -5,7 +5,7 @@ use Rattle.std.specs.Io.KnownBytes.{Appends, IsAtEnd}
 use Rattle.session.specs.Lines.{IsLine, ends_script, is_command}
 use Rattle.session.specs.Sessions.{TheSession}
 use Rattle.session.specs.Transcripts.{IsTranscript, IsWrittenOfLine}
-use Rattle.session.specs.Words.{words_of}
+use Rattle.session.specs.Tokens.{tokens_of}
 use Rattle.session.specs.declared.reading.Line.{Line}
 use Rattle.counted_io.specs.declared.fault.Fault.{Fault}
 use Rattle.counted_io.specs.declared.fault.Fault.TheVariants.{Read, Memory, Write}
@@ -32,7 +32,7 @@ pub record LineIsTold (echo : Bool) (from to : Option (List ℕ)) (old new : The
   pub chunk : List ℕ
   pub text : List ℕ
   pub read : ReadsScript from to chunk
-  pub line_is : IsLine (words_of (line_of chunk)) line
+  pub line_is : IsLine (tokens_of (line_of chunk)) line
   pub told : IsWrittenOfLine echo old new number (line_of chunk) text
   pub written : Appends before after text
 
@@ -47,7 +47,7 @@ pub record NothingWasLeft (from : Option (List ℕ)) (old new : TheSession)
 abbrev pub AreCommands : List (List ℕ) → Bool → Type 0
 AreCommands [] each = each ≡ true
 AreCommands (chunk ∷ earlier) each =
-    (line : Line) × (before : Bool) × AreCommands earlier before × IsLine (words_of (line_of chunk)) line
+    (line : Line) × (before : Bool) × AreCommands earlier before × IsLine (tokens_of (line_of chunk)) line
     × (ends_script line ≡ false) × (each ≡ (before && is_command line))
 
 -- So many lines were read from the first on, and what was written is their transcript

@@ -26,7 +26,7 @@ use Rattle.session.specs.declared.replies.Refusal.{Refusal}
 use Rattle.session.specs.declared.replies.Refusal.TheVariants as no
 use Rattle.session.specs.declared.replies.Reply.{Reply}
 use Rattle.session.specs.declared.replies.Reply.TheVariants as say
-use Rattle.session.specs.declared.units.Worker.{Worker}
+use Rattle.session.specs.declared.units.UnitJob.{UnitJob}
 use Rattle.session.specs.Units.{unit_count}
 use Rattle.session.specs.Accounts.{HasTurned, IsLinkTold, IsOperandTold}
 use Rattle.session.specs.Rows.{HasCommittedTold, IsRingTold, IsRowSeen}
@@ -42,7 +42,7 @@ use Rattle.session.specs.Workers.{AreWorkers, HasClaimedTold, UnitHasFinished, H
 pub record TheSession : Type 0 where
   pub core : TheCore
   pub seen : List Entry
-  pub units : List (Option Worker)
+  pub units : List (Option UnitJob)
   pub commits : TheBack
   pub snapper : ℕ
   pub mark : Option Mark
@@ -55,7 +55,7 @@ pub record TheSession : Type 0 where
 
 -- Its parts are of one core, and it knows when its front is at a rest
 pub record IsOneCore (P : Program) (core : TheCore) (program : Program) (all : Caller)
-    (front_core : TheCore) (front_rested rested : Bool) (commits : TheBack) (units : List (Option Worker)) (count : ℕ) : Type 0 where
+    (front_core : TheCore) (front_rested rested : Bool) (commits : TheBack) (units : List (Option UnitJob)) (count : ℕ) : Type 0 where
   pub named : core.program ≡ P
   pub program_is : program ≡ core.program
   pub all_core : all.core ≡ core

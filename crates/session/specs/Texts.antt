@@ -19,7 +19,7 @@ use Rattle.ruu_words.specs.declared.station.StationState.TheVariants as state
 use Rattle.station.specs.declared.answers.Finish.{Finish}
 use Rattle.station.specs.declared.answers.Finish.TheVariants as finish
 use Rattle.station.specs.declared.answers.Seen.{Seen}
-use Rattle.session.specs.declared.replies.Ahead.{Ahead}
+use Rattle.session.specs.declared.replies.NextFetch.{NextFetch}
 use Rattle.session.specs.declared.replies.Finished.{Finished}
 use Rattle.session.specs.declared.replies.Head.{Head}
 use Rattle.session.specs.declared.replies.Info.{Info}
@@ -92,7 +92,7 @@ some_station None = codes "none"
 some_station (Some s) = decimal s
 
 -- The ring
-abbrev pub ring_words : Head → Ahead → List ℕ
+abbrev pub ring_words : Head → NextFetch → List ℕ
 ring_words head ahead =
     codes "head " ++ (some_station head.station ++ (codes " tail " ++ (decimal ahead.station
     ++ (codes " next " ++ (hexadecimal ahead.pc ++ (codes " free " ++ decimal head.free))))))

@@ -5,13 +5,13 @@ use Rattle.session.specs.declared.reading.Line.{Line}
 use Rattle.session.specs.Lines.{IsLine, times_of}
 use Rattle.session.specs.Sessions.{TheSession}
 use Rattle.session.specs.Undoing.{ComesTo}
-use Rattle.session.specs.Words.{words_of}
+use Rattle.session.specs.Tokens.{tokens_of}
 
 -- The text of what the bytes of a line come to
 pub record IsToldOfLine (old new : TheSession) (number : ℕ) (bytes text : List ℕ) : Type 0 where
   pub line : Line
-  pub line_is : IsLine (words_of bytes) line
-  pub says : ComesTo (times_of (words_of bytes) line) old new number line text
+  pub line_is : IsLine (tokens_of bytes) line
+  pub says : ComesTo (times_of (tokens_of bytes) line) old new number line text
 
 -- A line as it is told before its answer, where that is wanted
 abbrev pub echo_text : Bool → List ℕ → List ℕ

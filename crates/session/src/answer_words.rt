@@ -2,7 +2,7 @@
 ghost use Rattle.std.specs.Prelude.{◌≡◌, Some};
 ghost use Rattle.session.specs.Texts.{finish_words, half_text, info_words, job_words, refresh_words, refusal_text, reply_words, rest_text, ring_words, seen_words, some_station, source_text, state_text};
 
-use crate::replies::{Ahead, Finished, Head, Info, Refreshed, Refusal, Reply};
+use crate::replies::{Finished, Head, Info, NextFetch, Refreshed, Refusal, Reply};
 use crate::units::{Claimed, Held};
 use back::{Commit, Refresh};
 use front::{Made, Recovery, Rest, Turn};
@@ -159,7 +159,7 @@ impl fmt::Display for SomeStation {
 
 // The ring: its oldest tenant, and where the path goes on.
 #[derive(Clone, Copy)]
-struct Ring(Head, Ahead);
+struct Ring(Head, NextFetch);
 
 impl fmt::Display for Ring {
     ghost output = { λ ring. Some (ring_words ring.0 ring.1) };

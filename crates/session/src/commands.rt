@@ -1,15 +1,15 @@
 //! The commands that make one call.
 ghost use Rattle.std.specs.Prelude.{◌≡◌};
 ghost use Rattle.session.specs.Commands.{command_of, refresh_of, turn_of};
-ghost use Rattle.session.specs.Words.{texts_of};
+ghost use Rattle.session.specs.Tokens.{texts_of};
 
 use crate::names::UnitName;
 use crate::operands::{
     bare, only_number, only_pc, only_register, station_and_source, two_parties, unit_and_number,
 };
 use crate::parties::Party;
+use crate::tokens::Tokens;
 use crate::verbs::Verb;
-use crate::words::Words;
 use isa::Hexadecimal;
 use station::Source;
 use std::fmt;
@@ -63,70 +63,70 @@ impl fmt::Display for Command {
 }
 
 // A turn, and its guess where one is given.
-fn turn_in(words: &Words<'_>) -> Option<Command>
-    ensures { result ≡ turn_of (texts_of words.now) }
+fn turn_in(tokens: &Tokens<'_>) -> Option<Command>
+    ensures { result ≡ turn_of (texts_of tokens.now) }
 {
-    if words.first.is_empty() {
+    if tokens.first.is_empty() {
         Some(Command::Turn(None))
     } else {
-        let next = only_pc(words)?;
+        let next = only_pc(tokens)?;
         Some(Command::Turn(Some(next)))
     }
 }
 
 // A refresh, of one station where that is given.
-fn refresh_in(words: &Words<'_>) -> Option<Command>
-    ensures { result ≡ refresh_of (texts_of words.now) }
+fn refresh_in(tokens: &Tokens<'_>) -> Option<Command>
+    ensures { result ≡ refresh_of (texts_of tokens.now) }
 {
-    if words.first.is_empty() {
+    if tokens.first.is_empty() {
         Some(Command::Refresh)
     } else {
-        Some(Command::RefreshAt(only_number(words)?))
+        Some(Command::RefreshAt(only_number(tokens)?))
     }
 }
 
 /// The command of a word and its operands. A table, a queue and turns are none: each of them is many. Help, a list and
 /// the end of a script make no call.
-pub(crate) fn command_in(verb: Verb, words: &Words<'_>) -> Option<Command>
-    ensures { result ≡ command_of verb (texts_of words.now) }
+pub(crate) fn command_in(verb: Verb, tokens: &Tokens<'_>) -> Option<Command>
+    ensures { result ≡ command_of verb (texts_of tokens.now) }
 {
     match verb {
-        Verb::Turn => turn_in(words),
-        Verb::Recover => bare(words, Command::Recover),
+        Verb::Turn => turn_in(tokens),
+        Verb::Recover => bare(tokens, Command::Recover),
         Verb::Claim => {
-            let (unit, station) = unit_and_number(words)?;
+            let (unit, station) = unit_and_number(tokens)?;
             Some(Command::Claim(unit, station))
         }
         Verb::Finish => {
-            let (unit, station) = unit_and_number(words)?;
+            let (unit, station) = unit_and_number(tokens)?;
             Some(Command::Finish(unit, station))
         }
-        Verb::Refresh => refresh_in(words),
-        Verb::Commit => bare(words, Command::Commit),
-        Verb::Show => bare(words, Command::Show),
-        Verb::Take => bare(words, Command::Take),
-        Verb::Learn => bare(words, Command::Learn),
-        Verb::Look => Some(Command::Look(only_number(words)?)),
-        Verb::Creator => Some(Command::Creator(only_register(words)?)),
-        Verb::Touched => bare(words, Command::Touched),
-        Verb::Info => Some(Command::Info(only_number(words)?)),
+        Verb::Refresh => refresh_in(tokens),
+        Verb::Commit => bare(tokens, Command::Commit),
+        Verb::Show => bare(tokens, Command::Show),
+        Verb::Take => bare(tokens, Command::Take),
+        Verb::Learn => bare(tokens, Command::Learn),
+        Verb::Look => Some(Command::Look(only_number(tokens)?)),
+        Verb::Creator => Some(Command::Creator(only_register(tokens)?)),
+        Verb::Touched => bare(tokens, Command::Touched),
+        Verb::Info => Some(Command::Info(only_number(tokens)?)),
         Verb::Operand => {
-            let (station, k) = station_and_source(words)?;
+            let (station, k) = station_and_source(tokens)?;
             Some(Command::Operand(station, k))
         }
         Verb::Link => {
-            let (station, k) = station_and_source(words)?;
+            let (station, k) = station_and_source(tokens)?;
             Some(Command::Link(station, k))
         }
-        Verb::Station => Some(Command::Station(only_number(words)?)),
-        Verb::Ring => bare(words, Command::Ring),
-        Verb::Rest => bare(words, Command::Rest),
+        Verb::Station => Some(Command::Station(only_number(tokens)?)),
+        Verb::Ring => bare(tokens, Command::Ring),
+        Verb::Rest => bare(tokens, Command::Rest),
         Verb::Meet => {
-            let (one, other) = two_parties(words)?;
+            let (one, other) = two_parties(tokens)?;
             Some(Command::Meet(one, other))
         }
-        Verb::Report => bare(words, Command::Report),
-        Verb::Renew => bare(words, Command::Renew),
+        Verb::Report => bare(tokens, Command::Report),
+        Verb::Renew => bare(tokens, Command::Renew),
         Verb::Table | Verb::Queue | Verb::Step | Verb::Until => None,
         Verb::Undo | Verb::Help | Verb::List | Verb::Quit => None,
     }

@@ -12,7 +12,7 @@ use crate::tables::table;
 use crate::texts::line_of;
 use crate::turns::turns;
 use crate::verbs::{Verb, word};
-use back::Naming;
+use back::OfProgram;
 use instructions::{Predictor, Program};
 use std::alloc::{AllocError, Global};
 use std::sync::Wait;
@@ -64,7 +64,7 @@ fn is_nowhere(program: &Program, goal: Goal) -> bool
 }
 
 // Turns up to a goal, where an instruction is at its pc.
-fn turns_to<P: Predictor + Drop, J: Naming, R: Wait>(
+fn turns_to<P: Predictor + Drop, J: OfProgram, R: Wait>(
     wait: &R,
     alloc: Global,
     session: &mut Session<'_, P, J>,
@@ -84,7 +84,7 @@ fn turns_to<P: Predictor + Drop, J: Naming, R: Wait>(
 
 // Does what the line of this number asks for, and gives the text for it. A line without a command has an empty text, and
 // so has one that ends the script. An undo stands apart.
-fn said<P: Predictor + Drop, J: Naming, R: Wait>(
+fn said<P: Predictor + Drop, J: OfProgram, R: Wait>(
     wait: &R,
     alloc: Global,
     session: &mut Session<'_, P, J>,
@@ -112,7 +112,7 @@ fn said<P: Predictor + Drop, J: Naming, R: Wait>(
 }
 
 /// Does what the line of this number asks for, but for an undo, notes it, and gives the text for it.
-pub fn told<P: Predictor + Drop, J: Naming, R: Wait>(
+pub fn told<P: Predictor + Drop, J: OfProgram, R: Wait>(
     wait: &R,
     alloc: Global,
     session: &mut Session<'_, P, J>,

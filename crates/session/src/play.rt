@@ -9,7 +9,7 @@ use crate::commands::Command;
 use crate::reading::line_in;
 use crate::script::written;
 use crate::session::Session;
-use back::Naming;
+use back::OfProgram;
 use counted_io::{Counted, Fault, write_whole};
 use instructions::Predictor;
 use rand_core::utils::NextWord;
@@ -27,7 +27,7 @@ fn named(choices: &[Command], choice: u32) -> Command {
 }
 
 // The line of the command that the seed names of those that make sense; none where the run has ended.
-fn chosen<P: Predictor + Drop, J: Naming>(
+fn chosen<P: Predictor + Drop, J: OfProgram>(
     alloc: Global,
     session: &mut Session<'_, P, J>,
     words: &mut Pcg32,
@@ -44,7 +44,7 @@ fn chosen<P: Predictor + Drop, J: Naming>(
 }
 
 // Adds what is written for a line of this number.
-fn push_line<P: Predictor + Copy + Drop, J: Naming, R: Wait>(
+fn push_line<P: Predictor + Copy + Drop, J: OfProgram, R: Wait>(
     wait: &R,
     alloc: Global,
     session: &mut Session<'_, P, J>,
@@ -60,7 +60,7 @@ fn push_line<P: Predictor + Copy + Drop, J: Naming, R: Wait>(
 }
 
 // Adds what is written for so many chosen commands, or for fewer where the run ends, and gives how many there were.
-fn push_lines<P: Predictor + Copy + Drop, J: Naming, R: Wait>(
+fn push_lines<P: Predictor + Copy + Drop, J: OfProgram, R: Wait>(
     wait: &R,
     alloc: Global,
     session: &mut Session<'_, P, J>,
@@ -89,7 +89,7 @@ fn push_lines<P: Predictor + Copy + Drop, J: Naming, R: Wait>(
 
 /// Answers so many commands that a seed chooses of those that make sense, each behind the command itself, or fewer where
 /// the run has ended; and then a table and a report. Gives the transcript.
-pub(crate) fn play<P: Predictor + Copy + Drop, J: Naming, R: Wait>(
+pub(crate) fn play<P: Predictor + Copy + Drop, J: OfProgram, R: Wait>(
     wait: &R,
     alloc: Global,
     session: &mut Session<'_, P, J>,
@@ -108,7 +108,7 @@ pub(crate) fn play<P: Predictor + Copy + Drop, J: Naming, R: Wait>(
 }
 
 /// Writes the transcript of a session that a seed drives.
-pub fn write_play<P: Predictor + Copy + Drop, J: Naming, R: Wait, W: Write>(
+pub fn write_play<P: Predictor + Copy + Drop, J: OfProgram, R: Wait, W: Write>(
     wait: &R,
     alloc: Global,
     session: &mut Session<'_, P, J>,

@@ -1,13 +1,13 @@
 //! Lines of a script, by what they ask for.
 ghost use Rattle.std.specs.Prelude.{◌≡◌};
 ghost use Rattle.session.specs.Lines.{IsLine, ends_script, goal_of, is_command, is_question, is_undo, line_by, may_change, times_named, times_of};
-ghost use Rattle.session.specs.Words.{texts_of, words_of};
+ghost use Rattle.session.specs.Tokens.{texts_of, tokens_of};
 
 use crate::commands::{Command, command_in};
 use crate::events::Event;
 use crate::operands::{bare, only_event, only_number, only_pc};
+use crate::tokens::{Tokens, tokens_in};
 use crate::verbs::{Verb, verb_in};
-use crate::words::{Words, words_in};
 use lexical::decimal_in;
 
 /// The greatest count before a command.
@@ -53,58 +53,58 @@ pub enum Line {
 }
 
 // The event or the pc up to which turns are taken.
-fn goal_in(words: &Words<'_>) -> Option<Goal>
-    ensures { result ≡ goal_of (texts_of words.now) }
+fn goal_in(tokens: &Tokens<'_>) -> Option<Goal>
+    ensures { result ≡ goal_of (texts_of tokens.now) }
 {
-    match only_event(words) {
+    match only_event(tokens) {
         Some(event) => Some(Goal::Event(event)),
-        None => Some(Goal::Next(only_pc(words)?)),
+        None => Some(Goal::Next(only_pc(tokens)?)),
     }
 }
 
 // The line of a word and its operands.
-fn line_by(verb: Verb, words: &Words<'_>) -> Option<Line>
-    ensures { result ≡ line_by verb (texts_of words.now) }
+fn line_by(verb: Verb, tokens: &Tokens<'_>) -> Option<Line>
+    ensures { result ≡ line_by verb (texts_of tokens.now) }
 {
     match verb {
-        Verb::Table => bare(words, Line::Table),
-        Verb::Queue => bare(words, Line::Queue),
-        Verb::Step => Some(Line::Turns(Goal::Retired(only_number(words)?))),
-        Verb::Until => Some(Line::Turns(goal_in(words)?)),
-        Verb::Undo => bare(words, Line::Undo),
-        Verb::Help => bare(words, Line::Help),
-        Verb::List => bare(words, Line::List),
-        Verb::Quit => bare(words, Line::Quit),
-        _ => Some(Line::Asks(command_in(verb, words)?)),
+        Verb::Table => bare(tokens, Line::Table),
+        Verb::Queue => bare(tokens, Line::Queue),
+        Verb::Step => Some(Line::Turns(Goal::Retired(only_number(tokens)?))),
+        Verb::Until => Some(Line::Turns(goal_in(tokens)?)),
+        Verb::Undo => bare(tokens, Line::Undo),
+        Verb::Help => bare(tokens, Line::Help),
+        Verb::List => bare(tokens, Line::List),
+        Verb::Quit => bare(tokens, Line::Quit),
+        _ => Some(Line::Asks(command_in(verb, tokens)?)),
     }
 }
 
 // How often a command is asked for, by the count before it.
-fn times_named(words: &Words<'_>) -> Option<u32>
-    ensures { result ≡ times_named (texts_of words.now) }
+fn times_named(tokens: &Tokens<'_>) -> Option<u32>
+    ensures { result ≡ times_named (texts_of tokens.now) }
 {
-    if words.count.is_empty() {
+    if tokens.count.is_empty() {
         Some(1)
     } else {
-        decimal_in(words.count, MOST_TIMES)
+        decimal_in(tokens.count, MOST_TIMES)
     }
 }
 
 /// Reads a line: a command after a count or none, its operands between blanks, and a comment from a `#` on.
 pub fn line_in(line: &[u8]) -> Line
-    ensures { IsLine (words_of line.now) result }
+    ensures { IsLine (tokens_of line.now) result }
 {
-    let words = words_in(line);
-    if words.verb.is_empty() {
+    let tokens = tokens_in(line);
+    if tokens.verb.is_empty() {
         return Line::Nothing;
     }
-    let Some(verb) = verb_in(words.verb) else {
+    let Some(verb) = verb_in(tokens.verb) else {
         return Line::Unknown;
     };
-    if times_named(&words).is_none() {
+    if times_named(&tokens).is_none() {
         return Line::Miscounted;
     }
-    match line_by(verb, &words) {
+    match line_by(verb, &tokens) {
         Some(line) => line,
         None => Line::Wants(verb),
     }
@@ -119,12 +119,12 @@ pub(crate) fn is_command(line: Line) -> bool
 
 /// How often a line is done. Of one that is no command is told once.
 pub(crate) fn times_in(line: &[u8], asked: Line) -> u32
-    ensures { result ≡ times_of (words_of line.now) asked }
+    ensures { result ≡ times_of (tokens_of line.now) asked }
 {
     if !is_command(asked) {
         return 1;
     }
-    match times_named(&words_in(line)) {
+    match times_named(&tokens_in(line)) {
         Some(times) => times,
         None => 1,
     }

@@ -2,7 +2,7 @@
 ghost use Rattle.std.specs.Prelude.{◌≡◌, IfErr, IfOk, None, true};
 ghost use Rattle.session.specs.Renewals.{SeatsAreAt, HasBegunAgain, HasStayed};
 
-use back::{Back, Naming, a_back_enters_behind_a_renewal};
+use back::{Back, OfProgram, a_back_enters_behind_a_renewal};
 use front::{Front, a_front_enters_behind_a_renewal};
 use instructions::{Predictor, Program};
 use station::{Core, UnitSeat, a_number_is_of_its_part};
@@ -13,7 +13,7 @@ pub(crate) type Stage<'a, P, J> = (Core, UnitSeat, Front<'a, P>, Back<J>);
 
 /// Another core with first tags, at which all of them go on. Where there is no memory for it they stay at the old
 /// one, and the front has not rested any more.
-pub(crate) fn renew<'a, P: Predictor + Drop, J: Naming>(
+pub(crate) fn renew<'a, P: Predictor + Drop, J: OfProgram>(
     alloc: Global,
     program: &'a Program,
     core: Core,

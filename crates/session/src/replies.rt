@@ -81,7 +81,7 @@ pub struct Head {
 
 /// Where the path goes on: the station and the pc of the next tenant.
 #[derive(Clone, Copy)]
-pub struct Ahead {
+pub struct NextFetch {
     pub station: usize,
     pub pc: u32,
 }
@@ -113,7 +113,7 @@ pub enum Reply {
     /// The producer that a source waits for, by the link words.
     Link(Option<Producer>),
     Station(Row),
-    Ring(Head, Ahead),
+    Ring(Head, NextFetch),
     Rest(Rest),
     Met,
     Report(End),

@@ -3,14 +3,14 @@ ghost use Rattle.std.specs.Prelude.{◌≡◌, ◌≢◌, ◌+◌, ◌-◌, ◌^
 ghost use Rattle.std.specs.Io.BufRead.{strip_last};
 ghost use Rattle.counted_io.specs.Counted.{failures_of, known_by};
 ghost use Rattle.session.specs.Lines.{IsLine, is_command};
-ghost use Rattle.session.specs.Words.{words_of};
+ghost use Rattle.session.specs.Tokens.{tokens_of};
 ghost use Rattle.session.specs.Transcripts.{IsWrittenOfLine, echo_text};
 ghost use Rattle.session.specs.Scripts.{HasBroken, HasDriven, HasTold, LineIsCut, LineIsTold, NothingWasLeft, write_failures, line_of};
 
 use crate::reading::{Line, ends_script, is_command, line_in, times_in};
 use crate::session::Session;
 use crate::undo::push_told;
-use back::Naming;
+use back::OfProgram;
 use counted_io::{Counted, Fault, write_whole};
 use instructions::Predictor;
 use std::alloc::{AllocError, Global};
@@ -48,7 +48,7 @@ fn push_echo(out: &mut Vec<u8>, echo: bool, line: &[u8]) -> Result<(), AllocErro
 }
 
 /// Does what a line of this number asks for, and gives what is written for it.
-pub(crate) fn written<P: Predictor + Copy + Drop, J: Naming, R: Wait>(
+pub(crate) fn written<P: Predictor + Copy + Drop, J: OfProgram, R: Wait>(
     wait: &R,
     alloc: Global,
     session: &mut Session<'_, P, J>,
@@ -57,7 +57,7 @@ pub(crate) fn written<P: Predictor + Copy + Drop, J: Naming, R: Wait>(
     asked: Line,
     echo: bool,
 ) -> Result<Vec<u8>, AllocError>
-    requires { IsLine (words_of line.now) asked }
+    requires { IsLine (tokens_of line.now) asked }
     ensures { IfOk result (λ text.
         IsWrittenOfLine echo session.old session.new number line.now text.items) }
 {
@@ -69,7 +69,7 @@ pub(crate) fn written<P: Predictor + Copy + Drop, J: Naming, R: Wait>(
 }
 
 // Reads the line of this number, tells what is told of it, and gives the line. There is none at the end of the script.
-fn tell_line<P: Predictor + Copy + Drop, J: Naming, R: Wait, I: BufRead, W: Write>(
+fn tell_line<P: Predictor + Copy + Drop, J: OfProgram, R: Wait, I: BufRead, W: Write>(
     wait: &R,
     alloc: Global,
     session: &mut Session<'_, P, J>,
@@ -122,7 +122,7 @@ fn is_each(each: bool, line: Line) -> bool
 
 /// Answers the lines of a script, up to its end or a line that ends it, each behind the line itself where that is wanted.
 /// What is written is the transcript. Gives whether each line was a command.
-pub fn drive<P: Predictor + Copy + Drop, J: Naming, R: Wait, I: BufRead, W: Write>(
+pub fn drive<P: Predictor + Copy + Drop, J: OfProgram, R: Wait, I: BufRead, W: Write>(
     wait: &R,
     alloc: Global,
     session: &mut Session<'_, P, J>,

@@ -14,8 +14,8 @@ mod undoing;
 use crate::commands::Command;
 use crate::reading::Line;
 use crate::replies::Reply;
-use crate::units::{Worker, end_units, no_units};
-use back::{Back, Mark, Naming, Snapper};
+use crate::units::{UnitJob, end_units, no_units};
+use back::{Back, Mark, OfProgram, Snapper};
 use front::Front;
 use instructions::{Config, End, Memory, Predictor, Program};
 use station::{Core, UnitSeat};
@@ -33,7 +33,7 @@ pub(crate) struct Past<P> {
 
 /// A core, its front, its back with a snapper, and its units, each made at its first claim. One more
 /// seat meets each caller before and after its call, so that all of them have seen one history.
-pub struct Session<'a, P: Predictor + Drop, J: Naming> {
+pub struct Session<'a, P: Predictor + Drop, J: OfProgram> {
     core: Core,
     program: &'a Program,
     // has seen all that was done
@@ -44,11 +44,11 @@ pub struct Session<'a, P: Predictor + Drop, J: Naming> {
     mark: Option<Mark>,
     // the front has answered that nobody is live, and has not turned or recovered since
     rested: bool,
-    units: Vec<Option<Worker>>,
+    units: Vec<Option<UnitJob>>,
     past: Past<P>,
 }
 
-impl<'a, P: Predictor + Drop, J: Naming> Model for Session<'a, P, J> {
+impl<'a, P: Predictor + Drop, J: OfProgram> Model for Session<'a, P, J> {
     ghost use Rattle.std.specs.Prelude.{vec_len};
     ghost use Rattle.session.specs.Sessions.{IsOneCore, TheSession};
 
@@ -73,7 +73,7 @@ impl<'a, P: Predictor + Drop, J: Naming> Model for Session<'a, P, J> {
         s.units.items (vec_len s.units) };
 }
 
-impl<'a, P: Predictor + Copy + Drop, J: Naming> Session<'a, P, J> {
+impl<'a, P: Predictor + Copy + Drop, J: OfProgram> Session<'a, P, J> {
     ghost use Rattle.std.specs.Prelude.{◌≡◌, IfOk};
     ghost use Rattle.session.specs.Sessions.{IsStartOfSession};
 
@@ -115,7 +115,7 @@ impl<'a, P: Predictor + Copy + Drop, J: Naming> Session<'a, P, J> {
     }
 }
 
-impl<'a, P: Predictor + Drop, J: Naming> Session<'a, P, J> {
+impl<'a, P: Predictor + Drop, J: OfProgram> Session<'a, P, J> {
     ghost use Rattle.std.specs.Prelude.{◌≡◌, ◌≤◌};
     ghost use Rattle.back.specs.Backs.{back_state};
     ghost use Rattle.back.specs.Ends.{EndIsInOrder, ending_of};

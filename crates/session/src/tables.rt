@@ -7,7 +7,7 @@ use crate::replies::Reply;
 use crate::rows::is_free;
 use crate::session::Session;
 use crate::texts::text_of;
-use back::Naming;
+use back::OfProgram;
 use front::Made;
 use instructions::{Predictor, Program};
 use std::alloc::{AllocError, Global};
@@ -50,7 +50,7 @@ fn row_text(
 }
 
 // Adds the row of a command.
-fn push_row<P: Predictor + Drop, J: Naming, R: Wait>(
+fn push_row<P: Predictor + Drop, J: OfProgram, R: Wait>(
     wait: &R,
     alloc: Global,
     session: &mut Session<'_, P, J>,
@@ -81,7 +81,7 @@ fn row_command(ring: usize, row: usize) -> Command
 
 /// The table of a session: a row for each station that is not free, who creates which register, and the ring. Each row
 /// is the answer to its command.
-pub(crate) fn table<P: Predictor + Drop, J: Naming, R: Wait>(
+pub(crate) fn table<P: Predictor + Drop, J: OfProgram, R: Wait>(
     wait: &R,
     alloc: Global,
     session: &mut Session<'_, P, J>,

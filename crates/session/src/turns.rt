@@ -10,7 +10,7 @@ use crate::replies::Reply;
 use crate::session::Session;
 use crate::texts::line_of;
 use crate::units::Claimed;
-use back::{Commit, Naming, Refresh};
+use back::{Commit, OfProgram, Refresh};
 use front::{Recovery, Turn};
 use instructions::{Predictor, Program};
 use std::alloc::{AllocError, Global};
@@ -73,7 +73,7 @@ fn push_reply(
 }
 
 // Answers a command, and tells the answer unless nothing was done.
-fn tried<P: Predictor + Drop, J: Naming, R: Wait>(
+fn tried<P: Predictor + Drop, J: OfProgram, R: Wait>(
     wait: &R,
     alloc: Global,
     session: &mut Session<'_, P, J>,
@@ -94,7 +94,7 @@ fn tried<P: Predictor + Drop, J: Naming, R: Wait>(
 }
 
 // Tries commands up to the first that does something or is answered as sought.
-fn go<P: Predictor + Drop, J: Naming, R: Wait>(
+fn go<P: Predictor + Drop, J: OfProgram, R: Wait>(
     wait: &R,
     alloc: Global,
     session: &mut Session<'_, P, J>,
@@ -123,7 +123,7 @@ fn oldest_in(reply: &Reply) -> usize {
 }
 
 // Takes a turn: asks for the oldest tenant, and goes by the order that follows from it.
-fn advance<P: Predictor + Drop, J: Naming, R: Wait>(
+fn advance<P: Predictor + Drop, J: OfProgram, R: Wait>(
     wait: &R,
     alloc: Global,
     session: &mut Session<'_, P, J>,
@@ -139,7 +139,7 @@ fn advance<P: Predictor + Drop, J: Naming, R: Wait>(
 }
 
 // The goal is met, where this number of instructions have retired in the turns.
-fn is_met<P: Predictor + Drop, J: Naming>(
+fn is_met<P: Predictor + Drop, J: OfProgram>(
     session: &Session<'_, P, J>,
     goal: Goal,
     retired: u32,
@@ -162,7 +162,7 @@ fn sought_in(goal: Goal, taken: u32) -> Option<Event> {
 }
 
 /// Takes turns up to a goal, or as long as there is something to do, and gives what is told of them.
-pub(crate) fn turns<P: Predictor + Drop, J: Naming, R: Wait>(
+pub(crate) fn turns<P: Predictor + Drop, J: OfProgram, R: Wait>(
     wait: &R,
     alloc: Global,
     session: &mut Session<'_, P, J>,

@@ -6,13 +6,13 @@ ghost use Rattle.session.specs.Undoing.{ComesTo, HasRun, LineComesTo, UndoSays, 
 use crate::lines::told;
 use crate::reading::{Line, is_undo};
 use crate::session::Session;
-use back::Naming;
+use back::OfProgram;
 use instructions::Predictor;
 use std::alloc::{AllocError, Global};
 use std::sync::Wait;
 
 // Does lines once more, and tells nothing of them.
-fn run<P: Predictor + Drop, J: Naming, R: Wait>(
+fn run<P: Predictor + Drop, J: OfProgram, R: Wait>(
     wait: &R,
     alloc: Global,
     session: &mut Session<'_, P, J>,
@@ -34,7 +34,7 @@ fn nothing(alloc: Global, number: u64) -> Result<String, AllocError>
 }
 
 // Takes the last command back that may have changed something: the session begins again, and does those before it.
-fn undo<P: Predictor + Copy + Drop, J: Naming, R: Wait>(
+fn undo<P: Predictor + Copy + Drop, J: OfProgram, R: Wait>(
     wait: &R,
     alloc: Global,
     session: &mut Session<'_, P, J>,
@@ -55,7 +55,7 @@ fn undo<P: Predictor + Copy + Drop, J: Naming, R: Wait>(
 }
 
 // Does what a line asks for, once.
-fn once<P: Predictor + Copy + Drop, J: Naming, R: Wait>(
+fn once<P: Predictor + Copy + Drop, J: OfProgram, R: Wait>(
     wait: &R,
     alloc: Global,
     session: &mut Session<'_, P, J>,
@@ -73,7 +73,7 @@ fn once<P: Predictor + Copy + Drop, J: Naming, R: Wait>(
 }
 
 // Does what a line asks for, once, and adds what is told of it.
-fn push_once<P: Predictor + Copy + Drop, J: Naming, R: Wait>(
+fn push_once<P: Predictor + Copy + Drop, J: OfProgram, R: Wait>(
     wait: &R,
     alloc: Global,
     session: &mut Session<'_, P, J>,
@@ -89,7 +89,7 @@ fn push_once<P: Predictor + Copy + Drop, J: Naming, R: Wait>(
 }
 
 /// Does what a line asks for as often as this, and adds what is told of it.
-pub(crate) fn push_told<P: Predictor + Copy + Drop, J: Naming, R: Wait>(
+pub(crate) fn push_told<P: Predictor + Copy + Drop, J: OfProgram, R: Wait>(
     wait: &R,
     alloc: Global,
     session: &mut Session<'_, P, J>,

@@ -3,7 +3,7 @@ ghost use Rattle.std.specs.Prelude.{◌≡◌, ◌<◌, IfOk, None, Some, slice_
 ghost use Rattle.station.specs.Seats.{IsSameSeat};
 ghost use Rattle.session.specs.Rows.{IsHolder};
 ghost use Rattle.session.specs.Workers.{AreAtWork, AreWorkers, HasNone, IsAtWork, IsWorker, job_at, station_held, worker_at};
-ghost use Rattle.session.specs.declared.units.Worker.{Worker};
+ghost use Rattle.session.specs.declared.units.UnitJob.{UnitJob};
 
 use crate::names::UNITS;
 use core::mem::replace_with;
@@ -34,19 +34,19 @@ pub enum Claimed {
 }
 
 /// A unit: its seat, and the job that it has claimed and not finished.
-pub struct Worker {
+pub struct UnitJob {
     pub(crate) seat: UnitSeat,
     pub(crate) job: Option<Job>,
 }
 
 /// The station of the job that the unit at a place holds, if it was made and holds one.
-pub(crate) fn held_station(units: &Vec<Option<Worker>>, unit: usize) -> Option<usize>
+pub(crate) fn held_station(units: &Vec<Option<UnitJob>>, unit: usize) -> Option<usize>
     requires { unit < vec_len units.now }
     ensures { result ≡ station_held units.now.items unit }
 {
     match &units[unit] {
         Some(
-            Worker {
+            UnitJob {
                 seat: _,
                 job: Some(job),
             },
@@ -56,13 +56,13 @@ pub(crate) fn held_station(units: &Vec<Option<Worker>>, unit: usize) -> Option<u
 }
 
 /// The unit that holds a job of the tenant with this tag at a station.
-pub(crate) fn holder(units: &Vec<Option<Worker>>, station: usize, tag: u32) -> Option<usize>
+pub(crate) fn holder(units: &Vec<Option<UnitJob>>, station: usize, tag: u32) -> Option<usize>
     ensures { IsHolder units.now.items station tag result }
 {
     for at in 0..units.len() {
         match &units[at] {
             Some(
-                Worker {
+                UnitJob {
                     seat: _,
                     job: Some(job),
                 },
@@ -75,7 +75,7 @@ pub(crate) fn holder(units: &Vec<Option<Worker>>, station: usize, tag: u32) -> O
 
 /// A place for each unit, none of which is made.
 #[tactic(auto, using(crate::proofs::Workers::push_none))]
-pub(crate) fn no_units(alloc: Global) -> Result<Vec<Option<Worker>>, Memory>
+pub(crate) fn no_units(alloc: Global) -> Result<Vec<Option<UnitJob>>, Memory>
     ensures places { IfOk result (λ units. vec_len units ≡ 64) }
     ensures none { IfOk result (λ units. HasNone units.items) }
 {
@@ -91,17 +91,17 @@ pub(crate) fn no_units(alloc: Global) -> Result<Vec<Option<Worker>>, Memory>
 }
 
 // A unit is no more, and its job with it.
-fn give_up(worker: Worker)
+fn give_up(worker: UnitJob)
     requires { IsAtWork worker }
 {
-    let Worker { seat, job } = worker;
+    let UnitJob { seat, job } = worker;
     if let Some(job) = job {
         abandon(seat, job);
     }
 }
 
 /// No unit is made any more.
-pub(crate) fn forget_units(units: &mut Vec<Option<Worker>>)
+pub(crate) fn forget_units(units: &mut Vec<Option<UnitJob>>)
     requires { AreAtWork units.old.items }
     ensures places { vec_len units.new ≡ vec_len units.old }
     ensures none { HasNone units.new.items }
@@ -114,7 +114,7 @@ pub(crate) fn forget_units(units: &mut Vec<Option<Worker>>)
 }
 
 /// The units are no more.
-pub(crate) fn end_units(units: Vec<Option<Worker>>)
+pub(crate) fn end_units(units: Vec<Option<UnitJob>>)
     requires { AreAtWork units.items }
 {
     let mut units = units;
@@ -139,9 +139,9 @@ fn part(seat: UnitSeat, core: &Core) -> (UnitSeat, UnitSeat)
 pub(crate) fn take_worker(
     core: &Core,
     all: &mut UnitSeat,
-    units: &mut Vec<Option<Worker>>,
+    units: &mut Vec<Option<UnitJob>>,
     unit: usize,
-) -> Worker
+) -> UnitJob
     requires all { all.old.core ≡ core.now }
     requires unit { unit < vec_len units.old }
     requires workers { AreWorkers core.now units.old.items }
@@ -149,12 +149,12 @@ pub(crate) fn take_worker(
     ensures history { all.new.seen ≡ all.old.seen }
     ensures worker { IsWorker core.now result }
     ensures job { result.job ≡ job_at units.old.items unit }
-    ensures same { (w : Worker) → worker_at units.old.items unit ≡ Some w → result ≡ w }
+    ensures same { (w : UnitJob) → worker_at units.old.items unit ≡ Some w → result ≡ w }
     ensures place { units.new.items ≡ slice_set units.old.items unit None }
 {
     match units[unit].take() {
         Some(worker) => worker,
-        None => Worker {
+        None => UnitJob {
             seat: replace_with(all, core, part),
             job: None,
         },
@@ -162,7 +162,7 @@ pub(crate) fn take_worker(
 }
 
 /// Puts a unit to its place, where none is.
-pub(crate) fn put_worker(units: &mut Vec<Option<Worker>>, unit: usize, worker: Worker)
+pub(crate) fn put_worker(units: &mut Vec<Option<UnitJob>>, unit: usize, worker: UnitJob)
     requires unit { unit < vec_len units.old }
     requires free { worker_at units.old.items unit ≡ None }
     ensures { units.new.items ≡ slice_set units.old.items unit (Some worker) }

@@ -6,7 +6,7 @@ ghost use Rattle.session.specs.Workers.{AreWorkers, HasClaimed, UnitHasFinished,
 
 use crate::calls;
 use crate::replies::Finished;
-use crate::units::{Claimed, Held, Worker, put_worker, take_worker};
+use crate::units::{Claimed, Held, UnitJob, put_worker, take_worker};
 use instructions::Program;
 use station::{Claim, Core, Job, UnitSeat, abandon};
 
@@ -40,11 +40,11 @@ fn answer_of(claim: Claim) -> (Claimed, Option<Job>)
 }
 
 // The seat of a unit that holds no job.
-fn free_seat(worker: Worker) -> UnitSeat
+fn free_seat(worker: UnitJob) -> UnitSeat
     requires { worker.job ≡ None }
     ensures { result ≡ worker.seat }
 {
-    let Worker { seat, job } = worker;
+    let UnitJob { seat, job } = worker;
     match job {
         None => seat,
         Some(job) => {
@@ -58,7 +58,7 @@ fn free_seat(worker: Worker) -> UnitSeat
 pub(crate) fn claim_by(
     core: &Core,
     all: &mut UnitSeat,
-    units: &mut Vec<Option<Worker>>,
+    units: &mut Vec<Option<UnitJob>>,
     unit: usize,
     station: usize,
 ) -> Claimed
@@ -76,7 +76,7 @@ pub(crate) fn claim_by(
 {
     let mut seat = free_seat(take_worker(core, all, units, unit));
     let (answer, job) = answer_of(calls::claim(core, all, &mut seat, station));
-    put_worker(units, unit, Worker { seat, job });
+    put_worker(units, unit, UnitJob { seat, job });
     answer
 }
 
@@ -85,7 +85,7 @@ pub(crate) fn finish_by(
     core: &Core,
     program: &Program,
     all: &mut UnitSeat,
-    units: &mut Vec<Option<Worker>>,
+    units: &mut Vec<Option<UnitJob>>,
     unit: usize,
     station: usize,
 ) -> Finished
@@ -102,9 +102,9 @@ pub(crate) fn finish_by(
     ensures reply { UnitHasFinished core.now all.old.seen all.new.seen
         units.old.items units.new.items unit station result }
 {
-    let Worker { mut seat, job } = take_worker(core, all, units, unit);
+    let UnitJob { mut seat, job } = take_worker(core, all, units, unit);
     let Some(job) = job else { unreachable!() };
     let answer = calls::finish(core, program, all, &mut seat, job);
-    put_worker(units, unit, Worker { seat, job: None });
+    put_worker(units, unit, UnitJob { seat, job: None });
     answer
 }

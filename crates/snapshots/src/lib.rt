@@ -9,6 +9,6 @@ mod snapper;
 
 pub use mark::Mark;
 pub use publisher::Publisher;
-pub use rule::Naming;
+pub use rule::OfProgram;
 pub use snap::Snap;
 pub use snapper::{Gone, NoPlace, Snapper};

@@ -3,7 +3,7 @@ ghost use Rattle.std.specs.Prelude.{◌≡◌, ◌<◌, ◌≤◌, [], drop, IfO
 ghost use Rattle.snapshots.specs.Snapshots.{IsSnapshotOf, opening};
 
 use crate::mark::Mark;
-use crate::rule::{Naming, Sees, SnapWriter};
+use crate::rule::{OfProgram, Sees, SnapWriter};
 use crate::snap::Snap;
 use crate::snapper::Snapper;
 use core::mem::replace_with;
@@ -15,11 +15,11 @@ use std::sync::Wait;
 
 /// Publishes snapshots of one program. To a contract it is the snapshot that was published last.
 /// A publisher is no `Drop`: the one that holds it ends it.
-pub struct Publisher<J: Naming> {
+pub struct Publisher<J: OfProgram> {
     writer: SnapWriter<J>,
 }
 
-impl<J: Naming> Model for Publisher<J> {
+impl<J: OfProgram> Model for Publisher<J> {
     ghost use Rattle.std.specs.Prelude.{◌≡◌, [], drop};
     ghost use Rattle.snapshots.specs.declared.snap.Snap.{Snap};
 
@@ -32,7 +32,7 @@ impl<J: Naming> Model for Publisher<J> {
 }
 
 // At an error nothing is published.
-fn publish<J: Naming, R: Wait>(
+fn publish<J: OfProgram, R: Wait>(
     mut writer: SnapWriter<J>,
     job: (&R, Snap),
 ) -> (SnapWriter<J>, Result<(), AllocError>)
@@ -50,7 +50,7 @@ fn publish<J: Naming, R: Wait>(
     }
 }
 
-impl<J: Naming> Publisher<J> {
+impl<J: OfProgram> Publisher<J> {
     /// A publisher that shows the opening state, and the first snapper. There can be as many snappers at once as there
     /// are places. A refusal is for memory, and leaves nothing behind.
     pub fn new(alloc: Global, places: u32) -> Result<(Publisher<J>, Snapper<J>), Memory>

@@ -10,13 +10,13 @@ use std::marker::{Brand, PhantomData};
 
 /// The program whose states are published. It has no value at run time: each call with a `Brand`
 /// picks it, in the proof.
-pub trait Naming {
+pub trait OfProgram {
     ghost use Rattle.instructions.specs.Programs.{Program};
 
     ghost program: { Program };
 }
 
-impl Naming for Brand {
+impl OfProgram for Brand {
     ghost use Rattle.std.specs.Prelude.{[]};
 
     ghost program = { record { code = []; bytes = [] } };
@@ -27,7 +27,7 @@ pub struct InOrder<J> {
     of: PhantomData<J>,
 }
 
-impl<J: Naming> Protocol<Snap, u64> for InOrder<J> {
+impl<J: OfProgram> Protocol<Snap, u64> for InOrder<J> {
     ghost holds = { NobodyIsAhead J.program };
 
     ghost first = { 0 };
@@ -38,7 +38,7 @@ pub struct Sees<J> {
     of: PhantomData<J>,
 }
 
-impl<J: Naming> Outcome<Snap, u64> for Sees<J> {
+impl<J: OfProgram> Outcome<Snap, u64> for Sees<J> {
     ghost then = { Told J.program };
 }
 

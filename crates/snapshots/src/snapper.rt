@@ -4,7 +4,7 @@ ghost use Rattle.left_right.specs.Sides.{view};
 ghost use Rattle.snapshots.specs.Snapshots.{IsSnapshotOf};
 
 use crate::mark::Mark;
-use crate::rule::{Naming, Sees, SnapReader};
+use crate::rule::{OfProgram, Sees, SnapReader};
 use crate::snap::Snap;
 use core::mem::replace_with;
 use std::marker::Model;
@@ -24,14 +24,14 @@ pub struct NoPlace(());
 /// Takes the newest snapshot, with no lock. To a contract it is the greatest n that it has seen: of
 /// the snapshots that it took and of the marks that it learnt.
 #[derive(Drop)]
-pub struct Snapper<J: Naming> {
+pub struct Snapper<J: OfProgram> {
     // none where no place was found for the first one
     reader: Option<SnapReader<J>>,
     // the greatest mark
     floor: u64,
 }
 
-impl<J: Naming> Model for Snapper<J> {
+impl<J: OfProgram> Model for Snapper<J> {
     ghost use Rattle.std.specs.Prelude.{ℕ, max};
     ghost use Rattle.std.specs.Option.{option_map_or};
     ghost use Rattle.left_right.specs.Sides.{view as seen_by};
@@ -43,7 +43,7 @@ impl<J: Naming> Model for Snapper<J> {
 
 // Takes a snapshot that is not below the floor. The rule keeps it from being below what the reader
 // has seen, but knows nothing of marks.
-fn read<J: Naming>(reader: SnapReader<J>, floor: u64) -> (SnapReader<J>, Result<Snap, Gone>)
+fn read<J: OfProgram>(reader: SnapReader<J>, floor: u64) -> (SnapReader<J>, Result<Snap, Gone>)
     ensures ok { IfOk result.1 (λ snap. IsSnapshotOf J.program snap) }
     ensures later { IfOk result.1 (λ snap. max (view reader.place) floor ≤ snap.n) }
     ensures seen { IfOk result.1 (λ snap. max (view result.0.place) floor ≡ snap.n) }
@@ -63,7 +63,7 @@ fn read<J: Naming>(reader: SnapReader<J>, floor: u64) -> (SnapReader<J>, Result<
     }
 }
 
-impl<J: Naming> Snapper<J> {
+impl<J: OfProgram> Snapper<J> {
     pub(crate) fn of(reader: Option<SnapReader<J>>) -> Snapper<J>
         requires { IfSome reader (λ reader. view reader.place ≡ 0) }
         ensures { result ≡ 0 }

@@ -4,7 +4,7 @@ use Rattle.std.proofs.lemmas.List.{append_assoc, append-nil}
 use Rattle.std.proofs.lemmas.List.Elements.{All-nil, All-push}
 use Rattle.std.specs.Int.{bit_at}
 use Rattle.std.specs.Prelude.{All}
-use Rattle.hints.specs.Hinted.{HasOffered, TheHinter, hand, putting}
+use Rattle.hints.specs.Hinted.{HasOffered, TheHinter, deal, putting}
 use Rattle.workers.specs.Hinting.{HasHinted, HasHintedOne, Rises, set_below}
 use Rattle.station.specs.Waking.{IsSet}
 
@@ -32,7 +32,7 @@ none_hinted woken v =
       set = All-nil (IsSet woken);
       rising = tt;
       inside = All-nil (λ s. s < 0);
-      put = ap (λ xs. hand xs v.hand.taken) (sym (append-nil v.hand.put));
+      put = ap (λ xs. deal xs v.deal.taken) (sym (append-nil v.deal.put));
       offered = omega arith;
       asked = refl;
     }
@@ -52,7 +52,7 @@ passed woken i old new clear h =
     }
 
 -- the next station found the queue full
-dropped : (woken i : ℕ) (old new then : TheHinter) → IsSet woken i → then.of ≡ new.of → then.hand ≡ new.hand → HasOffered new then →
+dropped : (woken i : ℕ) (old new then : TheHinter) → IsSet woken i → then.of ≡ new.of → then.deal ≡ new.deal → HasOffered new then →
     HasHinted woken i old new → HasHinted woken (i + 1) old then
 dropped woken i old new then set of kept once h =
     record {
@@ -67,7 +67,7 @@ dropped woken i old new then set of kept once h =
     }
 
 -- the next station was hinted
-hinted : (woken i : ℕ) (old new then : TheHinter) → IsSet woken i → then.of ≡ new.of → then.hand ≡ putting i new.hand → HasOffered new then →
+hinted : (woken i : ℕ) (old new then : TheHinter) → IsSet woken i → then.of ≡ new.of → then.deal ≡ putting i new.deal → HasOffered new then →
     HasHinted woken i old new → HasHinted woken (i + 1) old then
 hinted woken i old new then set of put once h =
     record {
@@ -76,13 +76,13 @@ hinted woken i old new then set of put once h =
       set = All-push (IsSet woken) h.stations i h.set set;
       rising = rises_on 0 i h.stations h.rising h.inside (omega arith);
       inside = All-push (λ s. s < i + 1) h.stations i (further i h.stations h.inside) (omega arith);
-      put = put ∙ ap (λ v. putting i v) h.put ∙ ap (λ xs. hand xs old.hand.taken) (append_assoc old.hand.put h.stations (i ∷ []));
+      put = put ∙ ap (λ v. putting i v) h.put ∙ ap (λ xs. deal xs old.deal.taken) (append_assoc old.deal.put h.stations (i ∷ []));
       offered = (let next = set_next woken i in omega (arith, next, h.offered, once.once, set));
       asked = once.asked ∙ h.asked;
     }
 
 -- the next station was hinted, or found the queue full
-pub put_or_dropped : (woken i : ℕ) (old new then : TheHinter) (is_put : Bool) → IsSet woken i → then.of ≡ new.of → (IsTrue is_put → then.hand ≡ putting i new.hand)
-    → (IsFalse is_put → then.hand ≡ new.hand) → HasOffered new then → HasHinted woken i old new → HasHinted woken (i + 1) old then
+pub put_or_dropped : (woken i : ℕ) (old new then : TheHinter) (is_put : Bool) → IsSet woken i → then.of ≡ new.of → (IsTrue is_put → then.deal ≡ putting i new.deal)
+    → (IsFalse is_put → then.deal ≡ new.deal) → HasOffered new then → HasHinted woken i old new → HasHinted woken (i + 1) old then
 put_or_dropped woken i old new then true set of put kept once h = hinted woken i old new then set of (put refl) once h
 put_or_dropped woken i old new then false set of put kept once h = dropped woken i old new then set of (kept refl) once h

@@ -7,7 +7,7 @@ use denote.RattleType.{RattleType}
 use denote.Ref.{NamedLft, ShrRef}
 use denote.Struct.Declared.{shape}
 use Rattle.counts.specs.contracts.seats.WorkerSeat.{the_row as count_row}
-use Rattle.hints.specs.declared.hands.Ring as ring
+use Rattle.hints.specs.declared.deals.Ring as ring
 use Rattle.station.specs.contracts.cores.Core.{the_row as core_row}
 use Rattle.station.proofs.cores.Core.TheSendSync as core_crosses
 use Rattle.station.specs.contracts.seat.SeatOf.{the_row as seat_row}

@@ -1,7 +1,7 @@
 -- The stations that are hinted, and where a unit looks for work.
 use Rattle.std.specs.Prelude.{⊤, ◌≡◌, ◌⊎◌, ℕ, zero, suc, ◌+◌, ◌<◌, ◌≤◌, ◌%◌, ◌^◌, List, [], ◌∷◌, ◌++◌, All}
 use Rattle.std.specs.Int.{bit_at}
-use Rattle.hints.specs.Hinted.{HasOffered, IsEndOf, TheHinter, TheHints, hand, putting, taking}
+use Rattle.hints.specs.Hinted.{HasOffered, IsEndOf, TheHinter, TheHints, deal, putting, taking}
 use Rattle.workers.specs.declared.search.Candidate.{Candidate}
 use Rattle.workers.specs.declared.search.Candidate.TheVariants.{Hinted, Next}
 use Rattle.workers.specs.declared.search.Search.{Search}
@@ -27,14 +27,14 @@ pub record HasHinted (woken below : ℕ) (old new : TheHinter) : Type 0 where
   pub set : All (IsSet woken) stations
   pub rising : Rises 0 stations
   pub inside : All (λ s. s < below) stations
-  pub put : new.hand ≡ hand (old.hand.put ++ stations) old.hand.taken
+  pub put : new.deal ≡ deal (old.deal.put ++ stations) old.deal.taken
   pub offered : new.offered % 2 ^ 64 ≡ (old.offered + set_below woken below) % 2 ^ 64
   pub asked : new.asked ≡ old.asked
 
 -- This station was offered to the queue once, which took it or was full
 pub record HasHintedOne (station : ℕ) (old new : TheHinter) : Type 0 where
   pub of : new.of ≡ old.of
-  pub put : (new.hand ≡ putting station old.hand) ⊎ (new.hand ≡ old.hand)
+  pub put : (new.deal ≡ putting station old.deal) ⊎ (new.deal ≡ old.deal)
   pub offered : HasOffered old new
 
 -- A unit that has finished a job hints the stations that its result woke; one that came too late hints none
@@ -55,9 +55,9 @@ candidate_station (Next station) = station
 -- The search found a hint; or there was none, and it found the next station in ring order
 abbrev pub FindsStation : (ring : ℕ) → Search → Search → Candidate → Type 0
 FindsStation ring old new (Hinted station) =
-    (new.hinter.hand ≡ taking station old.hinter.hand) × (new.next ≡ old.next)
+    (new.hinter.deal ≡ taking station old.hinter.deal) × (new.next ≡ old.next)
 FindsStation ring old new (Next station) =
-    (station ≡ old.next) × (new.next ≡ (old.next + 1) % ring) × (new.hinter.hand ≡ old.hinter.hand)
+    (station ≡ old.next) × (new.next ≡ (old.next + 1) % ring) × (new.hinter.deal ≡ old.hinter.deal)
 
 -- One hint was asked for, whether there was one or not
 abbrev pub AsksOnce : Search → Search → Type 0

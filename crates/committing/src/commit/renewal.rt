@@ -6,7 +6,7 @@ ghost use Rattle.station.specs.Renewals.{HasNobody};
 
 use super::Committer;
 use crate::ends::Refusal;
-use back::{Naming, a_back_enters_behind_a_renewal};
+use back::{OfProgram, a_back_enters_behind_a_renewal};
 use core::mem::replace_with;
 use counts::Total;
 use hints::Ring;
@@ -14,7 +14,7 @@ use station::{Core, FrontSeat, UnitSeat};
 use std::alloc::Global;
 use workers::{Bounds, RunState};
 
-impl<K: Naming + Bounds + Ring> Committer<K> {
+impl<K: OfProgram + Bounds + Ring> Committer<K> {
     // Renews the core of a commit side that is owned. Without memory core and seats are lost, and the back is at the
     // old core again.
     fn renewed(

@@ -8,7 +8,7 @@ ghost use Rattle.committing.specs.Committing.{HintsLoaded};
 
 use super::{Committer, PATIENCE};
 use crate::ends::Refusal;
-use back::{Commit, Mark, Naming, Refresh};
+use back::{Commit, Mark, OfProgram, Refresh};
 use counts::{CountSeat, Tally, Total};
 use hints::{Hinter, Ring};
 use instructions::Memory;
@@ -36,7 +36,7 @@ fn pass_tally<G: Gate>(
     gate.counted(tally);
 }
 
-impl<K: Naming + Bounds + Ring> Committer<K> {
+impl<K: OfProgram + Bounds + Ring> Committer<K> {
     // Shows the state, and passes the tally until then to the gate.
     fn show<G: Gate, R: Wait>(&mut self, shared: &TermShared<'_, K, G, R>) -> Result<(), Memory>
         ensures back { IsSameBack self.old.back (record self.new.back

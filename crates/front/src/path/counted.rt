@@ -33,7 +33,7 @@ pub struct Table {
 
 /// The create vector, as turns and recoveries get it: each reading and writing is counted, modulo 2^64.
 #[derive(Drop)]
-pub struct Counted {
+pub struct CountedTable {
     table: Table,
     touched: u64,
 }
@@ -41,7 +41,7 @@ pub struct Counted {
 /// The create vector, as the front holds it: it may be asked from outside, uncounted.
 #[derive(Drop)]
 pub struct Creators {
-    pub counted: Counted,
+    pub counted: CountedTable,
 }
 
 // Counts one reading or writing.
@@ -71,7 +71,7 @@ impl Table {
     }
 }
 
-impl Counted {
+impl CountedTable {
     // Counts one reading or writing.
     pub(super) fn touch(&mut self)
         ensures table { self.new.table ≡ self.old.table }
@@ -146,7 +146,7 @@ impl Creators {
             latest: [nobody; 32],
         };
         Creators {
-            counted: Counted { table, touched: 0 },
+            counted: CountedTable { table, touched: 0 },
         }
     }
 

@@ -3,7 +3,7 @@
 ghost use Rattle.std.specs.Prelude.{◌≡◌, ◌<◌, Some, None};
 ghost use Rattle.front.specs.CreateTable.{EntryFinds, IsEntered, IsRestored, IsTouched, made_from_start};
 
-use super::counted::{Counted, Maker, Saved, Table};
+use super::counted::{CountedTable, Maker, Saved, Table};
 use super::record::Record;
 use instructions::{Reg, pc_plus_4};
 
@@ -49,7 +49,7 @@ impl Table {
     }
 }
 
-impl Counted {
+impl CountedTable {
     // Enters a new tenant as the last one of its station and the newest writer of its register.
     pub(super) fn enter(&mut self, newest: &Record)
         requires { newest.now.station < 32 }

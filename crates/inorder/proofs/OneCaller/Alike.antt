@@ -4,7 +4,7 @@ use Rattle.std.specs.List.{AllByRecursion}
 use Rattle.inorder.specs.Steps.{IsNoRetiredStop}
 use Rattle.inorder.specs.Tenants.{Operand, Tenant}
 use Rattle.inorder.specs.Unit.{at, value_made, value_of}
-use Rattle.inorder.specs.Still.{AreStill, IsNotBusy, SourceIsStill}
+use Rattle.inorder.specs.Quiescent.{AreQuiescent, IsNotBusy, SourceIsQuiescent}
 
 pub record IsAlike (t u : Tenant) : Type 0 where
   pub station : u.station ≡ t.station
@@ -63,7 +63,7 @@ pub alike_value : (ts us : List Tenant) → AreAlike ts us → (c : Option ℕ) 
 alike_value ts us a None = refl
 alike_value ts us a (Some p) = alike_made ts us a p
 
-pub still_alike : (ts us : List Tenant) → AreAlike ts us → (o : Operand) → SourceIsStill ts o → SourceIsStill us o
+pub still_alike : (ts us : List Tenant) → AreAlike ts us → (o : Operand) → SourceIsQuiescent ts o → SourceIsQuiescent us o
 still_alike ts us a o h = record { value = h.value ∙ sym (alike_value ts us a o.creator); way = h.way }
 
 pub stops_alike : (ts us : List Tenant) → AreAlike ts us → AllByRecursion IsNoRetiredStop ts → AllByRecursion IsNoRetiredStop us
@@ -96,8 +96,8 @@ value_put : (ys : List Tenant) (t u : Tenant) (ts : List Tenant) → u.made ≡ 
 value_put ys t u ts e None = refl
 value_put ys t u ts e (Some p) = made_put ys t u ts e p
 
-pub still_put : (ys : List Tenant) (t u : Tenant) (ts : List Tenant) → u.made ≡ t.made → u.first ≡ t.first → u.second ≡ t.second → IsNotBusy u.fate → AreStill (ys ++ t ∷ ts) → AreStill (ys ++ u ∷ ts)
-still_put [] t u ts m f g n h = ((subst (SourceIsStill ts) (sym f) h.0.0, subst (SourceIsStill ts) (sym g) h.0.1, n), h.1)
+pub still_put : (ys : List Tenant) (t u : Tenant) (ts : List Tenant) → u.made ≡ t.made → u.first ≡ t.first → u.second ≡ t.second → IsNotBusy u.fate → AreQuiescent (ys ++ t ∷ ts) → AreQuiescent (ys ++ u ∷ ts)
+still_put [] t u ts m f g n h = ((subst (SourceIsQuiescent ts) (sym f) h.0.0, subst (SourceIsQuiescent ts) (sym g) h.0.1, n), h.1)
 still_put (y ∷ ys) t u ts m f g n h = (
   (
     record { value = h.0.0.value ∙ sym (value_put ys t u ts m y.first.creator); way = h.0.0.way },

@@ -12,7 +12,7 @@ use Rattle.inorder.specs.Tenants.{Operand, Tenant, operand}
 use Rattle.inorder.specs.Unit.{Sizes, UpdateUnit, value_of}
 use Rattle.inorder.proofs.Sound.{IsSound, ValueIs}
 use Rattle.inorder.specs.Moves.{IsDeliver, Leads, with_tenants}
-use Rattle.inorder.specs.Still.{AreStill, WasLinked, IsNotBusy, SourceIsStill}
+use Rattle.inorder.specs.Quiescent.{AreQuiescent, WasLinked, IsNotBusy, SourceIsQuiescent}
 use Rattle.inorder.proofs.OneCaller.Alike.{AreAlike, IsAlike, alike_both, alike_self, still_alike}
 use Rattle.inorder.proofs.OneCaller.Middle.{allowed_middle, changed_middle}
 use Rattle.inorder.proofs.OneCaller.Sequences.{all_more, leads_more, leads_nowhere, leads_once}
@@ -36,7 +36,7 @@ record OneRun (P : Program) (C : Sizes) (by : ℕ) (U : UpdateUnit) (ys : List T
   pub later : Tenant
   pub leads : Leads P C by (with_tenants U (ys ++ t ∷ ts)) steps (with_tenants U (ys ++ later ∷ ts))
   pub are : AllByRecursion IsDeliver steps
-  pub still : SourceIsStill ts (operand k later)
+  pub still : SourceIsQuiescent ts (operand k later)
   pub same : operand (other k) later ≡ operand (other k) t
   pub alike : IsAlike t later
 
@@ -79,7 +79,7 @@ deliver P C by U ys t ts Second v w n g = deliver_second P C by U ys t ts v w n 
 one_run : (P : Program) (C : Sizes) (by : ℕ) (U : UpdateUnit) (ys : List Tenant) (t : Tenant) (ts : List Tenant) (k : Source) → IsAsked ts (operand k t) → OneRun P C by U ys t ts k
 one_run P C by U ys t ts k a = go (operand k t).value (value_of ts (operand k t).creator) refl refl
   where
-    nothing : SourceIsStill ts (operand k t) → OneRun P C by U ys t ts k
+    nothing : SourceIsQuiescent ts (operand k t) → OneRun P C by U ys t ts k
     nothing s = record { steps = []; later = t; leads = leads_nowhere P C by (with_tenants U (ys ++ t ∷ ts)); are = tt; still = s; same = refl; alike = alike_self t }
 
     go : (v g : Option ℕ) → (operand k t).value ≡ v → value_of ts (operand k t).creator ≡ g → OneRun P C by U ys t ts k
@@ -93,7 +93,7 @@ pub record AllRun (P : Program) (C : Sizes) (by : ℕ) (U : UpdateUnit) (ys ts :
   pub later : List Tenant
   pub leads : Leads P C by (with_tenants U (ys ++ ts)) steps (with_tenants U (ys ++ later))
   pub are : AllByRecursion IsDeliver steps
-  pub still : AreStill later
+  pub still : AreQuiescent later
   pub alike : AreAlike ts later
 
 pub all_run : (P : Program) (C : Sizes) (by : ℕ) (U : UpdateUnit) (ys ts : List Tenant) → AreAsked ts → AllRun P C by U ys ts
@@ -135,7 +135,7 @@ all_run P C by U ys (t ∷ ts) a = go (one_run P C by U ys t ts First a.0.0) (λ
                   are = all_more IsDeliver r.steps both r.are (all_more IsDeliver two.steps one.steps two.are one.are);
                   still = (
                     (
-                      still_alike ts r.later r.alike two.later.first (subst (SourceIsStill ts) (sym two.same) one.still),
+                      still_alike ts r.later r.alike two.later.first (subst (SourceIsQuiescent ts) (sym two.same) one.still),
                       still_alike ts r.later r.alike two.later.second two.still,
                       subst IsNotBusy (sym (two.alike.fate ∙ one.alike.fate)) a.0.2,
                     ),
@@ -145,13 +145,13 @@ all_run P C by U ys (t ∷ ts) a = go (one_run P C by U ys t ts First a.0.0) (λ
                 }
 
 -- sound and still is asked, for whoever is older; and for the younger, whose ways stay
-asked_old : (P : Program) (ts : List Tenant) → IsSound P ts → AreStill ts → AreAsked ts
+asked_old : (P : Program) (ts : List Tenant) → IsSound P ts → AreQuiescent ts → AreAsked ts
 asked_old P [] s h = tt
 asked_old P (t ∷ ts) s h =
     ((record { value = s.0.own.first; way = h.0.0.way }, record { value = s.0.own.second; way = h.0.1.way }, h.0.2), asked_old P ts s.1 h.1)
 
 pub asked_middle : (P : Program) (ys : List Tenant) (t u : Tenant) (ts : List Tenant) → u.first ≡ t.first →
-    u.second ≡ t.second → IsNotBusy u.fate → IsSound P (ys ++ u ∷ ts) → AreStill (ys ++ t ∷ ts) →
+    u.second ≡ t.second → IsNotBusy u.fate → IsSound P (ys ++ u ∷ ts) → AreQuiescent (ys ++ t ∷ ts) →
     AreAsked (ys ++ u ∷ ts)
 asked_middle P [] t u ts e f n s h = (
   (

@@ -16,7 +16,7 @@ use Rattle.inorder.specs.Unit.{front_half, Sizes, UpdateUnit, creator, front_pc,
 use Rattle.inorder.proofs.Sound.{IsSound}
 use Rattle.inorder.proofs.Stations.{Stands}
 use Rattle.inorder.specs.Moves.{IsLink, Leads, with_let}
-use Rattle.inorder.specs.Still.{SourceIsStill}
+use Rattle.inorder.specs.Quiescent.{SourceIsQuiescent}
 use Rattle.inorder.proofs.OneCaller.Alike.{IsAlike}
 use Rattle.inorder.proofs.OneCaller.Creators.{pending_may}
 use Rattle.inorder.proofs.OneCaller.Middle.{allowed_middle, changed_middle}
@@ -40,10 +40,10 @@ pub record LetRun (P : Program) (C : Sizes) (by : ℕ) (U : UpdateUnit) (index p
   pub tenant : Tenant
   pub leads : Leads P C by U (links ++ Let index predicted first second ∷ []) (with_let U tenant)
   pub alike : IsAlike (new_tenant P C U index predicted first second) tenant
-  pub first_still : SourceIsStill U.tenants tenant.first
-  pub second_still : SourceIsStill U.tenants tenant.second
+  pub first_still : SourceIsQuiescent U.tenants tenant.first
+  pub second_still : SourceIsQuiescent U.tenants tenant.second
 
-still_known : (U : List Tenant) (c : Option ℕ) (v : ℕ) → value_of U c ≡ Some v → SourceIsStill U (let_operand c (Known v))
+still_known : (U : List Tenant) (c : Option ℕ) (v : ℕ) → value_of U c ≡ Some v → SourceIsQuiescent U (let_operand c (Known v))
 still_known U c v e = record { value = sym e; way = λ n. let no : Some v ≡ None = n in absurd (cc) }
 
 pub let_run : (P : Program) (C : Sizes) (by : ℕ) (U : UpdateUnit) (index predicted : ℕ) →

@@ -12,7 +12,7 @@ use Rattle.inorder.specs.Tenants.{Busy, Done, Live, Miss, Retired, Tenant, compu
 use Rattle.inorder.specs.Unit.{Sizes, UpdateUnit}
 use Rattle.inorder.proofs.Sound.{IsSound}
 use Rattle.inorder.specs.Moves.{IsDeliver, Leads, with_tenants}
-use Rattle.inorder.specs.Still.{AreStill, IsNotBusy}
+use Rattle.inorder.specs.Quiescent.{AreQuiescent, IsNotBusy}
 use Rattle.inorder.proofs.OneCaller.Alike.{AreAlike, stops_alike, stops_put}
 use Rattle.inorder.proofs.OneCaller.Deliveries.{AllRun, all_run, asked_middle}
 use Rattle.inorder.proofs.OneCaller.Middle.{allowed_middle, changed_middle}
@@ -24,7 +24,7 @@ pub record ActRun (P : Program) (C : Sizes) (by : ℕ) (U : UpdateUnit) (ys : Li
   pub are : AllByRecursion IsDeliver delivers
   pub later : List Tenant
   pub leads : Leads P C by (with_tenants U (ys ++ t ∷ ts)) (delivers ++ steps) (with_tenants U later)
-  pub still : AreStill later
+  pub still : AreQuiescent later
   pub alike : AreAlike (ys ++ u ∷ ts) later
   pub stops : AllByRecursion IsNoRetiredStop later
 
@@ -35,7 +35,7 @@ pub record Keeps (t u : Tenant) : Type 0 where
   pub second : u.second ≡ t.second
   pub free : IsNotBusy u.fate
 
-pub act_run : (P : Program) (C : Sizes) (by : ℕ) (U : UpdateUnit) (ys : List Tenant) (t u : Tenant) (ts : List Tenant) (steps : List Step) → IsSound P (ys ++ t ∷ ts) → AreStill (ys ++ t ∷ ts) →
+pub act_run : (P : Program) (C : Sizes) (by : ℕ) (U : UpdateUnit) (ys : List Tenant) (t u : Tenant) (ts : List Tenant) (steps : List Step) → IsSound P (ys ++ t ∷ ts) → AreQuiescent (ys ++ t ∷ ts) →
     AllByRecursion IsNoRetiredStop (ys ++ t ∷ ts) → t.standing ≡ Live → Keeps t u → Leads P C by (with_tenants U (ys ++ t ∷ ts)) steps (with_tenants U (ys ++ u ∷ ts)) → ActRun P C by U ys t u ts steps
 act_run P C by U ys t u ts steps s h ns live k l = go (all_run P C by U [] V (asked_middle P ys t u ts k.first k.second k.free sound' h))
   where
@@ -78,7 +78,7 @@ claimed by t = record t { fate = Busy by }
 abbrev pub ran_steps : List Tenant → List Step
 ran_steps ts = On (length ts) Finish ∷ On (length ts) Claim ∷ []
 
-pub ran_run : (P : Program) (C : Sizes) (by : ℕ) (U : UpdateUnit) (ys : List Tenant) (t : Tenant) (ts : List Tenant) → IsSound P (ys ++ t ∷ ts) → AreStill (ys ++ t ∷ ts) →
+pub ran_run : (P : Program) (C : Sizes) (by : ℕ) (U : UpdateUnit) (ys : List Tenant) (t : Tenant) (ts : List Tenant) → IsSound P (ys ++ t ∷ ts) → AreQuiescent (ys ++ t ∷ ts) →
     AllByRecursion IsNoRetiredStop (ys ++ t ∷ ts) → MayClaim P t → ActRun P C by U ys t (finished (claimed by t) (computed P t)) ts (ran_steps ts)
 ran_run P C by U ys t ts s h ns m = act_run P C by U ys t u ts (ran_steps ts) s h ns m.live (record { standing = k.standing; first = k.first; second = k.second; free = k.free }) both
   where
@@ -100,7 +100,7 @@ ran_run P C by U ys t ts s h ns m = act_run P C by U ys t u ts (ran_steps ts) s 
     both = leads_more P C by (with_tenants U (ys ++ t ∷ ts)) (with_tenants U (ys ++ claimed by t ∷ ts)) (with_tenants U (ys ++ u ∷ ts)) (On (length ts) Finish ∷ []) (On (length ts) Claim ∷ []) claim
         finish
 
-pub loaded_run : (P : Program) (C : Sizes) (by : ℕ) (U : UpdateUnit) (ys : List Tenant) (t : Tenant) (ts : List Tenant) → IsSound P (ys ++ t ∷ ts) → AreStill (ys ++ t ∷ ts) →
+pub loaded_run : (P : Program) (C : Sizes) (by : ℕ) (U : UpdateUnit) (ys : List Tenant) (t : Tenant) (ts : List Tenant) → IsSound P (ys ++ t ∷ ts) → AreQuiescent (ys ++ t ∷ ts) →
     AllByRecursion IsNoRetiredStop (ys ++ t ∷ ts) → MayLoad P ts t → ActRun P C by U ys t (settled P ts t) ts (On (length ts) Load ∷ [])
 loaded_run P C by U ys t ts s h ns m =
     act_run P C by U ys t (settled P ts t) ts (On (length ts) Load ∷ []) s h ns m.live (record { standing = refl; first = refl; second = refl; free = tt })

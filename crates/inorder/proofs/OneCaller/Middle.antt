@@ -10,7 +10,7 @@ use Rattle.inorder.specs.Unit.{Sizes, UpdateUnit, at, older, replaced, younger}
 use Rattle.inorder.proofs.Basics.{eqb_less, eqb_self}
 use Rattle.inorder.proofs.Sound.{IsSound}
 use Rattle.inorder.specs.Moves.{with_tenants}
-use Rattle.inorder.specs.Still.{AreStill}
+use Rattle.inorder.specs.Quiescent.{AreQuiescent}
 
 past : (ys : List Tenant) (t : Tenant) (ts : List Tenant) → eqb (length ts) (length (ys ++ t ∷ ts)) ≡ false
 past ys t ts = let less : length ts < length (ys ++ t ∷ ts) = omega (arith, length-append ys (t ∷ ts)) in eqb_less (length ts) (length (ys ++ t ∷ ts)) less
@@ -54,7 +54,7 @@ changed_middle P C by U act ys t ts = ap (with_tenants U) list
         ∙ ap (λ x. replaced (ys ++ t ∷ ts) (length ts) (changed P by act t x)) (older_middle ys t ts)
         ∙ replaced_middle ys t ts (changed P by act t ts)
 
-pub still_from : (ys us : List Tenant) → AreStill (ys ++ us) → AreStill us
+pub still_from : (ys us : List Tenant) → AreQuiescent (ys ++ us) → AreQuiescent us
 still_from [] us h = h
 still_from (y ∷ ys) us h = still_from ys us h.1
 

@@ -12,7 +12,7 @@ use Rattle.inorder.specs.Memory.{sure_raw_at}
 use Rattle.inorder.specs.Moves.{Leads, with_tenants}
 use Rattle.inorder.specs.Speculation.{MayConfirm, MayGuess, guessed}
 use Rattle.inorder.specs.Steps.{IsNoRetiredStop}
-use Rattle.inorder.specs.Still.{AreStill}
+use Rattle.inorder.specs.Quiescent.{AreQuiescent}
 use Rattle.inorder.specs.Tenants.{Done, Tenant, computed, instr, missing}
 use Rattle.inorder.specs.Unit.{Sizes, UpdateUnit}
 use Rattle.inorder.proofs.OneCaller.Execution.{ActRun, act_run}
@@ -23,7 +23,7 @@ use Rattle.inorder.proofs.Sound.{IsSound}
 abbrev pub pass_steps : List Tenant → ℕ → List Step
 pass_steps ts v = On (length ts) (Speculate Confirm) ∷ On (length ts) (Speculate (Guess v)) ∷ []
 
-pub passed_run : (P : Program) (C : Sizes) (by : ℕ) (U : UpdateUnit) (ys : List Tenant) (t : Tenant) (ts : List Tenant) → IsSound P (ys ++ t ∷ ts) → AreStill (ys ++ t ∷ ts) →
+pub passed_run : (P : Program) (C : Sizes) (by : ℕ) (U : UpdateUnit) (ys : List Tenant) (t : Tenant) (ts : List Tenant) → IsSound P (ys ++ t ∷ ts) → AreQuiescent (ys ++ t ∷ ts) →
     AllByRecursion IsNoRetiredStop (ys ++ t ∷ ts) → (v a bytes : ℕ) → MayGuess P t v → missing P t ≡ None → computed P t ≡ Address a → sure_raw_at P ts (instr P t) a ≡ Some bytes →
     v ≡ loaded (instr P t).op bytes → ActRun P C by U ys t (record t { fate = Done v; made = Some v }) ts (pass_steps ts v)
 passed_run P C by U ys t ts s h ns v a bytes m needs computes read right =

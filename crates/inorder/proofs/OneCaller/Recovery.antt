@@ -9,7 +9,7 @@ use Rattle.inorder.specs.Steps.{IsNoRetiredStop, mended_as, squashed}
 use Rattle.inorder.specs.Tenants.{Done, IsNotLive, Live, Miss, Retired, Squashed, Standing, Tenant}
 use Rattle.inorder.specs.Unit.{Sizes, UpdateUnit}
 use Rattle.inorder.specs.Moves.{IsSquash, Leads, with_tenants}
-use Rattle.inorder.specs.Still.{AreStill}
+use Rattle.inorder.specs.Quiescent.{AreQuiescent}
 use Rattle.inorder.proofs.OneCaller.Alike.{still_put, stops_put}
 use Rattle.inorder.proofs.OneCaller.Middle.{allowed_middle, at_middle, changed_middle, still_from}
 use Rattle.inorder.proofs.OneCaller.Sequences.{all_more, leads_more, leads_nowhere, leads_once}
@@ -36,7 +36,7 @@ record SquashRun (P : Program) (C : Sizes) (by : ℕ) (U : UpdateUnit) (zs ys : 
   pub steps : List Step
   pub are : AllByRecursion IsSquash steps
   pub leads : Leads P C by (with_tenants U (zs ++ (ys ++ t ∷ ts))) steps (with_tenants U (zs ++ (gone ys ++ t ∷ ts)))
-  pub still : AreStill (zs ++ (ys ++ t ∷ ts)) → AreStill (zs ++ (gone ys ++ t ∷ ts))
+  pub still : AreQuiescent (zs ++ (ys ++ t ∷ ts)) → AreQuiescent (zs ++ (gone ys ++ t ∷ ts))
   pub stops : AllByRecursion IsNoRetiredStop (zs ++ (ys ++ t ∷ ts)) → AllByRecursion IsNoRetiredStop (zs ++ (gone ys ++ t ∷ ts))
 
 pub left_more : (zs : List Tenant) (y : Tenant) → AllByRecursion IsNotLive zs → IsNotLive y → AllByRecursion IsNotLive (zs ++ y ∷ [])
@@ -63,8 +63,8 @@ squash_run P C by U zs (y ∷ ys) t ts x a live miss = go y.standing refl (λ u 
         subst (λ X. Leads P C by (with_tenants U X) r.steps (with_tenants U (zs ++ u ∷ after))) (moved u before)
         (subst (λ X. Leads P C by (with_tenants U ((zs ++ u ∷ []) ++ before)) r.steps (with_tenants U X)) (moved u after) r.leads)
 
-    stills : (u : Tenant) (r : SquashRun P C by U (zs ++ u ∷ []) ys t ts) → AreStill (zs ++ u ∷ before) → AreStill (zs ++ u ∷ after)
-    stills u r h = subst AreStill (moved u after) (r.still (subst AreStill (sym (moved u before)) h))
+    stills : (u : Tenant) (r : SquashRun P C by U (zs ++ u ∷ []) ys t ts) → AreQuiescent (zs ++ u ∷ before) → AreQuiescent (zs ++ u ∷ after)
+    stills u r h = subst AreQuiescent (moved u after) (r.still (subst AreQuiescent (sym (moved u before)) h))
 
     stopped : (u : Tenant) (r : SquashRun P C by U (zs ++ u ∷ []) ys t ts) → AllByRecursion IsNoRetiredStop (zs ++ u ∷ before) → AllByRecursion IsNoRetiredStop (zs ++ u ∷ after)
     stopped u r h = subst (AllByRecursion IsNoRetiredStop) (moved u after) (r.stops (subst (AllByRecursion IsNoRetiredStop) (sym (moved u before)) h))
@@ -75,7 +75,7 @@ squash_run P C by U zs (y ∷ ys) t ts x a live miss = go y.standing refl (λ u 
           steps = r.steps;
           are = r.are;
           leads = subst (λ v. Leads P C by (with_tenants U (zs ++ y ∷ before)) r.steps (with_tenants U (zs ++ v ∷ after))) (sym e) (rest y r);
-          still = λ h. subst (λ v. AreStill (zs ++ v ∷ after)) (sym e) (stills y r h);
+          still = λ h. subst (λ v. AreQuiescent (zs ++ v ∷ after)) (sym e) (stills y r h);
           stops = λ h. subst (λ v. AllByRecursion IsNoRetiredStop (zs ++ v ∷ after)) (sym e) (stopped y r h);
         }
 
@@ -106,7 +106,7 @@ squash_run P C by U zs (y ∷ ys) t ts x a live miss = go y.standing refl (λ u 
               steps = r.steps ++ On (length before) Squash ∷ [];
               are = all_more IsSquash r.steps (On (length before) Squash ∷ []) r.are (tt, tt);
               leads = subst (λ v. Leads P C by (with_tenants U (zs ++ y ∷ before)) (r.steps ++ On (length before) Squash ∷ []) (with_tenants U (zs ++ v ∷ after))) (sym is) both;
-              still = λ h. subst (λ v. AreStill (zs ++ v ∷ after)) (sym is) (stills u r (still_put zs y u before refl refl refl (still_from zs (y ∷ before) h).0.2 h));
+              still = λ h. subst (λ v. AreQuiescent (zs ++ v ∷ after)) (sym is) (stills u r (still_put zs y u before refl refl refl (still_from zs (y ∷ before) h).0.2 h));
               stops = λ h. subst (λ v. AllByRecursion IsNoRetiredStop (zs ++ v ∷ after)) (sym is) (stopped u r (stops_put zs y u before (λ q c f. let no : Squashed ≡ Retired = q in absurd (cc)) h));
             }
 
@@ -118,7 +118,7 @@ pub record RecoverRun (P : Program) (C : Sizes) (by : ℕ) (U : UpdateUnit) (ys 
   pub squashes : List Step
   pub are : AllByRecursion IsSquash squashes
   pub leads : Leads P C by (with_tenants U (ys ++ t ∷ ts)) (On (length ts) Mend ∷ squashes) (with_tenants U (gone ys ++ mended_to x t ∷ ts))
-  pub still : AreStill (ys ++ t ∷ ts) → AreStill (gone ys ++ mended_to x t ∷ ts)
+  pub still : AreQuiescent (ys ++ t ∷ ts) → AreQuiescent (gone ys ++ mended_to x t ∷ ts)
   pub stops : AllByRecursion IsNoRetiredStop (ys ++ t ∷ ts) → AllByRecursion IsNoRetiredStop (gone ys ++ mended_to x t ∷ ts)
 
 pub recover_run : (P : Program) (C : Sizes) (by : ℕ) (U : UpdateUnit) (ys : List Tenant) (t : Tenant) (ts : List Tenant) (x : ℕ) → t.standing ≡ Live → t.fate ≡ Miss x → RecoverRun P C by U ys t ts x

@@ -10,7 +10,7 @@ use std::fmt;
 
 /// The way in which the registers of an instruction are written.
 #[derive(Clone, Copy, Debug, PartialEq, Eq)]
-pub enum Naming {
+pub enum RegisterStyle {
     /// By their numbers, as `$29`.
     Numbers,
     /// By their names, as `$sp`.
@@ -40,7 +40,7 @@ fn name_of(register: Reg) -> Option<&'static str>
 // A register, by its number or its name.
 #[derive(Clone, Copy)]
 struct Register {
-    naming: Naming,
+    naming: RegisterStyle,
     register: Reg,
 }
 
@@ -50,8 +50,8 @@ impl fmt::Display for Register {
     fn fmt<W: fmt::Write>(&self, f: &mut fmt::Formatter<W>) -> fmt::Result {
         let number = self.register.number();
         match self.naming {
-            Naming::Numbers => write!(f, "${number}"),
-            Naming::Names => match name_of(self.register) {
+            RegisterStyle::Numbers => write!(f, "${number}"),
+            RegisterStyle::Names => match name_of(self.register) {
                 Some(name) => write!(f, "${name}"),
                 None => write!(f, "${number}"),
             },
@@ -75,7 +75,7 @@ impl fmt::Display for Label {
 // An operand of an instruction.
 #[derive(Clone, Copy)]
 struct Operand {
-    naming: Naming,
+    naming: RegisterStyle,
     slot: Slot,
     instr: Instr,
 }
@@ -126,16 +126,16 @@ fn is_nop(instr: &Instr) -> bool
 /// is the label `L` with its address in hexadecimal.
 #[derive(Clone, Copy)]
 pub struct InstrText {
-    pub naming: Naming,
+    pub naming: RegisterStyle,
     pub instr: Instr,
 }
 
 impl InstrText {
     /// An instruction with its registers by their numbers.
     pub fn by_numbers(instr: Instr) -> InstrText
-        ensures { result ≡ record { naming = Naming.Numbers; instr = instr } }
+        ensures { result ≡ record { naming = RegisterStyle.Numbers; instr = instr } }
     {
-        let naming = Naming::Numbers;
+        let naming = RegisterStyle::Numbers;
         InstrText { naming, instr }
     }
 }

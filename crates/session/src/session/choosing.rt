@@ -3,7 +3,7 @@ use super::Session;
 use crate::commands::Command;
 use crate::replies::Row;
 use crate::shown::indexed;
-use back::Naming;
+use back::OfProgram;
 use instructions::{Kind, Predictor, Program};
 use station::{SourceState, StationState};
 use std::alloc::{AllocError, Global};
@@ -49,7 +49,7 @@ fn may_commit(oldest: &Option<(usize, Row)>) -> bool {
     }
 }
 
-impl<'a, P: Predictor + Drop, J: Naming> Session<'a, P, J> {
+impl<'a, P: Predictor + Drop, J: OfProgram> Session<'a, P, J> {
     ghost use Rattle.std.specs.Prelude.{◌<◌, IfNone, IfOk, IsSome, OnOk};
     ghost use Rattle.session.specs.Sessions.{MayHaveLooked, OnlyLooked};
 

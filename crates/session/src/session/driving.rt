@@ -9,7 +9,7 @@ use crate::names::UNITS;
 use crate::replies::{Refreshed, Refusal, Reply};
 use crate::units::{Claimed, held_station};
 use crate::working::{claim_by, finish_by};
-use back::{Commit as Committed, Naming};
+use back::{Commit as Committed, OfProgram};
 use front::{Front, Turn as Turned};
 use instructions::Predictor;
 use station::Core;
@@ -28,7 +28,7 @@ fn turn_by<P: Predictor + Drop>(core: &Core, front: &mut Front<'_, P>, given: Op
     }
 }
 
-impl<'a, P: Predictor + Drop, J: Naming> Session<'a, P, J> {
+impl<'a, P: Predictor + Drop, J: OfProgram> Session<'a, P, J> {
     ghost use Rattle.std.specs.Prelude.{◌≡◌, ◌<◌, ◌-◌, ◌^◌, None};
     ghost use Rattle.back.specs.Backs.{back_state};
     ghost use Rattle.session.specs.Replies.{IsCommit, IsTurn};

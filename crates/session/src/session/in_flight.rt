@@ -1,11 +1,11 @@
 //! The loads and stores of a session.
 use super::Session;
 use crate::queue::Accesses;
-use back::Naming;
+use back::OfProgram;
 use instructions::Predictor;
 use std::alloc::{AllocError, Global};
 
-impl<'a, P: Predictor + Drop, J: Naming> Session<'a, P, J> {
+impl<'a, P: Predictor + Drop, J: OfProgram> Session<'a, P, J> {
     ghost use Rattle.std.specs.Prelude.{◌<◌, OnOk};
     ghost use Rattle.session.specs.Sessions.{OnlyLooked};
 

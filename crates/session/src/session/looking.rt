@@ -2,11 +2,11 @@
 use super::Session;
 use crate::names::register_of;
 use crate::replies::{Refusal, Reply};
-use back::Naming;
+use back::OfProgram;
 use instructions::Predictor;
 use station::Source;
 
-impl<'a, P: Predictor + Drop, J: Naming> Session<'a, P, J> {
+impl<'a, P: Predictor + Drop, J: OfProgram> Session<'a, P, J> {
     ghost use Rattle.session.specs.Sessions.{IsReplied};
     ghost use Rattle.session.specs.declared.commands.Command.TheVariants.{Creator, Info, Link, Look, Operand, Ring, Station, Touched};
 

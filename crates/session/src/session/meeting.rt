@@ -7,7 +7,7 @@ use crate::meeting::tell_all;
 use crate::names::UNITS;
 use crate::parties::Party;
 use crate::replies::{Refusal, Reply};
-use back::Naming;
+use back::OfProgram;
 use instructions::Predictor;
 
 fn is_nobody(party: Party) -> bool
@@ -20,7 +20,7 @@ fn is_nobody(party: Party) -> bool
     }
 }
 
-impl<'a, P: Predictor + Drop, J: Naming> Session<'a, P, J> {
+impl<'a, P: Predictor + Drop, J: OfProgram> Session<'a, P, J> {
     ghost use Rattle.std.specs.Prelude.{◌≡◌};
     ghost use Rattle.session.specs.Moments.{GrowsLegally};
     ghost use Rattle.session.specs.Sessions.{HasToldAll, IsReplied, IsSomebody, after_command};

@@ -3,11 +3,11 @@ use super::Session;
 use crate::commands::Command;
 use crate::names::UNITS;
 use crate::units::held_station;
-use back::Naming;
+use back::OfProgram;
 use instructions::Predictor;
 use std::alloc::{AllocError, Global};
 
-impl<'a, P: Predictor + Drop, J: Naming> Session<'a, P, J> {
+impl<'a, P: Predictor + Drop, J: OfProgram> Session<'a, P, J> {
     ghost use Rattle.std.specs.Prelude.{◌<◌};
 
     /// The finish of the job that the unit at a place holds, if it holds one of the ring.

@@ -2,15 +2,15 @@
 //! the seat that has seen all.
 use super::Session;
 use crate::producers::{Producer, producer_named};
-use crate::replies::{Ahead, Head, Info, Operand, Row};
+use crate::replies::{Head, Info, NextFetch, Operand, Row};
 use crate::rows::{is_free, with};
 use crate::units::{Claimed, holder};
-use back::Naming;
+use back::OfProgram;
 use front::{Made, Turn};
 use instructions::{Predictor, Reg};
 use station::{LinkWord, Seen, Source, SourceState, StationState, what_is_seen_is_legal};
 
-impl<'a, P: Predictor + Drop, J: Naming> Session<'a, P, J> {
+impl<'a, P: Predictor + Drop, J: OfProgram> Session<'a, P, J> {
     ghost use Rattle.std.specs.Prelude.{◌<◌};
     ghost use Rattle.session.specs.Accounts.{IsAwaited, IsLinkTold, IsOfLet, IsOfOperand, IsOperandTold, IsProducerSeen};
     ghost use Rattle.session.specs.Replies.{IsCreatorNow, IsInfoSeen, IsLinkSeen, IsLook, IsOperandSeen};
@@ -41,7 +41,7 @@ impl<'a, P: Predictor + Drop, J: Naming> Session<'a, P, J> {
     }
 
     // Where the path goes on, as the front knows it.
-    fn read_path(&mut self) -> Ahead
+    fn read_path(&mut self) -> NextFetch
         ensures stays { OnlyLooked self.old self.new }
         ensures small { result.station < self.old.core.sizes.ring }
         ensures reply { IsAhead self.old.core self.old.seen self.new.seen result }
@@ -51,7 +51,7 @@ impl<'a, P: Predictor + Drop, J: Naming> Session<'a, P, J> {
         let _ring = core.ring();
         let station = front.next_station(core);
         let pc = front.next_pc();
-        Ahead { station, pc }
+        NextFetch { station, pc }
     }
 
     // The info word of a station.
@@ -233,7 +233,7 @@ impl<'a, P: Predictor + Drop, J: Naming> Session<'a, P, J> {
     }
 
     // The ring: its oldest tenant, and where the path goes on.
-    pub(super) fn ends(&mut self) -> (Head, Ahead)
+    pub(super) fn ends(&mut self) -> (Head, NextFetch)
         ensures stays { OnlyLooked self.old self.new }
         ensures reply { IsRingTold self.old.core self.old.seen self.new.seen result.0 result.1 }
     {

@@ -2,14 +2,14 @@
 use super::{Past, Session};
 use crate::renewal::{Stage, renew};
 use crate::replies::{Refusal, Reply};
-use crate::units::{Worker, forget_units};
-use back::{Mark, Naming, Snapper};
+use crate::units::{UnitJob, forget_units};
+use back::{Mark, OfProgram, Snapper};
 use core::mem::replace_with;
 use instructions::{Predictor, Program};
 use station::what_is_seen_is_legal;
 use std::alloc::Global;
 
-impl<'a, P: Predictor + Drop, J: Naming> Session<'a, P, J> {
+impl<'a, P: Predictor + Drop, J: OfProgram> Session<'a, P, J> {
     ghost use Rattle.std.specs.Prelude.{◌≡◌, None, false, true, vec_len};
     ghost use Rattle.session.specs.Renewals.{SeatsAreAt};
     ghost use Rattle.session.specs.Sessions.{IsReplied};
@@ -24,7 +24,7 @@ impl<'a, P: Predictor + Drop, J: Naming> Session<'a, P, J> {
         program: &'a Program,
         snapper: Snapper<J>,
         mark: Option<Mark>,
-        units: Vec<Option<Worker>>,
+        units: Vec<Option<UnitJob>>,
         past: Past<P>,
     ) -> Self
         requires named { stage.0.program ≡ J.program }

@@ -2,10 +2,10 @@
 use super::Session;
 use crate::front_calls;
 use crate::replies::Reply;
-use back::Naming;
+use back::OfProgram;
 use instructions::Predictor;
 
-impl<'a, P: Predictor + Drop, J: Naming> Session<'a, P, J> {
+impl<'a, P: Predictor + Drop, J: OfProgram> Session<'a, P, J> {
     ghost use Rattle.session.specs.Sessions.{IsReplied};
     ghost use Rattle.session.specs.declared.commands.Command.TheVariants.{Rest};
 

@@ -1,13 +1,13 @@
 //! The committed state of a session, by snapshots and by a report.
 use super::Session;
 use crate::replies::{Refusal, Reply};
-use back::Naming;
+use back::OfProgram;
 use inorder::Machine;
 use instructions::{End, Memory, Predictor};
 use std::alloc::Global;
 use std::sync::Wait;
 
-impl<'a, P: Predictor + Drop, J: Naming> Session<'a, P, J> {
+impl<'a, P: Predictor + Drop, J: OfProgram> Session<'a, P, J> {
     ghost use Rattle.std.specs.Prelude.{◌≡◌, IfOk};
     ghost use Rattle.back.specs.Backs.{back_state};
     ghost use Rattle.back.specs.Ends.{ending_of};

@@ -1,13 +1,13 @@
 //! A session that begins again, and the commands that it would then do.
 use super::Session;
 use crate::reading::{Line, may_change};
-use back::Naming;
+use back::OfProgram;
 use core::mem::replace;
 use instructions::{Memory, Predictor};
 use std::alloc::{AllocError, Global};
 use std::sync::Wait;
 
-impl<'a, P: Predictor + Copy + Drop, J: Naming> Session<'a, P, J> {
+impl<'a, P: Predictor + Copy + Drop, J: OfProgram> Session<'a, P, J> {
     ghost use Rattle.std.specs.Prelude.{OnOk};
     ghost use Rattle.session.specs.Sessions.{IsStartOfSession};
 
@@ -21,7 +21,7 @@ impl<'a, P: Predictor + Copy + Drop, J: Naming> Session<'a, P, J> {
     }
 }
 
-impl<'a, P: Predictor + Drop, J: Naming> Session<'a, P, J> {
+impl<'a, P: Predictor + Drop, J: OfProgram> Session<'a, P, J> {
     ghost use Rattle.std.specs.Prelude.{◌≡◌, OnOk, []};
     ghost use Rattle.session.specs.Undoing.{with_line};
 

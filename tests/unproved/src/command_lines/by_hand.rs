@@ -16,7 +16,7 @@ const WORDS: [&str; 8] = [
 #[test]
 fn a_command_line_asks_for_a_unit_to_drive(rt: HostRuntime) -> Result<(), Fail> {
     let words = WORDS;
-    let Ok(hand) = driven(rt.alloc(), words.as_slice()) else {
+    let Ok(hand) = parse_drive(rt.alloc(), words.as_slice()) else {
         return Err(Fail::new("there is nothing to drive"));
     };
     let sizes = (hand.config.ring(), hand.config.queue());
@@ -29,7 +29,7 @@ fn a_command_line_asks_for_a_unit_to_drive(rt: HostRuntime) -> Result<(), Fail> 
 #[test]
 fn a_unit_to_drive_has_its_usual_sizes(rt: HostRuntime) -> Result<(), Fail> {
     let words = ["ruu", "drive", "double.s"];
-    let Ok(hand) = driven(rt.alloc(), words.as_slice()) else {
+    let Ok(hand) = parse_drive(rt.alloc(), words.as_slice()) else {
         return Err(Fail::new("there is nothing to drive"));
     };
     let sizes = (hand.config.ring(), hand.config.queue());
@@ -53,7 +53,7 @@ fn a_unit_to_drive_may_choose_its_commands(rt: HostRuntime) -> Result<(), Fail> 
         "9",
         "--steps=7",
     ];
-    let Ok(hand) = driven(rt.alloc(), words.as_slice()) else {
+    let Ok(hand) = parse_drive(rt.alloc(), words.as_slice()) else {
         return Err(Fail::new("there is nothing to drive"));
     };
     assert_eq!(rt; (hand.echo, hand.seed, hand.steps), (true, Some(9), 7));
@@ -63,5 +63,5 @@ fn a_unit_to_drive_may_choose_its_commands(rt: HostRuntime) -> Result<(), Fail> 
 #[test]
 fn the_last_first_tag_is_taken(rt: HostRuntime) {
     let words = ["ruu", "drive", "double.s", "--first-tag", "268435454"];
-    assert!(rt; driven(rt.alloc(), words.as_slice()).is_ok());
+    assert!(rt; parse_drive(rt.alloc(), words.as_slice()).is_ok());
 }

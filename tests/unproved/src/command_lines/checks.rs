@@ -5,7 +5,7 @@ use std::test::Fail;
 #[test]
 fn a_check_takes_its_file_and_whether_all_is_wanted(rt: HostRuntime) -> Result<(), Fail> {
     let words = ["ruu", "check", "sum.s", "--all"];
-    let Ok(checked) = checked(rt.alloc(), words.as_slice()) else {
+    let Ok(checked) = parse_check(rt.alloc(), words.as_slice()) else {
         return Err(Fail::new("there is nothing to check"));
     };
     assert_eq!(rt; checked.file, "sum.s");

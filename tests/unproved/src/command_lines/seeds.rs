@@ -21,7 +21,7 @@ fn a_run_takes_a_seed_of_its_order(rt: HostRuntime) {
         (&["ruu", "run", "--shake", "7", "sum.s"], None, Some(7)),
     ];
     for (words, seed, shake) in cases {
-        match asked(rt.alloc(), words) {
+        match parse_run(rt.alloc(), words) {
             Ok(asked) => {
                 assert_eq!(rt; asked.seed, seed, "{words:?}");
                 assert_eq!(rt; asked.shake, shake, "{words:?}");
@@ -47,7 +47,7 @@ fn takes_a_chart_and_a_log(rt: HostRuntime) {
         ),
     ];
     for (words, seed, log) in cases {
-        match charted(rt.alloc(), words) {
+        match parse_chart(rt.alloc(), words) {
             Ok(charted) => {
                 assert_eq!(rt; charted.run.seed, seed, "{words:?}");
                 assert_eq!(rt; charted.log, log, "{words:?}");
@@ -78,7 +78,7 @@ fn takes_a_log_of_commits(rt: HostRuntime) {
         ),
     ];
     for (words, limit, from, hash, text) in cases {
-        match committed(rt.alloc(), words) {
+        match parse_commits(rt.alloc(), words) {
             Ok(committed) => {
                 assert_eq!(rt; committed.file, "sum.s");
                 assert_eq!(rt; committed.limit, limit, "{words:?}");

@@ -12,7 +12,7 @@ returns-in_err-tell_turn-clause-begun g c =
     let part = c.in_err-tell_turn.ensures.part in
     let less : c.turns.bench.pipeline.committed.count < c.args.limit = omega (arith, c.count.ensures.value, c.turns-test.true) in
     on_err c.from_residual.result (λ f Q D first start s. stood_part g.P.Predictor.Predicts g.P.Predictor.Learns g.C.Chooser.Chooses f Q D c.args.limit
-    first start c.turns.bench turned.new.self c.turns.order turned.new.chooser (kept c.turns.books) turned.result _ _ part.n turned.ensures.turn turned.ensures.same
+    first start c.turns.bench turned.new.self c.turns.order turned.new.chooser (kept c.turns.live_rows) turned.result _ _ part.n turned.ensures.turn turned.ensures.same
     part.inside part.gives less (c.turns.invariant.goes_on f Q D first start s))
 
 pub returns-in-Over-clause-through : goal.returns-in-Over-clause-through
@@ -25,14 +25,14 @@ returns-in-Over-clause-through g c f Q D first start s =
     let less : b.pipeline.committed.count < c.args.limit = omega (arith, c.count.ensures.value, c.turns-test.true) in
     let ends = is_over c.args.limit b.pipeline later.pipeline c.in-Over.field-0 c.count.ensures.unit moves c.in-Over.ensures.same less c.in-Over.ensures.falls in
     through_next g.P.Predictor.Predicts g.P.Predictor.Learns g.C.Chooser.Chooses f Q D c.args.limit first start b later c.turns.order
-    turned.new.chooser (kept c.turns.books) _ turned.result _ _ turned.ensures.turn turned.ensures.same told.kept told.says less c.in-Over.field-0 c.in-Over.is
+    turned.new.chooser (kept c.turns.live_rows) _ turned.result _ _ turned.ensures.turn turned.ensures.same told.kept told.says less c.in-Over.field-0 c.in-Over.is
     ends (c.turns.invariant.goes_on f Q D first start s)
 
 pub returns-clause-through : goal.returns-clause-through
 returns-clause-through g c f Q D first start s =
     let full : c.args.limit ≤ c.turns.bench.pipeline.committed.count = omega (arith, c.count.ensures.value, c.turns-test.false) in
     through_limit g.P.Predictor.Predicts g.P.Predictor.Learns g.C.Chooser.Chooses f Q D c.args.limit first start c.turns.bench c.turns.order
-    (kept c.turns.books) _ full (c.turns.invariant.goes_on f Q D first start s)
+    (kept c.turns.live_rows) _ full (c.turns.invariant.goes_on f Q D first start s)
 
 pub returns-in-Over-clause-stays : goal.returns-in-Over-clause-stays
 returns-in-Over-clause-stays g c =
@@ -62,6 +62,6 @@ turns-preserved g c =
       ends = goes_on c.args.limit b.pipeline later.pipeline turned.result c.count.ensures.unit moves turned.ensures.same less
           c.in_default.not-Over turned.ensures.falls ∙ c.turns.invariant.ends;
       goes_on = λ f Q D first start s. goes_next g.P.Predictor.Predicts g.P.Predictor.Learns g.C.Chooser.Chooses f Q D c.args.limit first start
-          b later c.turns.order turned.new.chooser (kept c.turns.books) _ turned.result _ _ turned.ensures.turn turned.ensures.same told.kept told.says less
+          b later c.turns.order turned.new.chooser (kept c.turns.live_rows) _ turned.result _ _ turned.ensures.turn turned.ensures.same told.kept told.says less
           c.in_default.not-Over turned.ensures.falls (c.turns.invariant.goes_on f Q D first start s);
     }

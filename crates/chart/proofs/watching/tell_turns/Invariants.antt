@@ -15,9 +15,9 @@ invariant-turns g l = record {
   quiet : failures_of l.writer ≡ failures_of l.fn.writer;
   ends : run_from l.bench.pipeline l.limit ≡ run_from l.fn.bench.pipeline l.limit;
   goes_on : (f : Style) (Q : Program) (D : Sizes) (first : Guides g.row.P.Denot g.row.C.Denot) (start : Option (List ℕ)) →
-      GoesOn g.P.Predictor.Predicts g.P.Predictor.Learns g.C.Chooser.Chooses f Q D l.limit l.fn.bench l.fn.order (kept l.fn.books) first start
+      GoesOn g.P.Predictor.Predicts g.P.Predictor.Learns g.C.Chooser.Chooses f Q D l.limit l.fn.bench l.fn.order (kept l.fn.live_rows) first start
       (known_by g.W.Write.contents l.fn.writer) →
-      GoesOn g.P.Predictor.Predicts g.P.Predictor.Learns g.C.Chooser.Chooses f Q D l.limit l.bench l.order (kept l.books) first start
+      GoesOn g.P.Predictor.Predicts g.P.Predictor.Learns g.C.Chooser.Chooses f Q D l.limit l.bench l.order (kept l.live_rows) first start
       (known_by g.W.Write.contents l.writer);
 }
 

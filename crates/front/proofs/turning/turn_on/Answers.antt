@@ -21,8 +21,8 @@ dispatch-tag-requires-clause-ready g c =
     let C = c.args.core.now.sizes in
     let path = c.args.path.now in
     let least : 2 ≤ C.ring = subst (λ z. 2 ≤ z) c.ring.ensures.value c.ring.ensures.least in
-    let released = subst (λ z. Releases z c.in-Ok.next.left path c.release-departed.result c.release-departed.new.self) c.ring.ensures.value c.release-departed.ensures.reply in
-    ready_now P C c.fetch.new.seat.seen c.fetch.ensures.history.legal path.records path.base (still_knows c.fetch.ensures.history c.requires.knows) least c.in-Ok.next.left
+    let released = subst (λ z. Releases z c.in-Ok.next.last_value path c.release-departed.result c.release-departed.new.self) c.ring.ensures.value c.release-departed.ensures.reply in
+    ready_now P C c.fetch.new.seat.seen c.fetch.ensures.history.legal path.records path.base (still_knows c.fetch.ensures.history c.requires.knows) least c.in-Ok.next.last_value
     c.in-Ok.ensures.ok.oldest path refl refl c.release-departed.result c.release-departed.new.self released
 
 pub returns-clause-reply : goal.returns-clause-reply
@@ -45,7 +45,7 @@ returns-in-Err-clause-table g c = still_has_table c.fetch.ensures.history c.requ
 pub dispatch-tag-requires-clause-table : goal.dispatch-tag-requires-clause-table
 dispatch-tag-requires-clause-table g c =
     let d = c.args.core.now in
-    let told = released_told c.ring.result c.in-Ok.next.left c.args.path.now c.release-departed.result c.release-departed.new.self c.release-departed.ensures.reply in
+    let told = released_told c.ring.result c.in-Ok.next.last_value c.args.path.now c.release-departed.result c.release-departed.new.self c.release-departed.ensures.reply in
     subst (λ (z : ℕ × Table). HasTable d.program (unit_of d.program d.sizes c.fetch.new.seat.seen) z.0 z.1) (λ i. (sym told i, sym c.release-departed.ensures.table i))
     (still_has_table c.fetch.ensures.history c.requires.table)
 
@@ -59,4 +59,4 @@ returns-in-Err-clause-touched g c = touched_none _ _ _ refl
 pub returns-clause-told : goal.returns-clause-told
 returns-clause-told g c =
     ap rested_at c.dispatch-tag.ensures.base
-    ∙ released_told c.ring.result c.in-Ok.next.left c.args.path.now c.release-departed.result c.release-departed.new.self c.release-departed.ensures.reply
+    ∙ released_told c.ring.result c.in-Ok.next.last_value c.args.path.now c.release-departed.result c.release-departed.new.self c.release-departed.ensures.reply

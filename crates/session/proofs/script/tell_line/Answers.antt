@@ -3,7 +3,7 @@ use Rattle.std.specs.Io.KnownBytes.{Appends}
 use Rattle.session.specs.Lines.{IsLine}
 use Rattle.session.specs.Scripts.{line_of}
 use Rattle.session.specs.Transcripts.{IsWrittenOfLine}
-use Rattle.session.specs.Words.{words_of}
+use Rattle.session.specs.Tokens.{tokens_of}
 use Rattle.session.proofs.Scripts.{cut_short, on_err, reads}
 use Rattle.session.proofs.script.tell_line.Goals as goal
 
@@ -20,7 +20,7 @@ returns-clause-line g c =
       chunk = chunk;
       text = text;
       read = reads from to c.new-chunk.result.items chunk c.new-chunk.ensures.items c.in-Ok.ensures.bytes c.in-Ok.ensures.rest;
-      line_is = subst (λ (line : List ℕ). IsLine (words_of line) c.line_in-asked.result) same c.line_in-asked.ensures;
+      line_is = subst (λ (line : List ℕ). IsLine (tokens_of line) c.line_in-asked.result) same c.line_in-asked.ensures;
       told = subst (λ (line : List ℕ). IsWrittenOfLine c.args.echo c.args.session.now c.written.new.session c.args.number line text) same c.in_ok-text.ensures;
       written = subst (λ (bytes : List ℕ). Appends before after bytes) c.as_slice-2.ensures.value c.in_ok-write_whole.ensures.ok;
     }

@@ -1,6 +1,6 @@
 use Rattle.std.proofs.Common.{◌≡◌, ◌<◌, List, None, Option, Some, length, refl, sym, ap, ◌∙◌, subst, arith}
 use Rattle.inorder.specs.declared.history.Entry.{Entry}
-use Rattle.session.specs.declared.units.Worker.{Worker}
+use Rattle.session.specs.declared.units.UnitJob.{UnitJob}
 use Rattle.session.specs.Accounts.{IsFinish}
 use Rattle.session.specs.Workers.{HasUnit, job_at}
 use Rattle.session.proofs.Workers.{free_now, has_unit, held_is, holds_one}
@@ -23,16 +23,16 @@ returns-clause-reply c =
     let answer = c.finish-answer.result in
     let units = c.args.units.now.items in
     let within : c.args.unit < length units = omega (arith, c.requires.unit, c.args.units.now.ok) in
-    let w : Worker = record { seat = c.finish-answer.new.seat; job = None } in
+    let w : UnitJob = record { seat = c.finish-answer.new.seat; job = None } in
     let held : job_at units c.args.unit ≡ Some c.in-Some.job = sym taken.ensures.job ∙ c.in-Some.is in
     let early = subst (λ (h : List Entry). IsFinish core by h new c.in-Some.job answer) taken.ensures.history c.finish-answer.ensures.reply in
     let unit = has_unit units taken.new.units.items c.args.unit w within taken.ensures.place by None c.finish-answer.ensures.seat.by refl
-    (λ v e. ap (λ (x : Worker). x.seat.by) (sym (taken.ensures.same v e))) in
+    (λ v e. ap (λ (x : UnitJob). x.seat.by) (sym (taken.ensures.same v e))) in
     record {
       job = c.in-Some.job;
       held_it = held;
       station_is = held_is units c.args.unit c.args.station c.in-Some.job held c.requires.holds;
       by = by;
-      unit_is = subst (λ (xs : List (Option Worker)). HasUnit units xs c.args.unit by None) (sym c.put_worker.ensures) unit;
+      unit_is = subst (λ (xs : List (Option UnitJob)). HasUnit units xs c.args.unit by None) (sym c.put_worker.ensures) unit;
       says = early;
     }

@@ -16,7 +16,7 @@ returns-in_default-fetch-clause-reply g c =
     answers_nowhere (facts_of c.self.invariant c.self.view_is c.requires.core c.in_default.is c.program.ensures c.pc-pc.ensures c.fetch.ensures c.in_default-fetch.is)
 
 -- The back has not ended, and there is an instruction at its pc
-facts : (g : Over) (c : After-retire g) → CommitFacts g.J.Naming.program c.args.self.now c.args.core.now c.self.inside.seat c.self.inside.committed c.self.inside.low c.self.inside.head
+facts : (g : Over) (c : After-retire g) → CommitFacts g.J.OfProgram.program c.args.self.now c.args.core.now c.self.inside.seat c.self.inside.committed c.self.inside.low c.self.inside.head
     c.self.inside.ended c.self.inside.publisher (Some c.in-Some-fetch.instr)
 facts g c = facts_of c.self.invariant c.self.view_is c.requires.core c.in_default.is c.program.ensures c.pc-pc.ensures c.fetch.ensures c.in-Some-fetch.is
 

@@ -10,7 +10,7 @@ use Rattle.back.proofs.backs.Back.end.Goals as goal
 pub returns-clause-in_order : goal.returns-clause-in_order
 returns-clause-in_order g c =
     let b = c.self.inside in
-    let P = g.J.Naming.program in
+    let P = g.J.OfProgram.program in
     let k = c.self.invariant in
     let unit = plain P b.committed b.low b.head b.ended b.publisher b.seat k in
     let after_it = after_is P b.seat.core.sizes b.seat.seen k.legal b.committed b.low b.head b.ended unit in

@@ -9,5 +9,5 @@ pub returns-clause-no_stop : goal.returns-clause-no_stop
 returns-clause-no_stop g c =
     let b = c.self.inside in
     let ended = ap (λ (s : TheBack). s.ended) c.self.view_is ∙ c.requires.not_ended in
-    let k = subst (λ e. BackIsKept g.J.Naming.program b.seat b.committed b.low b.head e b.publisher) ended c.self.invariant in
-    subst (λ (s : TheBack). HasNoStop (unit_in s.core s.seen)) c.self.view_is (no_stop g.J.Naming.program b.committed b.low b.head b.publisher b.seat k)
+    let k = subst (λ e. BackIsKept g.J.OfProgram.program b.seat b.committed b.low b.head e b.publisher) ended c.self.invariant in
+    subst (λ (s : TheBack). HasNoStop (unit_in s.core s.seen)) c.self.view_is (no_stop g.J.OfProgram.program b.committed b.low b.head b.publisher b.seat k)

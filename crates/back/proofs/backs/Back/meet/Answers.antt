@@ -11,14 +11,14 @@ invariant_of-self g c =
     let b = c.self.inside in
     let core = ap (λ (s : TheBack). s.core) c.self.view_is ∙ c.requires.core in
     let adds = subst (λ (d : TheCore). Adds d.program d.sizes b.seat.by b.seat.seen c.meet.new.one.seen []) (sym core) c.meet.ensures.one_history in
-    kept_by g.J.Naming.program b.committed b.low b.head b.ended b.publisher b.seat c.meet.new.one [] c.self.invariant c.meet.ensures.one_kept.core c.meet.ensures.one_kept.by adds tt
+    kept_by g.J.OfProgram.program b.committed b.low b.head b.ended b.publisher b.seat c.meet.new.one [] c.self.invariant c.meet.ensures.one_kept.core c.meet.ensures.one_kept.by adds tt
 
 pub returns-clause-kept : goal.returns-clause-kept
 returns-clause-kept g c =
     let b = c.self.inside in
     let core = ap (λ (s : TheBack). s.core) c.self.view_is ∙ c.requires.core in
     let adds = subst (λ (d : TheCore). Adds d.program d.sizes b.seat.by b.seat.seen c.meet.new.one.seen []) (sym core) c.meet.ensures.one_history in
-    let kept = kept_by g.J.Naming.program b.committed b.low b.head b.ended b.publisher b.seat c.meet.new.one [] c.self.invariant c.meet.ensures.one_kept.core c.meet.ensures.one_kept.by adds
+    let kept = kept_by g.J.OfProgram.program b.committed b.low b.head b.ended b.publisher b.seat c.meet.new.one [] c.self.invariant c.meet.ensures.one_kept.core c.meet.ensures.one_kept.by adds
     tt in
     subst (λ old. IsSameBack old (back_of c.meet.new.one b.ended b.publisher)) c.self.view_is
-    (is_same g.J.Naming.program b.committed b.low b.head b.ended b.publisher b.seat c.meet.new.one c.self.invariant kept c.meet.ensures.one_kept.core c.meet.ensures.one_kept.by)
+    (is_same g.J.OfProgram.program b.committed b.low b.head b.ended b.publisher b.seat c.meet.new.one c.self.invariant kept c.meet.ensures.one_kept.core c.meet.ensures.one_kept.by)

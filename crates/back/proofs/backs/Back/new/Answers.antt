@@ -7,7 +7,7 @@ use Rattle.back.proofs.backs.Back.new.Goals as goal
 
 pub invariant_of-back : goal.invariant_of-back
 invariant_of-back g c =
-    let P = g.J.Naming.program in
+    let P = g.J.OfProgram.program in
     let seat = c.args.seat in
     let adds : Adds seat.core.program seat.core.sizes seat.by seat.seen seat.seen [] = record {
       begins = record { more = []; is = refl };
@@ -21,7 +21,7 @@ invariant_of-back g c =
 
 pub returns-in-Ok-clause-ok : goal.returns-in-Ok-clause-ok
 returns-in-Ok-clause-ok g c =
-    let P = g.J.Naming.program in
+    let P = g.J.OfProgram.program in
     let seat = c.args.seat in
     let adds : Adds seat.core.program seat.core.sizes seat.by seat.seen seat.seen [] = record {
       begins = record { more = []; is = refl };

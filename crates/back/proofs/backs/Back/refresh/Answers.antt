@@ -17,7 +17,7 @@ invariant_of-self g c =
     let core = ap (λ (s : TheBack). s.core) c.self.view_is ∙ c.requires.core in
     let reply = subst (λ (d : TheCore). RefreshAnswers d b.seat.by b.seat.seen c.scan.new.seat.seen c.scan.result) (sym core) c.scan.ensures.reply in
     let calm = is_calm b.seat.core b.seat.by b.seat.seen c.scan.new.seat.seen c.scan.result reply in
-    kept_by g.J.Naming.program b.committed b.low b.head b.ended b.publisher b.seat c.scan.new.seat calm.events c.self.invariant c.scan.ensures.kept.core c.scan.ensures.kept.by calm.adds
+    kept_by g.J.OfProgram.program b.committed b.low b.head b.ended b.publisher b.seat c.scan.new.seat calm.events c.self.invariant c.scan.ensures.kept.core c.scan.ensures.kept.by calm.adds
     calm.quiet
 
 pub returns-clause-kept : goal.returns-clause-kept
@@ -26,7 +26,7 @@ returns-clause-kept g c =
     let core = ap (λ (s : TheBack). s.core) c.self.view_is ∙ c.requires.core in
     let reply = subst (λ (d : TheCore). RefreshAnswers d b.seat.by b.seat.seen c.scan.new.seat.seen c.scan.result) (sym core) c.scan.ensures.reply in
     let calm = is_calm b.seat.core b.seat.by b.seat.seen c.scan.new.seat.seen c.scan.result reply in
-    let kept = kept_by g.J.Naming.program b.committed b.low b.head b.ended b.publisher b.seat c.scan.new.seat calm.events c.self.invariant c.scan.ensures.kept.core c.scan.ensures.kept.by
+    let kept = kept_by g.J.OfProgram.program b.committed b.low b.head b.ended b.publisher b.seat c.scan.new.seat calm.events c.self.invariant c.scan.ensures.kept.core c.scan.ensures.kept.by
     calm.adds calm.quiet in
     subst (λ old. IsSameBack old (back_of c.scan.new.seat b.ended b.publisher)) c.self.view_is
-    (is_same g.J.Naming.program b.committed b.low b.head b.ended b.publisher b.seat c.scan.new.seat c.self.invariant kept c.scan.ensures.kept.core c.scan.ensures.kept.by)
+    (is_same g.J.OfProgram.program b.committed b.low b.head b.ended b.publisher b.seat c.scan.new.seat c.self.invariant kept c.scan.ensures.kept.core c.scan.ensures.kept.by)

@@ -17,7 +17,7 @@ invariant_of-self g c =
     let core = ap (λ (s : TheBack). s.core) c.self.view_is ∙ c.requires.core in
     let reply = subst (λ (d : TheCore). RefreshAtAnswers d b.seat.by b.seat.seen c.try_at.new.seat.seen c.args.station c.try_at.result) (sym core) c.try_at.ensures.reply in
     let calm = is_calm_at b.seat.core b.seat.by b.seat.seen c.try_at.new.seat.seen c.args.station c.try_at.result reply in
-    kept_by g.J.Naming.program b.committed b.low b.head b.ended b.publisher b.seat c.try_at.new.seat calm.events c.self.invariant c.try_at.ensures.kept.core c.try_at.ensures.kept.by calm.adds
+    kept_by g.J.OfProgram.program b.committed b.low b.head b.ended b.publisher b.seat c.try_at.new.seat calm.events c.self.invariant c.try_at.ensures.kept.core c.try_at.ensures.kept.by calm.adds
     calm.quiet
 
 pub returns-clause-kept : goal.returns-clause-kept
@@ -26,7 +26,7 @@ returns-clause-kept g c =
     let core = ap (λ (s : TheBack). s.core) c.self.view_is ∙ c.requires.core in
     let reply = subst (λ (d : TheCore). RefreshAtAnswers d b.seat.by b.seat.seen c.try_at.new.seat.seen c.args.station c.try_at.result) (sym core) c.try_at.ensures.reply in
     let calm = is_calm_at b.seat.core b.seat.by b.seat.seen c.try_at.new.seat.seen c.args.station c.try_at.result reply in
-    let kept = kept_by g.J.Naming.program b.committed b.low b.head b.ended b.publisher b.seat c.try_at.new.seat calm.events c.self.invariant c.try_at.ensures.kept.core c.try_at.ensures.kept.by
+    let kept = kept_by g.J.OfProgram.program b.committed b.low b.head b.ended b.publisher b.seat c.try_at.new.seat calm.events c.self.invariant c.try_at.ensures.kept.core c.try_at.ensures.kept.by
     calm.adds calm.quiet in
     subst (λ old. IsSameBack old (back_of c.try_at.new.seat b.ended b.publisher)) c.self.view_is
-    (is_same g.J.Naming.program b.committed b.low b.head b.ended b.publisher b.seat c.try_at.new.seat c.self.invariant kept c.try_at.ensures.kept.core c.try_at.ensures.kept.by)
+    (is_same g.J.OfProgram.program b.committed b.low b.head b.ended b.publisher b.seat c.try_at.new.seat c.self.invariant kept c.try_at.ensures.kept.core c.try_at.ensures.kept.by)

@@ -10,7 +10,7 @@ invariant_of-result g c =
     let v = b.given_back.value in
     let w = c.args.seat in
     let goes : GoesOnForBack v.core v.seen w = subst (λ (s : TheStillBack). GoesOnForBack s.core s.seen w) (sym c.self.view_is) c.requires.goes_on in
-    entered g.J.Naming.program b.state b.waits b.head b.publisher v w c.args.head c.self.invariant goes c.what_is_seen_is_legal.ensures c.requires.head
+    entered g.J.OfProgram.program b.state b.waits b.head b.publisher v w c.args.head c.self.invariant goes c.what_is_seen_is_legal.ensures c.requires.head
 
 pub returns-clause-state : goal.returns-clause-state
 returns-clause-state g c =
@@ -18,5 +18,5 @@ returns-clause-state g c =
     let v = b.given_back.value in
     let w = c.args.seat in
     let goes : GoesOnForBack v.core v.seen w = subst (λ (s : TheStillBack). GoesOnForBack s.core s.seen w) (sym c.self.view_is) c.requires.goes_on in
-    let kept = entered g.J.Naming.program b.state b.waits b.head b.publisher v w c.args.head c.self.invariant goes c.what_is_seen_is_legal.ensures c.requires.head in
-    same_committed g.J.Naming.program b.state b.waits b.head b.publisher v w c.args.head c.self.invariant kept ∙ ap (λ (s : TheStillBack). committed_in s.core s.seen) c.self.view_is
+    let kept = entered g.J.OfProgram.program b.state b.waits b.head b.publisher v w c.args.head c.self.invariant goes c.what_is_seen_is_legal.ensures c.requires.head in
+    same_committed g.J.OfProgram.program b.state b.waits b.head b.publisher v w c.args.head c.self.invariant kept ∙ ap (λ (s : TheStillBack). committed_in s.core s.seen) c.self.view_is

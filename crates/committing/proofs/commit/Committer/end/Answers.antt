@@ -16,7 +16,7 @@ returns-in-None-Stop-clause-run g c =
     let count = ap (λ (s : State). s.count) c.end-end.ensures.state in
     let retires = whole tally.retires _ _ end.n (c.read-tally.ensures.exact Retires has.all) has.retires count (search rules) in
     let over = has_stopped i.back.ended c.in-None-Stop.field-0-1 (sym c.end-end.ensures.outcome ∙ c.in-None-Stop.is-1) in
-    ended g.K.Naming.program c.self.invariant end tally c.end-end.ensures.in_order count retires c.in-None-Stop.field-0-1 c.in-None-Stop.is-1 over
+    ended g.K.OfProgram.program c.self.invariant end tally c.end-end.ensures.in_order count retires c.in-None-Stop.field-0-1 c.in-None-Stop.is-1 over
 
 pub returns-clause-run : goal.returns-clause-run
 returns-clause-run g c =
@@ -25,7 +25,7 @@ returns-clause-run g c =
     let tally = c.read-tally.result in
     let count = ap (λ (s : State). s.count) c.end-end.ensures.state in
     let retires = whole tally.retires _ _ end.n (c.read-tally.ensures.exact Retires has.all) has.retires count (search rules) in
-    limit_reached g.K.Naming.program c.self.invariant end tally c.end-end.ensures.in_order count retires c.in-None-Limit.is-1
+    limit_reached g.K.OfProgram.program c.self.invariant end tally c.end-end.ensures.in_order count retires c.in-None-Limit.is-1
 
 pub returns-in-None-Stop-clause-renewals : goal.returns-in-None-Stop-clause-renewals
 returns-in-None-Stop-clause-renewals g c =

@@ -41,21 +41,21 @@ returns-in-Recover-clause-unit g c = (recovered g c).unit
 
 -- A tenant runs
 
-can_run : (g : Over) (c : goal.After-claims g) → CanClaim c.args.self.now c.in-Run.ready
+can_run : (g : Over) (c : goal.After-claim g) → CanClaim c.args.self.now c.in-Run.ready
 can_run g c = subst (Permits c.args.self.now) c.in-Run.is c.requires.can
 
-ran : (g : Over) (c : goal.After-claims g) → Comes c.args.self.now (Ran c.in-Run.ready.at) c.claims.new.self
+ran : (g : Over) (c : goal.After-claim g) → Comes c.args.self.now (Ran c.in-Run.ready.at) c.claim.new.self
 ran g c =
-    let made = c.claims.ensures in
-    run_comes c.args.self.now c.claims.new.self c.in-Run.ready c.requires.unit c.requires.open (can_run g c) made.window made.rest
+    let made = c.claim.ensures in
+    run_comes c.args.self.now c.claim.new.self c.in-Run.ready c.requires.unit c.requires.open (can_run g c) made.window made.rest
 
 pub returns-in-Run-clause-turn : goal.returns-in-Run-clause-turn
 returns-in-Run-clause-turn g c =
     let b = c.args.self.now in
     let p = c.args.predictor.now in
-    let later = c.claims.new.self in
+    let later = c.claim.new.self in
     plain_makes g.P.Predictor.Predicts g.P.Predictor.Learns (fields b p) (fields later p) c.args.step (Run c.in-Run.ready) (Ran c.in-Run.ready.at) c.in-Run.is (λ e. cc e)
-    (run_as b later c.in-Run.ready c.requires.open (can_run g c) c.claims.ensures.window c.claims.ensures.rest) refl
+    (run_as b later c.in-Run.ready c.requires.open (can_run g c) c.claim.ensures.window c.claim.ensures.rest) refl
 
 pub returns-in-Run-clause-falls : goal.returns-in-Run-clause-falls
 returns-in-Run-clause-falls g c = (ran g c).falls

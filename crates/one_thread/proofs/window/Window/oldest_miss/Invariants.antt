@@ -1,5 +1,5 @@
 use Rattle.std.proofs.Common.{◌≡◌, ◌<◌, ℕ, None}
-use Rattle.one_thread.specs.Givers.{gives}
+use Rattle.one_thread.specs.Producers.{gives}
 use Rattle.one_thread.specs.Notes.{miss_in}
 use Rattle.one_thread.proofs.window.Window.oldest_miss.Given as goal
 

@@ -1,7 +1,7 @@
 use Rattle.std.proofs.Common.{◌≡◌, rules, subst}
 use Rattle.back.specs.Backs.{unit_in}
 use Rattle.inorder.specs.Unit.{front_pc, next_station, recent}
-use Rattle.session.specs.declared.replies.Ahead.{Ahead}
+use Rattle.session.specs.declared.replies.NextFetch.{NextFetch}
 use Rattle.session.specs.Moments.{GrowsLegally}
 use Rattle.session.specs.Rows.{IsAhead, IsAheadOf}
 use Rattle.session.specs.Sessions.{TheSession}
@@ -20,7 +20,7 @@ pub returns-clause-reply : goal.returns-clause-reply
 returns-clause-reply g c =
     let core = c.self.inside.core in
     let seen = c.meet.new.self.seen in
-    let told : Ahead = record { station = c.next_station-station.result; pc = c.next_pc-pc.result } in
+    let told : NextFetch = record { station = c.next_station-station.result; pc = c.next_pc-pc.result } in
     let says : IsAheadOf core seen told = record {
       station = subst (λ (k : TheCore). told.station ≡ next_station core.sizes (recent (unit_in k seen))) c.meet.ensures.core c.next_station-station.ensures;
       pc = subst (λ (k : TheCore). told.pc ≡ front_pc (unit_in k seen).tenants) c.meet.ensures.core c.next_pc-pc.ensures;

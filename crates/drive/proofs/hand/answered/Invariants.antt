@@ -1,4 +1,0 @@
-use Rattle.drive.proofs.hand.answered.Given as goal
-
-abbrev pub ghosts-drive_by : goal.ghosts-drive_by
-ghosts-drive_by g a = record { program = a.program.now }
