@@ -1,6 +1,6 @@
 #!/usr/bin/env bash
-# Prints from how long an instruction takes on threads win: each unit thread takes so many nanoseconds longer for what it
-# has claimed, and the one-thread unit is reckoned with its own time and so many for each instruction of the report,
+# Prints from how long an instruction takes on threads win: each unit thread takes a number of nanoseconds longer for what it
+# has claimed, and the one-thread unit is reckoned with its own time and as many for each instruction of the report,
 # so without those on wrong paths. The least of three runs each. The unit has a ring of 16 stations and the predictor
 # bimod. The threads run on the processors that this script may use (taskset).
 set -eu

@@ -6,7 +6,7 @@ cd "$(dirname "$0")/.."
 work=$(mktemp -d)
 trap 'rm -rf "$work"' EXIT
 
-# n instructions, labels at so many of them, and d bytes of data
+# n instructions, labels at a number of them, and d bytes of data
 listing() { # n, labels, d
   awk -v n="$1" -v labels="$2" -v d="$3" 'BEGIN {
     if (d) print ".space " d

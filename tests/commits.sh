@@ -1,6 +1,6 @@
 #!/usr/bin/env bash
 # The log of `./ruu commits`: of the examples, and of a hundred random listings with every operation, it says what the report
-# of the run says; a part of it is that part, with a limit it is cut after so many lines, and its hashes are those of the simulator
+# of the run says; a part of it is that part, with a limit it is cut after as many lines, and its hashes are those of the simulator
 # of examples/lockstep, which writes the same log, and with its mistake differs at one line; a real MIPS in qemu has the same
 # registers. Then what goes wrong: scripts, devices, files and want of memory. And 100,000 instructions are logged in the memory
 # of 100.

@@ -84,7 +84,7 @@ for line in hello look 'quit now' 'list 1' step 'step 0x1' 'step 1 2' until 'unt
 done
 echo 'what goes wrong has its word and its status'
 
-# turns to the end, in one step or in many, come to the report of a run; so does an end that nobody waits for
+# turns to the end, in one step or in many, lead to the report of a run; so does an end that nobody waits for
 for name in double wrong_path forwarding fibonacci; do
   printf 'step 4294967295\nreport\n' > "$work/script"
   drive "$work/script" "examples/$name.s" --ruu-size 8

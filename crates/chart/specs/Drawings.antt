@@ -16,7 +16,7 @@ use Rattle.chart.specs.declared.row.Held.{Held}
 use Rattle.chart.specs.declared.row.Row.{Row}
 use Rattle.chart.specs.Sources.{Source, source_text}
 
--- A text so many times
+-- A text repeated n times
 abbrev pub times : ℕ → List ℕ → List ℕ
 times zero text = []
 times (suc n) text = text ++ times n text

@@ -23,12 +23,12 @@ squashes live rows zero = []
 squashes live rows (suc n) =
     if nat_lt n live then [] else squash (slice_get rows n) ++ squashes live rows n
 
--- The retirement of the oldest tenant, behind so many others
+-- The retirement of the oldest tenant, after n others
 abbrev pub retired_event : (before : ℕ) → List Row → List Event
 retired_event before [] = []
 retired_event before (r ∷ rs) = Left r (Retired before) ∷ []
 
--- The tenants that have left at a turn that leaves so many
+-- The tenants that have left at a turn after which n remain
 abbrev pub left_events : Turn → (live before : ℕ) → List Row → List Event
 left_events answer live before rows =
     if is_recovery answer then squashes live rows (length rows)

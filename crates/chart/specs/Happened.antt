@@ -59,7 +59,7 @@ pub record HasGone (P : Program) (before behind : List Tenant) (r : Row) (standi
   pub stood : IsRowOf P before r
   pub left : StandsAs behind r.position standing
 
--- The tenant of a row has retired, behind so many others
+-- The tenant of a row has retired, after n others
 pub record HasRetired (P : Program) (before behind : List Tenant) (r : Row) (others : ℕ) : Type 0 where
   pub gone : HasGone P before behind r tenant.Retired
   pub count : others ≡ how_many is_retired before

@@ -70,7 +70,7 @@ retires Retired live before = nat_lt live before
 retires (Over c) live before = nat_lt live before
 retires _ live before = false
 
--- The rows of the tenants that stay live through a turn that leaves so many
+-- The rows of the tenants that stay live through a turn after which n remain
 abbrev pub staying : Turn → (live : ℕ) → List Row → List Row
 staying answer live rows =
     if is_recovery answer then take live rows

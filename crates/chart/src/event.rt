@@ -4,7 +4,7 @@ use crate::row::{Phase, Row};
 /// How a tenant has left.
 #[derive(Clone, Copy, Debug, PartialEq, Eq)]
 pub enum Way {
-    /// The tenant has retired, behind so many others.
+    /// The tenant has retired, after this number of others.
     Retired(u64),
     /// The tenant was squashed, since it was on a wrong path.
     Squashed,

@@ -26,7 +26,7 @@ pub struct Style<'a> {
     pub format: Format,
     /// The listing of the run.
     pub source: &'a Source<'a>,
-    /// So many tenants have a line, those that were let first.
+    /// This number of tenants have a line, those that were let first.
     pub rows: u64,
     /// The lines stand in the order in which their tenants have left, and not in that of the program.
     pub by_leave: bool,

@@ -28,7 +28,7 @@ pub ends_good : (bytes text : List ℕ) (found : List TextFault) → HasFound by
 ends_good bytes text found has few good =
     ended bytes text found has (subst (λ (n : ℕ). AreFaults n text []) (sym (left (length found) few)) good)
 
--- so many are found
+-- n are found
 pub ends_full : (bytes text : List ℕ) (found : List TextFault) → HasFound bytes text found → 200 ≤ length found
     → AreFaults 200 bytes found
 ends_full bytes text found has full =

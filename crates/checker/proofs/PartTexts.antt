@@ -14,7 +14,7 @@ use Rattle.lexical.specs.Label.{labels_of}
 use Rattle.lexical.specs.Name.{is_name}
 use Rattle.lexical.proofs.Labels.{labels_next, split_shape}
 
--- so many elements of a list as a beginning of it has
+-- as many elements of a list as a beginning of it has
 pub own_length : (m : ℕ) (xs : List ℕ) → take (length (take m xs)) xs ≡ take m xs
 own_length m xs = rw (length-take m xs) (take_min m xs)
 

@@ -54,7 +54,7 @@ pub data IsFollowed (n : ℕ) (bytes : List ℕ) (are : List ℕ → List TextFa
   Cleared : (text : List ℕ) → IsCleared n bytes text → are text faults → IsFollowed n bytes are faults
 
 -- The faults that are found in turn, where the line of each one is cleared before the next is looked for, up to a listing
--- without a fault, or one whose fault has no line, or so many at most.
+-- without a fault, or one whose fault has no line, or n at most.
 abbrev pub AreFaults : (most : ℕ) → (bytes : List ℕ) → List TextFault → Type 0
 AreFaults zero bytes faults = faults ≡ []
 AreFaults (suc n) bytes [] = IsGood (listing bytes)

@@ -71,7 +71,7 @@ pub(crate) fn has_offset(word: &[u8]) -> bool {
     }
 }
 
-/// Whether an operand of a word with so many, the first of which is number 0, is a label.
+/// Whether this operand of a word with n operands, counted from 0, is a label.
 pub(crate) fn takes_label(word: &[u8], count: usize, at: usize) -> bool {
     match form_of(word, count) {
         Ok(form) => matches!(form.operands.slots().get(at), Some(Slot::Label)),

@@ -47,7 +47,7 @@ pub struct Charted<'a> {
     pub run: RunRequest<'a>,
     /// The file that gets the log, by a name that is neither `-` nor that of the listing.
     pub log: Option<&'a str>,
-    /// So many instructions get a row at most.
+    /// At most this number of instructions get a row.
     pub rows: u64,
     /// The rows are wanted in the order in which instructions leave.
     pub by_leave: bool,

@@ -27,7 +27,7 @@ fn start_snapper<
     true
 }
 
-/// Starts a thread for each place that gives a snapper, that of the first place last. False where one cannot be started.
+/// Starts a snapshot thread for each place that has a snapper, place 1 last. False where one cannot be started.
 pub fn start_snappers<
     's,
     E: 's,

@@ -12,11 +12,11 @@ const MOST: u32 = 4 * (WIDTH + 1);
 /// The parts of a round, in their order.
 #[derive(Clone, Copy)]
 enum Part {
-    /// So many tenants may still retire.
+    /// The number of tenants that may still retire.
     Retirement(u32),
     /// The tenants of these ages, which were ready when the part began, still execute.
     Execution(Option<usize>, Option<usize>),
-    /// So many instructions may still be let.
+    /// The number of instructions that may still be let.
     Dispatch(u32),
 }
 

@@ -22,7 +22,7 @@ pub fn word_at(file: &[u8], at: usize) -> u32
     low + (high << 16)
 }
 
-/// So many words, one after the other.
+/// This number of words, one after the other.
 #[tactic(auto, using(crate::proofs::Steps::words_none, crate::proofs::Steps::words_next, crate::proofs::Steps::words_length))]
 pub fn words(alloc: Global, file: &[u8], at: usize, count: usize) -> Result<Vec<u32>, AllocError>
     requires { at + 4 * count ≤ length file.now }
@@ -37,7 +37,7 @@ pub fn words(alloc: Global, file: &[u8], at: usize, count: usize) -> Result<Vec<
     Ok(found)
 }
 
-/// So many bytes that are 0.
+/// This number of bytes that are 0.
 #[tactic(auto, unfolding(crate::specs::Images::zeros))]
 pub fn zeros(alloc: Global, count: usize) -> Result<Vec<u8>, AllocError>
     ensures value { IfOk result (λ v. v.items ≡ zeros_of count) }

@@ -51,7 +51,7 @@ immediate_is w n e =
     (λ i. opcode_of w * 2 ^ 26 + (rs_again w i * 2 ^ 21 + (rt_again w i * 2 ^ 16 + n % 2 ^ 16)))
     ∙ ap (λ k. opcode_of w * 2 ^ 26 + (rs_of w * 2 ^ 21 + (rt_of w * 2 ^ 16 + k))) e ∙ upper_and_half w
 
--- the distance to where so many words beyond p lie
+-- the distance to where n words beyond p lie
 pub words_beyond : (p e : ℕ) → p < 2 ^ 32 → e < 2 ^ 32 → ((p + 4 * e) % 2 ^ 32 + (2 ^ 32 - p)) % 2 ^ 32 / 4 % 2 ^ 16 ≡ e % 2 ^ 16
 words_beyond p e small fits = omega arith
 

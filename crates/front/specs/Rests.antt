@@ -39,7 +39,7 @@ TellsEach Learns P [] old new = new ≡ old
 TellsEach {S = S} Learns P (t ∷ ts) old new =
     (middle : S) × (IsTold Learns (leaver_if (is_guessed P t) t.pc (computed_next P t)) old middle × TellsEach Learns P ts middle new)
 
--- Nobody was live, and the predictor was told of all of whom it had not been
+-- The ring was empty, and the predictor was trained on every retired branch that it had not seen
 pub record WasIdle {S : Type 0} (Learns : S → ℕ → ℕ → S → Type 0) (P : Program) (C : Sizes) (told : ℕ) (old new : List Entry) (before after : S) : Type 0 where
   pub adds : Adds P C front old new []
   pub nobody : HasNobody (unit_of P C new)
@@ -56,7 +56,7 @@ abbrev pub RestAnswers : {S : Type 0} → (S → ℕ → ℕ → S → Type 0) �
 RestAnswers Learns P C told old new before after Idle = WasIdle Learns P C told old new before after
 RestAnswers Learns P C told old new before after Live = WasLive P C old new before after
 
--- Of how many tenants nobody is told any more
+-- The number of tenants that the predictor need not be trained on any more
 abbrev pub told_after : Program → Sizes → ℕ → List Entry → Rest → ℕ
 told_after P C told new Idle = length (unit_of P C new).tenants
 told_after P C told new Live = told
@@ -68,13 +68,13 @@ rested_after rested Live = rested
 
 -- The stages of a rest
 
--- The predictor is told of each of these records whose tenant was predicted
+-- The predictor is trained on each of these records whose tenant was predicted
 abbrev pub TellsRecords : {S : Type 0} → (S → ℕ → ℕ → S → Type 0) → List Record → S → S → Type 0
 TellsRecords Learns [] old new = new ≡ old
 TellsRecords {S = S} Learns (x ∷ xs) old new =
     (middle : S) × (IsTold Learns (leaver_if x.guessed x.pc x.next) old middle × TellsRecords Learns xs middle new)
 
--- The predictor was told of the first of these records, and those that are left stand after them
+-- The predictor was trained on the first of these records, and the others stand after them
 pub record TellsFirst {S : Type 0} (Learns : S → ℕ → ℕ → S → Type 0) (all left : List Record) (old new : S) : Type 0 where
   pub done : List Record
   pub are : all ≡ done ++ left

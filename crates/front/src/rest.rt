@@ -37,7 +37,7 @@ fn fold_all<P: Predictor>(core: &Core, seat: &mut FrontSeat, path: &mut Path, pr
     }
 }
 
-/// Comes to rest if nobody is in flight. Tenants leave in order, so one look at the youngest tells.
+/// Rests if nobody is in flight. Tenants leave in order, so one look at the youngest tells.
 pub fn rest_on<P: Predictor>(
     core: &Core,
     seat: &mut FrontSeat,

@@ -41,7 +41,7 @@ onto_next k n acc large = rw (ne_eqb (n / 16) 0 (λ e. omega arith)) refl
 one_digit_less : (i n : ℕ) → n < 16 ^ suc (suc i) → n / 16 < 16 ^ suc i
 one_digit_less i n small = omega (arith, pow-suc 16 (suc i))
 
--- a number of at most so many digits, filled with zeros
+-- a number of at most n digits, filled with zeros
 filled_digits : (i k n : ℕ) (acc : List ℕ) → n < 16 ^ suc i → i ≤ k
     → filled (suc i + length acc) (digits_onto (suc k) 16 false n acc) ≡ low_digits (suc i) n acc
 filled_digits zero k n acc small room = rw (onto_last k n acc (omega arith)) (filled_last zero n acc (omega arith))

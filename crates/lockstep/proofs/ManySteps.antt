@@ -7,7 +7,7 @@ use Rattle.lockstep.specs.Many.{HasRunMany, Many, many_after, many_over, one_bef
 use Rattle.lockstep.specs.Step.{HoldsState, IsStepped, machine_state, step_over}
 use Rattle.lockstep.proofs.TheStep.{step_keeps}
 
--- with so many steps before
+-- with n steps before
 abbrev pub more : ℕ → Many → Many
 more n m = record m { steps = n + m.steps }
 

@@ -25,7 +25,7 @@ end_behind rest s None = None
 end_behind rest s (Some (Goes t)) = rest t
 end_behind rest s (Some (Halts c)) = Some (ByStop c, s)
 
--- the end of so many steps over a text
+-- the end of n steps over a text
 abbrev pub end_over : List ℕ → ℕ → State → Option (Ending × State)
 end_over text zero s = Some (ByLimit, s)
 end_over text (suc k) s = end_behind (end_over text k) s (step_over text s)

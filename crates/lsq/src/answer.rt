@@ -33,7 +33,7 @@ impl Queue {
     }
 }
 
-/// Answers a load of this width from an address on by older stores.
+/// Answers a load of this width at `address` from the older stores.
 pub fn answer_over(older: &[Entry], address: u32, width: Width) -> Answer
     ensures { result ≡ answer_over older.now address (bytes width) }
 {

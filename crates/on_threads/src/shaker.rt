@@ -14,7 +14,7 @@ use std::sync::atomic::Ordering::SeqCst;
 struct Holds {
     // how many holds were drawn
     drawn: AtomicU64,
-    // the hold that was drawn last ends after this number of questions; with none left the next is drawn
+    // questions left of the current hold; at 0 the next is drawn
     questions: AtomicU64,
 }
 

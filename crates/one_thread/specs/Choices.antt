@@ -65,7 +65,7 @@ module _ {S Q : Type 0} (Predicts : S → ℕ → Instr → ℕ → S → Type 0
     pub turn : IsTurnBy b q answer later r
     pub same : SizesStay b.pipeline later.pipeline
 
-  -- So many turns by choice, each below the limit, lead from one bench and chooser to another
+  -- n turns by choice, each below the limit, lead from one bench and chooser to another
   abbrev pub AreTurnsBy : (turns limit : ℕ) → BenchFields S → Q → BenchFields S → Q → Type 0
   AreTurnsBy zero limit b q later r = (later ≡ b) × (r ≡ q)
   AreTurnsBy (suc k) limit b q later r =

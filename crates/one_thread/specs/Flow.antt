@@ -97,7 +97,7 @@ pub record IsFlow (b : Pipeline) (flow : Flow) : Type 0 where
   pub most : length (window_of b flow) ≤ b.ring
   pub two : 2 ≤ b.ring
 
--- All but its oldest n can also be taken to be let alone
+-- All but the oldest n can be reset to fetched only
 pub record Reopens (b : Pipeline) (flow : Flow) (n : ℕ) : Type 0 where
   pub inside : n ≤ length (window_of b flow)
   pub unit : StandsForSome (with_reopened n (filled b (window_of b flow)))

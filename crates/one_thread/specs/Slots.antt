@@ -1,7 +1,7 @@
 -- Items in a ring of slots, the oldest first.
 use Rattle.std.specs.Prelude.{ℕ, ◌+◌, ◌%◌, List, ◌++◌, take, drop}
 
--- So many items from a slot on, around the end
+-- n items from a slot on, around the end
 abbrev pub ring_of : {X : Type 0} → List X → ℕ → ℕ → List X
 ring_of slots start len = take len (drop start (slots ++ slots))
 

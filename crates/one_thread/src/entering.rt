@@ -13,7 +13,7 @@ use crate::pipeline::Pipeline;
 use crate::station::Station;
 use instructions::{Half, Kind, Leaver, Predictor};
 
-// How many have completed for good once one more has: all after a miss, else those that had before.
+// The number of instructions that stay completed after one more: all if it was mispredicted, else `from`.
 #[inline(always)]
 fn closed(flow: &Flow, predicted: u32, next: u32, from: usize) -> usize
     ensures { (next ≡ predicted) × (result ≡ from) ⊎ (result ≡ length flow.now.ring.completed) }
@@ -59,8 +59,8 @@ impl<'a> Pipeline<'a> {
         Some(true)
     }
 
-    // Lets the next instruction, and runs it as far as it comes. Answers how many have completed for good, or None where it
-    // is left as it was let. All but the oldest `from` were let in a row with it: a miss is mended unless a load is among
+    // Fetches and executes the next instruction, and gives how many stay completed. `None`: it could not complete and is
+    // only fetched. All but the oldest `from` were fetched in a row with it: a miss is mended unless a load is among
     // these, whose value may be there only once a younger instruction was claimed. What it does may be known.
     #[inline(always)]
     fn run_next<P: Predictor>(

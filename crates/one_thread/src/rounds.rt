@@ -40,8 +40,8 @@ impl<'a> Pipeline<'a> {
     }
 
     /// Lets instructions enter a flow, and the oldest leave it, as long as each completes and the count has not
-    /// reached a limit. Answers how many of the oldest have completed for good: those after them were let in a row with
-    /// the last one, and can be taken to be let alone.
+    /// reached a limit. Answers how many of the oldest stay completed: the younger ones were let in a row with the last
+    /// one, and may be treated as fetched only.
     #[inline(always)]
     pub fn flows<P: Predictor>(&mut self, predictor: &mut P, flow: &mut Flow, limit: u64) -> usize
         requires flow { Flows self.old flow.old }

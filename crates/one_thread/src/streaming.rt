@@ -1,13 +1,8 @@
-//! The turns of a run where all live tenants have completed: what is let next can be claimed at once, and has completed
-//! then, unless it was mispredicted, stops or is blocked; no station is searched for it.
+//! Fast path: while every live instruction has completed, fetch, execute and retire in order, without a search of the
+//! window. It falls back to `turn` at a misprediction with a pending load, a stop, or a blocked load.
 //!
-//! Nearly always one station is free, so that one instruction more fills the ring. That is the only one that can be
-//! claimed, and its outcome stands before anything else is let: a miss squashes nobody and is mended in place, and
-//! the oldest tenant retires. Where more can be let before any is claimed, each runs as it is let, and after a miss the
-//! predicted path is let as far as it goes, and squashed. Should one of them not complete then, or be a miss that may
-//! wait for a load, all of these are again as they were let. So what stands in the stations after each retirement, and
-//! what a predictor is asked and told, is meant to be the same as if all turns were made one by one, in their order;
-//! the contracts promise a unit that legal steps reach, and the end of the run.
+//! The states after each retirement, and what the predictor is asked and trained on, are meant to be those of turns in
+//! order; the contracts promise a unit that legal steps reach, and the end of the run.
 ghost use Rattle.std.specs.Prelude.{◌≡◌, ◌<◌, ◌≤◌, length, slice_get, is_some, true, IfSome, None, Some};
 ghost use Rattle.instructions.specs.Instruction.{kind as kind_of};
 ghost use Rattle.instructions.specs.Programs.{instr_at};

@@ -11,10 +11,10 @@ use crate::unit::Unit;
 use crate::wakeup::{is_nothing, operand};
 use inorder::history::Source;
 
-// So many that have left are not dropped: a refusal has their words.
+// This number of those that have left are not dropped: a refusal has their words.
 const LEAST: usize = 4096;
 
-// The counts of so many stations are not dropped.
+// The counts of this number of stations are not dropped.
 const STATIONS: usize = 0x1_0000_0000;
 
 impl<'a> Unit<'a> {

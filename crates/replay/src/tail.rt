@@ -62,7 +62,7 @@ impl<T: Copy + Drop> Tail<T> {
         self.from
     }
 
-    /// One item more; no list has so many that their number has no room.
+    /// One item more; no list is so long that its length has no room.
     pub fn push(&mut self, item: T) -> Result<(), AllocError>
         ensures ok { OnOk result (self.new.items ≡ self.old.items ++ item ∷ []) }
         ensures err { OnErr result (self.new.items ≡ self.old.items) }

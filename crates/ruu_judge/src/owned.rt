@@ -149,7 +149,7 @@ impl OwnedUnit {
             ),
         }
     }
-    /// The text of a verdict: that of the event that is refused, or the counts and the report after so many legal ones.
+    /// The text of a verdict: that of the event that is refused, or the counts and the report after n legal ones.
     pub fn text(
         self,
         alloc: Global,

@@ -45,7 +45,7 @@ left_of text s =
 abbrev pub change_left : List ℕ → State → Change
 change_left text s = if are_allowed (length text) (length s.memory) then change_over text s else no_change
 
--- the answer of a call that may make so many steps
+-- the answer of a call that may make n steps
 abbrev pub many_number : List ℕ → ℕ → State → ℤ
 many_number text most s =
     if are_allowed (length text) (length s.memory) then answer_number (many_over text most s).answer else negsuc 1

@@ -1,4 +1,4 @@
--- The machine in order comes to the committed state.
+-- The machine in order reaches the committed state.
 use Rattle.std.proofs.Common.{◌≡◌, ℕ, ◌-◌, zero, suc, List, Option, Some, None, refl, sym, ap, ◌∙◌, subst, arith}
 use Rattle.instructions.specs.Programs.{Program}
 use Rattle.instructions.specs.declared.stop.Stop.{Stop}

@@ -20,18 +20,18 @@ IsPlay first (line ∷ earlier) text last =
     × MayHaveLooked middle looked
     × IsWrittenBehind looked last (suc (length earlier)) line before text
 
--- So many lines were chosen and answered
+-- n lines were chosen and answered
 abbrev pub IsPlayOf : TheSession → (count : ℕ) → List ℕ → TheSession → Type 0
 IsPlayOf first count text last =
     (lines : List (List ℕ)) × (length lines ≡ count) × IsPlay first lines text last
 
--- So many lines were chosen and answered, and behind them the words may have been looked at once more
+-- n lines were chosen and answered, and after them the words may have been looked at once more
 pub record ArePlayed (old new : TheSession) (text : List ℕ) (count : ℕ) : Type 0 where
   pub middle : TheSession
   pub played : IsPlayOf old count text middle
   pub looked : MayHaveLooked middle new
 
--- The transcript of a session that a seed drives: of so many lines, or of fewer where the run has ended, and of a table
+-- The transcript of a session that a seed drives: of n lines, or of fewer where the run has ended, and of a table
 -- and a report
 pub record HasPlayed (steps : ℕ) (old new : TheSession) (text : List ℕ) : Type 0 where
   pub count : ℕ

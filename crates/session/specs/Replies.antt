@@ -108,7 +108,7 @@ abbrev pub HoldsWhatIs : TheCore → Caller → Claim → Type 0
 HoldsWhatIs core seat (Claimed job) = Holds core.program core.sizes seat.by seat.seen job
 HoldsWhatIs core seat claim = ⊤
 
--- A commit, and right behind it the state that the back keeps
+-- A commit, and after it the state that the back keeps
 pub record CommitSays (from to : TheBack) (before behind : List Entry) (commit : Commit) : Type 0 where
   pub says : CommitAnswers (record from { seen = before }) (record to { seen = behind }) commit
   pub state : back_state to ≡ committed_in to.core behind

@@ -59,7 +59,7 @@ abbrev pub head_with : Head → ℕ → Bool → Head
 head_with h s true = record { station = h.station; free = h.free + 1 }
 head_with h s false = record { station = or_some h.station s; free = h.free }
 
--- So many stations were looked at, from the next tenant's on
+-- n stations were looked at, from the next tenant's on
 abbrev pub AreLookedAt : TheCore → List Entry → List Entry → (tail : ℕ) → (count : ℕ) → Head → Type 0
 AreLookedAt core old new tail zero head = head ≡ record { station = None; free = 0 }
 AreLookedAt core old new tail (suc n) head =

@@ -50,7 +50,7 @@ AreCommands (chunk ∷ earlier) each =
     (line : Line) × (before : Bool) × AreCommands earlier before × IsLine (tokens_of (line_of chunk)) line
     × (ends_script line ≡ false) × (each ≡ (before && is_command line))
 
--- So many lines were read from the first on, and what was written is their transcript
+-- n lines were read from the first on, and what was written is their transcript
 pub record AreTold (echo : Bool) (from to : Option (List ℕ)) (old new : TheSession)
     (before after : Option (List ℕ)) (count : ℕ) (each : Bool) : Type 0 where
   -- the last one first
@@ -104,7 +104,7 @@ pub record LineIsCut (echo : Bool) (from : Option (List ℕ)) (old : TheSession)
   pub part : count < length text
   pub written : Appends before after (take count text)
 
--- So many lines were answered, and what was written is their transcript and a beginning of what is
+-- n lines were answered, and what was written is their transcript and a beginning of what is
 -- told of one more
 pub record HasBroken (echo : Bool) (from : Option (List ℕ)) (old : TheSession)
     (before after : Option (List ℕ)) : Type 0 where

@@ -46,7 +46,7 @@ row_command ring row =
     if nat_lt row ring then ask.Station row
     else if nat_lt row (ring + register_count) then ask.Creator (row - ring) else ask.Ring
 
--- So many rows, from the first on
+-- n rows, from the first on
 abbrev pub AreRows : (ring : ℕ) → TheSession → ℕ → List ℕ → TheSession → Type 0
 AreRows ring first zero text last = (text ≡ []) × (last ≡ first)
 AreRows ring first (suc n) text last =

@@ -51,7 +51,7 @@ pub record IsAnswered (old new : TheSession) (number : ℕ) (command : Command) 
   pub replied : IsReplied old new command reply
   pub text_is : IsLineOf number reply text
 
--- The text of what a line of this number comes to. A line that makes no call changes nothing. An undo stands apart
+-- The text of the result of a line of this number. A line that makes no call changes nothing. An undo stands apart
 abbrev pub LineSays : TheSession → TheSession → ℕ → Line → List ℕ → Type 0
 LineSays old new number Nothing text = (text ≡ []) × (new ≡ old)
 LineSays old new number Unknown text = (text ≡ unknown_text number) × (new ≡ old)

@@ -7,7 +7,7 @@ use Rattle.session.specs.Sessions.{TheSession}
 use Rattle.session.specs.Undoing.{ComesTo}
 use Rattle.session.specs.Tokens.{tokens_of}
 
--- The text of what the bytes of a line come to
+-- The text of the result of a line's bytes
 pub record IsToldOfLine (old new : TheSession) (number : ℕ) (bytes text : List ℕ) : Type 0 where
   pub line : Line
   pub line_is : IsLine (tokens_of bytes) line

@@ -50,7 +50,7 @@ abbrev pub SaysOnce : (undoes : Bool) → TheSession → TheSession → (number 
 SaysOnce true old new number line text = UndoSays old new number text
 SaysOnce false old new number line text = LineIsDone old new number line text
 
--- What one of the times comes to that a line is done
+-- The result of one of the times that a line is done
 abbrev pub LineComesTo : TheSession → TheSession → (number : ℕ) → Line → List ℕ → Type 0
 LineComesTo old new number line text = SaysOnce (is_undo line) old new number line text
 

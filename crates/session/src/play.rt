@@ -59,7 +59,7 @@ fn push_line<P: Predictor + Copy + Drop, J: OfProgram, R: Wait>(
     out.extend_from_slice(text.as_slice())
 }
 
-// Adds what is written for so many chosen commands, or for fewer where the run ends, and gives how many there were.
+// Adds what is written for n chosen commands, or for fewer where the run ends, and gives how many there were.
 fn push_lines<P: Predictor + Copy + Drop, J: OfProgram, R: Wait>(
     wait: &R,
     alloc: Global,
@@ -87,7 +87,7 @@ fn push_lines<P: Predictor + Copy + Drop, J: OfProgram, R: Wait>(
     Ok(steps)
 }
 
-/// Answers so many commands that a seed chooses of those that make sense, each behind the command itself, or fewer where
+/// Answers n commands that a seed chooses of those that make sense, each after the command itself, or fewer where
 /// the run has ended; and then a table and a report. Gives the transcript.
 pub(crate) fn play<P: Predictor + Copy + Drop, J: OfProgram, R: Wait>(
     wait: &R,

@@ -19,7 +19,7 @@ use std::sync::Wait;
 /// The most turns that one line takes.
 const MOST_TURNS: u32 = 1_000_000;
 
-/// What a command of a turn comes to.
+/// The result of a command of a turn.
 #[derive(Clone, Copy)]
 enum Progress {
     /// Something was done.
@@ -32,7 +32,7 @@ enum Progress {
     Over,
 }
 
-// What a command comes to, by its answer.
+// The result of a command, by its answer.
 fn progress_by(sought: Option<Event>, reply: &Reply) -> Progress {
     match (sought, reply) {
         (Some(event), reply) if shows(event, reply) => Progress::Met,

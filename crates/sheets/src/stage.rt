@@ -15,7 +15,7 @@ pub enum Stage {
 }
 
 impl Stage {
-    /// All stages, in the order in which an instruction comes to them.
+    /// All stages, in the order in which an instruction reaches them.
     pub fn all() -> [Stage; 6] {
         [
             Stage::Let,

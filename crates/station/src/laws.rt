@@ -20,7 +20,7 @@ pub fn jobs_stay()
     ensures finishing { JobsStayFinishing }
 {}
 
-/// A job of before a renewal is held by nobody after it.
+/// After a renewal no unit holds a job from before it.
 pub fn a_job_ends_at_a_renewal()
     ensures { JobsEndAtARenewal }
 {}

@@ -26,7 +26,7 @@ gathered_of g Renewals = 0
 abbrev pub counted_of : Gathered → Total → ℕ
 counted_of g t = ((share_of t g.seat.shares).added + gathered_of g t) % 2 ^ 64
 
--- So many of one total, and none of any other
+-- n of one total, and none of any other
 abbrev pub only_of : (total : Total) (k : ℕ) → Total → ℕ
 only_of total k t = if position_of t == position_of total then k else 0
 

@@ -6,7 +6,7 @@ pub record TheTurns : Type 0 where
   pub all : ℕ
   pub left : ℕ
 
--- So many turns, of which none is taken
+-- n turns, of which none is taken
 abbrev pub untaken : ℕ → TheTurns
 untaken all = record { all = all; left = all }
 

@@ -1,7 +1,7 @@
 //! The backoff of a thread that finds nothing to do.
 use std::thread::yield_now;
 
-/// Lets another thread run at a fruitless turn before which this number of others in a row were fruitless.
+/// Yields once `after` turns in a row have found no work.
 #[derive(Clone, Copy)]
 pub struct Backoff {
     after: u32,

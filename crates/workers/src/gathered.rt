@@ -7,7 +7,7 @@ ghost use Rattle.workers.specs.Gathering.{CountsMore, CountsNoMore, HasGatheredN
 
 use counts::{Counts, Total, WorkerSeat};
 
-// A thread adds with the count that follows this number of others.
+// Counts go to the shared totals in batches of one more than this number.
 const ADDED_EACH: u32 = 64;
 
 /// A seat to count with, and how much was counted since it last added to the totals. `end` alone takes it apart, so

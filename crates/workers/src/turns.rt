@@ -24,7 +24,7 @@ impl Model for Turns {
 }
 
 impl Turns {
-    /// So many turns, of which none is taken.
+    /// This number of turns, of which none is taken.
     pub fn new(all: u32) -> Turns
         ensures { result ≡ untaken all }
     {

@@ -115,7 +115,7 @@ pub(crate) static SENTENCES: [Row; 25] = [
     ("* */ **", "Write # before each line of a comment."),
 ];
 
-/// The instructions to write in place of words with so many operands.
+/// The instructions to write in place of words with this number of operands.
 pub(crate) struct Instead {
     pub words: &'static str,
     pub count: usize,

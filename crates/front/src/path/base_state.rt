@@ -15,7 +15,7 @@ pub struct Base {
     pub pc: u32,
     pub half: Half,
     pub station: usize,
-    // the front's seat when it last rested, or first: of its tenants nobody is told any more
+    // the seat when the ring was last empty, or first; older tenants need no training
     pub rested: Snapshot<FrontSeat>,
 }
 

@@ -116,8 +116,8 @@ impl Form {
     }
 }
 
-// The form with this word and number of operands, or the fault: no form has the word, or none of its forms has so many
-// operands.
+// The form with this word and number of operands, or the fault: no form has the word, or none of its forms has this
+// number.
 fn find_in(table: &[Form], word: &[u8], count: usize) -> Result<Form, FaultKind>
     ensures { Reads form_view result (if list_any (has_word word.now) (map form_view table.now)
         then ok_or (find (has_word_and_count word.now count) (map form_view table.now)) BadOperands
@@ -135,7 +135,7 @@ fn find_in(table: &[Form], word: &[u8], count: usize) -> Result<Form, FaultKind>
     Err(fault)
 }
 
-/// The form of a word, in letters of either case, with so many operands.
+/// The form of a word, in letters of either case, with this number of operands.
 pub fn form_of(word: &[u8], count: usize) -> Result<Form, FaultKind>
     ensures { Reads form_view result (form_of word.now count) }
 {

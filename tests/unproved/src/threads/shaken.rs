@@ -33,7 +33,7 @@ impl Words {
     }
 }
 
-// For each word a unit is held for so many questions, and then let go.
+// For each word a unit is held for a number of questions, and then let go.
 #[test]
 fn each_unit_is_held_by_its_own_words(rt: HostRuntime) -> Result<(), Fail> {
     for (seed, name) in [(7, "7"), (12_345_678_901, "12345678901")] {

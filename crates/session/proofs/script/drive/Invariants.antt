@@ -3,7 +3,7 @@ use Rattle.std.proofs.Common.{◌≡◌}
 use Rattle.session.specs.Scripts.{AreTold}
 use Rattle.session.proofs.script.drive.Given as goal
 
--- so many lines were told, and no call failed
+-- n lines were answered, and no call failed
 abbrev pub invariant-loop-number : goal.invariant-loop-number
 invariant-loop-number g l = record {
   quiet : failures_of l.writer ≡ failures_of l.fn.writer;

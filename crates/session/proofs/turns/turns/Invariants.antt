@@ -2,7 +2,7 @@ use Rattle.std.proofs.Common.{◌≤◌, [], string_bytes}
 use Rattle.session.specs.Turns.{HasTried}
 use Rattle.session.proofs.turns.turns.Given as goal
 
--- so many turns were taken
+-- n turns were taken
 abbrev pub invariant-loop-taken : goal.invariant-loop-taken
 invariant-loop-taken g l = record {
   tried : HasTried l.number l.fn.session l.session [] (string_bytes l.out);

@@ -3,7 +3,7 @@ use Rattle.session.specs.Rows.{AreLookedAt}
 use Rattle.session.specs.Sessions.{OnlyLooked}
 use Rattle.session.proofs.session.Session.head.Given as goal
 
--- so many stations were looked at
+-- n stations were looked at
 abbrev pub invariant-loop-at : goal.invariant-loop-at
 invariant-loop-at g l = record {
   looks : OnlyLooked l.fn.self l.self;

@@ -3,7 +3,7 @@ use Rattle.session.specs.Accounts.{IsNotFrom}
 use Rattle.session.specs.Sessions.{OnlyLooked}
 use Rattle.session.proofs.session.Session.producer.Given as goal
 
--- no link word from so many stations names the tenant
+-- no link word from n stations names the tenant
 abbrev pub invariant-loop-at : goal.invariant-loop-at
 invariant-loop-at g l = record {
   looks : OnlyLooked l.fn.self l.self;

@@ -1,6 +1,6 @@
 use Rattle.session.specs.Sessions.{MayHaveLooked}
 use Rattle.session.proofs.session.Session.push_of_stations.Given as goal
 
--- so many stations were looked at
+-- n stations were looked at
 abbrev pub invariant-loop-station : goal.invariant-loop-station
 invariant-loop-station g l = MayHaveLooked l.fn.self l.self

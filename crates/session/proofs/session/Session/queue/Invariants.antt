@@ -1,6 +1,6 @@
 use Rattle.session.specs.Sessions.{OnlyLooked}
 use Rattle.session.proofs.session.Session.queue.Given as goal
 
--- so many stations were looked at
+-- n stations were looked at
 abbrev pub invariant-loop-at : goal.invariant-loop-at
 invariant-loop-at g l = OnlyLooked l.fn.self l.self
