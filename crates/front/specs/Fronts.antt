@@ -44,7 +44,7 @@ pub record TheFront (S : Type 0) : Type 0 where
   pub seen : List Entry
   pub predictor : S
   pub touched : ℕ
-  pub told : ℕ
+  pub trained_upto : ℕ
   pub rested : Bool
 
 -- A front's seat of this core that has let nothing
@@ -71,7 +71,7 @@ pub record IsFront (P : Program) (seat : Caller) (path : Path) (creators : Count
 -- A turn of the front is answered so
 abbrev pub TurnsTo : {S : Type 0} → (S → ℕ → Instr → ℕ → S → Type 0) → (S → ℕ → ℕ → S → Type 0) → TheCore → TheFront S → TheFront S → Turn → Type 0
 TurnsTo Predicts Learns core old new turn =
-    TurnAnswers Predicts Learns core.program core.sizes old.told old.seen new.seen old.predictor new.predictor turn
+    TurnAnswers Predicts Learns core.program core.sizes old.trained_upto old.seen new.seen old.predictor new.predictor turn
 
 -- A recovery of the front is answered so
 abbrev pub FrontRecoversTo : {S : Type 0} → TheCore → TheFront S → TheFront S → Recovery → Type 0
@@ -80,11 +80,11 @@ FrontRecoversTo core old new recovery = RecoverAnswers core.program core.sizes o
 -- A rest of the front is answered so
 abbrev pub RestsTo : {S : Type 0} → (S → ℕ → ℕ → S → Type 0) → TheCore → TheFront S → TheFront S → Rest → Type 0
 RestsTo Learns core old new rest =
-    RestAnswers Learns core.program core.sizes old.told old.seen new.seen old.predictor new.predictor rest
+    RestAnswers Learns core.program core.sizes old.trained_upto old.seen new.seen old.predictor new.predictor rest
 
 -- The creator of register r, by what the front has seen
 abbrev pub CreatorOf : {S : Type 0} → TheFront S → ℕ → Made → Type 0
-CreatorOf f r made = IsCreatorAnswer f.core.program (unit_of f.core.program f.core.sizes f.seen) f.told r made
+CreatorOf f r made = IsCreatorAnswer f.core.program (unit_of f.core.program f.core.sizes f.seen) f.trained_upto r made
 
 -- The unit of what the front has seen
 abbrev pub front_unit : {S : Type 0} → TheFront S → UpdateUnit

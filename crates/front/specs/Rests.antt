@@ -57,9 +57,9 @@ RestAnswers Learns P C told old new before after Idle = WasIdle Learns P C told 
 RestAnswers Learns P C told old new before after Live = WasLive P C old new before after
 
 -- The number of tenants that the predictor need not be trained on any more
-abbrev pub told_after : Program → Sizes → ℕ → List Entry → Rest → ℕ
-told_after P C told new Idle = length (unit_of P C new).tenants
-told_after P C told new Live = told
+abbrev pub trained_after : Program → Sizes → ℕ → List Entry → Rest → ℕ
+trained_after P C told new Idle = length (unit_of P C new).tenants
+trained_after P C told new Live = told
 
 -- Whether the front has rested
 abbrev pub rested_after : Bool → Rest → Bool

@@ -5,7 +5,7 @@ ghost use Rattle.inorder.specs.OneHistory.{Adds};
 ghost use Rattle.front.specs.CreateTable.{IsTouched};
 ghost use Rattle.front.specs.Fronts.{AddsNothing, CreatorOf, FrontRecoversTo, IsUnused, RestsTo, TurnsTo};
 ghost use Rattle.front.specs.Recoveries.{squashed_by};
-ghost use Rattle.front.specs.Rests.{rested_after, told_after};
+ghost use Rattle.front.specs.Rests.{rested_after, trained_after};
 ghost use Rattle.front.specs.Training.{always_answers};
 ghost use Rattle.station.specs.Looking.{SeesStation};
 ghost use Rattle.station.specs.Seats.{IsSameSeat};
@@ -44,7 +44,7 @@ impl<'a, P: Predictor + Drop> Model for Front<'a, P> {
       seen = f.seat.seen;
       predictor = f.predictor;
       touched = f.creators.counted.touched;
-      told = rested_at f.path.base;
+      trained_upto = rested_at f.path.base;
       rested = f.rested;
     } };
 
@@ -59,7 +59,7 @@ impl<'a, P: Predictor + Drop> Front<'a, P> {
         ensures core { result.core ≡ core.now }
         ensures history { AddsNothing core.now seat.seen result.seen }
         ensures predictor { result.predictor ≡ predictor }
-        ensures told { result.told ≡ 0 }
+        ensures trained_upto { result.trained_upto ≡ 0 }
         ensures touched { result.touched ≡ 0 }
     {
         what_is_seen_is_legal(&seat);
@@ -81,7 +81,7 @@ impl<'a, P: Predictor + Drop> Front<'a, P> {
         requires { self.old.core ≡ core.now }
         ensures core { self.new.core ≡ core.now }
         ensures reply { TurnsTo P.Predicts P.Learns core.now self.old self.new result }
-        ensures told { self.new.told ≡ self.old.told }
+        ensures trained_upto { self.new.trained_upto ≡ self.old.trained_upto }
         ensures touched { IsTouched 9 self.old.touched self.new.touched }
     {
         self.rested = false;
@@ -102,7 +102,7 @@ impl<'a, P: Predictor + Drop> Front<'a, P> {
         requires { self.old.core ≡ core.now }
         ensures core { self.new.core ≡ core.now }
         ensures reply { TurnsTo (always_answers next) P.Learns core.now self.old self.new result }
-        ensures told { self.new.told ≡ self.old.told }
+        ensures trained_upto { self.new.trained_upto ≡ self.old.trained_upto }
         ensures touched { IsTouched 9 self.old.touched self.new.touched }
     {
         self.rested = false;
@@ -123,7 +123,7 @@ impl<'a, P: Predictor + Drop> Front<'a, P> {
         requires { self.old.core ≡ core.now }
         ensures core { self.new.core ≡ core.now }
         ensures reply { FrontRecoversTo core.now self.old self.new result }
-        ensures told { self.new.told ≡ self.old.told }
+        ensures trained_upto { self.new.trained_upto ≡ self.old.trained_upto }
         ensures touched { IsTouched (2 * squashed_by result) self.old.touched self.new.touched }
         ensures predictor { self.new.predictor ≡ self.old.predictor }
     {
@@ -143,8 +143,8 @@ impl<'a, P: Predictor + Drop> Front<'a, P> {
         requires { self.old.core ≡ core.now }
         ensures core { self.new.core ≡ core.now }
         ensures reply { RestsTo P.Learns core.now self.old self.new result }
-        ensures told { self.new.told ≡ told_after core.now.program core.now.sizes
-            self.old.told self.new.seen result }
+        ensures trained_upto { self.new.trained_upto ≡ trained_after core.now.program
+            core.now.sizes self.old.trained_upto self.new.seen result }
         ensures rested { self.new.rested ≡ rested_after self.old.rested result }
         ensures touched { self.new.touched ≡ self.old.touched }
     {
@@ -193,7 +193,7 @@ impl<'a, P: Predictor + Drop> Front<'a, P> {
         ensures reply { SeesStation core.now.program core.now.sizes self.new.seen station result }
         ensures predictor { self.new.predictor ≡ self.old.predictor }
         ensures touched { self.new.touched ≡ self.old.touched }
-        ensures told { self.new.told ≡ self.old.told }
+        ensures trained_upto { self.new.trained_upto ≡ self.old.trained_upto }
         ensures rested { self.new.rested ≡ self.old.rested }
     {
         core.look(&mut self.seat, station)
@@ -208,7 +208,7 @@ impl<'a, P: Predictor + Drop> Front<'a, P> {
         ensures told { StartsWith self.new.seen other.old.seen }
         ensures predictor { self.new.predictor ≡ self.old.predictor }
         ensures touched { self.new.touched ≡ self.old.touched }
-        ensures told_kept { self.new.told ≡ self.old.told }
+        ensures trained_kept { self.new.trained_upto ≡ self.old.trained_upto }
         ensures rested { self.new.rested ≡ self.old.rested }
         ensures other_kept { IsSameSeat other.old other.new }
         ensures other_spare { other.new.spare ≡ other.old.spare }

@@ -5,7 +5,7 @@ ghost use Rattle.inorder.specs.OneHistory.{Adds};
 ghost use Rattle.front.specs.Folding.{IsFolding, LeavesRecords};
 ghost use Rattle.front.specs.Fronts.{AddsNothing, KnowsPath, KnowsTable};
 ghost use Rattle.front.specs.Path.{rested_at};
-ghost use Rattle.front.specs.Rests.{RestAnswers, TellsRecords, told_after};
+ghost use Rattle.front.specs.Rests.{RestAnswers, TellsRecords, trained_after};
 ghost use Rattle.station.specs.Seats.{IsSameSeat};
 ghost use Rattle.station.specs.Renewals.{HasNobody};
 
@@ -53,7 +53,7 @@ pub fn rest_on<P: Predictor>(
     ensures kept { IsSameSeat seat.old seat.new }
     ensures reply { RestAnswers P.Learns core.now.program core.now.sizes
         (rested_at path.old.base) seat.old.seen seat.new.seen predictor.old predictor.new result }
-    ensures told { rested_at path.new.base ≡ told_after core.now.program core.now.sizes
+    ensures trained_upto { rested_at path.new.base ≡ trained_after core.now.program core.now.sizes
         (rested_at path.old.base) seat.new.seen result }
     ensures records { LeavesRecords result path.old.records path.new.records }
     ensures knows { KnowsPath core.now seat.new.seen path.new }

@@ -84,8 +84,8 @@ impl<P: Predictor + Drop> FrontStill<P> {
         ensures seen { result.seen ≡ seat.seen }
         ensures predictor { result.predictor ≡ self.predictor }
         ensures touched { result.touched ≡ self.touched }
-        ensures told { result.told ≡ length (unit_of seat.core.program seat.core.sizes
-            seat.seen).tenants }
+        ensures trained_upto { result.trained_upto ≡ length (unit_of seat.core.program
+            seat.core.sizes seat.seen).tenants }
     {
         what_is_seen_is_legal(&seat);
         let FrontStill {
@@ -123,8 +123,8 @@ impl<P: Predictor + Drop> FrontStill<P> {
         ensures seen { result.seen ≡ seat.seen }
         ensures predictor { result.predictor ≡ self.predictor }
         ensures touched { result.touched ≡ self.touched }
-        ensures told { result.told ≡ length (unit_of seat.core.program seat.core.sizes
-            seat.seen).tenants }
+        ensures trained_upto { result.trained_upto ≡ length (unit_of seat.core.program
+            seat.core.sizes seat.seen).tenants }
     {
         self.enter_at(seat, program, 0)
     }
@@ -138,8 +138,8 @@ impl<P: Predictor + Drop> FrontStill<P> {
         ensures seen { result.seen ≡ seat.seen }
         ensures predictor { result.predictor ≡ self.predictor }
         ensures touched { result.touched ≡ self.touched }
-        ensures told { result.told ≡ length (unit_of seat.core.program seat.core.sizes
-            seat.seen).tenants }
+        ensures trained_upto { result.trained_upto ≡ length (unit_of seat.core.program
+            seat.core.sizes seat.seen).tenants }
     {
         let station = self.base.station;
         self.enter_at(seat, program, station)

@@ -54,7 +54,7 @@ pub fn turn_on<P: Predictor>(
     ensures reply { TurnAnswers (given_or given P.Predicts) P.Learns core.now.program
         core.now.sizes (rested_at path.old.base) seat.old.seen seat.new.seen
         predictor.old predictor.new result }
-    ensures told { rested_at path.new.base ≡ rested_at path.old.base }
+    ensures trained_upto { rested_at path.new.base ≡ rested_at path.old.base }
     ensures knows { KnowsPath core.now seat.new.seen path.new }
     ensures table { KnowsTable core.now seat.new.seen path.new.base creators.new }
     ensures touched { IsTouched 9 creators.old.touched creators.new.touched }

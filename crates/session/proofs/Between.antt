@@ -11,7 +11,7 @@ use Rattle.front.specs.declared.answers.Turn.{Turn}
 use Rattle.front.specs.declared.answers.Turn.TheVariants.{Full, Let, NoInstr, QueueFull, Spent}
 use Rattle.front.specs.declared.answers.Rest.{Rest}
 use Rattle.front.specs.declared.answers.Rest.TheVariants.{Idle, Live}
-use Rattle.front.specs.Rests.{RestAnswers, told_after}
+use Rattle.front.specs.Rests.{RestAnswers, trained_after}
 use Rattle.front.specs.Training.{given_or}
 use Rattle.front.specs.Turns.{IsRefusal as WasRefused, TurnAnswers}
 use Rattle.session.specs.Replies.{IsGuess, IsTurnRefusal, RestSays, TurnSays}
@@ -38,6 +38,6 @@ module _ {S : Type 0} (Predicts : S → ℕ → Instr → ℕ → S → Type 0) 
 
 -- A rest, without what its predictor is told
 module _ {S : Type 0} (Learns : S → ℕ → ℕ → S → Type 0) (P : Program) (C : Sizes) (told : ℕ) (old new : List Entry) (before after : S) where
-  pub rest_says : (rest : Rest) → RestAnswers Learns P C told old new before after rest → (new_told : ℕ) → new_told ≡ told_after P C told new rest → RestSays P C old new told new_told rest
+  pub rest_says : (rest : Rest) → RestAnswers Learns P C told old new before after rest → (new_told : ℕ) → new_told ≡ trained_after P C told new rest → RestSays P C old new told new_told rest
   rest_says Idle r new_told e = record { adds = r.adds; nobody = r.nobody; told = e }
   rest_says Live r new_told e = record { adds = r.adds; live = r.live; told_is = e }

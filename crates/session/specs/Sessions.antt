@@ -48,7 +48,7 @@ pub record TheSession : Type 0 where
   pub mark : Option Mark
   pub fronts : List Entry
   pub touched : ℕ
-  pub told : ℕ
+  pub trained_upto : ℕ
   pub rested : Bool
   pub config : Settings
   pub lines : List Line
@@ -76,7 +76,7 @@ pub record IsStartOfSession (P : Program) (config : Settings) (s : TheSession) :
   pub units : HasNone s.units
   pub snapper : s.snapper ≡ 0
   pub mark : s.mark ≡ None
-  pub told : s.told ≡ 0
+  pub trained_upto : s.trained_upto ≡ 0
   pub touched : s.touched ≡ 0
   pub rested : s.rested ≡ false
   pub going : s.commits.ended ≡ None
@@ -144,7 +144,7 @@ pub record WasNotShown (old new : TheSession) : Type 0 where
 
 -- The front has rested, if nobody was live
 pub record SessionHasRested (old new : TheSession) (rest : Rest) : Type 0 where
-  pub says : IsRest old.core old.seen new.seen old.told new.told rest
+  pub says : IsRest old.core old.seen new.seen old.trained_upto new.trained_upto rest
   pub rested : new.rested ≡ rested_after old.rested rest
 
 -- What one of those that can meet has seen
@@ -193,7 +193,7 @@ pub record HasReported (old new : TheSession) (end : End) : Type 0 where
 -- The core was renewed, where the front had rested. Units are made anew
 pub record HasRenewed (old new : TheSession) : Type 0 where
   pub rested : old.rested ≡ true
-  pub begins : HasBegunAgain old.core new.core old.seen new.seen old.commits new.commits new.told
+  pub begins : HasBegunAgain old.core new.core old.seen new.seen old.commits new.commits new.trained_upto
   pub rests_no_more : new.rested ≡ false
   pub units : HasNone new.units
 
@@ -259,7 +259,7 @@ Answers old new (ask.Look station) (say.Look seen) =
     IsStationOf old station × IsLook old.core old.seen new.seen station seen × KeepsCommits old new
 Answers old new (ask.Creator register) (say.Creator made) =
     (register < register_count)
-    × IsCreatorNow old.core old.seen new.seen old.told register made × KeepsCommits old new
+    × IsCreatorNow old.core old.seen new.seen old.trained_upto register made × KeepsCommits old new
 Answers old new ask.Touched (say.Touched count) = (count ≡ old.touched) × (new ≡ old)
 Answers old new (ask.Info station) (say.Info info) =
     IsStationOf old station
@@ -305,7 +305,7 @@ after_command ask.Take old new = record old { snapper = new.snapper }
 after_command ask.Learn old new = record old { snapper = new.snapper }
 after_command ask.Touched old new = old
 after_command ask.Rest old new =
-    record old { seen = new.seen; fronts = new.fronts; told = new.told; rested = new.rested }
+    record old { seen = new.seen; fronts = new.fronts; trained_upto = new.trained_upto; rested = new.rested }
 after_command (ask.Meet one other) old new =
     record old {
       seen = new.seen;
@@ -320,7 +320,7 @@ after_command ask.Renew old new =
       units = new.units;
       commits = new.commits;
       fronts = new.fronts;
-      told = new.told;
+      trained_upto = new.trained_upto;
       rested = new.rested;
     }
 after_command command old new = record old { seen = new.seen; commits = new.commits; fronts = new.fronts }

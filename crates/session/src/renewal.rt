@@ -27,7 +27,7 @@ pub(crate) fn renew<'a, P: Predictor + Drop, J: OfProgram>(
     requires not_ended { back.ended ≡ None }
     ensures ok { IfOk result (λ t. SeatsAreAt t.0 t.1 t.2.core t.3) }
     ensures renewed { IfOk result (λ t. HasBegunAgain core t.0 all.seen
-        t.1.seen back t.3 t.2.told) }
+        t.1.seen back t.3 t.2.trained_upto) }
     ensures touched { IfOk result (λ t. t.2.touched ≡ front.entry.touched) }
     ensures err { IfErr result (λ t. SeatsAreAt t.0 t.1 t.2.core t.3) }
     ensures refused { IfErr result (λ t. HasStayed core t.0 all.seen t.1.seen back t.3) }

@@ -63,7 +63,7 @@ impl<'a, P: Predictor + Drop, J: OfProgram> Model for Session<'a, P, J> {
       mark = s.mark;
       fronts = s.front.seen;
       touched = s.front.touched;
-      told = s.front.told;
+      trained_upto = s.front.trained_upto;
       rested = s.rested;
       config = s.past.config;
       lines = s.past.lines.items;

@@ -18,7 +18,7 @@ use station::Core;
 fn turn_by<P: Predictor + Drop>(core: &Core, front: &mut Front<'_, P>, given: Option<u32>) -> Turned
     requires { front.old.core ≡ core.now }
     ensures core { front.new.core ≡ core.now }
-    ensures told { front.new.told ≡ front.old.told }
+    ensures trained_upto { front.new.trained_upto ≡ front.old.trained_upto }
     ensures reply { TurnsTo (given_or given P.Predicts) P.Learns core.now front.old front.new
         result }
 {

@@ -41,7 +41,7 @@ impl<'a, P: Predictor + Drop, J: OfProgram> Session<'a, P, J> {
           mark = mark;
           fronts = stage.entry.2.seen;
           touched = stage.entry.2.touched;
-          told = stage.entry.2.told;
+          trained_upto = stage.entry.2.trained_upto;
           rested = false;
           config = past.config;
           lines = past.lines.items;

@@ -56,7 +56,7 @@ returns-clause-touched g c =
 pub returns-in-Err-clause-touched : goal.returns-in-Err-clause-touched
 returns-in-Err-clause-touched g c = touched_none _ _ _ refl
 
-pub returns-clause-told : goal.returns-clause-told
-returns-clause-told g c =
+pub returns-clause-trained_upto : goal.returns-clause-trained_upto
+returns-clause-trained_upto g c =
     ap rested_at c.dispatch-tag.ensures.base
     ∙ released_told c.ring.result c.in-Ok.next.last_value c.args.path.now c.release-departed.result c.release-departed.new.self c.release-departed.ensures.reply

@@ -45,7 +45,7 @@ returns-in-Ok-clause-renewed g c =
     let left = c.leave-back_seat in
     begun c.args.core c.in-Ok.core (seats_of c.leave-front_seat.result.0 left.result.0 c.args.all) (seats_of c.in-Ok.front_seat c.in-Ok.back_seat c.in-Ok.all)
     c.in-Ok.ensures.ok c.args.back c.enter-back.result left.result.1 left.ensures.still c.enter-back.ensures.back c.enter-back.ensures.state
-    c.enter-front.result.told c.enter-front.ensures.told
+    c.enter-front.result.trained_upto c.enter-front.ensures.trained_upto
 
 pub returns-in-Err-clause-refused : goal.returns-in-Err-clause-refused
 returns-in-Err-clause-refused g c =

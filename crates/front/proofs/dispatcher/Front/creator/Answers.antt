@@ -16,7 +16,7 @@ returns-in-Some g c =
     let C = f.seat.core.sizes in
     let small : c.args.r < 34 = subst (λ z. z < 34) c.number-at.ensures.value c.number-at.ensures.small in
     let found : EntryFinds f.creators.counted.table c.args.r (Some c.in-Some.creator) = subst (EntryFinds f.creators.counted.table c.args.r) c.in-Some.is c.peek.ensures in
-    subst (λ (z : TheFront g.row.P.Denot). IsCreatorAnswer z.core.program (unit_of z.core.program z.core.sizes z.seen) z.told c.args.r (IsMade c.in-Some.creator.station c.in-Some.creator.tag))
+    subst (λ (z : TheFront g.row.P.Denot). IsCreatorAnswer z.core.program (unit_of z.core.program z.core.sizes z.seen) z.trained_upto c.args.r (IsMade c.in-Some.creator.station c.in-Some.creator.tag))
     c.self.view_is
     (made P C (unit_of P C f.seat.seen) f.path.records f.path.base c.self.invariant.knows f.creators.counted.table c.self.invariant.table c.args.r small c.in-Some.creator found)
 
@@ -29,6 +29,6 @@ returns-in-None g c =
     let found : EntryFinds f.creators.counted.table c.args.r None = subst (EntryFinds f.creators.counted.table c.args.r) c.in-None.is c.peek.ensures in
     let at : c.number-at.result ≡ c.args.r = c.number-at.ensures.value in
     let right = based P C (unit_of P C f.seat.seen) f.path.records f.path.base c.self.invariant.knows f.creators.counted.table c.self.invariant.table c.args.r small found in
-    subst (λ (z : TheFront g.row.P.Denot). IsCreatorAnswer z.core.program (unit_of z.core.program z.core.sizes z.seen) z.told c.args.r (Base (slice_index f.path.base.registers c.number-at.result)))
+    subst (λ (z : TheFront g.row.P.Denot). IsCreatorAnswer z.core.program (unit_of z.core.program z.core.sizes z.seen) z.trained_upto c.args.r (Base (slice_index f.path.base.registers c.number-at.result)))
     c.self.view_is
     (subst (λ i. IsCreatorAnswer P (unit_of P C f.seat.seen) (rested_at f.path.base) c.args.r (Base (slice_index f.path.base.registers i))) (sym at) right)

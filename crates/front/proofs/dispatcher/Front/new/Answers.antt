@@ -23,8 +23,8 @@ invariant_of-result g c =
 pub returns-clause-history : goal.returns-clause-history
 returns-clause-history g c = new_adds c.args.core.now c.args.seat c.requires.seat.core_is c.what_is_seen_is_legal.ensures
 
-pub returns-clause-told : goal.returns-clause-told
-returns-clause-told g c =
+pub returns-clause-trained_upto : goal.returns-clause-trained_upto
+returns-clause-trained_upto g c =
     let v = c.args.seat in
     ap rested_at c.new.ensures.base
     ∙ (ap (λ (z : Caller). length (unit_of z.core.program z.core.sizes z.seen).tenants) c.new-base.ensures.rested

@@ -17,7 +17,7 @@ pub returns-clause-reply : goal.returns-clause-reply
 returns-clause-reply g c =
     let core = c.self.inside.core in
     let turn = c.turn_by-answer in
-    let says = turn_says g.P.Predictor.Predicts g.P.Predictor.Learns core.program core.sizes c.meet.new.self.told c.meet.new.self.seen turn.new.front.seen c.meet.new.self.predictor
+    let says = turn_says g.P.Predictor.Predicts g.P.Predictor.Learns core.program core.sizes c.meet.new.self.trained_upto c.meet.new.self.seen turn.new.front.seen c.meet.new.self.predictor
     turn.new.front.predictor c.args.given turn.result turn.ensures.reply in
     subst (λ (s : TheSession). IsTurn s.core c.args.given s.seen c.meet-2.new.other.seen turn.result) c.self.view_is
     (between (λ before behind. TurnSays core.program core.sizes c.args.given before behind turn.result) _ _ _ _ _

@@ -18,7 +18,7 @@ returns-clause-stays g c = record {
 pub returns-clause-reply : goal.returns-clause-reply
 returns-clause-reply g c =
     let seen = c.meet.new.self.seen in
-    let says = subst (λ (z : TheCore × ℕ). IsCreatorAnswer z.0.program (unit_in z.0 seen) z.1 c.args.register c.creator.result) (λ i. (c.meet.ensures.core i, c.meet.ensures.told_kept i))
+    let says = subst (λ (z : TheCore × ℕ). IsCreatorAnswer z.0.program (unit_in z.0 seen) z.1 c.args.register c.creator.result) (λ i. (c.meet.ensures.core i, c.meet.ensures.trained_kept i))
     c.creator.ensures in
-    subst (λ (s : TheSession). IsCreatorNow s.core s.seen c.meet.new.other.seen s.told c.args.register c.creator.result) c.self.view_is
+    subst (λ (s : TheSession). IsCreatorNow s.core s.seen c.meet.new.other.seen s.trained_upto c.args.register c.creator.result) c.self.view_is
     (record { before = seen; behind = seen; begins = c.meet.ensures.told; ends = c.meet.ensures.other_told; fact = says })

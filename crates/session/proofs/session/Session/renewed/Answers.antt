@@ -23,15 +23,15 @@ returns-in-Ok g c =
     let inside = c.self.inside in
     let old = c.args.self in
     let t = c.in-Ok.stage in
-    let grown = begun_grows inside.core t.0 inside.all.seen t.1.seen inside.back t.3 c.at-session.ensures.legal t.2.told c.in-Ok.ensures.renewed in
+    let grown = begun_grows inside.core t.0 inside.all.seen t.1.seen inside.back t.3 c.at-session.ensures.legal t.2.trained_upto c.in-Ok.ensures.renewed in
     let seen = subst (λ (s : TheSession). GrowsLegally s.core s.seen t.1.seen) c.self.view_is grown in
     let is = sym c.at-session.ensures.session in
-    let from = subst (λ (s : TheSession). HasBegunAgain s.core t.0 s.seen t.1.seen s.commits t.3 t.2.told) c.self.view_is c.in-Ok.ensures.renewed in
+    let from = subst (λ (s : TheSession). HasBegunAgain s.core t.0 s.seen t.1.seen s.commits t.3 t.2.trained_upto) c.self.view_is c.in-Ok.ensures.renewed in
     record {
       grows = subst (λ (s : TheSession). GrowsLegally old.core old.seen s.seen) is seen;
       says = record {
         rested = c.requires.rested;
-        begins = subst (λ (s : TheSession). HasBegunAgain old.core s.core old.seen s.seen old.commits s.commits s.told) is from;
+        begins = subst (λ (s : TheSession). HasBegunAgain old.core s.core old.seen s.seen old.commits s.commits s.trained_upto) is from;
         rests_no_more = ap (λ (s : TheSession). s.rested) c.at-session.ensures.session;
         units = subst (λ (s : TheSession). HasNone s.units) is c.forget_units.ensures.none;
       };
