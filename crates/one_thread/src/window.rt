@@ -41,7 +41,8 @@ impl Model for Window {
 
     ghost view = { λ w. w.stations.items };
 
-    ghost invariant = { λ w. (w.stations.capacity ≡ 32) × AreNoted w.missed w.resolved w.stations.items };
+    ghost invariant = { λ w. (w.stations.capacity ≡ 32)
+        × AreNoted w.missed w.resolved w.stations.items };
 }
 
 // A tenant at this stage is done, stops, or is a store with its address.

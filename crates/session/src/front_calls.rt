@@ -18,7 +18,8 @@ pub fn rest<P: Predictor + Drop>(core: &Core, all: &mut UnitSeat, front: &mut Fr
     ensures rested { front.new.rested ≡ rested_after front.old.rested result }
     ensures touched { front.new.touched ≡ front.old.touched }
     ensures grows { GrowsLegally core.now all.old.seen all.new.seen }
-    ensures reply { IsRest core.now all.old.seen all.new.seen front.old.trained_upto front.new.trained_upto result }
+    ensures reply { IsRest core.now all.old.seen all.new.seen front.old.trained_upto
+        front.new.trained_upto result }
 {
     front.meet(core, all);
     let answer = front.rest(core);

@@ -33,7 +33,8 @@ impl<'a, P: Predictor + Drop, J: OfProgram> Session<'a, P, J> {
     // The creator of a register, as the front knows it, or the register's value.
     pub(super) fn read_creator(&mut self, register: Reg) -> Made
         ensures stays { OnlyLooked self.old self.new }
-        ensures reply { IsCreatorNow self.old.core self.old.seen self.new.seen self.old.trained_upto register result }
+        ensures reply { IsCreatorNow self.old.core self.old.seen self.new.seen
+            self.old.trained_upto register result }
     {
         let (core, all, front) = (&self.core, &mut self.all, &mut self.front);
         front.meet(core, all);
