@@ -3,7 +3,7 @@ use Rattle.std.proofs.Common.{ℕ, sym, subst, codes, List}
 use Rattle.instructions.specs.Settings.{Settings}
 use Rattle.command_line.specs.declared.no_run.NoRun.{NoRun}
 use Rattle.command_line.specs.declared.no_run.NoRun.TheVariants as no
-use Rattle.command_line.specs.declared.reading_watched.Values.{Values}
+use Rattle.command_line.specs.declared.reading_run_request.Values.{Values}
 use Rattle.command_line.specs.Reading.{AreRefused}
 use Rattle.command_line.specs.Rings.{AreSizes, HasOddRing, HaveSizes, IsBadRingIn, IsOddRing, IsRinged, greatest}
 use Rattle.command_line.specs.Values.{IsNumberFrom}

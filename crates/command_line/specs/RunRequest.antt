@@ -1,7 +1,7 @@
 -- The run that the words ask to watch.
 use Rattle.std.specs.Prelude.{◌≡◌, ℕ, List, Option, Some, codes}
 use Rattle.clap.specs.Words.{Row, Text, first_of}
-use Rattle.command_line.specs.declared.reading_watched.Values.{Values}
+use Rattle.command_line.specs.declared.reading_run_request.Values.{Values}
 use Rattle.command_line.specs.declared.request.BranchPredictor.{BranchPredictor}
 use Rattle.command_line.specs.declared.request.RunRequest.{RunRequest}
 use Rattle.command_line.specs.Rings.{AreSizes, HaveSizes, greatest}

@@ -17,7 +17,7 @@ mod reading_check;
 mod reading_commits;
 mod reading_drive;
 mod reading_run;
-mod reading_watched;
+mod reading_run_request;
 mod refusals;
 mod request;
 mod ring;

@@ -9,7 +9,7 @@ ghost use Rattle.command_line.specs.Tool.{chart_word};
 use crate::entered::entered;
 use crate::entries::{flag, number};
 use crate::names::CHART;
-use crate::reading_watched::{values_of, watched};
+use crate::reading_run_request::{parse_run_request, values_of};
 use crate::trace::log_of;
 use crate::word::Word;
 use crate::{Charted, NoRun};
@@ -38,7 +38,7 @@ fn read<'a>(alloc: Global, matches: &ArgMatches<'a>) -> Result<Charted<'a>, NoRu
     let log = log_of(alloc, matches, values.file)?;
     let rows = number(alloc, CHART, matches, "rows", 0, 0xffff_ffff, 1_000)?;
     let by_leave = flag(matches, "by-leave");
-    let run = watched(alloc, CHART, matches, values)?;
+    let run = parse_run_request(alloc, CHART, matches, values)?;
     Ok(Charted {
         run,
         log,

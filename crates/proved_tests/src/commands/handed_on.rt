@@ -86,16 +86,16 @@ fn a_run_has_as_many_units_as_is_said(rt: HostRuntime) -> Result<(), Fail> {
     Ok(())
 }
 
-/// Holds the unit at station 0 until one asks at station 3, or so often.
+/// Holds the unit at station 0 until one asks at station 3, or `most` times.
 #[derive(Drop)]
-struct Ahead {
+struct HoldsForTheThird {
     most: u64,
     asked: AtomicU64,
     third: AtomicU64,
     in_time: AtomicU64,
 }
 
-impl Gate for Ahead {
+impl Gate for HoldsForTheThird {
     fn held(&self, _unit: u32, station: u32) -> bool {
         if station == 3 {
             self.third.store(1, SeqCst);
@@ -122,7 +122,7 @@ const STORES: &[u8] = b".space 12\nnop\nsw $0,0($0)\nsw $0,4($0)\nsw $0,8($0)\nb
 #[test]
 fn a_run_has_the_queue_that_is_said(rt: HostRuntime) -> Result<(), Fail> {
     for (queue, most, in_time) in [("2", 10_000, 0), ("3", 0xffff_ffff, 1)] {
-        let gate = Ahead {
+        let gate = HoldsForTheThird {
             most,
             asked: AtomicU64::new(0),
             third: AtomicU64::new(0),

@@ -46,7 +46,7 @@ pub(crate) fn values_of<'a>(
 }
 
 /// The run with these values and the ring of the matches.
-pub(crate) fn watched<'a>(
+pub(crate) fn parse_run_request<'a>(
     alloc: Global,
     program: &str,
     matches: &ArgMatches<'a>,
