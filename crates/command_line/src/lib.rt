@@ -41,4 +41,6 @@ pub use reading_check::parse_check;
 pub use reading_commits::parse_commits;
 pub use reading_drive::parse_drive;
 pub use reading_run::parse_run;
-pub use request::{Asked, BranchPredictor, ByHand, Charted, Checked, RunRequest, is_standard_input};
+pub use request::{
+    Asked, BranchPredictor, ByHand, Charted, Checked, RunRequest, is_standard_input,
+};
