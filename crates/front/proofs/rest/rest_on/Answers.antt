@@ -43,7 +43,7 @@ returns-in_default-state g c =
         live = at_end P C (λ U. ¬ HasNobody U) old new [] mine (somebody P C new mine.legal c.in-Some.youngest.station c.look-seen.result c.look-seen.ensures.reply c.in_default-state.not-Free);
         predictor = refl;
       };
-      told = refl;
+      trained_upto = refl;
       records = refl;
       knows = still_knows mine c.requires.knows;
       table = still_has_table mine c.requires.table;

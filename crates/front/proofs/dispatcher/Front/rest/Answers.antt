@@ -20,6 +20,6 @@ invariant_of-self-in_default g c =
       nobody = stays core.program core.sizes HasNobody (nobody_stable core.program core.sizes) f.seat.seen n.seat.seen e.reply.adds
           (subst (λ (z : TheCore). HasNobody (unit_of z.program z.sizes f.seat.seen)) here (c.self.invariant.rests r).nobody);
       none = e.records ∙ (c.self.invariant.rests r).none;
-      told = e.told ∙ stays core.program core.sizes (λ U. rested_at f.path.base ≡ length U.tenants) (told_stable core.program core.sizes (rested_at f.path.base)) f.seat.seen n.seat.seen e.reply.adds
+      told = e.trained_upto ∙ stays core.program core.sizes (λ U. rested_at f.path.base ≡ length U.tenants) (told_stable core.program core.sizes (rested_at f.path.base)) f.seat.seen n.seat.seen e.reply.adds
           ((c.self.invariant.rests r).told ∙ ap (λ (z : TheCore). length (unit_of z.program z.sizes f.seat.seen).tenants) here);
     })
