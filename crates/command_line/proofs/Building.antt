@@ -6,7 +6,7 @@ use Rattle.clap.proofs.OnLiterals.{clap_on_literals}
 use Rattle.clap.specs.declared.builder.arg.Arg.{Arg}
 use Rattle.clap.specs.declared.builder.command.Command.{Command}
 use Rattle.clap.specs.declared.builder.command.Command.TheViews.{out-Command}
-use Rattle.command_line.specs.Tool.{IsArg, IsCommand, app_of_word, spelling_of, rule_of_argument, rules_of, tool, with_rules, with_version, word_with}
+use Rattle.command_line.specs.Tool.{IsArg, IsCommand, app_of_word, spelling_of, rule_of_argument, rules_of, tool, with_rules, with_version}
 use Rattle.command_line.specs.declared.arguments.Argument.{Argument}
 use Rattle.command_line.specs.declared.word.Word.{Word}
 use Rattle.command_line.specs.declared.word.Word.TheVariants.{Run, Chart, Commits, Check, Drive}
@@ -47,14 +47,7 @@ pub word_is : (word : Word) (name : Text) (rules : List Rule) (headed : App) (co
     → rules ≡ rules_of word → headed ≡ with_version (new_app name) → IsCommand (with_rules headed rules) command
     → IsCommand (app_of_word word) command
 word_is word name rules headed command named ruled is built =
-    subst (λ (app : App). IsCommand app command) (ap₂ with_rules (is ∙ ap (λ (n : Text). with_version (new_app n)) named) ruled ∙ same word) built
-  where
-    same : (word : Word) → word_with (spelling_of word) (rules_of word) ≡ app_of_word word
-    same Run = refl
-    same Chart = refl
-    same Commits = refl
-    same Check = refl
-    same Drive = refl
+    subst (λ (app : App). IsCommand app command) (ap₂ with_rules (is ∙ ap (λ (n : Text). with_version (new_app n)) named) ruled) built
 
 pub has_name : (word : Word) → (app_of_word word).top.name ≡ spelling_of word
 has_name Run = refl

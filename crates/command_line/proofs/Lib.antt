@@ -1,6 +1,4 @@
 mod Building
-mod OddRings
 mod Refusing
 mod SeedTexts
-mod Traces
 mod WordRows

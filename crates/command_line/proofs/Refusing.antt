@@ -1,6 +1,6 @@
 -- Why words are refused.
 use Rattle.std.specs.Prelude.{⊤}
-use Rattle.std.proofs.Common.{◌≡◌, ◌≢◌, sym, ap, subst, List, [], ◌∷◌, Option, Some, inl, inr, arith}
+use Rattle.std.proofs.Common.{◌≡◌, ◌≢◌, sym, ap, subst, List, [], ◌∷◌, Option, Some, Result, Ok, Err, IfOk, IfErr, inl, inr, arith}
 use Rattle.clap.specs.Words.{App, Row, Text, fault_of, kind_of, subcommand_of}
 use Rattle.clap.specs.Kinds.{HasKind, IsAmong, Kinds}
 use Rattle.clap.specs.declared.error.Error.{Error}
@@ -8,8 +8,9 @@ use Rattle.clap.specs.declared.error.kind.ErrorKind.{ErrorKind}
 use Rattle.clap.specs.declared.error.kind.ErrorKind.TheVariants.{DisplayHelp, DisplayVersion, OutOfMemory}
 use Rattle.command_line.specs.declared.no_run.NoRun.{NoRun}
 use Rattle.command_line.specs.declared.no_run.NoRun.TheVariants as no
-use Rattle.command_line.specs.Reading.{AreRefused, HoldsIn, MatchesRows, IsMistake, IsNotEntered, IsRefusalOf, IsNoRunFor, IsUsage}
-use Rattle.command_line.specs.Tool.{tool}
+use Rattle.command_line.specs.declared.word.Word.{Word}
+use Rattle.command_line.specs.Reading.{AreRefused, AskForSome, HoldsIn, MatchesRows, IsMistake, IsNotEntered, IsRead, IsRefusalOf, IsNoRunFor, IsUsage}
+use Rattle.command_line.specs.Tool.{app_of_word, tool}
 
 not_one : (kind : ErrorKind) (kinds : Kinds) → kinds ≡ [] → kinds ≢ kind ∷ []
 not_one kind kinds none some = absurd (cc)
@@ -65,16 +66,16 @@ refused_by_clap word words error no.Ring has usage = absurd usage
 refused_by_clap word words error no.Memory has usage = tt
 
 -- words without rows are refused whatever is asked of the rows
-pub refused_unread : (word : App) (words : List Text) (Values Odd : List Row → Type 0) (e : NoRun) → IsNotEntered word words e
-    → IsNoRunFor word words Values Odd e
-refused_unread word words Values Odd (no.Help _) is = is
-refused_unread word words Values Odd (no.Usage _) is = record {
+pub refused_unread : {Q : Type 0} (word : App) (words : List Text) (Asks : List Row → Q → Type 0) (IsOdd : Q → Type 0) (e : NoRun)
+    → IsNotEntered word words e → IsNoRunFor word words Asks IsOdd e
+refused_unread word words Asks IsOdd (no.Help _) is = is
+refused_unread word words Asks IsOdd (no.Usage _) is = record {
   no_help = is.no_help;
   no_version = is.no_version;
   not_held = λ held. is.not_held (record { rows = held.rows; entered = held.entered; holds = tt });
 }
-refused_unread word words Values Odd no.Ring is = absurd is
-refused_unread word words Values Odd no.Memory is = tt
+refused_unread word words Asks IsOdd no.Ring is = absurd is
+refused_unread word words Asks IsOdd no.Memory is = tt
 
 same_second : {X Y : Type 0} (o : Option (X × Y)) (x : X) (y z : Y) → o ≡ Some (x, y)
     → o ≡ Some (x, z) → z ≡ y
@@ -82,12 +83,18 @@ same_second {X} {Y} o x y z one two =
     let pair : ◌≡◌ {A = X × Y} (x, y) (x, z) = cc in
     sym (ap (λ (p : X × Y). p.1) pair)
 
--- words whose rows are refused
-pub refused_read : (word : App) (words : List Text) (rows : List Row) (Values Odd : List Row → Type 0) (e : NoRun)
-    → MatchesRows word words rows → AreRefused rows Values Odd e → IsNoRunFor word words Values Odd e
-refused_read word words rows Values Odd (no.Help _) entered refused = absurd refused
-refused_read word words rows Values Odd (no.Usage _) entered refused = mistake word words Values entered.taken (λ held.
+refused_read : {Q : Type 0} (word : App) (words : List Text) (rows : List Row) (Asks : List Row → Q → Type 0) (IsOdd : Q → Type 0) (e : NoRun)
+    → MatchesRows word words rows → AreRefused rows Asks IsOdd e → IsNoRunFor word words Asks IsOdd e
+refused_read word words rows Asks IsOdd (no.Help _) entered refused = absurd refused
+refused_read word words rows Asks IsOdd (no.Usage _) entered refused = mistake word words (AskForSome Asks) entered.taken (λ held.
     let same : held.rows ≡ rows = same_second (subcommand_of (tool word) words) word.top.name rows held.rows entered.matches held.entered.matches in
-    refused (subst Values same held.holds))
-refused_read word words rows Values Odd no.Ring entered refused = record { rows = rows; entered = entered; holds = refused }
-refused_read word words rows Values Odd no.Memory entered refused = tt
+    refused (subst (AskForSome Asks) same held.holds))
+refused_read word words rows Asks IsOdd no.Ring entered refused = record { rows = rows; entered = entered; holds = refused }
+refused_read word words rows Asks IsOdd no.Memory entered refused = tt
+
+-- words whose rows were read
+pub is_read : {Q : Type 0} (word : Word) (words : List Text) (rows : List Row) (Asks : List Row → Q → Type 0) (IsOdd : Q → Type 0)
+    (read : Result Q NoRun) → MatchesRows (app_of_word word) words rows → IfOk read (Asks rows) → IfErr read (AreRefused rows Asks IsOdd)
+    → IsRead word words Asks IsOdd read
+is_read word words rows Asks IsOdd (Ok request) entered ok err = record { rows = rows; entered = entered; holds = ok }
+is_read word words rows Asks IsOdd (Err e) entered ok err = refused_read (app_of_word word) words rows Asks IsOdd e entered err

@@ -1,16 +1,7 @@
 pub mod Tool
 pub mod Values
 pub mod Reading
-pub mod Rings
-pub mod Seeds
-pub mod Logs
-pub mod Steps
-pub mod Run
-pub mod RunRequest
-pub mod Chart
-pub mod Commits
-pub mod Check
-pub mod Drive
+pub mod Requests
 pub mod Statuses
 pub mod Exits
 pub mod Replies

@@ -24,34 +24,22 @@ option_rule name = record (new_rule name) { long = Some name; value_names = 1 }
 abbrev pub flag_rule : Text → Rule
 flag_rule name = record (new_rule name) { long = Some name; action = Some SetTrue }
 
--- the arguments of `ruu run`
-abbrev pub run_rules : List Rule
-run_rules =
+-- the arguments of a word
+abbrev pub rules_of : Word → List Rule
+rules_of Run =
     file_rule ∷ option_rule (codes "ruu-size") ∷ option_rule (codes "lsq-size") ∷ option_rule (codes "units")
     ∷ option_rule (codes "bpred") ∷ option_rule (codes "turns") ∷ option_rule (codes "limit")
     ∷ flag_rule (codes "alone") ∷ flag_rule (codes "progress") ∷ option_rule (codes "seed")
     ∷ option_rule (codes "shake") ∷ []
-
--- those of `ruu commits`
-abbrev pub commits_rules : List Rule
-commits_rules =
-    file_rule ∷ option_rule (codes "limit") ∷ option_rule (codes "from") ∷ option_rule (codes "hash")
-    ∷ flag_rule (codes "text") ∷ []
-
--- those of `ruu chart`
-abbrev pub chart_rules : List Rule
-chart_rules =
+rules_of Chart =
     file_rule ∷ option_rule (codes "ruu-size") ∷ option_rule (codes "lsq-size") ∷ option_rule (codes "bpred")
     ∷ option_rule (codes "limit") ∷ option_rule (codes "seed") ∷ option_rule (codes "rows")
     ∷ flag_rule (codes "by-leave") ∷ option_rule (codes "trace") ∷ []
-
--- those of `ruu check`
-abbrev pub check_rules : List Rule
-check_rules = file_rule ∷ flag_rule (codes "all") ∷ []
-
--- those of `ruu drive`
-abbrev pub drive_rules : List Rule
-drive_rules =
+rules_of Commits =
+    file_rule ∷ option_rule (codes "limit") ∷ option_rule (codes "from") ∷ option_rule (codes "hash")
+    ∷ flag_rule (codes "text") ∷ []
+rules_of Check = file_rule ∷ flag_rule (codes "all") ∷ []
+rules_of Drive =
     file_rule ∷ option_rule (codes "ruu-size") ∷ option_rule (codes "lsq-size") ∷ option_rule (codes "bpred")
     ∷ option_rule (codes "first-tag") ∷ flag_rule (codes "quiet-prompt") ∷ flag_rule (codes "echo")
     ∷ option_rule (codes "shuffle") ∷ option_rule (codes "steps") ∷ []
@@ -65,30 +53,6 @@ with_rules app (rule ∷ rules) = with_rules (with_rule app rule) rules
 abbrev pub with_version : App → App
 with_version = on_top (λ s. record s { has_version = true })
 
--- the command of a word with these arguments
-abbrev pub word_with : Text → List Rule → App
-word_with name rules = with_rules (with_version (new_app name)) rules
-
--- `ruu run`
-abbrev pub run_word : App
-run_word = word_with (codes "run") run_rules
-
--- `ruu chart`
-abbrev pub chart_word : App
-chart_word = word_with (codes "chart") chart_rules
-
--- `ruu commits`
-abbrev pub commits_word : App
-commits_word = word_with (codes "commits") commits_rules
-
--- `ruu check`
-abbrev pub check_word : App
-check_word = word_with (codes "check") check_rules
-
--- `ruu drive`
-abbrev pub drive_word : App
-drive_word = word_with (codes "drive") drive_rules
-
 -- the text of a word
 abbrev pub spelling_of : Word → Text
 spelling_of Run = codes "run"
@@ -97,21 +61,9 @@ spelling_of Commits = codes "commits"
 spelling_of Check = codes "check"
 spelling_of Drive = codes "drive"
 
--- the arguments of a word
-abbrev pub rules_of : Word → List Rule
-rules_of Run = run_rules
-rules_of Chart = chart_rules
-rules_of Commits = commits_rules
-rules_of Check = check_rules
-rules_of Drive = drive_rules
-
 -- the command of a word
 abbrev pub app_of_word : Word → App
-app_of_word Run = run_word
-app_of_word Chart = chart_word
-app_of_word Commits = commits_word
-app_of_word Check = check_word
-app_of_word Drive = drive_word
+app_of_word word = with_rules (with_version (new_app (spelling_of word))) (rules_of word)
 
 -- what clap reads of an argument
 abbrev pub rule_of_argument : Argument → Rule

@@ -1,11 +1,11 @@
 -- What the text of an option stands for.
-use Rattle.std.specs.Prelude.{◌≡◌, ◌≤◌, ◌^◌, ◌-◌, ℕ, Bool, false, Option, Some, None, codes, min}
+use Rattle.std.specs.Prelude.{◌≡◌, ◌≤◌, ◌^◌, ◌-◌, ℕ, Bool, false, List, Option, Some, None, codes, min}
 use Rattle.std.specs.Prelude.{option_map}
 use Rattle.std.specs.Borrow.{Bor}
 use Rattle.std.specs.Str.Parse.{IsNumeral, digits_value, without_leading_plus}
 use Rattle.std.specs.Str.{bytes_eq}
-use Rattle.clap.specs.Words.{Text, first_of, found_of, rows_of}
-use Rattle.clap.specs.declared.parser.matches.ArgMatches.{ArgMatches}
+use Rattle.clap.specs.Words.{Row, Text, found_of, rows_of}
+use Rattle.command_line.specs.declared.entries.Entries.{Entries}
 use Rattle.command_line.specs.declared.request.BranchPredictor.{BranchPredictor}
 use Rattle.command_line.specs.declared.request.BranchPredictor.TheVariants.{NotTaken, Taken, Bimod}
 
@@ -13,9 +13,13 @@ use Rattle.command_line.specs.declared.request.BranchPredictor.TheVariants.{NotT
 abbrev pub text_behind : Option (Bor Text) → Option Text
 text_behind = option_map (λ text. text.now)
 
--- the first value that the matches have for an id
-abbrev pub value_in : ArgMatches → Text → Option Text
-value_in matches id = first_of id (rows_of (found_of matches))
+-- the rows of the entries
+abbrev pub rows_in : Entries → List Row
+rows_in entries = rows_of (found_of entries.matches)
+
+-- the greatest limit and number of turns
+abbrev pub greatest : ℕ
+greatest = 2 ^ 32 - 1
 
 -- n is what the text's decimal digits write, and the default without a text
 abbrev pub IsNumber : ℕ → Option Text → ℕ → Type 0

@@ -1,5 +1,6 @@
 //! How programs end.
 ghost use Rattle.std.specs.Prelude.{◌≡◌, Some};
+ghost use Rattle.std.specs.Process.{exit_status};
 ghost use Rattle.command_line.specs.Exits.{fault_refusal, line_text, refused, refusal_line};
 ghost use Rattle.command_line.specs.declared.exit.Refusal.TheVariants.{Memory, Write};
 
@@ -8,6 +9,7 @@ use counted_io::{Fault, WriteFailed};
 use counts::Tally;
 use std::alloc::AllocError;
 use std::fmt;
+use std::process::ExitCode;
 
 /// The exit status of a program that was refused what it wanted.
 pub const REFUSED: u8 = 5;
@@ -27,6 +29,17 @@ pub fn refused(refusal: Refusal) -> Exit
         status: REFUSED,
         line: Line::Refused(refusal),
     }
+}
+
+/// Prints the line of an exit on standard error, if it has one, and gives its status. A failure to
+/// print changes no status.
+pub fn end(rt: &HostRuntime, exit: Exit) -> ExitCode
+    ensures { exit_status result ≡ exit.status }
+{
+    if exit.line != Line::Nothing {
+        let _ = eprintln!(rt; "{}", exit.line);
+    }
+    ExitCode::from(exit.status)
 }
 
 /// What standard error is told at the end of a program. Its `Display` is that line, without a line feed.

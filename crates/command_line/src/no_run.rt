@@ -1,10 +1,14 @@
 //! Why a program does nothing but print a text.
-ghost use Rattle.std.specs.Prelude.{◌≡◌, Some};
+ghost use Rattle.std.specs.Prelude.{◌≡◌, IfErr, Some};
+ghost use Rattle.std.specs.Process.{exit_status};
+ghost use Rattle.command_line.specs.Reading.{IsUsage};
 ghost use Rattle.command_line.specs.Statuses.{status_of, no_run_text};
 
 use crate::exit::REFUSED;
 use std::alloc::{AllocError, AllocFailed};
-use std::fmt;
+use std::io::ErrorKind;
+use std::process::ExitCode;
+use std::{env, fmt};
 
 /// Why a program does nothing but print a text, which is the `Display` of this. `Ring` and `Memory`
 /// have no line feed at the end of theirs.
@@ -29,6 +33,32 @@ pub fn status(no_run: &NoRun) -> u8
         NoRun::Usage(_) | NoRun::Ring => 3,
         NoRun::Memory => REFUSED,
     }
+}
+
+/// The words of the command line, of which the first is the program's name.
+pub fn words(rt: &HostRuntime) -> Result<Vec<String>, NoRun>
+    ensures { IfErr result IsUsage }
+{
+    match env::args(rt) {
+        Ok(words) => Ok(words.collect(rt.alloc())?),
+        Err(error) => Err(match error.kind() {
+            ErrorKind::OutOfMemory => NoRun::Memory,
+            _ => NoRun::Usage(format!(in rt.alloc(); "error: a word is no UTF-8\n")?),
+        }),
+    }
+}
+
+/// Prints help or the version on standard output, and any other text on standard error. A failure to
+/// print changes no status.
+pub fn refuse(rt: &HostRuntime, no_run: &NoRun) -> ExitCode
+    ensures { exit_status result ≡ status_of no_run.now }
+{
+    let _ = match no_run {
+        NoRun::Help(text) => print!(rt; "{text}"),
+        NoRun::Usage(text) => eprint!(rt; "{text}"),
+        _ => eprintln!(rt; "{no_run}"),
+    };
+    ExitCode::from(status(no_run))
 }
 
 impl fmt::Display for NoRun {

@@ -38,13 +38,3 @@ pub(crate) fn usage(alloc: Global, program: &str, what: &str) -> NoRun
         Err(_) => NoRun::Memory,
     }
 }
-
-/// The value of an option is no number of its range.
-pub(crate) fn bad_number(alloc: Global, program: &str, name: &str, least: u64, most: u64) -> NoRun
-    ensures { IsUsage result }
-{
-    match format!(in alloc; "--{name} takes a number from {least} to {most}") {
-        Ok(text) => usage(alloc, program, text.as_str()),
-        Err(_) => NoRun::Memory,
-    }
-}

@@ -1,6 +1,6 @@
-//! A tally as text.
+//! A tally as text, after a run and during it.
 ghost use Rattle.std.specs.Prelude.{Some};
-ghost use Rattle.command_line.specs.Exits.{totals_text};
+ghost use Rattle.command_line.specs.Exits.{progress_text, totals_text};
 
 use counts::Tally;
 use std::fmt;
@@ -31,5 +31,19 @@ impl fmt::Display for Totals {
             tally.hints,
             tally.renewals,
         )
+    }
+}
+
+/// A tally of threads that run. Its `Display` is the line that tells it, without a line feed.
+#[derive(Clone, Copy)]
+pub struct Progress {
+    pub tally: Tally,
+}
+
+impl fmt::Display for Progress {
+    ghost output = { λ progress. Some (progress_text progress.tally) };
+
+    fn fmt<W: fmt::Write>(&self, f: &mut fmt::Formatter<W>) -> fmt::Result {
+        write!(f, "progress {}", Totals { tally: self.tally })
     }
 }

@@ -14,10 +14,11 @@ pub(crate) enum Word {
     Drive,
 }
 
-/// A word, what its program is for, what stands below its options in help, and its arguments.
+/// A word, its program, what that is for, what stands below its options in help, and its arguments.
 #[derive(Clone, Copy)]
 pub(crate) struct Page {
     pub name: &'static str,
+    pub program: &'static str,
     pub about: &'static str,
     pub notes: &'static str,
     pub arguments: &'static [Argument],
@@ -31,31 +32,36 @@ pub(crate) fn page_of(word: Word) -> Page
     match word {
         Word::Run => Page {
             name: "run",
-            about: RUN_ABOUT,
+            program: "ruu run",
+            about: "Runs a listing of MIPS I instructions and writes a report of how it ended",
             notes: RUN_NOTES,
             arguments: RUN_ARGUMENTS.as_slice(),
         },
         Word::Chart => Page {
             name: "chart",
-            about: CHART_ABOUT,
+            program: "ruu chart",
+            about: "Runs a listing on one thread, writes its report and draws what became of each instruction",
             notes: CHART_NOTES,
             arguments: CHART_ARGUMENTS.as_slice(),
         },
         Word::Commits => Page {
             name: "commits",
-            about: COMMITS_ABOUT,
+            program: "ruu commits",
+            about: "Runs a listing in order and writes a line for each instruction that is committed",
             notes: COMMITS_NOTES,
             arguments: COMMITS_ARGUMENTS.as_slice(),
         },
         Word::Check => Page {
             name: "check",
-            about: CHECK_ABOUT,
+            program: "ruu check",
+            about: "Reads a listing, runs nothing, and tells what it holds or where its fault is",
             notes: CHECK_NOTES,
             arguments: CHECK_ARGUMENTS.as_slice(),
         },
         Word::Drive => Page {
             name: "drive",
-            about: DRIVE_ABOUT,
+            program: "ruu drive",
+            about: "Drives the unit of a listing by commands from standard input, one a line, and tells each answer",
             notes: DRIVE_NOTES,
             arguments: DRIVE_ARGUMENTS.as_slice(),
         },
@@ -145,8 +151,6 @@ static RUN_ARGUMENTS: [Argument; 11] = [
     ),
 ];
 
-const RUN_ABOUT: &str = "Runs a listing of MIPS I instructions and writes a report of how it ended";
-
 const RUN_NOTES: &str = "\
 Example: ruu run examples/sum.s --ruu-size 8 --bpred taken
 
@@ -179,9 +183,6 @@ static CHART_ARGUMENTS: [Argument; 9] = [
     ),
 ];
 
-const CHART_ABOUT: &str =
-    "Runs a listing on one thread, writes its report and draws what became of each instruction";
-
 const CHART_NOTES: &str = "\
 Example: ruu chart examples/sum.s --ruu-size 8 --seed 7
 
@@ -210,9 +211,6 @@ static COMMITS_ARGUMENTS: [Argument; 5] = [
     ),
 ];
 
-const COMMITS_ABOUT: &str =
-    "Runs a listing in order and writes a line for each instruction that is committed";
-
 const COMMITS_NOTES: &str = "\
 Example: ruu commits examples/sum.s --from 100 --limit 120
 
@@ -227,9 +225,6 @@ static CHECK_ARGUMENTS: [Argument; 2] = [
     FILE,
     flag!("all", "Tell the first fault of each line, 200 at most"),
 ];
-
-const CHECK_ABOUT: &str =
-    "Reads a listing, runs nothing, and tells what it holds or where its fault is";
 
 const CHECK_NOTES: &str = "\
 Example: ruu check examples/sum.s
@@ -260,9 +255,6 @@ static DRIVE_ARGUMENTS: [Argument; 9] = [
         "Commands to choose at most: 1 to 1000000; needs --shuffle [default: 400]"
     ),
 ];
-
-const DRIVE_ABOUT: &str =
-    "Drives the unit of a listing by commands from standard input, one a line, and tells each answer";
 
 const DRIVE_NOTES: &str = "\
 Example: ruu drive examples/drive/relet.s --ruu-size 4 < examples/drive/relet.txt

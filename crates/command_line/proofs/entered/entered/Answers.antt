@@ -38,8 +38,8 @@ returns-then-ne-clause-err g c =
     names_no_word word words c.usage-then-ne.result c.usage-then-ne.ensures taken (λ rows entered.
     let named = enters_name app (tool word) words c.in-Ok.matches word.top.name rows c.in_ok-command.ensures simple c.in-Ok.ensures.matches
     entered.matches in
-    is_not_named c.in-Some.found.now c.page_of.result.name.now c.ne.result c.ne.ensures c.if-ne.true
-    (same_text (c.in-Some.ensures.name ∙ named) ∙ has_name c.args.word ∙ sym c.page_of.ensures.name))
+    is_not_named c.in-Some.found.now c.page_of-page.result.name.now c.ne.result c.ne.ensures c.if-ne.true
+    (same_text (c.in-Some.ensures.name ∙ named) ∙ has_name c.args.word ∙ sym c.page_of-page.ensures.name))
 
 pub returns-clause-ok : goal.returns-clause-ok
 returns-clause-ok g c =
@@ -48,10 +48,10 @@ returns-clause-ok g c =
     let app = app_of c.in_ok-command.command in
     let simple = is_simple c.args.word in
     let taken = at_tool (λ (a : App). fault_of a words ≡ []) app (tool word) c.in_ok-command.ensures simple c.in-Ok.ensures.kinds in
-    let same = is_named c.in-Some.found.now c.page_of.result.name.now c.ne.result c.ne.ensures c.if-ne.false in
-    let named = same ∙ c.page_of.ensures.name ∙ sym (has_name c.args.word) in
+    let same = is_named c.in-Some.found.now c.page_of-page.result.name.now c.ne.result c.ne.ensures c.if-ne.false in
+    let named = same ∙ c.page_of-page.ensures.name ∙ sym (has_name c.args.word) in
     record {
       taken = taken;
-      matches = has_entered app (tool word) words c.in-Ok.matches word.top.name (rows_of (found_of c.in-Some.entries)) c.in_ok-command.ensures simple
+      matches = has_entered app (tool word) words c.in-Ok.matches word.top.name (rows_of (found_of c.in-Some.matches)) c.in_ok-command.ensures simple
           c.in-Ok.ensures.matches (sym c.in-Some.ensures.name ∙ ap (λ (t : Text). Some t) named) (sym c.in-Some.ensures.rows);
     }
