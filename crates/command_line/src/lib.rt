@@ -20,7 +20,7 @@ pub use chosen::{Chosen, choose};
 pub use exit::{Exit, Line, REFUSED, Refusal, end, refused};
 pub use logged::Logged;
 pub use no_run::{NoRun, refuse, status, words};
-pub use reading::{parse_chart, parse_check, parse_commits, parse_drive, parse_run};
+pub use reading::{asked, parse_chart, parse_check, parse_commits, parse_drive};
 pub use request::{
     Asked, BranchPredictor, ByHand, Charted, Checked, RunRequest, is_standard_input,
 };

@@ -42,7 +42,7 @@ fn read<'a, Q: Request<'a>, S: AsStr>(alloc: Global, word: Word, words: &'a [S])
 
 /// The run that words ask for, the first of which is the program's name. Where they are refused, `NoRun` has what to print,
 /// and `status` gives the exit status; so it is for each program.
-pub fn parse_run<'a, S: AsStr>(alloc: Global, words: &'a [S]) -> Result<Asked<'a>, NoRun>
+pub fn asked<'a, S: AsStr>(alloc: Global, words: &'a [S]) -> Result<Asked<'a>, NoRun>
     ensures { IsRead Run (map S.text words.entry.now) IsAskedBy
         (λ asked. HasOddRing asked.config) result }
 {

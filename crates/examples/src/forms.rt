@@ -2,7 +2,7 @@
 use crate::example::Example;
 use answers::read_listing;
 use bench::alone;
-use command::{go, parse_run};
+use command::{asked, go};
 use counted_io::Counted;
 use inorder::{Ended, Machine};
 use instructions::{Config, End, Ending, NotTaken, Program};
@@ -80,7 +80,7 @@ pub fn run<T: Threads + Wait + Sync, G: Gate + Sync>(
     gate: &G,
 ) -> io::Result<Answer> {
     let words = words(alloc, options, form)?;
-    let Ok(asked) = parse_run(alloc, words.as_slice()) else {
+    let Ok(asked) = asked(alloc, words.as_slice()) else {
         return Err(mistake());
     };
     let mut text = Counted::new(Vec::new(alloc));
@@ -117,7 +117,7 @@ pub fn in_order(alloc: Global, options: &[&str], listing: &[u8]) -> io::Result<V
 // The configuration that the options of a listing ask for.
 fn config(alloc: Global, options: &[&str]) -> io::Result<Config> {
     let words = words(alloc, options, &[])?;
-    match parse_run(alloc, words.as_slice()) {
+    match asked(alloc, words.as_slice()) {
         Ok(asked) => Ok(asked.config),
         Err(_) => Err(mistake()),
     }

@@ -3,7 +3,7 @@ mod blamed;
 mod few_turns;
 mod handed_on;
 
-use command::{Went, go, parse_run};
+use command::{Went, asked, go};
 use counted_io::Counted;
 use pool::Open;
 use std::alloc::Global;
@@ -19,7 +19,7 @@ fn answer<R: Threads + Wait + Sync, S: AsStr>(
     words: &[S],
     listing: &[u8],
 ) -> Result<(Went, Vec<u8>), Fail> {
-    let Ok(asked) = parse_run(alloc, words) else {
+    let Ok(asked) = asked(alloc, words) else {
         return Err(Fail::new("there is no run"));
     };
     let mut writer = Counted::new(Vec::new(alloc));

@@ -2,7 +2,7 @@
 #![tactic(auto)]
 
 use command::go;
-use command_line::{Asked, NoRun, REFUSED, is_standard_input, parse_run, refuse, words};
+use command_line::{Asked, NoRun, REFUSED, asked, is_standard_input, refuse, words};
 use counted_io::{ClosedStreams, Counted};
 use on_threads::{ProgressWatcher, end, watch};
 use std::fs::File;
@@ -19,7 +19,7 @@ fn main(rt: HostRuntime) -> ExitCode {
         Ok(words) => words,
         Err(no_run) => return refuse(&rt, &no_run),
     };
-    match parse_run(rt.alloc(), words.as_slice()) {
+    match asked(rt.alloc(), words.as_slice()) {
         Ok(asked) => start(&rt, &rt, &asked),
         Err(no_run) => refuse(&rt, &no_run),
     }

@@ -1,7 +1,7 @@
 //! Devices that fail, under command lines.
 use crate::failing::{FailingReader, FailingWriter, LISTING, REPORT};
 use crate::same::{same, same_in};
-use command::{Asked, Line, Refusal, Went, go, parse_run};
+use command::{Asked, Line, Refusal, Went, asked, go};
 use counted_io::Counted;
 use pool::Open;
 use std::alloc::Global;
@@ -32,7 +32,7 @@ fn is_refused(went: &Went, refusal: Refusal) -> bool {
 #[test]
 fn a_reader_that_fails_is_blamed_and_nothing_is_written(rt: HostRuntime) -> Result<(), Fail> {
     for &form in FORMS {
-        let Ok(asked) = parse_run(rt.alloc(), form) else {
+        let Ok(asked) = asked(rt.alloc(), form) else {
             return Err(Fail::new("there is no run"));
         };
         for most in 0..=LISTING.len() {
@@ -65,7 +65,7 @@ fn keeps_a_beginning<R: Threads + Wait + Sync>(
 #[test]
 fn a_writer_that_fails_is_blamed_and_keeps_a_beginning(rt: HostRuntime) -> Result<(), Fail> {
     for &form in FORMS {
-        let Ok(asked) = parse_run(rt.alloc(), form) else {
+        let Ok(asked) = asked(rt.alloc(), form) else {
             return Err(Fail::new("there is no run"));
         };
         for &text in TEXTS {

@@ -1,7 +1,7 @@
 //! Runs have the ring, queue, units, turns, predictor and gate that the command line and the caller name.
 use crate::meeting::Meeting;
 use crate::same::{same, same_in};
-use command::{Line, Went, go, parse_run};
+use command::{Line, Went, asked, go};
 use counted_io::Counted;
 use pool::{Gate, Tally};
 use snapshots::Snap;
@@ -21,7 +21,7 @@ fn watched<R: Threads + Wait + Sync, S: AsStr, G: Gate + Sync>(
     listing: &[u8],
     gate: &G,
 ) -> Result<Went, Fail> {
-    let Ok(asked) = parse_run(alloc, words) else {
+    let Ok(asked) = asked(alloc, words) else {
         return Err(Fail::new("there is no run"));
     };
     let mut writer = Counted::new(Vec::new(alloc));

@@ -1,5 +1,5 @@
 //! Runs by a command line have all of the turns that it names.
-use command::{go, parse_run};
+use command::{asked, go};
 use counted_io::Counted;
 use pool::{Gate, Tally};
 use snapshots::Snap;
@@ -49,7 +49,7 @@ fn held_for_more_than_half<T: Threads + Wait + Sync>(
     alloc: Global,
 ) -> Result<bool, Fail> {
     let words = ["ruu", "run", "adds.s", "--units", "1", "--turns", "1000000"];
-    let Ok(asked) = parse_run(alloc, words.as_slice()) else {
+    let Ok(asked) = asked(alloc, words.as_slice()) else {
         return Err(Fail::new("there is no run"));
     };
     let gate = Holding {

@@ -14,7 +14,7 @@ fn words<'a>(alloc: Global, options: &[&'a str]) -> Result<Vec<&'a str>, AllocEr
 /// Ring, queue, units, turns and limit.
 fn sizes(alloc: Global, options: &[&str]) -> Option<[u32; 5]> {
     let words = words(alloc, options).ok()?;
-    match parse_run(alloc, words.as_slice()) {
+    match asked(alloc, words.as_slice()) {
         Ok(asked) => {
             let config = asked.config;
             Some([
@@ -130,7 +130,7 @@ const FLAGS: &[(&[&str], BranchPredictor, bool, bool)] = &[
 fn a_predictor_and_flags_are_taken(rt: HostRuntime) -> Result<(), Fail> {
     for &(options, predictor, alone, progress) in FLAGS {
         let words = words(rt.alloc(), options)?;
-        match parse_run(rt.alloc(), words.as_slice()) {
+        match asked(rt.alloc(), words.as_slice()) {
             Ok(asked) => {
                 let flags = (asked.predictor == predictor, asked.alone, asked.progress);
                 let usual = (asked.file, asked.config.places(), asked.config.first_tag());
@@ -146,7 +146,7 @@ fn a_predictor_and_flags_are_taken(rt: HostRuntime) -> Result<(), Fail> {
 #[test]
 fn a_file_may_begin_like_an_option(rt: HostRuntime) -> Result<(), Fail> {
     let words = ["ruu", "run", "--alone", "--", "-x.s"];
-    let Ok(asked) = parse_run(rt.alloc(), words.as_slice()) else {
+    let Ok(asked) = asked(rt.alloc(), words.as_slice()) else {
         return Err(Fail::new("there is no run"));
     };
     assert_eq!(rt; asked.file, "-x.s");

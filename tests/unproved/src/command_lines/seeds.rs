@@ -21,7 +21,7 @@ fn a_run_takes_a_seed_of_its_order(rt: HostRuntime) {
         (&["ruu", "run", "--shake", "7", "sum.s"], None, Some(7)),
     ];
     for (words, seed, shake) in cases {
-        match parse_run(rt.alloc(), words) {
+        match asked(rt.alloc(), words) {
             Ok(asked) => {
                 assert_eq!(rt; asked.seed, seed, "{words:?}");
                 assert_eq!(rt; asked.shake, shake, "{words:?}");

@@ -1,5 +1,5 @@
 //! `--shake SEED` holds each unit back as long as the words of its own stream say.
-use command_line::parse_run;
+use command_line::asked;
 use on_threads::watch;
 use pool::Gate;
 use std::process::Abort;
@@ -38,7 +38,7 @@ impl Words {
 fn each_unit_is_held_by_its_own_words(rt: HostRuntime) -> Result<(), Fail> {
     for (seed, name) in [(7, "7"), (12_345_678_901, "12345678901")] {
         let words = ["ruu", "run", "sum.s", "--units", "3", "--shake", name];
-        let Ok(asked) = parse_run(rt.alloc(), words.as_slice()) else {
+        let Ok(asked) = asked(rt.alloc(), words.as_slice()) else {
             return Err(Fail::from("there is no run"));
         };
         let gate = watch(&rt, &asked)?;
@@ -62,7 +62,7 @@ fn each_unit_is_held_by_its_own_words(rt: HostRuntime) -> Result<(), Fail> {
 #[test]
 fn nobody_is_held_where_nobody_shakes(rt: HostRuntime) -> Result<(), Fail> {
     let words = ["ruu", "run", "sum.s"];
-    let Ok(asked) = parse_run(rt.alloc(), words.as_slice()) else {
+    let Ok(asked) = asked(rt.alloc(), words.as_slice()) else {
         return Err(Fail::from("there is no run"));
     };
     let gate = watch(&rt, &asked)?;
