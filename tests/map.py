@@ -34,9 +34,9 @@ PICTURE = """\
             |                  |        |       |                 |
           bench                +--- on_threads  |                elf
             |                           |       |
-       one_thread                     pool   session
+        streaming                     pool   session
             |                           |       |
-            |                           +---+---+
+       one_thread                       +---+---+
             |                               |
             |                         front   back -- snapshots
             |                             \\   /

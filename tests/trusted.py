@@ -24,7 +24,7 @@ Written by `tests/trusted.py`.
 1. **The theorem** (`instructions`, `lsq`, `inorder`) speaks of a unit as a list of in-flight instructions (*tenants*) and of the
    steps that may be made on it. It knows no word, thread or schedule: in each unit that legal steps reach, what has retired is the
    in-order machine's.
-2. **One thread** (`one_thread`, `bench`): each turn is such a step, so the theorem holds of the run, and a measure says that it ends.
+2. **One thread** (`one_thread`, `streaming`, `bench`): each turn is such a step, so the theorem holds of the run, and a measure says that it ends.
 3. **Shared words** (`ruu_words`, `station`): a rule says of each step on a word which step of a unit it is. The rule is proved
    of each call on its own, whatever others do between its steps; so all calls together make one history of legal steps.
 4. **The front and the back** (`front`, `back`, `snapshots`) hold the right to their steps, and what they have seen as a ghost value.

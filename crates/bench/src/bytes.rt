@@ -6,13 +6,13 @@ ghost use Rattle.counted_io.specs.Replies.{HasReplied, IsUnanswered};
 ghost use Rattle.answers.specs.Answer.{HasAnAnswer, IsAnswerAlone, most_taken};
 ghost use Rattle.answers.specs.Parsed.{IsParsed};
 
-use crate::running::run;
 use answers::{Status, read_listing};
 use counted_io::{Counted, Fault, write_whole};
 use instructions::{Config, Memory, Predictor, Program};
 use isa::report_text;
 use std::alloc::Global;
 use std::io::{Read, Write};
+use streaming::run;
 
 /// Reads a listing, runs it up to the limit of the configuration, and writes the report of the run;
 /// or writes the line of the listing's first fault. No more is taken from the reader than it needs to

@@ -8,4 +8,5 @@ pub use answers::Status;
 pub use bytes::alone;
 pub use counted_io::{Counted, Fault};
 pub use one_thread::{Bench, Turn};
-pub use running::{run, run_by};
+pub use running::run_by;
+pub use streaming::run;

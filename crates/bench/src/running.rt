@@ -1,4 +1,4 @@
-//! The run of a whole program.
+//! The run of a whole program by the choices of a chooser.
 ghost use Rattle.std.specs.Prelude.{◌≡◌, IfOk};
 ghost use Rattle.inorder.specs.Runs.{end_of, end_state};
 ghost use Rattle.bench.specs.Runs.{HasRunFromStart};
@@ -6,19 +6,6 @@ ghost use Rattle.bench.specs.Runs.{HasRunFromStart};
 use instructions::{Config, End, Memory, Predictor, Program};
 use one_thread::{Bench, Chooser};
 use std::alloc::Global;
-
-/// Runs a program on the one-thread unit up to the limit of the configuration, each turn the first that is possible.
-pub fn run<P: Predictor + Drop>(
-    alloc: Global,
-    program: &Program,
-    config: &Config,
-    predictor: P,
-) -> Result<End, Memory>
-    ensures { IfOk result (λ end. end_state end ≡ end_of program.now config.now.limit) }
-{
-    let bench = Bench::new(alloc, program, config, predictor)?;
-    Ok(bench.run(u64::from(config.limit())))
-}
 
 /// Runs a program on the one-thread unit up to the limit of the configuration, each turn as the chooser names it.
 pub fn run_by<P: Predictor + Drop, C: Chooser>(

@@ -6,7 +6,6 @@ use counted_io::{Counted, read_up_to};
 use inorder::Machine;
 use instructions::{Bimod, Config, End, Program};
 use isa::{parse, report_text};
-use one_thread::Bench;
 use pool::{Gate, Open, Run, Tally, run};
 use snapshots::Snap;
 use std::alloc::Global;
@@ -163,10 +162,7 @@ fn configured(shape: &Shape) -> Result<Config, Failure> {
 
 // The end of the one-thread unit's run.
 fn run_alone(alloc: Global, program: &Program, config: &Config) -> Result<End, Failure> {
-    match Bench::new(alloc, program, config, Bimod::new()) {
-        Ok(bench) => Ok(bench.run(config.limit() as u64)),
-        Err(_) => Err(Failure::Resource),
-    }
+    bench::run(alloc, program, config, Bimod::new()).map_err(|_| Failure::Resource)
 }
 
 fn report(alloc: Global, end: &End) -> Result<String, Failure> {

@@ -18,16 +18,12 @@ use Rattle.inorder.proofs.Pairs.{and_left, first_half_computes}
 use Rattle.inorder.proofs.Sound.{GoesOn, IsInPlace, IsSound}
 use Rattle.inorder.proofs.OneCaller.Middle.{all_from, sound_from}
 use Rattle.inorder.proofs.OneCaller.Sequences.{sound_of}
-use Rattle.one_thread.specs.Decoding.{IsDecoded, IsWhole}
-use Rattle.one_thread.specs.Flow.{IsPlaced, filled, in_order, window_of}
 use Rattle.one_thread.specs.StandsFor.{OverIs, StandsForSome, sizes}
-use Rattle.one_thread.specs.Window.{half_in, next_in, window}
-use Rattle.one_thread.specs.declared.flow.Flow.{Flow}
 use Rattle.one_thread.specs.declared.pipeline.Pipeline.{Pipeline}
 use Rattle.one_thread.specs.declared.station.Station.{Station}
 use Rattle.one_thread.proofs.Found.{Found, found}
 use Rattle.one_thread.proofs.Waiting.{low_if, low_over, none_low}
-use Rattle.one_thread.proofs.Windows.{front_worth, half_worth}
+use Rattle.one_thread.proofs.Windows.{half_worth}
 
 -- A pair stands where the path goes on
 
@@ -58,7 +54,7 @@ behind_first P (t ∷ ts) s e = go (on_path t) refl (behind_first P ts s.1)
     go : (b : Bool) → on_path t ≡ b → (front_half P ts ≡ High → PairAt P (front_pc ts)) → PairAt P (front_pc (t ∷ ts))
     go b on more = grind (arith, common_steps, first, half_if)
 
-whole_behind : (P : Program) (ts : List Tenant) (i : Instr) → IsSound P ts → instr_at P (front_pc ts) ≡ Some i → is_pair i.op ≡ false → front_half P ts ≡ Low
+pub whole_behind : (P : Program) (ts : List Tenant) (i : Instr) → IsSound P ts → instr_at P (front_pc ts) ≡ Some i → is_pair i.op ≡ false → front_half P ts ≡ Low
 whole_behind P ts i s at whole = grind (arith, common_steps, behind_first)
 
 -- The oldest tenant
@@ -91,29 +87,3 @@ first_alone b w h none e q = alone b w h none e (λ t ts same is s p. first_low 
 -- an instruction that is no pair
 pub whole_alone : (b : Pipeline) (w : Station) → StandsForSome b → b.over ≡ None → slice_get b.window 0 ≡ Some w → is_pair w.instr.op ≡ false → b.low ≡ None
 whole_alone b w h none e q = grind (arith, common_steps, alone, fetched_at, whole_behind)
-
--- The next instruction of a flow
-
-pub whole_next : (b : Pipeline) (flow : Flow) → IsPlaced b flow → IsWhole b.code.items flow.future.pc → flow.half ≡ Low
-whole_next b flow placed whole =
-    let before = placed.before in
-    let x = in_order before flow in
-    let P = x.program.now in
-    let f = placed.flows.flows in
-    let unit = f.unit in
-    let U = unit.unit.tenants in
-    let W = window_of x flow in
-    let sound : IsSound P U = sound_of P (sizes (filled x W)) unit.unit unit.reached in
-    let over : AllByRecursion IsNoRetiredStop U × AreQuiescent U = subst (OverIs U) f.flowing.goes_on unit.stands.over in
-    let pc : front_pc U ≡ flow.future.pc =
-    front_worth P U sound over.0
-    ∙ ap (λ c. next_in c.pc (window P U)) (sym unit.stands.committed)
-    ∙ ap (next_in x.committed.pc) (sym unit.stands.window)
-    ∙ sym f.flowing.foresees.path in
-    let half : flow.half ≡ front_half P U =
-    f.flowing.half
-    ∙ ap (half_in x.low) unit.stands.window
-    ∙ ap (λ l. half_in l (window P U)) unit.stands.low
-    ∙ sym (half_worth P U sound over.0) in
-    half ∙ whole_behind P U placed.can.instr sound (ap (instr_at P) pc ∙ placed.can.is)
-    (whole P placed.can.instr (subst (λ c. IsDecoded c P) (sym (ap (λ (p : Pipeline). p.code.items) placed.rest)) unit.code) placed.can.is)

@@ -2,8 +2,6 @@
 use Rattle.std.specs.Prelude.{◌≡◌, ◌<◌, ℕ, ◌-◌, List, length, Option, Some, None, slice_get, slice_set}
 use Rattle.instructions.specs.Operations.{outcome_of}
 use Rattle.instructions.specs.declared.end.Ending.{Ending}
-use Rattle.instructions.specs.declared.end.Ending.TheVariants.{Stop as ByStop}
-use Rattle.instructions.specs.declared.stop.Stop.{Stop}
 use Rattle.inorder.specs.Committed.{ahead_by, with_low}
 use Rattle.inorder.specs.Machine.{State}
 use Rattle.inorder.specs.Runs.{end_from}
@@ -82,12 +80,3 @@ NoneLoads b = NoneGives (load_in (registers_of b) b.committed.memory) b.window
 -- The in-order run from here until the count has reached a limit
 abbrev pub run_from : Pipeline → ℕ → Ending × State
 run_from b limit = end_from b.program.now (limit - b.committed.count) b.committed
-
--- Turns up to a retirement, of runs with a limit that is not reached: the count is higher, and each
--- goes on as it did; or the unit has ended, as each of them does
-abbrev pub RetiresOne : Option Stop → Pipeline → Pipeline → Type 0
-RetiresOne None b later =
-    (b.committed.count < later.committed.count) ×
-    ((limit : ℕ) → b.committed.count < limit → run_from later limit ≡ run_from b limit)
-RetiresOne (Some c) b later =
-    (limit : ℕ) → b.committed.count < limit → (ByStop c, later.committed) ≡ run_from b limit

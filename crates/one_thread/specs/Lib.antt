@@ -1,6 +1,5 @@
 pub mod Decoding
 pub mod Window
-pub mod Slots
 pub mod Producers
 pub mod Loads
 pub mod Notes
@@ -17,10 +16,3 @@ pub mod Possible
 pub mod Choices
 pub mod Steps
 pub mod Seeds
-pub mod CompletedRing
-pub mod Kept
-pub mod Futures
-pub mod Reopened
-pub mod Astray
-pub mod Flow
-pub mod Departing

@@ -2,15 +2,16 @@
 ghost use Rattle.std.specs.Prelude.{◌≡◌, ◌<◌, ◌≤◌, ◌-◌, ◌^◌, nat_lt, length, slice_get, IfOk};
 ghost use Rattle.inorder.specs.Machine.{start};
 ghost use Rattle.inorder.specs.Runs.{end_state};
-ghost use Rattle.one_thread.specs.Changes.{RetiresOne, run_from};
+ghost use Rattle.one_thread.specs.Changes.{run_from};
 ghost use Rattle.one_thread.specs.StandsFor.{StandsFor, StandsForSome};
 ghost use Rattle.inorder.specs.Unit.{empty_unit};
 ghost use Rattle.one_thread.specs.Order.{IsTurn};
 ghost use Rattle.one_thread.specs.Turns.{Falls, SizesStay};
 
+use crate::chooser::Order;
 use crate::pipeline::Pipeline;
 use crate::station::Station;
-use instructions::{Config, End, Ending, Memory, Predictor, Program, Stop};
+use instructions::{Config, End, Memory, Predictor, Program, Stop};
 use std::alloc::Global;
 use std::marker::Model;
 
@@ -115,67 +116,14 @@ impl<'a, P: Predictor + Drop> Bench<'a, P> {
         ensures falls { Falls result self.old.pipeline self.new.pipeline }
         ensures same { SizesStay self.old.pipeline self.new.pipeline }
     {
-        if let Some(code) = self.pipeline.over {
-            return Turn::Over(code);
-        }
-        let Some(step) = self.pipeline.first_step() else {
-            return Turn::Over(Stop::BadPc);
-        };
-        self.pipeline.make(step, &mut self.predictor)
+        self.pipeline.turn(&mut self.predictor)
     }
 
-    // Turns until an instruction retires, and else tells why the unit ended.
-    #[inline(always)]
-    fn retire_one(&mut self) -> Option<Stop>
-        requires { self.old.pipeline.committed.count < 2 ^ 64 - 1 }
-        ensures program { self.new.pipeline.program ≡ self.old.pipeline.program }
-        ensures ends { RetiresOne result self.old.pipeline self.new.pipeline }
-    {
-        let before = self.pipeline.committed.count();
-        while self.pipeline.committed.count() == before {
-            if let Turn::Over(code) = self.turn() {
-                return Some(code);
-            }
-        }
-        None
-    }
-
-    // Turns as long as all live tenants have completed. Answers the count at which to look for that again.
-    #[inline(always)]
-    fn stream(&mut self, limit: u64) -> u64
-        ensures program { self.new.pipeline.program ≡ self.old.pipeline.program }
-        ensures more { self.old.pipeline.committed.count ≤ self.new.pipeline.committed.count }
-        ensures ends { run_from self.new.pipeline limit ≡ run_from self.old.pipeline limit }
-    {
-        self.pipeline.stream(&mut self.predictor, limit)
-    }
-
-    // Turns until it stops, or its count has reached a limit.
-    fn run_to(&mut self, limit: u64) -> Ending
-        ensures { (result, self.new.pipeline.committed) ≡ run_from self.old.pipeline limit }
-    {
-        let mut again = 0;
-        loop {
-            let before = self.pipeline.committed.count();
-            if again <= before {
-                again = self.stream(limit);
-            }
-            if limit <= self.pipeline.committed.count() {
-                return Ending::Limit;
-            }
-            if let Some(code) = self.retire_one() {
-                return Ending::Stop(code);
-            }
-        }
-    }
-
-    /// Runs until it stops, or its count has reached a limit: as the in-order machine does.
+    /// Runs until it stops, or its count has reached a limit, each turn the first that is possible: as the in-order
+    /// machine does.
     pub fn run(self, limit: u64) -> End
         ensures { end_state result ≡ run_from self.entry.pipeline limit }
     {
-        let mut bench = self;
-        let outcome = bench.run_to(limit);
-        let committed = bench.pipeline.committed;
-        committed.into_end(outcome)
+        self.run_by(limit, &mut Order::First)
     }
 }

@@ -5,7 +5,7 @@ ghost use Rattle.instructions.specs.declared.op.Half.{Half};
 ghost use Rattle.instructions.specs.Instruction.{destination as destination_of, first_of, fixed_next as fixed_next_of, fixed_next_by, is_access as is_access_of, is_first_half as first_half, is_pair as is_pair_of, kind as kind_of, second_of};
 ghost use Rattle.inorder.specs.Unit.{half_after};
 ghost use Rattle.one_thread.specs.Decoding.{KnownAs};
-ghost use Rattle.one_thread.specs.Kept.{LeavesAs};
+ghost use Rattle.one_thread.specs.Leavers.{LeavesAs};
 ghost use Rattle.one_thread.specs.Window.{access_of};
 
 use crate::leaves::{Goes, Leaves, goes_of, leaves_of};
@@ -53,7 +53,7 @@ pub fn access(instr: &Decoded) -> usize
 }
 
 impl Decoded {
-    pub(crate) fn new(instr: Instr) -> Decoded
+    pub fn new(instr: Instr) -> Decoded
         ensures { result ≡ instr }
     {
         let op = instr.op();
@@ -80,21 +80,21 @@ impl Decoded {
 
     /// The instruction where it stands.
     #[inline(always)]
-    pub(crate) fn as_instr(&self) -> &Instr
+    pub fn as_instr(&self) -> &Instr
         ensures { result.now ≡ self.now }
     {
         &self.instr
     }
 
     /// Its operation.
-    pub(crate) fn op(&self) -> Op
+    pub fn op(&self) -> Op
         ensures { result ≡ self.now.op }
     {
         self.as_instr().op()
     }
 
     /// What its operation does.
-    pub(crate) fn kind(&self) -> Kind
+    pub fn kind(&self) -> Kind
         ensures { result ≡ kind_of self.now.op }
     {
         self.kind
@@ -102,7 +102,7 @@ impl Decoded {
 
     /// The operation computes one value, and the path goes on after it.
     #[inline(always)]
-    pub(crate) fn is_plain(&self) -> bool
+    pub fn is_plain(&self) -> bool
         ensures computes { IsTrue result → kind_of self.now.op ≡ Computes }
     {
         matches!(self.goes, Goes::Plain)
@@ -110,7 +110,7 @@ impl Decoded {
 
     /// What it does, unless it is a pair or a call.
     #[inline(always)]
-    pub(crate) fn known(&self) -> Option<Kind>
+    pub fn known(&self) -> Option<Kind>
         ensures { KnownAs result self.now }
     {
         match self.goes {
@@ -129,7 +129,7 @@ impl Decoded {
 
     /// What its operation does, which may be known.
     #[inline(always)]
-    pub(crate) fn kind_by(&self, known: Option<Kind>) -> Kind
+    pub fn kind_by(&self, known: Option<Kind>) -> Kind
         requires { KnownAs known self.now }
         ensures { result ≡ kind_of self.now.op }
     {
@@ -138,49 +138,49 @@ impl Decoded {
 
     /// What there is to do when it leaves.
     #[inline(always)]
-    pub(crate) fn leaves(&self) -> Leaves
+    pub fn leaves(&self) -> Leaves
         ensures { LeavesAs result self.now }
     {
         self.leaves
     }
 
     /// The operation is a load or store.
-    pub(crate) fn is_access(&self) -> bool
+    pub fn is_access(&self) -> bool
         ensures { result ≡ is_access_of (kind_of self.now.op) }
     {
         self.access
     }
 
     /// The register of source 1; register 0 where it has none.
-    pub(crate) fn first(&self) -> Reg
+    pub fn first(&self) -> Reg
         ensures { result ≡ first_of self.now }
     {
         self.first
     }
 
     /// The register of source 2; register 0 where it has none.
-    pub(crate) fn second(&self) -> Reg
+    pub fn second(&self) -> Reg
         ensures { result ≡ second_of self.now }
     {
         self.second
     }
 
     /// The operation is a multiplication or division, of two halves.
-    pub(crate) fn is_pair(&self) -> bool
+    pub fn is_pair(&self) -> bool
         ensures { result ≡ is_pair_of self.now.op }
     {
         matches!(self.goes, Goes::Pair)
     }
 
     /// This half is the first of two.
-    pub(crate) fn is_first_half(&self, half: Half) -> bool
+    pub fn is_first_half(&self, half: Half) -> bool
         ensures { result ≡ first_half self.now.op half }
     {
         self.is_pair() && half == Half::Low
     }
 
     /// The half that comes after one: after a first half its second.
-    pub(crate) fn half_behind(&self, half: Half) -> Half
+    pub fn half_behind(&self, half: Half) -> Half
         ensures { result ≡ half_after (first_half self.now.op half) }
     {
         if self.is_first_half(half) {
@@ -191,7 +191,7 @@ impl Decoded {
     }
 
     /// The register that a half changes; register 0 where it changes none.
-    pub(crate) fn destination(&self, half: Half) -> Reg
+    pub fn destination(&self, half: Half) -> Reg
         ensures { result ≡ destination_of self.now half }
     {
         match half {
@@ -202,7 +202,7 @@ impl Decoded {
 
     /// The register that a half changes, where what the instruction does may be known.
     #[inline(always)]
-    pub(crate) fn destination_by(&self, known: Option<Kind>, half: Half) -> Reg
+    pub fn destination_by(&self, known: Option<Kind>, half: Half) -> Reg
         requires { KnownAs known self.now }
         ensures { result ≡ destination_of self.now half }
     {
@@ -213,7 +213,7 @@ impl Decoded {
     }
 
     /// The pc after a half, unless a predictor is asked for it.
-    pub(crate) fn fixed_next(&self, half: Half, pc: u32) -> Option<u32>
+    pub fn fixed_next(&self, half: Half, pc: u32) -> Option<u32>
         ensures { result ≡ fixed_next_of self.now half pc }
     {
         match self.goes {
@@ -228,7 +228,7 @@ impl Decoded {
 
     /// Where a jump that is no call goes on, unless a predictor is asked for it.
     #[inline(always)]
-    pub(crate) fn jump_target(&self) -> Option<u32>
+    pub fn jump_target(&self) -> Option<u32>
         requires { kind_of self.now.op ≡ Jumps }
         ensures { (half : Half) (pc : ℕ) → result ≡ fixed_next_of self.now half pc }
     {

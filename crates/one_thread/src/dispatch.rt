@@ -11,7 +11,7 @@ ghost use Rattle.one_thread.specs.declared.possible.Step.TheVariants.{Let as Let
 ghost use Rattle.one_thread.specs.Window.{half_in, next_in};
 
 use crate::decoded::Decoded;
-use crate::fetch::fetch;
+use crate::fetch::fetch_at;
 use crate::leaver::{guess, take_leaver};
 use crate::pipeline::Pipeline;
 use crate::station::Station;
@@ -68,7 +68,7 @@ impl<'a> Pipeline<'a> {
             return None;
         }
         let (pc, half) = self.front();
-        let instr = fetch(self.code.as_slice(), pc)?;
+        let instr = fetch_at(self.code.as_slice(), pc)?;
         if instr.is_access() && self.queue <= self.window.accesses() {
             return None;
         }

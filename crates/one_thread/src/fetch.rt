@@ -28,7 +28,7 @@ fn index_of(pc: u32) -> usize
 
 /// The instruction at an address, if it is that of one.
 #[inline(always)]
-pub fn fetch(code: &[Decoded], pc: u32) -> Option<&Decoded>
+pub fn fetch_at(code: &[Decoded], pc: u32) -> Option<&Decoded>
     ensures { (P : Text) → IsDecoded code.now P → option_copied result ≡ instr_at P pc }
 {
     let at = index_of(pc);

@@ -2,7 +2,7 @@
 ghost use Rattle.std.specs.Prelude.{◌≡◌, false};
 ghost use Rattle.instructions.specs.declared.instr.Instr.{Instr};
 ghost use Rattle.one_thread.specs.Decoding.{goes_of as goes_in, leaves_by};
-ghost use Rattle.one_thread.specs.Kept.{LeavesUntold, LeavesAs, LeavesCounted};
+ghost use Rattle.one_thread.specs.Leavers.{LeavesUntold, LeavesAs, LeavesCounted};
 
 use instructions::{Kind, Op};
 

@@ -4,6 +4,7 @@ ghost use Rattle.arrayvec.specs.ArrayVec.{array_vec_len};
 ghost use Rattle.one_thread.specs.Changes.{NextOf, registers_of};
 ghost use Rattle.one_thread.specs.Loads.{AreInside};
 ghost use Rattle.one_thread.specs.Stages.{FirstMiss};
+ghost use Rattle.one_thread.specs.Order.{IsTurn};
 ghost use Rattle.one_thread.specs.StandsFor.{StandsForSome};
 ghost use Rattle.one_thread.specs.Steps.{ArePossible, IsFirstStep, Makes, Permits, loads_of, next_let as let_steps, recovery as recoveries, retirement_of, runs_of};
 ghost use Rattle.one_thread.specs.Turns.{Falls, SizesStay, fields};
@@ -15,7 +16,7 @@ use crate::memory_port::{Answered, oldest_answered, value_at};
 use crate::pipeline::Pipeline;
 use crate::window::Missed;
 use arrayvec::ArrayVec;
-use instructions::Predictor;
+use instructions::{Predictor, Stop};
 
 /// A step that is possible, with what it takes to make it.
 #[derive(Clone, Copy)]
@@ -178,5 +179,25 @@ impl<'a> Pipeline<'a> {
             }
             Step::Retire => self.retires(),
         }
+    }
+
+    /// Makes the first of the steps that are possible, if the unit has not ended.
+    #[inline(always)]
+    pub fn turn<P: Predictor>(&mut self, predictor: &mut P) -> Turn
+        requires unit { StandsForSome self.old }
+        requires count { self.old.committed.count < 2 ^ 64 - 1 }
+        ensures turn { IsTurn P.Predicts P.Learns
+            (fields self.old predictor.old) result (fields self.new predictor.new) }
+        ensures falls { Falls result self.old self.new }
+        ensures unit { StandsForSome self.new }
+        ensures same { SizesStay self.old self.new }
+    {
+        if let Some(code) = self.over {
+            return Turn::Over(code);
+        }
+        let Some(step) = self.first_step() else {
+            return Turn::Over(Stop::BadPc);
+        };
+        self.make(step, predictor)
     }
 }

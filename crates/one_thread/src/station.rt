@@ -53,7 +53,7 @@ pub fn made_at_let(kind: Kind, pc: u32) -> Option<u32>
 impl Station {
     /// A half of an instruction that is let at a pc.
     #[inline(always)]
-    pub(crate) fn let_at(instr: &Decoded, half: Half, pc: u32, predicted: u32) -> Station
+    pub fn let_at(instr: &Decoded, half: Half, pc: u32, predicted: u32) -> Station
         ensures { result ≡ let_at_of instr.now half pc predicted }
     {
         Station {

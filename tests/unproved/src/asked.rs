@@ -1,6 +1,7 @@
 //! What a run asks its predictor and tells it: as its turns one by one do.
 ghost use Rattle.std.specs.Prelude.{⊤};
 
+use bench::run;
 use instructions::{Bimod, Config, Instr, Predictor, Program};
 use isa::parse;
 use one_thread::{Bench, Turn};
@@ -49,24 +50,22 @@ impl<'s> Predictor for Keeping<'s> {
     }
 }
 
-// The number of all calls of a run up to a limit, in one call or by its turns.
-fn seen(
-    alloc: Global,
-    program: &Program,
-    config: &Config,
-    limit: u64,
-    by_turns: bool,
-) -> Result<u64, Fail> {
+// The number of all calls of a run up to the configuration's limit.
+fn seen_by_run(alloc: Global, program: &Program, config: &Config) -> Result<u64, Fail> {
     let calls = Cell::new(0);
+    run(alloc, program, config, Keeping::new(&calls))?;
+    Ok(calls.get())
+}
+
+// The number of all calls of turns one by one, up to the same limit.
+fn seen_by_turns(alloc: Global, program: &Program, config: &Config) -> Result<u64, Fail> {
+    let calls = Cell::new(0);
+    let limit = u64::from(config.limit());
     let mut bench = Bench::new(alloc, program, config, Keeping::new(&calls))?;
-    if by_turns {
-        for _ in 0..20_000 {
-            if bench.count() < limit && bench.has_room() && matches!(bench.turn(), Turn::Over(_)) {
-                break;
-            }
+    for _ in 0..20_000 {
+        if bench.count() < limit && bench.has_room() && matches!(bench.turn(), Turn::Over(_)) {
+            break;
         }
-    } else {
-        bench.run(limit);
     }
     Ok(calls.get())
 }
@@ -81,12 +80,11 @@ const LIMITS: &[u64] = &[1, 7, 60, 300];
 fn is_asked_alike(rt: &impl Abort, alloc: Global, listing: &[u8]) -> Result<(), Fail> {
     let program = parse(alloc, listing)?;
     for &(ring, queue) in SIZES {
-        let config = Config::new(ring, queue, 1, 1, 1, 1_000_000, 1_000_000)?;
         for &limit in LIMITS {
-            let run = seen(alloc, &program, &config, limit, false)?;
+            let config = Config::new(ring, queue, 1, 1, 1, limit, 1_000_000)?;
             assert_eq!(rt;
-                run,
-                seen(alloc, &program, &config, limit, true)?,
+                seen_by_run(alloc, &program, &config)?,
+                seen_by_turns(alloc, &program, &config)?,
                 "{:?}",
                 (ring, queue, limit)
             );

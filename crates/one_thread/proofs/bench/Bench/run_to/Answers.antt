@@ -1,1 +1,0 @@
--- A run goes on as the in-order machine does.

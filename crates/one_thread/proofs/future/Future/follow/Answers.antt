@@ -1,8 +1,0 @@
-use Rattle.std.proofs.lemmas.Grind.{common_steps}
-use Rattle.std.proofs.Common.{arith}
-use Rattle.one_thread.proofs.Futures.{behind_none, behind_writes}
-use Rattle.one_thread.proofs.future.Future.follow.Goals.{then-r-ne0, else-r-ne0}
-use Rattle.one_thread.proofs.future.Future.follow.Goals as goal
-
-pub returns-clause-on : goal.returns-clause-on
-returns-clause-on c made is = grind (arith, common_steps, then-r-ne0, behind_writes, else-r-ne0, behind_none)

@@ -1,0 +1,9 @@
+pub mod Slots
+pub mod CompletedRing
+pub mod Kept
+pub mod Futures
+pub mod Reopened
+pub mod Astray
+pub mod Flow
+pub mod Departing
+pub mod Runs
