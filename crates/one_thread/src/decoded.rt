@@ -1,10 +1,8 @@
 //! Decoded instructions.
-ghost use Rattle.std.specs.Prelude.{ℕ, ◌≡◌, ◌≤◌, IsTrue};
-ghost use Rattle.instructions.specs.declared.op.Kind.TheVariants.{Computes, Jumps};
-ghost use Rattle.instructions.specs.declared.op.Half.{Half};
+ghost use Rattle.std.specs.Prelude.{◌≡◌, ◌≤◌};
 ghost use Rattle.instructions.specs.Instruction.{destination as destination_of, first_of, fixed_next as fixed_next_of, fixed_next_by, is_access as is_access_of, is_first_half as first_half, is_pair as is_pair_of, kind as kind_of, second_of};
 ghost use Rattle.inorder.specs.Unit.{half_after};
-ghost use Rattle.one_thread.specs.Decoding.{KnownAs};
+ghost use Rattle.one_thread.specs.Decoding.{goes_of as goes_in, leaves_by};
 ghost use Rattle.one_thread.specs.Leavers.{LeavesAs};
 ghost use Rattle.one_thread.specs.Window.{access_of};
 
@@ -53,7 +51,7 @@ pub fn access(instr: &Decoded) -> usize
 }
 
 impl Decoded {
-    pub fn new(instr: Instr) -> Decoded
+    pub(crate) fn new(instr: Instr) -> Decoded
         ensures { result ≡ instr }
     {
         let op = instr.op();
@@ -100,46 +98,19 @@ impl Decoded {
         self.kind
     }
 
-    /// The operation computes one value, and the path goes on after it.
+    /// Where its operation goes on, as far as that tells.
     #[inline(always)]
-    pub fn is_plain(&self) -> bool
-        ensures computes { IsTrue result → kind_of self.now.op ≡ Computes }
+    pub fn goes(&self) -> Goes
+        ensures { result ≡ goes_in self.now.op }
     {
-        matches!(self.goes, Goes::Plain)
-    }
-
-    /// What it does, unless it is a pair or a call.
-    #[inline(always)]
-    pub fn known(&self) -> Option<Kind>
-        ensures { KnownAs result self.now }
-    {
-        match self.goes {
-            Goes::Plain => Some(Kind::Computes),
-            Goes::Behind => match self.leaves {
-                Leaves::Load => Some(Kind::Loads),
-                _ => Some(Kind::Stores),
-            },
-            Goes::To | Goes::Varies => match self.kind {
-                Kind::Jumps => Some(Kind::Jumps),
-                _ => None,
-            },
-            Goes::Pair => None,
-        }
-    }
-
-    /// What its operation does, which may be known.
-    #[inline(always)]
-    pub fn kind_by(&self, known: Option<Kind>) -> Kind
-        requires { KnownAs known self.now }
-        ensures { result ≡ kind_of self.now.op }
-    {
-        known.unwrap_or(self.kind)
+        self.goes
     }
 
     /// What there is to do when it leaves.
     #[inline(always)]
     pub fn leaves(&self) -> Leaves
-        ensures { LeavesAs result self.now }
+        ensures is { result ≡ leaves_by (goes_in self.now.op) (kind_of self.now.op) }
+        ensures leaves { LeavesAs result self.now }
     {
         self.leaves
     }
@@ -200,18 +171,6 @@ impl Decoded {
         }
     }
 
-    /// The register that a half changes, where what the instruction does may be known.
-    #[inline(always)]
-    pub fn destination_by(&self, known: Option<Kind>, half: Half) -> Reg
-        requires { KnownAs known self.now }
-        ensures { result ≡ destination_of self.now half }
-    {
-        match known {
-            Some(Kind::Jumps | Kind::Stores) => Reg::ZERO,
-            _ => self.destination(half),
-        }
-    }
-
     /// The pc after a half, unless a predictor is asked for it.
     pub fn fixed_next(&self, half: Half, pc: u32) -> Option<u32>
         ensures { result ≡ fixed_next_of self.now half pc }
@@ -223,18 +182,6 @@ impl Decoded {
                 _ => Some(self.instr.number),
             },
             _ => Some(pc_plus_4(pc)),
-        }
-    }
-
-    /// Where a jump that is no call goes on, unless a predictor is asked for it.
-    #[inline(always)]
-    pub fn jump_target(&self) -> Option<u32>
-        requires { kind_of self.now.op ≡ Jumps }
-        ensures { (half : Half) (pc : ℕ) → result ≡ fixed_next_of self.now half pc }
-    {
-        match self.leaves {
-            Leaves::Told => None,
-            _ => Some(self.instr.number),
         }
     }
 }

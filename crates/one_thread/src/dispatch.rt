@@ -38,7 +38,7 @@ pub fn waiting_half(low: Option<u32>) -> Half
 
 impl<'a> Pipeline<'a> {
     /// The station of the tenant at `i`, live or to be let.
-    pub fn station_at(&self, i: usize) -> usize
+    pub(crate) fn station_at(&self, i: usize) -> usize
         requires oldest { self.now.oldest < self.now.ring }
         requires most { self.now.ring ≤ 32 }
         requires near { i ≤ self.now.ring }
@@ -60,7 +60,7 @@ impl<'a> Pipeline<'a> {
     }
 
     /// The next instruction, if it can be let.
-    pub fn next(&self) -> Option<Fetched>
+    pub(crate) fn next(&self) -> Option<Fetched>
         requires { IsDecoded self.now.code.items self.now.program.now }
         ensures { NextOf self.now result }
     {
@@ -81,7 +81,7 @@ impl<'a> Pipeline<'a> {
 
     /// Lets an instruction that can be let: a predictor is told of who has left its station, and asked.
     #[inline(always)]
-    pub fn enters<P: Predictor>(&mut self, predictor: &mut P, next: Fetched)
+    pub(crate) fn enters<P: Predictor>(&mut self, predictor: &mut P, next: Fetched)
         requires unit { StandsForSome self.old }
         requires open { self.old.over ≡ None }
         requires can { NextOf self.old (Some next) }

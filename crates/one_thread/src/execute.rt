@@ -91,7 +91,7 @@ fn finished(station: &Station, outcome: Outcome) -> Station
 impl<'a> Pipeline<'a> {
     /// Claims and finishes a tenant that can be claimed.
     #[inline(always)]
-    pub fn claim(&mut self, ready: Ready)
+    pub(crate) fn claim(&mut self, ready: Ready)
         requires { CanClaim self.old ready }
         ensures window { RunsAt self.old ready self.new }
         ensures rest { self.new ≡ record self.old { window = self.new.window } }

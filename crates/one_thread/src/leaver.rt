@@ -2,12 +2,11 @@
 ghost use Rattle.std.specs.Prelude.{◌≡◌, ◌<◌, length, slice_get, slice_set, None, Some};
 ghost use Rattle.instructions.specs.Guesses.{Guesses};
 ghost use Rattle.instructions.specs.Instruction.{fixed_next};
-ghost use Rattle.one_thread.specs.Decoding.{KnownAs};
 ghost use Rattle.one_thread.specs.Leavers.{leaver_by, told_at};
 
 use crate::decoded::Decoded;
 use crate::station::Station;
-use instructions::{Half, Kind, Leaver, Predictor, pc_plus_4, tell};
+use instructions::{Half, Leaver, Predictor, tell};
 
 /// What the predictor is told of a half of an instruction that has gone on at `next`, unless that was fixed.
 #[inline(always)]
@@ -57,36 +56,5 @@ pub fn guess<P: Predictor>(
     match instr.fixed_next(half, pc) {
         Some(fixed) => fixed,
         None => predictor.predict(pc, instr.as_instr()),
-    }
-}
-
-/// Asks a predictor as `guess` does. Where it is known what the instruction does, no more of it is looked at than
-/// that needs.
-#[inline(always)]
-pub fn guess_behind<P: Predictor>(
-    predictor: &mut P,
-    left: Option<Leaver>,
-    instr: &Decoded,
-    known: Option<Kind>,
-    half: Half,
-    pc: u32,
-) -> u32
-    requires { KnownAs known instr.now }
-    ensures { Guesses P.Predicts P.Learns left instr.now half pc
-        result predictor.old predictor.new }
-{
-    match known {
-        Some(Kind::Computes | Kind::Loads | Kind::Stores) => {
-            tell(predictor, left);
-            pc_plus_4(pc)
-        },
-        Some(Kind::Jumps) => {
-            tell(predictor, left);
-            match instr.jump_target() {
-                Some(fixed) => fixed,
-                None => predictor.predict(pc, instr.as_instr()),
-            }
-        },
-        _ => guess(predictor, left, instr, half, pc),
     }
 }

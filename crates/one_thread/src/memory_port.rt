@@ -79,7 +79,7 @@ pub fn oldest_answered(window: &Window, ahead: &WithPendingLow) -> Option<Answer
 impl<'a> Pipeline<'a> {
     /// A load that is not blocked gets its value.
     #[inline(always)]
-    pub fn answers(&mut self, answered: Answered)
+    pub(crate) fn answers(&mut self, answered: Answered)
         requires { LoadGives self.old answered }
         ensures window { LoadsAt self.old answered self.new }
         ensures rest { self.new ≡ record self.old { window = self.new.window } }

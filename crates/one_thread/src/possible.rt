@@ -110,7 +110,7 @@ impl<'a> Pipeline<'a> {
     }
 
     /// All steps that are possible, in their order.
-    pub fn possible_steps(&self) -> Steps
+    pub(crate) fn possible_steps(&self) -> Steps
         requires { StandsForSome self.now }
         ensures { ArePossible self.now result.items }
     {
@@ -125,7 +125,7 @@ impl<'a> Pipeline<'a> {
 
     /// The first of the steps that are possible.
     #[inline(always)]
-    pub fn first_step(&self) -> Option<Step>
+    pub(crate) fn first_step(&self) -> Option<Step>
         requires { StandsForSome self.now }
         ensures { IsFirstStep self.now result }
     {
@@ -149,7 +149,7 @@ impl<'a> Pipeline<'a> {
     }
 
     /// Makes a step that is possible.
-    pub fn make<P: Predictor>(&mut self, step: Step, predictor: &mut P) -> Turn
+    pub(crate) fn make<P: Predictor>(&mut self, step: Step, predictor: &mut P) -> Turn
         requires unit { StandsForSome self.old }
         requires open { self.old.over ≡ None }
         requires count { self.old.committed.count < 2 ^ 64 - 1 }

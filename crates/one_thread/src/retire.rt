@@ -51,7 +51,7 @@ impl<'a> Pipeline<'a> {
 
     /// Retires the oldest tenant. A stop ends the unit, and what a first half has made waits.
     #[inline(always)]
-    pub fn retires(&mut self) -> Turn
+    pub(crate) fn retires(&mut self) -> Turn
         requires oldest { self.old.oldest < self.old.ring }
         requires most { self.old.ring ≤ 32 }
         requires leavers { length self.old.leavers ≡ 32 }

@@ -76,7 +76,7 @@ fn replace(stations: &mut HeapCircularBuffer<Station>, i: usize, station: Statio
 }
 
 impl Window {
-    pub fn new(alloc: Global) -> Result<Window, AllocError>
+    pub(crate) fn new(alloc: Global) -> Result<Window, AllocError>
         ensures { IfOk result (λ w. w ≡ []) }
     {
         let stations = HeapCircularBuffer::with_capacity(alloc, 32)?;
@@ -102,7 +102,7 @@ impl Window {
     }
 
     /// The tenant at `i` is resolved.
-    pub fn is_resolved(&self, i: usize) -> bool
+    pub(crate) fn is_resolved(&self, i: usize) -> bool
         ensures { result ≡ settled_at (slice_get self.now i) }
     {
         match self.peek(i) {
@@ -112,7 +112,7 @@ impl Window {
     }
 
     /// How many live tenants reach memory.
-    pub fn accesses(&self) -> usize
+    pub(crate) fn accesses(&self) -> usize
         ensures { result ≡ accesses_of self.now (length self.now) }
     {
         let mut accesses = 0;
@@ -132,7 +132,7 @@ impl Window {
 
     /// The tenant at `i`, where there is one.
     #[inline(always)]
-    pub fn peek(&self, i: usize) -> Option<&Station>
+    pub(crate) fn peek(&self, i: usize) -> Option<&Station>
         ensures { option_copied result ≡ slice_get self.now i }
     {
         self.stations.get(i)
@@ -140,7 +140,7 @@ impl Window {
 
     /// The first `i` tenants: those that came first, and those after them.
     #[inline(always)]
-    pub fn before(&self, i: usize) -> (&[Station], &[Station])
+    pub(crate) fn before(&self, i: usize) -> (&[Station], &[Station])
         requires { i ≤ length self.now }
         ensures { result.0.now ++ result.1.now ≡ take i self.now }
     {
@@ -152,7 +152,7 @@ impl Window {
 
     /// The youngest tenant.
     #[inline(always)]
-    pub fn last(&self) -> Option<&Station>
+    pub(crate) fn last(&self) -> Option<&Station>
         ensures { option_copied result ≡ slice_get self.now (length self.now - 1) }
     {
         self.stations.back()
@@ -170,7 +170,7 @@ impl Window {
 
     /// The oldest miss.
     #[inline(always)]
-    pub fn oldest_miss(&self) -> Option<Missed>
+    pub(crate) fn oldest_miss(&self) -> Option<Missed>
         ensures { FirstMiss self.now result }
     {
         if !self.missed {
@@ -197,7 +197,7 @@ impl Window {
     }
 
     /// The tenant at `i` has come further.
-    pub fn put(&mut self, i: usize, station: Station)
+    pub(crate) fn put(&mut self, i: usize, station: Station)
         ensures { self.new ≡ slice_set self.old i station }
     {
         self.missed = misses(self.missed, station.stage);
@@ -207,7 +207,7 @@ impl Window {
     }
 
     /// All tenants after the oldest miss leave, and it goes on where it has to.
-    pub fn recover(&mut self, miss: Missed)
+    pub(crate) fn recover(&mut self, miss: Missed)
         requires { FirstMiss self.old (Some miss) }
         ensures { RecoversTo self.old self.new }
     {
@@ -248,7 +248,7 @@ impl Window {
 
     /// Takes the oldest out.
     #[inline(always)]
-    pub fn shift(&mut self)
+    pub(crate) fn shift(&mut self)
         ensures { self.new ≡ drop 1 self.old }
     {
         let _ = self.stations.pop_front();

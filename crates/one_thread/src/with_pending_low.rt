@@ -24,7 +24,7 @@ impl<'c> Model for WithPendingLow<'c> {
 impl<'c> WithPendingLow<'c> {
     /// What a register holds.
     #[inline(always)]
-    pub fn register(&self, r: Reg) -> u32
+    pub(crate) fn register(&self, r: Reg) -> u32
         ensures { result ≡ slice_index self.now.registers r }
     {
         self.committed.register_ahead(*self.low, r)

@@ -8,7 +8,8 @@ use Rattle.inorder.specs.Steps.{IsNoRetiredStop}
 use Rattle.inorder.specs.Unit.{front_half, front_pc}
 use Rattle.inorder.proofs.Sound.{IsSound}
 use Rattle.inorder.proofs.OneCaller.Sequences.{sound_of}
-use Rattle.one_thread.specs.Decoding.{IsDecoded, IsWhole}
+use Rattle.one_thread.specs.Decoding.{IsDecoded}
+use Rattle.streaming.specs.Known.{IsWhole}
 use Rattle.one_thread.specs.StandsFor.{OverIs, sizes}
 use Rattle.one_thread.specs.Window.{half_in, next_in, window}
 use Rattle.one_thread.specs.declared.pipeline.Pipeline.{Pipeline}

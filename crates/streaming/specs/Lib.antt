@@ -1,3 +1,4 @@
+pub mod Known
 pub mod Slots
 pub mod CompletedRing
 pub mod Kept

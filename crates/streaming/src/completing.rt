@@ -4,11 +4,12 @@ ghost use Rattle.instructions.specs.Instruction.{kind as kind_in, width as width
 ghost use Rattle.instructions.specs.declared.op.Kind.TheVariants.{Computes};
 ghost use Rattle.instructions.specs.declared.stop.Outcome.TheVariants.{Address};
 ghost use Rattle.lsq.specs.LoadRule.{answer_over as answer_of, lacks_address, youngest};
-ghost use Rattle.one_thread.specs.Decoding.{KnownAs};
+ghost use Rattle.streaming.specs.Known.{KnownAs};
 ghost use Rattle.streaming.specs.Flow.{Completes, outcome_in};
 ghost use Rattle.one_thread.specs.Loads.{value_by as value_of};
 
 use crate::flow::Flow;
+use crate::known::kind_by;
 use inorder::access_width;
 use instructions::{Half, Kind, Op, Outcome, outcome_by_kind, pc_plus_4};
 use lsq::{Entry, answer_over_known};
@@ -72,7 +73,7 @@ pub fn completes(
     requires known { youngest lacks_address flow.now.ring.stores ≡ None }
     ensures { Completes unit.now flow.now instr.now predicted operands.now result }
 {
-    let kind = instr.kind_by(known);
+    let kind = kind_by(instr, known);
     let (value, next) = match outcome(unit, kind, flow, instr, half, operands) {
         Outcome::Value(v) | Outcome::Pair(v, _) => (v, predicted),
         Outcome::Next(x) => match kind {

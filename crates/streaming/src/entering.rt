@@ -1,15 +1,17 @@
 //! An instruction enters a flow: it is let, and runs as far as it comes.
 ghost use Rattle.std.specs.Prelude.{◌⊎◌, ◌≡◌, ◌<◌, suc, length, IfSome, IsFalse, IsTrue, Some};
 ghost use Rattle.instructions.specs.declared.op.Half.TheVariants.{Low};
-ghost use Rattle.one_thread.specs.Decoding.{HasInstr, IsDecoded, IsKnownThere, IsWhole};
+ghost use Rattle.one_thread.specs.Decoding.{HasInstr, IsDecoded};
+ghost use Rattle.streaming.specs.Known.{IsKnownThere, IsWhole};
 ghost use Rattle.streaming.specs.Flow.{CanEnter, Flows, HasEntered, HasPlace, Reopens, Upcoming, enters_as, in_order};
 ghost use Rattle.one_thread.specs.Producers.{Chosen};
 
 use crate::astray::mend;
 use crate::completing::completes;
 use crate::flow::Flow;
+use crate::known::{guess_behind, is_plain, known};
 use instructions::{Half, Kind, Leaver, Predictor};
-use one_thread::{Decoded, Pipeline, Station, fetch_at, fetch_known, guess_behind, take_leaver};
+use one_thread::{Decoded, Pipeline, Station, fetch_at, fetch_known, take_leaver};
 
 // The number of instructions that stay completed after one more: all if it was mispredicted, else `from`.
 #[inline(always)]
@@ -132,7 +134,7 @@ fn known_next(unit: &Pipeline<'_>, flow: &Flow) -> Option<Kind>
     requires { HasInstr unit.now.code.items flow.now.future.pc }
     ensures { IsKnownThere unit.now.code.items flow.now.future.pc result }
 {
-    fetch_known(unit.code.as_slice(), flow.future.pc).known()
+    known(fetch_known(unit.code.as_slice(), flow.future.pc))
 }
 
 /// Whether the next instruction can enter.
@@ -145,7 +147,7 @@ pub fn can_enter(unit: &Pipeline<'_>, flow: &Flow) -> bool
     let Some(instr) = fetch_at(unit.code.as_slice(), flow.future.pc) else {
         return false;
     };
-    if instr.is_plain() {
+    if is_plain(instr) {
         return true;
     }
     if instr.is_access() && unit.queue <= flow.accesses {

@@ -7,7 +7,7 @@ ghost use Rattle.instructions.specs.Instruction.{is_first_half};
 ghost use Rattle.streaming.specs.Flow.{HasJoined, completed_as};
 ghost use Rattle.streaming.specs.CompletedRing.{station_by, store_with};
 ghost use Rattle.streaming.specs.Futures.{GoesOnBehind};
-ghost use Rattle.one_thread.specs.Decoding.{KnownAs};
+ghost use Rattle.streaming.specs.Known.{KnownAs};
 ghost use Rattle.streaming.specs.Kept.{kept_with};
 ghost use Rattle.one_thread.specs.Leavers.{LeavesAs};
 ghost use Rattle.one_thread.specs.Loads.{with_entry};
@@ -17,6 +17,7 @@ ghost use Rattle.one_thread.specs.Window.{access_of};
 use crate::completed_ring::{Completed, CompletedRing};
 use crate::completing::Done;
 use crate::future::Future;
+use crate::known::{destination_by, kind_by};
 use inorder::access_width;
 use instructions::{Half, Kind};
 use lsq::Entry;
@@ -44,9 +45,9 @@ impl Flow {
         requires all { length self.now.future.values ≡ 34 }
         ensures { result ≡ kept_with instr.now half content self.now.future.values }
     {
-        match instr.kind_by(known) {
+        match kind_by(instr, known) {
             Kind::Stores => content,
-            _ => self.future.values[instr.destination_by(known, half).number() as usize],
+            _ => self.future.values[destination_by(instr, known, half).number() as usize],
         }
     }
 
@@ -119,12 +120,12 @@ impl Flow {
         requires accesses { self.old.accesses ≤ 32 }
         ensures { HasJoined self.old self.new instr.now completed content }
     {
-        let destination = instr.destination_by(known, completed.half);
+        let destination = destination_by(instr, known, completed.half);
         self.ring.push(station, completed);
         self.future
             .follow(destination, completed.value, completed.next);
         self.half = self.half_behind(instr, known, completed.half);
-        match instr.kind_by(known) {
+        match kind_by(instr, known) {
             Kind::Loads => self.accesses += 1,
             Kind::Stores => {
                 self.accesses += 1;

@@ -1,4 +1,4 @@
-//! The fast path of the one-thread unit: `run` ends as turns of `one_thread`, one by one, do, in about a third of the time.
+//! The fast path of the one-thread unit: `run` ends as turns of `one_thread` do, without making most of them one by one.
 //!
 //! A turn searches the window: for a miss, for an instruction whose operands are there, for a load that no store blocks, and
 //! for the last writer of each operand. While all live instructions have completed, the result of each search is known.
@@ -35,6 +35,7 @@ mod departing;
 mod entering;
 mod flow;
 mod future;
+mod known;
 mod retiring;
 mod rounds;
 mod running;

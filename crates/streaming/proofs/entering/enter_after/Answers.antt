@@ -3,7 +3,7 @@ use Rattle.std.proofs.Common.{◌≡◌, Option, Some, refl, sym, subst}
 use Rattle.instructions.specs.declared.op.Half.TheVariants.{Low}
 use Rattle.instructions.specs.declared.op.Kind.{Kind}
 use Rattle.instructions.specs.declared.op.Kind.TheVariants.{Computes, Jumps, Loads, Stores}
-use Rattle.one_thread.specs.Decoding.{IsKnownThere}
+use Rattle.streaming.specs.Known.{IsKnownThere}
 use Rattle.streaming.specs.Flow.{IsPlaced}
 use Rattle.streaming.specs.declared.flow.Flow.{Flow}
 use Rattle.one_thread.specs.declared.pipeline.Pipeline.{Pipeline}

@@ -4,7 +4,7 @@ use Rattle.instructions.specs.Guesses.{Guesses}
 use Rattle.instructions.specs.Instruction.{fixed_next, width}
 use Rattle.instructions.specs.declared.stop.Outcome.TheVariants.{Address}
 use Rattle.streaming.specs.Astray.{FindsOperands, IsUpcoming}
-use Rattle.one_thread.specs.Decoding.{KnownAs}
+use Rattle.streaming.specs.Known.{KnownAs}
 use Rattle.streaming.specs.Flow.{HasJoined, CanRestore, Completes, IsLeftOpen, Reopens, completed_as, enters_as, in_order, outcome_in}
 use Rattle.streaming.specs.Kept.{kept_with}
 use Rattle.streaming.specs.declared.flow.Flow.{Flow}
