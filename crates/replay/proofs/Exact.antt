@@ -1,15 +1,14 @@
 -- A refusal is exact: what was taken before is a legal history, and the step that is refused is not allowed after it.
-use Rattle.std.proofs.Common.{◌≡◌, ℕ, ◌<◌, List, [], ◌∷◌, ◌++◌, length, Option, Some, refl, sym, ap, ◌∙◌, subst, arith}
+use Rattle.std.proofs.Common.{◌≡◌, ℕ, List, [], ◌∷◌, ◌++◌, length, Option, Some, refl, sym, ap, ◌∙◌, subst, arith}
 use Rattle.std.specs.Prelude.{IfSome, slice_get, take}
-use Rattle.instructions.specs.Programs.{Program, address}
-use Rattle.instructions.specs.Instruction.{fixed_next}
+use Rattle.instructions.specs.Programs.{Program}
 use Rattle.inorder.specs.declared.history.Source.TheVariants.{First, Second}
 use Rattle.inorder.specs.declared.history.Step.TheVariants.{Let as UnitLet, On as UnitOn, Renew}
 use Rattle.inorder.specs.declared.history.Supply.{Supply}
 use Rattle.inorder.specs.declared.history.Supply.TheVariants.{From, Known}
 use Rattle.inorder.specs.Legal.{Allowed, AreAllowed, MayAct, Taken, applied, reached}
 use Rattle.inorder.specs.Steps.{MayLet, MaySupply}
-use Rattle.inorder.specs.Unit.{Sizes, UpdateUnit, empty_unit}
+use Rattle.inorder.specs.Unit.{Sizes, UpdateUnit}
 use Rattle.replay.specs.declared.dispatch.NoLet.TheVariants.{NoInstruction, NoSupply, OtherNext, OtherPc, QueueFull, RingFull}
 use Rattle.replay.specs.declared.step.Reason.{Reason}
 use Rattle.replay.specs.declared.step.Reason.TheVariants.{Let as OfLet, On as OfAct}

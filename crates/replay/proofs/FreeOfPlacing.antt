@@ -1,12 +1,12 @@
 -- Wherever links and deliveries stand, the units that histories of the same named steps reach differ in their sources alone;
 -- so where one of them has made each delivery that is due, and refuses a step, each of them refuses it.
-use Rattle.std.proofs.Common.{◌≡◌, ◌⊎◌, ℕ, List, [], ◌∷◌, ◌++◌, refl, sym, ap, ◌∙◌, subst, inl, inr, ⊎_elim}
+use Rattle.std.proofs.Common.{◌≡◌, ◌⊎◌, List, [], ◌∷◌, ◌++◌, refl, sym, subst, ⊎_elim}
 use Rattle.instructions.specs.Programs.{Program}
 use Rattle.inorder.specs.Legal.{Allowed, AreAllowed, Taken, applied, reached}
-use Rattle.inorder.specs.Unit.{Sizes, UpdateUnit}
+use Rattle.inorder.specs.Unit.{Sizes}
 use Rattle.inorder.proofs.Kept.{sound}
 use Rattle.replay.specs.declared.step.Step.{Step}
-use Rattle.replay.specs.Placing.{AreAmong, EachRefusalIsFree, IsSilent}
+use Rattle.replay.specs.Placing.{AreAmong, EachRefusalIsFree}
 use Rattle.replay.specs.Verdicts.{IsNamed, turned}
 use Rattle.replay.proofs.InBoth.{ArePair, silent_alone, step_in_both, steps_in_both, twins_back, twins_both, twins_self}
 use Rattle.replay.proofs.Quiet.{delivered}

@@ -1,12 +1,11 @@
 -- A step in two sound units that differ in their sources alone: what the one allows, the other one allows once each delivery
 -- that is due was made; and they differ in their sources alone after it.
-use Rattle.std.proofs.Common.{◌≡◌, ℕ, suc, Bool, cond, eqb, List, [], ◌∷◌, ◌++◌, Option, Some, None, true, refl, sym, ap, ◌∙◌, subst}
+use Rattle.std.proofs.Common.{◌≡◌, ℕ, suc, cond, eqb, List, [], ◌∷◌, ◌++◌, Option, Some, None, true, refl, sym, ap, ◌∙◌, subst}
 use Rattle.std.specs.List.{AllByRecursion}
 use Rattle.std.specs.Prelude.{unwrap_or}
 use Rattle.instructions.specs.Operations.{loaded}
 use Rattle.instructions.specs.Programs.{Program}
 use Rattle.instructions.specs.declared.instr.Instr.{Instr}
-use Rattle.instructions.specs.declared.op.Kind.{Kind}
 use Rattle.instructions.specs.declared.stop.Outcome.{Outcome}
 use Rattle.instructions.specs.declared.stop.Outcome.TheVariants.{Address, Next, Pair, Stop as Stops, Value}
 use Rattle.inorder.specs.declared.history.Act.{Act}
@@ -18,12 +17,12 @@ use Rattle.inorder.specs.declared.history.Step.TheVariants.{Let as UnitLet, On a
 use Rattle.inorder.specs.Legal.{Allowed, May, MayAct, applied, change_at, changed}
 use Rattle.inorder.specs.Memory.{load_value, raw, raw_at, sure_raw_at}
 use Rattle.inorder.specs.Speculation.{CanGuess}
-use Rattle.inorder.specs.Steps.{CanRetire, HasAddress, MayLet, MayLoad, finished, made_at_end, mended_as}
-use Rattle.inorder.specs.Tenants.{Addr, Busy, Done, Fate, Guessed, IsNotLive, IsThere, Live, Miss, Open, Operand, Retired, Squashed, Standing, Stopped, Tenant, computed, instr, kind_of, missing, missing_of, on_path, operand, stands_on_path, with_operand}
+use Rattle.inorder.specs.Steps.{CanRetire, HasAddress, MayLoad, finished, made_at_end, mended_as}
+use Rattle.inorder.specs.Tenants.{Addr, Busy, Done, Fate, Guessed, IsNotLive, Live, Miss, Open, Operand, Retired, Squashed, Standing, Stopped, Tenant, computed, instr, kind_of, missing, missing_of, on_path, stands_on_path, with_operand}
 use Rattle.inorder.specs.Unit.{Sizes, UpdateUnit, at, older, replaced, younger}
 use Rattle.inorder.proofs.Basics.{split_at}
 use Rattle.inorder.proofs.Grows.{sound_mid}
-use Rattle.inorder.proofs.OneCaller.Alike.{AreAlike, IsAlike, alike_self, stops_alike}
+use Rattle.inorder.proofs.OneCaller.Alike.{AreAlike, IsAlike, stops_alike}
 use Rattle.inorder.proofs.Sound.{FateIs, IsSound, IsSoundAt, Needs}
 use Rattle.replay.specs.declared.acting.Deed.{Deed}
 use Rattle.replay.specs.declared.acting.Deed.TheVariants.{Claim as ToClaim, Confirm as ToConfirm, Deliver as ToDeliver, Finish as ToFinish, Flush as ToFlush, Guess as ToGuess, Link as ToLink, Load as ToLoad, Mend as ToMend, Retire as ToRetire, Squash as ToSquash}
@@ -33,7 +32,7 @@ use Rattle.replay.specs.Placing.{IsSilent, IsSpoken}
 use Rattle.replay.specs.Reasons.{act_of}
 use Rattle.replay.specs.Verdicts.{IsNamed}
 use Rattle.replay.proofs.Quiet.{AreDelivered, IsDelivered}
-use Rattle.replay.proofs.SameShape.{AreTwins, FoundAt, are_back, are_both, are_self, found_at, let_in_both, new_in_both, same_all, same_instr, same_kind, same_path, same_put, same_replaced}
+use Rattle.replay.proofs.SameShape.{AreTwins, FoundAt, are_back, are_both, are_self, found_at, let_in_both, new_in_both, same_all, same_instr, same_kind, same_put, same_replaced}
 use Rattle.replay.proofs.SameValues.{Agrees, ArePlaced, Grows, agrees, all_agree, all_grow, grows, missing_grows, needed, raw_related, same_outcome, source_grows, sure_related}
 
 -- Both sides of a position

@@ -2,9 +2,9 @@
 -- delivery was made, all that the other one has is there.
 use Rattle.std.proofs.Common.{◌≡◌, ℕ, zero, suc, ◌+◌, Bool, true, false, cond, ◌&&◌, List, [], ◌∷◌, Option, Some, None, refl, sym, ap, ◌∙◌, subst}
 use Rattle.std.specs.Prelude.{nat_le, nat_lt, option_map, unwrap_or}
-use Rattle.instructions.specs.Instruction.{kind, width}
+use Rattle.instructions.specs.Instruction.{width}
 use Rattle.instructions.specs.Operations.{outcome_by, outcome_of}
-use Rattle.instructions.specs.Programs.{Program, instr_of}
+use Rattle.instructions.specs.Programs.{Program}
 use Rattle.instructions.specs.declared.instr.Instr.{Instr}
 use Rattle.instructions.specs.declared.op.Half.{Half}
 use Rattle.instructions.specs.declared.op.Kind.{Kind}
@@ -12,7 +12,7 @@ use Rattle.instructions.specs.declared.op.Kind.TheVariants.{Computes, Jumps, Lin
 use Rattle.inorder.specs.declared.history.Source.{Source}
 use Rattle.inorder.specs.declared.history.Source.TheVariants.{First, Second}
 use Rattle.inorder.specs.Memory.{byte_after, byte_at, lacks_address, lacks_address_by, raw_at, stored, stored_by, sure_byte_at, sure_raw_at}
-use Rattle.inorder.specs.Tenants.{Addr, Busy, Done, Fate, Guessed, IsThere, Miss, Open, Operand, Stopped, Tenant, computed, instr, kind_of, missing, missing_of, on_path, operand, operand_value}
+use Rattle.inorder.specs.Tenants.{Addr, Busy, Done, Fate, Guessed, IsThere, Miss, Open, Stopped, Tenant, computed, instr, kind_of, missing_of, on_path, operand, operand_value}
 use Rattle.inorder.specs.Unit.{creator, value_of}
 use Rattle.lsq.specs.Bytes.{byte_of, joined, little_endian_if_there}
 use Rattle.inorder.proofs.OneCaller.Alike.{AreAlike, IsAlike, alike_value}

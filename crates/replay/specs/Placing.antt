@@ -1,15 +1,28 @@
 -- Where links and deliveries stand in a history, which no log names.
-use Rattle.std.specs.Prelude.{⊤, ◌≡◌, ◌⊎◌, List, [], ◌∷◌, ◌++◌}
+use Rattle.std.specs.Prelude.{⊤, ◌≡◌, ◌⊎◌, ℕ, List, [], ◌∷◌, ◌++◌, Some, length, slice_get, take}
+use Rattle.std.specs.List.{AllByRecursion}
 use Rattle.instructions.specs.Programs.{Program}
+use Rattle.inorder.specs.declared.history.Act.{Act}
 use Rattle.inorder.specs.declared.history.Act.TheVariants.{Deliver, Link}
+use Rattle.inorder.specs.declared.history.Source.{Source}
+use Rattle.inorder.specs.declared.history.Source.TheVariants.{First, Second}
 use Rattle.inorder.specs.declared.history.Step.{Step as UnitStep}
 use Rattle.inorder.specs.declared.history.Step.TheVariants.{On as UnitOn}
-use Rattle.inorder.specs.Legal.{Allowed, AreAllowed, Taken, reached}
-use Rattle.inorder.specs.Unit.{Sizes, UpdateUnit}
+use Rattle.inorder.specs.Legal.{Allowed, AreAllowed, MayAct, Taken, change_at, reached}
+use Rattle.inorder.specs.Moves.{Leads}
+use Rattle.inorder.specs.Theorem.{IsInOrder}
+use Rattle.inorder.specs.Unit.{Sizes, UpdateUnit, at}
+use Rattle.inorder.specs.Tenants.{Tenant}
 use Rattle.replay.specs.declared.acting.Deed.TheVariants.{Deliver as ToDeliver, Link as ToLink}
+use Rattle.replay.specs.declared.judging.Verdict.{Verdict}
+use Rattle.replay.specs.declared.judging.Verdict.TheVariants.{Legal, Refused}
+use Rattle.replay.specs.declared.step.Reason.{Reason}
 use Rattle.replay.specs.declared.step.Step.{Step}
 use Rattle.replay.specs.declared.step.Step.TheVariants.{On}
-use Rattle.replay.specs.Verdicts.{IsForbiddenIn, IsNamed, turned}
+use Rattle.replay.specs.declared.unit.Unit.{Unit as Held}
+use Rattle.replay.specs.Lets.{sizes_of, unit_of}
+use Rattle.replay.specs.Shown.{shown}
+use Rattle.replay.specs.Verdicts.{IsForbiddenIn, IsNamed, IsWhy, turned}
 
 -- A link or a delivery
 abbrev pub IsSilent : UnitStep → Type 0
@@ -52,3 +65,68 @@ EachRefusalIsFree =
     IsPlaced P C before one → IsQuiet P C (reached P C one) → IsSpoken step →
     IsForbiddenIn P C (reached P C one) step →
     ¬ IsPlaced P C (before ++ step ∷ []) other
+
+-- Links and deliveries that are made as soon as they are due
+
+-- An act on the tenant at position p is taken, if it is allowed; else nothing changes
+abbrev pub IsTried : Program → List Tenant → ℕ → Act → List Tenant → Type 0
+IsTried P ts p act us =
+    (MayAct P ts 0 p act × (us ≡ change_at P ts 0 p act (at ts p)))
+    ⊎ ((¬ MayAct P ts 0 p act) × (us ≡ ts))
+
+pub record Tries (u : Held) (p : ℕ) (act : Act) (v : Held) : Type 0 where
+  pub program : v.program ≡ u.program
+  pub sizes : sizes_of v ≡ sizes_of u
+  pub length : length v.tenants.items ≡ length u.tenants.items
+  pub tenants : IsTried u.program.now (shown u.tenants.items) p act (shown v.tenants.items)
+
+-- Source k of the tenant at position p is linked, if it may be, and then delivered, if it may be
+pub record Supplies (u : Held) (p : ℕ) (k : Source) (v : Held) : Type 0 where
+  pub linked : Held
+  pub links : Tries u p (Link k) linked
+  pub delivers : Tries linked p (Deliver k) v
+
+pub record SuppliesBoth (u : Held) (p : ℕ) (v : Held) : Type 0 where
+  pub middle : Held
+  pub first : Supplies u p First middle
+  pub second : Supplies middle p Second v
+
+-- Links and deliveries lead from a unit to a later one
+pub record LeadsSilently (u v : Held) : Type 0 where
+  pub program : v.program ≡ u.program
+  pub sizes : sizes_of v ≡ sizes_of u
+  pub length : length v.tenants.items ≡ length u.tenants.items
+  pub steps : List UnitStep
+  pub silent : AllByRecursion IsSilent steps
+  pub leads : Leads u.program.now (sizes_of u) 0 (unit_of u) steps (unit_of v)
+
+-- Source k of the tenant at position p is not to be linked or delivered
+pub record IsNotDue (P : Program) (ts : List Tenant) (p : ℕ) (k : Source) : Type 0 where
+  pub link : ¬ MayAct P ts 0 p (Link k)
+  pub delivery : ¬ MayAct P ts 0 p (Deliver k)
+
+-- Verdicts on steps among which no link and no delivery is named
+
+-- A legal history of the named steps reaches this unit
+pub record IsPlacedTo (P : Program) (C : Sizes) (steps : List Step) (U : UpdateUnit) : Type 0 where
+  pub history : List Taken
+  pub placed : IsPlaced P C steps history
+  pub reaches : reached P C history ≡ U
+
+pub record IsLegalPlaced (P : Program) (C : Sizes) (steps : List Step) : Type 0 where
+  pub unit : UpdateUnit
+  pub placed : IsPlacedTo P C steps unit
+  pub in_order : IsInOrder P unit.tenants
+
+-- The steps before step n are legal, a reason against step n is true there, and no history makes these steps and it
+pub record IsRefusedFreely (P : Program) (C : Sizes) (steps : List Step) (n : ℕ) (reason : Reason) : Type 0 where
+  pub step : Step
+  pub is : slice_get steps n ≡ Some step
+  pub unit : Held
+  pub placed : IsPlacedTo P C (take n steps) (unit_of unit)
+  pub why : IsWhy unit step reason
+  pub free : IsSpoken step → (history : List Taken) → ¬ IsPlaced P C (take n steps ++ step ∷ []) history
+
+abbrev pub IsFreeVerdict : Program → Sizes → List Step → Verdict → Type 0
+IsFreeVerdict P C steps Legal = IsLegalPlaced P C steps
+IsFreeVerdict P C steps (Refused n reason) = IsRefusedFreely P C steps n reason

@@ -148,12 +148,16 @@ impl<'a> Unit<'a> {
     // How the sources of a new tenant may be supplied.
     fn supplies(&self, instr: &Instr, station: usize) -> Result<Supplies, Source>
         ensures first { IfOk result (λ s. MaySupply self.now.program.now (unit_of self.now) station
-            (creator_by self.now.program.now (shown self.now.tenants.items) (first_of instr.now)) (supply_of s.first)) }
+            (creator_by self.now.program.now (shown self.now.tenants.items) (first_of instr.now))
+            (supply_of s.first)) }
         ensures second { IfOk result (λ s. MaySupply self.now.program.now (unit_of self.now) station
-            (creator_by self.now.program.now (shown self.now.tenants.items) (second_of instr.now)) (supply_of s.second)) }
-        ensures late { IfOk result (ComeLate self.now.program.now self.now.tenants.items self.now.settled.upto instr.now) }
+            (creator_by self.now.program.now (shown self.now.tenants.items) (second_of instr.now))
+            (supply_of s.second)) }
+        ensures late { IfOk result
+            (ComeLate self.now.program.now self.now.tenants.items self.now.settled.upto instr.now) }
         ensures err { IfErr result (λ k. HasNoSupply self.now.program.now (unit_of self.now) station
-            (creator_by self.now.program.now (shown self.now.tenants.items) (source_of k instr.now))) }
+            (creator_by self.now.program.now
+            (shown self.now.tenants.items) (source_of k instr.now))) }
     {
         let Some(first) = self.supply(instr.first(), station) else {
             return Err(Source::First);
@@ -170,7 +174,8 @@ impl<'a> Unit<'a> {
         requires inside { index < length self.now.program.now.code }
         requires station { station ≡ next_station (sizes_of self.now) (recent (unit_of self.now)) }
         requires known { self.now.uses.from ≤ station }
-        ensures { tenant_of result ≡ new_tenant self.now.program.now (sizes_of self.now) (unit_of self.now)
+        ensures { tenant_of result ≡
+            new_tenant self.now.program.now (sizes_of self.now) (unit_of self.now)
             index predicted (supply_of supplies.first) (supply_of supplies.second) }
     {
         let instr = self.program.instr(index);
@@ -209,7 +214,8 @@ impl<'a> Unit<'a> {
         ensures program { self.new.program ≡ self.old.program }
         ensures sizes { sizes_of self.new ≡ sizes_of self.old }
         ensures longer { length self.new.tenants.items ≤ length self.old.tenants.items + 1 }
-        ensures one { IfOk result (λ answer. IfOk answer (λ s. length self.new.tenants.items ≡ suc (length self.old.tenants.items))) }
+        ensures one { IfOk result (λ answer. IfOk answer
+            (λ s. length self.new.tenants.items ≡ suc (length self.old.tenants.items))) }
     {
         match self.has_room(index, predicted) {
             Err(reason) => return Ok(Err(reason)),

@@ -108,7 +108,8 @@ impl<'a> Unit<'a> {
     fn byte_before(&self, who: usize, x: usize, sure: bool) -> Option<u8>
         requires who { who ≤ length self.now.tenants.items }
         requires settled { self.now.settled.upto ≤ who }
-        ensures { result ≡ byte_by sure self.now.program.now (shown (take who self.now.tenants.items)) x }
+        ensures { result ≡ byte_by sure self.now.program.now
+            (shown (take who self.now.tenants.items)) x }
     {
         let mut byte = Some(self.settled_byte(x));
         for q in self.settled.upto..who {

@@ -46,7 +46,8 @@ impl<'a> Unit<'a> {
         requires { who < length self.now.tenants.items }
         ensures some { IfSome result (λ q. IsHeldLive (held self.now.tenants.items q)) }
         ensures behind { IfSome result (λ q. who < q) }
-        ensures none { IfNone result ((q : ℕ) → who < q → ¬ IsHeldLive (held self.now.tenants.items q)) }
+        ensures none { IfNone result
+            ((q : ℕ) → who < q → ¬ IsHeldLive (held self.now.tenants.items q)) }
     {
         for q in self.settled.upto..self.tenants.len() {
             if who < q && is_live(self.kept(q)) {
@@ -60,7 +61,8 @@ impl<'a> Unit<'a> {
     pub fn live_before(&self, who: usize) -> Option<usize>
         ensures some { IfSome result (λ q. IsHeldLive (held self.now.tenants.items q)) }
         ensures before { IfSome result (λ q. q < who) }
-        ensures none { IfNone result ((q : ℕ) → q < who → ¬ IsHeldLive (held self.now.tenants.items q)) }
+        ensures none { IfNone result
+            ((q : ℕ) → q < who → ¬ IsHeldLive (held self.now.tenants.items q)) }
     {
         for q in self.settled.upto..who {
             if is_live(self.kept(q)) {
@@ -74,7 +76,8 @@ impl<'a> Unit<'a> {
     pub fn miss_before(&self, who: usize) -> Option<usize>
         ensures some { IfSome result (λ q. IsHeldMiss (held self.now.tenants.items q)) }
         ensures before { IfSome result (λ q. q < who) }
-        ensures none { IfNone result ((q : ℕ) → q < who → ¬ IsHeldMiss (held self.now.tenants.items q)) }
+        ensures none { IfNone result
+            ((q : ℕ) → q < who → ¬ IsHeldMiss (held self.now.tenants.items q)) }
     {
         for q in self.settled.upto..who {
             if is_miss(self.kept(q)) {
@@ -86,9 +89,11 @@ impl<'a> Unit<'a> {
 
     /// The oldest store in flight before a position that has no address.
     pub fn unaddressed_before(&self, who: usize) -> Option<usize>
-        ensures some { IfSome result (λ q. IsHeldUnaddressed self.now.program.now (held self.now.tenants.items q)) }
+        ensures some { IfSome result
+            (λ q. IsHeldUnaddressed self.now.program.now (held self.now.tenants.items q)) }
         ensures before { IfSome result (λ q. q < who) }
-        ensures none { IfNone result ((q : ℕ) → q < who → ¬ IsHeldUnaddressed self.now.program.now (held self.now.tenants.items q)) }
+        ensures none { IfNone result ((q : ℕ) → q < who →
+            ¬ IsHeldUnaddressed self.now.program.now (held self.now.tenants.items q)) }
     {
         for q in self.settled.upto..who {
             if self.is_unaddressed(self.kept(q)) {
@@ -117,7 +122,8 @@ impl<'a> Unit<'a> {
     pub fn stop_before(&self, who: usize) -> Option<(usize, Stop)>
         ensures some { IfSome result (λ s. IsHeldStop (held self.now.tenants.items s.0) s.1) }
         ensures before { IfSome result (λ s. s.0 < who) }
-        ensures none { IfNone result ((q : ℕ) (c : Stop) → q < who → ¬ IsHeldStop (held self.now.tenants.items q) c) }
+        ensures none { IfNone result
+            ((q : ℕ) (c : Stop) → q < who → ¬ IsHeldStop (held self.now.tenants.items q) c) }
     {
         for q in self.settled.upto..who {
             if let Some(code) = stop_of(self.kept(q)) {

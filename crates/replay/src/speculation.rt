@@ -26,9 +26,11 @@ fn can_guess(fate: Fate) -> bool
 impl<'a> Unit<'a> {
     /// The load at a position guesses a value, if it may.
     pub(crate) fn guess(&mut self, who: usize, value: u32) -> Result<(), Refusal>
-        ensures ok { OnOk result (MayAct self.old.program.now (shown self.old.tenants.items) 0 who (Speculate (Guess value))) }
+        ensures ok { OnOk result (MayAct self.old.program.now
+            (shown self.old.tenants.items) 0 who (Speculate (Guess value))) }
         ensures done { OnOk result (shown self.new.tenants.items ≡
-            change_at self.old.program.now (shown self.old.tenants.items) 0 who (Speculate (Guess value))
+            change_at self.old.program.now
+            (shown self.old.tenants.items) 0 who (Speculate (Guess value))
             (at (shown self.old.tenants.items) who)) }
         ensures err { IfErr result (IsNoGuess self.old.program.now (shown self.old.tenants.items) who) }
         ensures same { OnErr result (self.new ≡ self.old) }
@@ -61,11 +63,13 @@ impl<'a> Unit<'a> {
 
     /// The value that the load at a position has guessed is confirmed, if it may be.
     pub(crate) fn confirm(&mut self, who: usize) -> Result<(), Refusal>
-        ensures ok { OnOk result (MayAct self.old.program.now (shown self.old.tenants.items) 0 who (Speculate Confirm)) }
+        ensures ok { OnOk result
+            (MayAct self.old.program.now (shown self.old.tenants.items) 0 who (Speculate Confirm)) }
         ensures done { OnOk result (shown self.new.tenants.items ≡
             change_at self.old.program.now (shown self.old.tenants.items) 0 who (Speculate Confirm)
             (at (shown self.old.tenants.items) who)) }
-        ensures err { IfErr result (IsNoConfirm self.old.program.now (shown self.old.tenants.items) who) }
+        ensures err { IfErr result
+            (IsNoConfirm self.old.program.now (shown self.old.tenants.items) who) }
         ensures same { OnErr result (self.new ≡ self.old) }
         ensures program { self.new.program ≡ self.old.program }
         ensures sizes { sizes_of self.new ≡ sizes_of self.old }
@@ -101,7 +105,8 @@ impl<'a> Unit<'a> {
 
     /// The tenant at a position is flushed, if it is the youngest.
     pub(crate) fn flush(&mut self, who: usize) -> Result<(), Refusal>
-        ensures ok { OnOk result (MayAct self.old.program.now (shown self.old.tenants.items) 0 who (Speculate Flush)) }
+        ensures ok { OnOk result
+            (MayAct self.old.program.now (shown self.old.tenants.items) 0 who (Speculate Flush)) }
         ensures done { OnOk result (shown self.new.tenants.items ≡
             change_at self.old.program.now (shown self.old.tenants.items) 0 who (Speculate Flush)
             (at (shown self.old.tenants.items) who)) }

@@ -76,7 +76,8 @@ impl<'a> Unit<'a> {
         requires kept { self.now.tenants.from ≤ who }
         ensures some { IfSome result (λ q. IsHeldAt station (held self.now.tenants.items q)) }
         ensures behind { IfSome result (λ q. who < q) }
-        ensures none { IfNone result ((q : ℕ) → who < q → ¬ IsHeldAt station (held self.now.tenants.items q)) }
+        ensures none { IfNone result
+            ((q : ℕ) → who < q → ¬ IsHeldAt station (held self.now.tenants.items q)) }
     {
         let n = self.tenants.len();
         for q in who + 1..n {
@@ -90,8 +91,10 @@ impl<'a> Unit<'a> {
     // A source may come from its creator, where the new tenant has this station.
     fn may_come_from(&self, creator: Option<usize>, station: usize) -> bool
         requires { IsLate self.now.settled.upto creator }
-        ensures yes { IsTrue result → MayComeFrom self.now.program.now (unit_of self.now) station creator }
-        ensures no { MayComeFrom self.now.program.now (unit_of self.now) station creator → IsTrue result }
+        ensures yes { IsTrue result →
+            MayComeFrom self.now.program.now (unit_of self.now) station creator }
+        ensures no { MayComeFrom self.now.program.now (unit_of self.now) station creator →
+            IsTrue result }
     {
         let Some(q) = creator else {
             return false;
