@@ -1,16 +1,16 @@
 -- What is dropped stays dropped, as tenants change, come, and settle.
-use Rattle.std.proofs.Common.{◌≡◌, ◌≢◌, ◌⊎◌, ℕ, zero, suc, ◌+◌, ◌<◌, ◌≤◌, Bool, true, false, leb, leb-true, leb-false, ltb, ltb-true, ltb-false, eqb, eqb-true, List, [], ◌∷◌, ◌++◌, length, take, Option, Some, None, refl, sym, ap, ◌∙◌, subst, inl, inr, arith}
+use Rattle.std.proofs.Common.{◌≡◌, ◌≢◌, ℕ, zero, suc, ◌<◌, ◌≤◌, Bool, true, false, leb, leb-true, leb-false, ltb, ltb-true, ltb-false, eqb, eqb-true, List, [], ◌∷◌, ◌++◌, length, take, Option, Some, None, refl, sym, ap, ◌∙◌, subst, inl, inr, arith}
 use Rattle.std.specs.Prelude.{is_none, slice_get, slice_set}
-use Rattle.std.proofs.lemmas.List.{length-append, length-set, take-append-le, take-set-le}
+use Rattle.std.proofs.lemmas.List.{length-append, take-append-le, take-set-le}
 use Rattle.instructions.specs.Programs.{Program}
 use Rattle.inorder.specs.declared.history.Source.{Source}
-use Rattle.inorder.specs.Steps.{MayDeliver, MayLink}
+use Rattle.inorder.specs.Steps.{MayDeliver}
 use Rattle.inorder.specs.Tenants.{AtLet, Linked, Live, Operand, Tenant, Unlinked, operand}
 use Rattle.inorder.specs.Unit.{older, value_of}
 use Rattle.inorder.proofs.Positions.{not_eqb}
 use Rattle.replay.specs.declared.settled.Settled.{Settled}
 use Rattle.replay.specs.declared.tenant.Tenant.{Tenant as Held}
-use Rattle.replay.specs.Dropping.{AreClosed, IsClosed, IsDropped, IsValueIfKept, NeedsFrom, NeedsFromBoth, TurnsTo, WaitsForKept}
+use Rattle.replay.specs.Dropping.{AreClosed, IsClosed, IsDropped, IsValueIfKept, NeedsFromBoth, TurnsTo, WaitsForKept}
 use Rattle.replay.specs.Reasons.{Is, IsHeldLive}
 use Rattle.replay.specs.Settlement.{IsSettled, MayReplace}
 use Rattle.replay.specs.Shown.{shown, tenant_of}

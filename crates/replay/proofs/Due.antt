@@ -21,7 +21,7 @@ use Rattle.replay.specs.declared.tenant.Tenant.{Tenant as HeldTenant}
 use Rattle.replay.specs.declared.unit.Unit.{Unit as Held}
 use Rattle.replay.specs.Dropping.{IsDropped}
 use Rattle.replay.specs.Lets.{sizes_of, unit_of}
-use Rattle.replay.specs.Placing.{IsNotDue, IsQuiet, IsSilent, IsTried, LeadsSilently, Supplies, SuppliesBoth, Tries}
+use Rattle.replay.specs.Placing.{IsNotDue, HasNothingDue, IsSilent, IsTried, LeadsSilently, Supplies, SuppliesBoth, Tries}
 use Rattle.replay.specs.Reasons.{Reason, act_of}
 use Rattle.replay.specs.Shown.{shown}
 use Rattle.replay.proofs.Dropped.{dropped_deliver, dropped_link}
@@ -307,7 +307,7 @@ below u p t is =
 
 -- where no tenant that was let has a source that is due
 pub quiet_by : (u : Held) → ((r : ℕ) (k : Source) → r < length u.tenants.items → NotDueIn u r k) →
-    IsQuiet u.program.now (sizes_of u) (unit_of u)
+    HasNothingDue u.program.now (sizes_of u) (unit_of u)
 quiet_by u each (UnitOn p (Link k)) silent m = (each p k (below u p m.tenant m.is)).link m
 quiet_by u each (UnitOn p (Deliver k)) silent m = (each p k (below u p m.tenant m.is)).delivery m
 quiet_by u each (UnitOn p Claim) silent m = silent

@@ -18,7 +18,7 @@ use Rattle.replay.specs.declared.tenant.Tenant.{Tenant as HeldTenant}
 use Rattle.replay.specs.declared.unit.Unit.{Unit as Held}
 use Rattle.replay.specs.Lets.{EachReasonForbidsLet, HasNoSupply, sizes_of, unit_of}
 use Rattle.replay.specs.Shown.{shown}
-use Rattle.replay.specs.Verdicts.{AreNamed, AreTaken, EachRefusalIsExact, IsForbidden, IsReplay, IsWhy, turned}
+use Rattle.replay.specs.Verdicts.{AreNamed, TakesAll, EachRefusalIsExact, IsForbidden, IsReplay, IsWhy, turned}
 use Rattle.replay.proofs.Forbidden.{each_forbids}
 
 -- Lets
@@ -72,7 +72,7 @@ record GoesOn (P : Program) (C : Sizes) (steps : List Step) (v : Held) : Type 0 
   pub sizes : sizes_of v ≡ C
 
 goes_on : (P : Program) (C : Sizes) (u v : Held) (done steps : List Step) → u.program.now ≡ P → sizes_of u ≡ C →
-    IsPast P C done (unit_of u) → AreTaken u steps v →
+    IsPast P C done (unit_of u) → TakesAll u steps v →
     GoesOn P C (turned steps done) v
 goes_on P C u v done [] program sizes past same =
     record {

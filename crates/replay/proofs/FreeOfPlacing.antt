@@ -1,6 +1,6 @@
 -- Wherever links and deliveries stand, the units that histories of the same named steps reach differ in their sources alone;
 -- so where one of them has made each delivery that is due, and refuses a step, each of them refuses it.
-use Rattle.std.proofs.Common.{◌≡◌, ◌⊎◌, List, [], ◌∷◌, ◌++◌, refl, sym, subst, ⊎_elim}
+use Rattle.std.proofs.Common.{◌≡◌, List, [], ◌∷◌, ◌++◌, refl, sym, subst, ⊎_elim}
 use Rattle.instructions.specs.Programs.{Program}
 use Rattle.inorder.specs.Legal.{Allowed, AreAllowed, Taken, applied, reached}
 use Rattle.inorder.specs.Unit.{Sizes}

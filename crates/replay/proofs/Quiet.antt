@@ -12,7 +12,7 @@ use Rattle.inorder.specs.Unit.{Sizes, UpdateUnit, at, older, value_of}
 use Rattle.inorder.proofs.Basics.{eqb_less, eqb_self}
 use Rattle.inorder.proofs.GoesOn.Supplied.{AreSupplied, are_supplied}
 use Rattle.inorder.proofs.Positions.{all_at, at_below, at_more, at_new}
-use Rattle.replay.specs.Placing.{IsQuiet}
+use Rattle.replay.specs.Placing.{HasNothingDue}
 
 -- a source has a value, if its creator has made one
 abbrev pub IsDelivered : List Tenant → Operand → Type 0
@@ -41,7 +41,7 @@ by_position (t ∷ ts) each = ((here First, here Second), by_position ts (λ p u
         subst (λ us. IsDelivered us (operand k u)) (ap (λ b. cond b ts (older ts p)) (eqb_less p (length ts) (at_below ts p u e)))
         (each p u k (at_more t ts p u e))
 
-module _ (P : Program) (C : Sizes) (U : UpdateUnit) (quiet : IsQuiet P C U) where
+module _ (P : Program) (C : Sizes) (U : UpdateUnit) (quiet : HasNothingDue P C U) where
   source : (p : ℕ) (t : Tenant) (k : Source) → at U.tenants p ≡ Some t → AreSupplied t →
       IsDelivered (older U.tenants p) (operand k t)
   source p t k e supplied v made = go (operand k t).way refl
@@ -61,6 +61,6 @@ module _ (P : Program) (C : Sizes) (U : UpdateUnit) (quiet : IsQuiet P C U) wher
   unfolding AtEach
   all_delivered all = by_position U.tenants (λ p t k e. source p t k e (all_at AreSupplied U.tenants all p t e))
 
-pub delivered : (P : Program) (C : Sizes) (history : List Taken) → AreAllowed P C history → IsQuiet P C (reached P C history) →
+pub delivered : (P : Program) (C : Sizes) (history : List Taken) → AreAllowed P C history → HasNothingDue P C (reached P C history) →
     AreDelivered (reached P C history).tenants
 delivered P C history allowed quiet = all_delivered P C (reached P C history) quiet (are_supplied P C history allowed)

@@ -1,5 +1,5 @@
 -- Which tenants may stand in the place of others.
-use Rattle.std.proofs.Common.{◌≡◌, ◌⊎◌, ℕ, ◌<◌, ◌≤◌, Bool, true, false, List, Option, Some, None, refl, sym, ap, ◌∙◌, subst, inl, inr, arith}
+use Rattle.std.proofs.Common.{◌≡◌, ℕ, ◌<◌, ◌≤◌, Bool, true, false, List, Option, Some, None, refl, sym, ap, ◌∙◌, subst, inl, inr, arith}
 use Rattle.std.specs.Prelude.{slice_get}
 use Rattle.instructions.specs.Instruction.{width}
 use Rattle.instructions.specs.Programs.{Program}
@@ -8,7 +8,7 @@ use Rattle.instructions.specs.declared.op.Kind.TheVariants.{Computes, Jumps, Lin
 use Rattle.inorder.specs.declared.history.Source.{Source}
 use Rattle.inorder.specs.declared.history.Source.TheVariants.{First, Second}
 use Rattle.inorder.specs.Memory.{stored, stored_by}
-use Rattle.inorder.specs.Steps.{MayDeliver, MayLink}
+use Rattle.inorder.specs.Steps.{MayDeliver}
 use Rattle.inorder.specs.Tenants.{Addr, Busy, Done, Fate, Guessed, Miss, Open, Operand, Stopped, Tenant, Unlinked, instr, kind_of, on_path, operand, with_operand}
 use Rattle.inorder.specs.Unit.{older}
 use Rattle.replay.specs.declared.settled.Settled.{Settled}

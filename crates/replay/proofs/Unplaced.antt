@@ -14,7 +14,7 @@ use Rattle.replay.specs.declared.step.Step.{Step}
 use Rattle.replay.specs.declared.tenant.Tenant.{Tenant as HeldTenant}
 use Rattle.replay.specs.declared.unit.Unit.{Unit as Held}
 use Rattle.replay.specs.Lets.{sizes_of, unit_of}
-use Rattle.replay.specs.Placing.{AreAmong, IsLegalPlaced, IsPlacedTo, IsQuiet, IsRefusedFreely, IsSilent, LeadsSilently}
+use Rattle.replay.specs.Placing.{AreAmong, IsLegalPlaced, IsPlacedTo, HasNothingDue, IsRefusedFreely, IsSilent, LeadsSilently}
 use Rattle.replay.specs.Shown.{shown}
 use Rattle.replay.specs.Verdicts.{IsForbidden, IsForbiddenIn, IsTaken, IsWhy, turned}
 use Rattle.replay.proofs.Due.{quiet_by}
@@ -30,7 +30,7 @@ pub placed_nowhere : (P : Program) (C : Sizes) (u : Held) → u.tenants.items �
 placed_nowhere P C u none =
     record { history = []; placed = record { allowed = tt; among = tt }; reaches = sym (ap empty_of none) }
 
-pub quiet_before : (u : Held) → u.tenants.items ≡ [] → IsQuiet u.program.now (sizes_of u) (unit_of u)
+pub quiet_before : (u : Held) → u.tenants.items ≡ [] → HasNothingDue u.program.now (sizes_of u) (unit_of u)
 quiet_before u none = quiet_by u (λ r k less. let long = ap (λ hs. length hs) none in absurd (omega (arith, less, long)))
 
 -- A named step
@@ -107,19 +107,21 @@ legal_placed P C steps rest U all right p = record {
 
 pub refused_placed : (P : Program) (C : Sizes) (u : Held) (steps : List Step) (n : ℕ) (s : Step) (reason : Reason) →
     u.program.now ≡ P → sizes_of u ≡ C → slice_get steps n ≡ Some s → IsPlacedTo P C (take n steps) (unit_of u) →
-    IsQuiet u.program.now (sizes_of u) (unit_of u) → IsForbidden u s → IsWhy u s reason → IsRefusedFreely P C steps n reason
+    HasNothingDue u.program.now (sizes_of u) (unit_of u) → IsForbidden u s → IsWhy u s reason → IsRefusedFreely P C steps n reason
 refused_placed P C u steps n s reason p c there placed quiet forbidden why =
-    let here = subst (λ (D : Sizes). IsQuiet P D (unit_of u)) c (subst (λ (Q : Program). IsQuiet Q (sizes_of u) (unit_of u)) p quiet) in
+    let here = subst (λ (D : Sizes). HasNothingDue P D (unit_of u)) c (subst (λ (Q : Program). HasNothingDue Q (sizes_of u) (unit_of u)) p quiet) in
     let never = subst (λ (D : Sizes). IsForbiddenIn P D (unit_of u) s) c
     (subst (λ (Q : Program). IsForbiddenIn Q (sizes_of u) (unit_of u) s) p forbidden) in
     record {
       step = s;
       is = there;
       unit = u;
+      program = p;
+      sizes = c;
       placed = placed;
       why = why;
       free = λ spoken history.
-          refused_freely P C (take n steps) s placed.history history placed.placed (subst (IsQuiet P C) (sym placed.reaches) here) spoken
+          refused_freely P C (take n steps) s placed.history history placed.placed (subst (HasNothingDue P C) (sym placed.reaches) here) spoken
           (subst (λ U. IsForbiddenIn P C U s) (sym placed.reaches) never);
     }
 

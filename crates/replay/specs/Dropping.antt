@@ -1,5 +1,5 @@
 -- Tenants that are dropped: nothing asks for them any more.
-use Rattle.std.specs.Prelude.{⊤, ◌≡◌, ◌≢◌, ◌⊎◌, ℕ, ◌<◌, ◌≤◌, List, Option, Some, None, IfSome, length, slice_get, take}
+use Rattle.std.specs.Prelude.{⊤, ◌≡◌, ◌⊎◌, ℕ, ◌<◌, ◌≤◌, List, Option, Some, None, IfSome, length, slice_get, take}
 use Rattle.instructions.specs.Instruction.{first_of, second_of}
 use Rattle.instructions.specs.Programs.{Program}
 use Rattle.instructions.specs.declared.instr.Instr.{Instr}

@@ -37,8 +37,8 @@ IsSpoken (On p (ToDeliver k)) = ⊥
 IsSpoken _ = ⊤
 
 -- A step that one caller takes, of this name
-abbrev pub IsMade : Step → Taken → Type 0
-IsMade s t = IsNamed s t.step × (t.by ≡ 0)
+abbrev pub IsTakenAs : Step → Taken → Type 0
+IsTakenAs s t = IsNamed s t.step × (t.by ≡ 0)
 
 -- These steps are those that are named, with links and deliveries among them; the last one is the first of each list
 abbrev pub AreAmong : List Step → List Taken → Type 0
@@ -46,25 +46,25 @@ AreAmong [] [] = ⊤
 AreAmong [] (t ∷ ts) = IsSilent t.step × AreAmong [] ts
 AreAmong (s ∷ ss) [] = ⊥
 AreAmong (s ∷ ss) (t ∷ ts) =
-    (IsMade s t × AreAmong ss ts) ⊎ (IsSilent t.step × AreAmong (s ∷ ss) ts)
+    (IsTakenAs s t × AreAmong ss ts) ⊎ (IsSilent t.step × AreAmong (s ∷ ss) ts)
 
 -- A legal history that makes the named steps in their order, and else only links and deliveries, wherever they stand
-pub record IsPlaced (P : Program) (C : Sizes) (steps : List Step) (history : List Taken) : Type 0 where
+pub record IsInterleaved (P : Program) (C : Sizes) (steps : List Step) (history : List Taken) : Type 0 where
   pub allowed : AreAllowed P C history
   pub among : AreAmong (turned steps []) history
 
 -- No link and no delivery is due
-abbrev pub IsQuiet : Program → Sizes → UpdateUnit → Type 0
-IsQuiet P C U = (t : UnitStep) → IsSilent t → ¬ Allowed P C U 0 t
+abbrev pub HasNothingDue : Program → Sizes → UpdateUnit → Type 0
+HasNothingDue P C U = (t : UnitStep) → IsSilent t → ¬ Allowed P C U 0 t
 
 -- Refused is free of placing: where one legal history of the named steps leads to a unit in which no link and no delivery is
 -- due, and no step of the next name is allowed, no legal history at all makes the named steps and then that one
 abbrev pub EachRefusalIsFree : Type 0
 EachRefusalIsFree =
     (P : Program) (C : Sizes) (before : List Step) (step : Step) (one other : List Taken) →
-    IsPlaced P C before one → IsQuiet P C (reached P C one) → IsSpoken step →
+    IsInterleaved P C before one → HasNothingDue P C (reached P C one) → IsSpoken step →
     IsForbiddenIn P C (reached P C one) step →
-    ¬ IsPlaced P C (before ++ step ∷ []) other
+    ¬ IsInterleaved P C (before ++ step ∷ []) other
 
 -- Links and deliveries that are made as soon as they are due
 
@@ -74,6 +74,7 @@ IsTried P ts p act us =
     (MayAct P ts 0 p act × (us ≡ change_at P ts 0 p act (at ts p)))
     ⊎ ((¬ MayAct P ts 0 p act) × (us ≡ ts))
 
+-- An act is tried in a unit as it is held, which keeps its program, its sizes and its number of tenants
 pub record Tries (u : Held) (p : ℕ) (act : Act) (v : Held) : Type 0 where
   pub program : v.program ≡ u.program
   pub sizes : sizes_of v ≡ sizes_of u
@@ -86,6 +87,7 @@ pub record Supplies (u : Held) (p : ℕ) (k : Source) (v : Held) : Type 0 where
   pub links : Tries u p (Link k) linked
   pub delivers : Tries linked p (Deliver k) v
 
+-- Both sources of the tenant at position p are supplied in turn
 pub record SuppliesBoth (u : Held) (p : ℕ) (v : Held) : Type 0 where
   pub middle : Held
   pub first : Supplies u p First middle
@@ -110,9 +112,10 @@ pub record IsNotDue (P : Program) (ts : List Tenant) (p : ℕ) (k : Source) : Ty
 -- A legal history of the named steps reaches this unit
 pub record IsPlacedTo (P : Program) (C : Sizes) (steps : List Step) (U : UpdateUnit) : Type 0 where
   pub history : List Taken
-  pub placed : IsPlaced P C steps history
+  pub placed : IsInterleaved P C steps history
   pub reaches : reached P C history ≡ U
 
+-- All steps are legal, and what has retired is the in-order machine's state
 pub record IsLegalPlaced (P : Program) (C : Sizes) (steps : List Step) : Type 0 where
   pub unit : UpdateUnit
   pub placed : IsPlacedTo P C steps unit
@@ -123,10 +126,13 @@ pub record IsRefusedFreely (P : Program) (C : Sizes) (steps : List Step) (n : �
   pub step : Step
   pub is : slice_get steps n ≡ Some step
   pub unit : Held
+  pub program : unit.program.now ≡ P
+  pub sizes : sizes_of unit ≡ C
   pub placed : IsPlacedTo P C (take n steps) (unit_of unit)
   pub why : IsWhy unit step reason
-  pub free : IsSpoken step → (history : List Taken) → ¬ IsPlaced P C (take n steps ++ step ∷ []) history
+  pub free : IsSpoken step → (history : List Taken) → ¬ IsInterleaved P C (take n steps ++ step ∷ []) history
 
+-- What a verdict on named steps says
 abbrev pub IsFreeVerdict : Program → Sizes → List Step → Verdict → Type 0
 IsFreeVerdict P C steps Legal = IsLegalPlaced P C steps
 IsFreeVerdict P C steps (Refused n reason) = IsRefusedFreely P C steps n reason

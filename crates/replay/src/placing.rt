@@ -1,7 +1,7 @@
 //! Links and deliveries, which no log names: each is made as soon as it is due.
 ghost use Rattle.std.specs.Prelude.{◌≡◌};
 ghost use Rattle.replay.specs.Lets.{sizes_of, unit_of};
-ghost use Rattle.replay.specs.Placing.{IsQuiet, LeadsSilently, Supplies, SuppliesBoth, Tries};
+ghost use Rattle.replay.specs.Placing.{HasNothingDue, LeadsSilently, Supplies, SuppliesBoth, Tries};
 ghost use Rattle.replay.specs.Reasons.{act_of};
 
 use crate::acting::Deed;
@@ -38,7 +38,7 @@ impl<'a> Unit<'a> {
     /// Makes each link and each delivery that is due.
     pub fn supply_all(&mut self)
         ensures leads { LeadsSilently self.old self.new }
-        ensures quiet { IsQuiet self.new.program.now (sizes_of self.new) (unit_of self.new) }
+        ensures quiet { HasNothingDue self.new.program.now (sizes_of self.new) (unit_of self.new) }
     {
         for q in self.tenants.first()..self.tenants.len() {
             self.supply_both(q);

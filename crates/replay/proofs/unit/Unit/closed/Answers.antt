@@ -1,4 +1,4 @@
-use Rattle.std.proofs.Common.{◌≡◌, ℕ, ◌+◌, ◌<◌, ◌≤◌, Bool, true, false, eqb, eqb-true, subst, sym, refl, arith}
+use Rattle.std.proofs.Common.{◌≡◌, ℕ, ◌+◌, ◌<◌, Bool, true, false, eqb, eqb-true, subst, sym, refl, arith}
 use Rattle.inorder.proofs.Positions.{not_eqb}
 use Rattle.replay.specs.Dropping.{AreClosed}
 use Rattle.replay.proofs.unit.Unit.closed.Goals as goal

@@ -1,4 +1,4 @@
-use Rattle.std.proofs.Common.{◌≡◌, ◌+◌, ◌<◌, ◌≤◌, length, sym, ap, subst, arith}
+use Rattle.std.proofs.Common.{◌≡◌, ◌+◌, sym, subst, arith}
 use Rattle.replay.specs.Dropping.{IsDropped}
 use Rattle.replay.specs.Settlement.{AreUses, IsSettled}
 use Rattle.replay.proofs.Dropped.{dropped_less}

@@ -1,4 +1,4 @@
-use Rattle.std.proofs.Common.{◌≡◌, ◌≤◌}
+use Rattle.std.proofs.Common.{◌≡◌}
 use Rattle.replay.specs.Lets.{sizes_of}
 use Rattle.replay.proofs.unit.Unit.drop_unasked.Given as goal
 

@@ -1,5 +1,4 @@
-use Rattle.std.proofs.Common.{◌≡◌, IsTrue, Option, Some, None, ap, refl, sym, ◌∙◌, arith}
-use Rattle.std.specs.Prelude.{is_none}
+use Rattle.std.proofs.Common.{◌≡◌, None, ap, sym, ◌∙◌}
 use Rattle.inorder.specs.Tenants.{Operand}
 use Rattle.inorder.specs.Unit.{older, value_of}
 use Rattle.replay.specs.Shown.{shown, way_of}

@@ -1,6 +1,4 @@
-use Rattle.std.proofs.Common.{◌≡◌, ℕ, ◌+◌, ◌<◌, ◌≤◌, Bool, true, false, leb, leb-true, leb-false, length, Some, refl, arith}
-use Rattle.std.specs.Prelude.{slice_get}
-use Rattle.replay.specs.Dropping.{AreClosed, IsDropped, NeedsFromBoth}
+use Rattle.std.proofs.Common.{arith}
 use Rattle.replay.proofs.Dropped.{unasked_by}
 use Rattle.replay.proofs.unit.Unit.unasked.Goals as goal
 

@@ -1,4 +1,4 @@
-use Rattle.std.proofs.Common.{◌≡◌, ℕ, sym, ◌∙◌, arith}
+use Rattle.std.proofs.Common.{◌≡◌, sym, ◌∙◌, arith}
 use Rattle.std.specs.Prelude.{slice_index}
 use Rattle.replay.proofs.Counts.{at_none, at_there, uses_few}
 use Rattle.replay.proofs.unit.Unit.uses_of.Goals as goal
