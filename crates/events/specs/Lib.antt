@@ -1,3 +1,4 @@
+pub mod Lines
 pub mod Following
 pub mod Told
 pub mod Logs

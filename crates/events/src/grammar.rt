@@ -1,19 +1,29 @@
 //! The grammar of a log: one event a line.
+ghost use Rattle.std.specs.Prelude.{◌≡◌, Some};
+ghost use Rattle.std.specs.Str.{bytes_eq};
+ghost use Rattle.events.specs.Lines.{alone, event_in, event_of, event_on, from_of, issued, let_of, perhaps_alone, retire_of, who_and_value, valued_event, valued_of, verb_of, words, words_of};
+
 use crate::event::{Event, Issue};
 use crate::unread::Unread;
-use crate::words::{next_word, number, position};
+use crate::words::{code_of, next_word, number, position};
 
-// The first word of an event.
+// An event that may state a value.
 #[derive(Clone, Copy)]
-enum Verb {
-    Let,
-    From,
-    Begin,
+enum Valued {
     End,
     Execute,
     Read,
     Load,
     Complete,
+}
+
+// What the first word of an event says.
+#[derive(Clone, Copy)]
+enum Verb {
+    Let,
+    From,
+    Begin,
+    Valued(Valued),
     Retire,
     Squash,
     Mend,
@@ -21,7 +31,9 @@ enum Verb {
 }
 
 // What `issue` means.
-fn issued(issue: Issue) -> Result<Verb, Unread> {
+fn issued(issue: Issue) -> Result<Verb, Unread>
+    ensures { result ≡ issued issue }
+{
     match issue {
         Issue::Ambiguous => Err(Unread::Ambiguous),
         Issue::Dispatch => Ok(Verb::Let),
@@ -29,36 +41,72 @@ fn issued(issue: Issue) -> Result<Verb, Unread> {
     }
 }
 
-fn verb_in(word: &[u8], issue: Issue) -> Result<Verb, Unread> {
-    Ok(match word {
-        b"let" | b"dispatch" => Verb::Let,
-        b"from" => Verb::From,
-        b"begin" => Verb::Begin,
-        b"end" | b"finish" | b"write" | b"writeback" | b"broadcast" => Verb::End,
-        b"address" | b"execute" => Verb::Execute,
-        b"read" => Verb::Read,
-        b"load" => Verb::Load,
-        b"complete" => Verb::Complete,
-        b"retire" | b"commit" => Verb::Retire,
-        b"squash" | b"flush" => Verb::Squash,
-        b"mend" => Verb::Mend,
-        b"recover" => Verb::Recover,
-        b"issue" => return issued(issue),
-        _ => return Err(Unread::NoEvent),
-    })
+fn is_word(word: &[u8], text: &str) -> bool
+    ensures { result ≡ bytes_eq word.now text.now }
+{
+    word == text.as_bytes()
 }
 
-// The words after the first one.
+// What the first word of an event that may state a value says.
+fn valued_in(word: &[u8]) -> Option<Valued>
+    ensures { result ≡ valued_of word.now }
+{
+    if is_word(word, "end") || is_word(word, "finish") || is_word(word, "write") {
+        Some(Valued::End)
+    } else if is_word(word, "writeback") || is_word(word, "broadcast") {
+        Some(Valued::End)
+    } else if is_word(word, "address") || is_word(word, "execute") {
+        Some(Valued::Execute)
+    } else if is_word(word, "read") {
+        Some(Valued::Read)
+    } else if is_word(word, "load") {
+        Some(Valued::Load)
+    } else if is_word(word, "complete") {
+        Some(Valued::Complete)
+    } else {
+        None
+    }
+}
+
+fn verb_in(word: &[u8], issue: Issue) -> Result<Verb, Unread>
+    ensures { result ≡ verb_of issue word.now }
+{
+    if let Some(valued) = valued_in(word) {
+        Ok(Verb::Valued(valued))
+    } else if is_word(word, "let") || is_word(word, "dispatch") {
+        Ok(Verb::Let)
+    } else if is_word(word, "from") {
+        Ok(Verb::From)
+    } else if is_word(word, "begin") {
+        Ok(Verb::Begin)
+    } else if is_word(word, "retire") || is_word(word, "commit") {
+        Ok(Verb::Retire)
+    } else if is_word(word, "squash") || is_word(word, "flush") {
+        Ok(Verb::Squash)
+    } else if is_word(word, "mend") {
+        Ok(Verb::Mend)
+    } else if is_word(word, "recover") {
+        Ok(Verb::Recover)
+    } else if is_word(word, "issue") {
+        issued(issue)
+    } else {
+        Err(Unread::NoEvent)
+    }
+}
+
+// The words after the first one: of more than four, these.
 #[derive(Clone, Copy)]
 enum Rest<'a> {
     None,
     One(&'a [u8]),
     Two(&'a [u8], &'a [u8]),
     Three(&'a [u8], &'a [u8], &'a [u8]),
-    More,
+    More(&'a [u8], &'a [u8], &'a [u8], &'a [u8]),
 }
 
-fn rest_in(text: &[u8]) -> Rest<'_> {
+fn rest_in(text: &[u8]) -> Rest<'_>
+    ensures { words_of result ≡ words 4 text.now }
+{
     let Some((first, text)) = next_word(text) else {
         return Rest::None;
     };
@@ -70,44 +118,39 @@ fn rest_in(text: &[u8]) -> Rest<'_> {
     };
     match next_word(text) {
         None => Rest::Three(first, second, third),
-        Some(_) => Rest::More,
+        Some((fourth, _)) => Rest::More(first, second, third, fourth),
     }
 }
 
-fn who_in(word: &[u8]) -> Result<usize, Unread> {
-    position(word).ok_or(Unread::NoNumber)
-}
-
-fn number_of(word: &[u8]) -> Result<u32, Unread> {
-    number(word).ok_or(Unread::NoNumber)
-}
-
 // `PC -> NEXT`, each of which may be left out.
-fn let_in(rest: Rest<'_>) -> Result<Event, Unread> {
+fn let_in(rest: Rest<'_>) -> Result<Event, Unread>
+    ensures { result ≡ let_of (words_of rest.entry) }
+{
     match rest {
         Rest::None => Ok(Event::Let(None, None)),
-        Rest::One(b"->") | Rest::Two(_, b"->") => Err(Unread::NoNumber),
-        Rest::One(pc) => Ok(Event::Let(Some(number_of(pc)?), None)),
-        Rest::Two(b"->", next) => Ok(Event::Let(None, Some(number_of(next)?))),
-        Rest::Three(pc, b"->", next) => Ok(Event::Let(
-            Some(number_of(pc)?),
-            Some(number_of(next)?),
-        )),
+        Rest::One(pc) => Ok(Event::Let(Some(number(pc)?), None)),
+        Rest::Two(b"->", next) => Ok(Event::Let(None, Some(number(next)?))),
+        Rest::Two(_, b"->") => Err(Unread::NoNumber),
+        Rest::Three(pc, b"->", next) => Ok(Event::Let(Some(number(pc)?), Some(number(next)?))),
         _ => Err(Unread::More),
     }
 }
 
 // `WHO`.
-fn alone(rest: Rest<'_>) -> Result<usize, Unread> {
+fn alone(rest: Rest<'_>) -> Result<usize, Unread>
+    ensures { result ≡ alone (words_of rest.entry) }
+{
     match rest {
         Rest::None => Err(Unread::NoNumber),
-        Rest::One(who) => who_in(who),
+        Rest::One(who) => position(who),
         _ => Err(Unread::More),
     }
 }
 
 // `WHO`, which may be left out.
-fn perhaps_alone(rest: Rest<'_>) -> Result<Option<usize>, Unread> {
+fn perhaps_alone(rest: Rest<'_>) -> Result<Option<usize>, Unread>
+    ensures { result ≡ perhaps_alone (words_of rest.entry) }
+{
     match rest {
         Rest::None => Ok(None),
         _ => Ok(Some(alone(rest)?)),
@@ -115,65 +158,90 @@ fn perhaps_alone(rest: Rest<'_>) -> Result<Option<usize>, Unread> {
 }
 
 // `WHO PRODUCER`.
-fn from_in(rest: Rest<'_>) -> Result<Event, Unread> {
+fn from_in(rest: Rest<'_>) -> Result<Event, Unread>
+    ensures { result ≡ from_of (words_of rest.entry) }
+{
     match rest {
         Rest::None | Rest::One(_) => Err(Unread::NoNumber),
-        Rest::Two(who, producer) => Ok(Event::From(who_in(who)?, who_in(producer)?)),
+        Rest::Two(who, producer) => Ok(Event::From(position(who)?, position(producer)?)),
         _ => Err(Unread::More),
     }
 }
 
 // `WHO = VALUE`, of which the value may be left out.
-fn valued(rest: Rest<'_>) -> Result<(usize, Option<u32>), Unread> {
+fn who_and_value(rest: Rest<'_>) -> Result<(usize, Option<u32>), Unread>
+    ensures { result ≡ who_and_value (words_of rest.entry) }
+{
     match rest {
         Rest::Two(_, b"=") => Err(Unread::NoNumber),
-        Rest::Three(who, b"=", value) => Ok((who_in(who)?, Some(number_of(value)?))),
+        Rest::Three(who, b"=", value) => Ok((position(who)?, Some(number(value)?))),
         _ => Ok((alone(rest)?, None)),
     }
 }
 
 // `WHO = VALUE`, each of which may be left out.
-fn retire_in(rest: Rest<'_>) -> Result<Event, Unread> {
+fn retire_in(rest: Rest<'_>) -> Result<Event, Unread>
+    ensures { result ≡ retire_of (words_of rest.entry) }
+{
     match rest {
         Rest::None => Ok(Event::Retire(None, None)),
-        Rest::One(b"=") => Err(Unread::NoNumber),
-        Rest::Two(b"=", value) => Ok(Event::Retire(None, Some(number_of(value)?))),
+        Rest::Two(b"=", value) => Ok(Event::Retire(None, Some(number(value)?))),
         _ => {
-            let (who, value) = valued(rest)?;
+            let (who, value) = who_and_value(rest)?;
             Ok(Event::Retire(Some(who), value))
         }
     }
 }
 
+fn valued_event(verb: Valued, who: usize, value: Option<u32>) -> Event
+    ensures { result ≡ valued_event verb who value }
+{
+    match verb {
+        Valued::End => Event::End(who, value),
+        Valued::Execute => Event::Execute(who, value),
+        Valued::Read => Event::Read(who, value),
+        Valued::Load => Event::Load(who, value),
+        Valued::Complete => Event::Complete(who, value),
+    }
+}
+
 // The event of a word and those after it.
-fn event_of(verb: Verb, rest: Rest<'_>) -> Result<Event, Unread> {
-    Ok(match verb {
-        Verb::Let => let_in(rest)?,
-        Verb::From => from_in(rest)?,
-        Verb::Begin => Event::Begin(alone(rest)?),
-        Verb::Retire => retire_in(rest)?,
-        Verb::Squash => Event::Squash(perhaps_alone(rest)?),
-        Verb::Mend => Event::Mend(alone(rest)?),
-        Verb::Recover => Event::Recover(alone(rest)?),
-        _ => valued_event(verb, rest)?,
-    })
+fn event_by(verb: Verb, rest: Rest<'_>) -> Result<Event, Unread>
+    ensures { result ≡ event_of verb (words_of rest.entry) }
+{
+    match verb {
+        Verb::Let => let_in(rest),
+        Verb::From => from_in(rest),
+        Verb::Begin => Ok(Event::Begin(alone(rest)?)),
+        Verb::Valued(verb) => {
+            let (who, value) = who_and_value(rest)?;
+            Ok(valued_event(verb, who, value))
+        }
+        Verb::Retire => retire_in(rest),
+        Verb::Squash => Ok(Event::Squash(perhaps_alone(rest)?)),
+        Verb::Mend => Ok(Event::Mend(alone(rest)?)),
+        Verb::Recover => Ok(Event::Recover(alone(rest)?)),
+    }
 }
 
-fn valued_event(verb: Verb, rest: Rest<'_>) -> Result<Event, Unread> {
-    let (who, value) = valued(rest)?;
-    Ok(match verb {
-        Verb::End => Event::End(who, value),
-        Verb::Execute => Event::Execute(who, value),
-        Verb::Read => Event::Read(who, value),
-        Verb::Load => Event::Load(who, value),
-        _ => Event::Complete(who, value),
-    })
-}
-
-/// The event of a line without its comment; none where the line is blank.
-pub fn event_in(code: &[u8], issue: Issue) -> Result<Option<Event>, Unread> {
+// The event of the code of a line; none where that is blank.
+fn event_on(code: &[u8], issue: Issue) -> Result<Option<Event>, Unread>
+    ensures { result ≡ event_on issue (Some code.now) }
+{
     let Some((word, text)) = next_word(code) else {
         return Ok(None);
     };
-    Ok(Some(event_of(verb_in(word, issue)?, rest_in(text))?))
+    let verb = verb_in(word, issue)?;
+    Ok(Some(event_by(verb, rest_in(text))?))
+}
+
+/// The event of a line, which may have its end; none where the line is blank before its comment.
+#[tactic(auto, unfolding(crate::specs::Lines::event_in))]
+pub fn event_in(line: &[u8], issue: Issue) -> Result<Option<Event>, Unread>
+    ensures { result ≡ event_in issue line.now }
+{
+    match code_of(line) {
+        Some(code) => event_on(code, issue),
+        None => Err(Unread::More),
+    }
 }
