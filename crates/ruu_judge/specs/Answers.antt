@@ -1,7 +1,10 @@
 -- What a judge answers to a line.
-use Rattle.std.specs.Prelude.{⊤, ◌≡◌, ◌⊎◌}
+use Rattle.std.specs.Prelude.{⊤, ◌≡◌, ℕ, List, Option, None, Some, Result, Ok, Err}
 use Rattle.events.specs.declared.event.Event.{Event}
+use Rattle.events.specs.declared.event.Issue.{Issue}
+use Rattle.events.specs.declared.unread.Unread.{Unread as Fault}
 use Rattle.events.specs.declared.why.Why.{Why}
+use Rattle.events.specs.Lines.{event_in}
 use Rattle.verdicts.specs.declared.verdict.Item.{Item}
 use Rattle.ruu_judge.specs.declared.owned.OwnedUnit.{OwnedUnit}
 use Rattle.ruu_judge.specs.declared.held.Found.{Found}
@@ -10,33 +13,33 @@ use Rattle.ruu_judge.specs.declared.held.Answer.{Answer}
 use Rattle.ruu_judge.specs.declared.held.Answer.TheVariants.{Legal as IsRight, Refused as IsWrong, Unread, NoMemory as NoRoom, Ended}
 use Rattle.ruu_judge.specs.Units.{IsLegal, IsRefused, IsSame}
 
--- The legal steps of some event
-pub record IsSomeLegal (o p : OwnedUnit) : Type 0 where
-  pub event : Event
-  pub legal : IsLegal o event p
-
--- A line with an event that is legal, or with none
-abbrev pub GoesOn : Found → Found → Type 0
-GoesOn (Legal o) (Legal p) = (p ≡ o) ⊎ IsSomeLegal o p
-GoesOn _ _ = ⊥
+-- An event is legal
+abbrev pub GoesOn : OwnedUnit → Event → Found → Type 0
+GoesOn o event (Legal p) = IsLegal o event p
+GoesOn o event _ = ⊥
 
 -- An event is refused
-abbrev pub IsStopped : Found → Found → Type 0
-IsStopped (Legal o) (Refused p item why) = IsRefused o item.event why p
-IsStopped _ _ = ⊥
+abbrev pub IsStopped : OwnedUnit → Event → Found → Type 0
+IsStopped o event (Refused p item why) = (item.event ≡ event) × IsRefused o event why p
+IsStopped o event _ = ⊥
 
--- A judge has ended before
-abbrev pub HasEnded : Found → Type 0
-HasEnded (Legal o) = ⊥
-HasEnded _ = ⊤
+-- The answer to an event
+abbrev pub IsAnswerToEvent : OwnedUnit → Event → Answer → Found → Type 0
+IsAnswerToEvent o event IsRight g = GoesOn o event g
+IsAnswerToEvent o event IsWrong g = IsStopped o event g
+IsAnswerToEvent o event NoRoom g = g ≡ NoMemory
+IsAnswerToEvent o event _ g = ⊥
 
--- The answer to a line
-abbrev pub IsAnswer : Found → Answer → Found → Type 0
-IsAnswer f IsRight g = GoesOn f g
-IsAnswer f IsWrong g = IsStopped f g
-IsAnswer f Unread g = g ≡ f
-IsAnswer f NoRoom g = g ≡ NoMemory
-IsAnswer f Ended g = HasEnded f × (g ≡ f)
+-- The answer to a line that has an event or none, or is not read
+abbrev pub IsAnswerToLine : OwnedUnit → Result (Option Event) Fault → Answer → Found → Type 0
+IsAnswerToLine o (Ok None) answer g = (answer ≡ IsRight) × (g ≡ Legal o)
+IsAnswerToLine o (Ok (Some event)) answer g = IsAnswerToEvent o event answer g
+IsAnswerToLine o (Err why) answer g = (answer ≡ Unread) × (g ≡ Legal o)
+
+-- The answer to a line: a judge that has ended reads none
+abbrev pub IsAnswer : Issue → Found → (line : List ℕ) → Answer → Found → Type 0
+IsAnswer issue (Legal o) line answer g = IsAnswerToLine o (event_in issue line) answer g
+IsAnswer issue f line answer g = (answer ≡ Ended) × (g ≡ f)
 
 -- A judge has found the same
 abbrev pub IsAsBefore : Found → Found → Type 0

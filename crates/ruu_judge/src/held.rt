@@ -1,8 +1,8 @@
 //! A judge that is told one line of a log after another.
 ghost use Rattle.std.specs.Prelude.{◌≡◌};
-ghost use Rattle.ruu_judge.specs.Answers.{IsAnswer, IsAsBefore};
+ghost use Rattle.events.specs.Lines.{event_in};
+ghost use Rattle.ruu_judge.specs.Answers.{IsAnswer, IsAnswerToEvent, IsAnswerToLine, IsAsBefore};
 
-use crate::log::code_of;
 use crate::owned::{Judged, OwnedUnit, Rules};
 use counted_io::Fault;
 use events::{Event, Issue, Unread, Why, event_in};
@@ -47,7 +47,8 @@ pub enum Answer {
 impl Held {
     /// A judge of a unit, before its first line.
     pub fn new(rules: Rules, unit: OwnedUnit) -> Held
-        ensures { result.found ≡ Found.Legal unit }
+        ensures found { result.found ≡ Found.Legal unit }
+        ensures rules { result.rules ≡ rules }
     {
         Held {
             rules,
@@ -75,7 +76,8 @@ impl Held {
 
     /// Takes a line of the log.
     pub fn told(self, text: &[u8]) -> (Held, Answer)
-        ensures { IsAnswer self.found result.1 result.0.found }
+        ensures answer { IsAnswer self.rules.issue self.found text.now result.1 result.0.found }
+        ensures rules { result.0.rules ≡ self.rules }
     {
         let Held {
             rules,
@@ -99,13 +101,10 @@ impl Held {
 
     // Reads the line, whose number is that of this judge.
     fn read(self, unit: OwnedUnit, text: &[u8]) -> (Held, Answer)
-        ensures { IsAnswer (Found.Legal unit) result.1 result.0.found }
+        ensures answer { IsAnswerToLine unit (event_in self.rules.issue text.now) result.1 result.0.found }
+        ensures rules { result.0.rules ≡ self.rules }
     {
-        let read = match code_of(text) {
-            Some(code) => event_in(code, self.rules.issue),
-            None => Err(Unread::More),
-        };
-        match read {
+        match event_in(text, self.rules.issue) {
             Ok(Some(event)) => self.judge(unit, event),
             Ok(None) => (
                 Held {
@@ -127,7 +126,8 @@ impl Held {
 
     // Judges the event of the line.
     fn judge(self, unit: OwnedUnit, event: Event) -> (Held, Answer)
-        ensures { IsAnswer (Found.Legal unit) result.1 result.0.found }
+        ensures answer { IsAnswerToEvent unit event result.1 result.0.found }
+        ensures rules { result.0.rules ≡ self.rules }
     {
         let item = Item {
             line: self.lines,
@@ -162,7 +162,8 @@ impl Held {
 
     /// The text of the verdict on the last line, as the program `judge` prints it.
     pub fn text(self, alloc: Global) -> (Held, Result<String, Fault>)
-        ensures { IsAsBefore self.found result.0.found }
+        ensures found { IsAsBefore self.found result.0.found }
+        ensures rules { result.0.rules ≡ self.rules }
     {
         if let Some(why) = self.unread {
             let text = unread_text(alloc, self.lines, why);

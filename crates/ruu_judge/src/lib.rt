@@ -6,7 +6,6 @@ ghost use Rattle.isa.specs.Listing.{listing};
 ghost use Rattle.ruu_judge.specs.Calls.{HasAnswered, HasKept, HasMade};
 
 mod held;
-mod log;
 mod loose;
 mod making;
 mod owned;
@@ -51,7 +50,7 @@ pub extern "C" fn ruu_judge_new(
     line: &mut u64,
     judge: &mut Slot,
 ) -> i32
-    ensures { HasMade (listing text.now) stations queue judge.old.held result line.new judge.new.held }
+    ensures { HasMade (listing text.now) stations queue flags judge.old.held result line.new judge.new.held }
 {
     *line = 0;
     let rules = match rules_of(flags) {
@@ -75,7 +74,7 @@ pub extern "C" fn ruu_judge_new(
 /// there is no judge; 4: the line is not read, and as if not told; 5: there is no memory; 6: the judge has ended before, by 1 or 5.
 #[unsafe(no_mangle)]
 pub extern "C" fn ruu_judge_event(alloc: Global, judge: &mut Slot, text: &[u8]) -> i32
-    ensures { HasAnswered judge.old.held result judge.new.held }
+    ensures { HasAnswered judge.old.held text.now result judge.new.held }
 {
     let Some(mut held) = judge.taken(alloc) else {
         return USED_WRONG;

@@ -1,7 +1,7 @@
 //! The making of a judge.
-ghost use Rattle.std.specs.Prelude.{◌≡◌, IfErr, IfOk};
+ghost use Rattle.std.specs.Prelude.{◌≡◌, IfErr, IfOk, IfSome};
 ghost use Rattle.isa.specs.Listing.{listing};
-ghost use Rattle.ruu_judge.specs.Calls.{IsMade, IsNotMade};
+ghost use Rattle.ruu_judge.specs.Calls.{IsMade, IsNotMade, issue_by};
 ghost use Rattle.ruu_judge.specs.declared.making.NotMade.TheVariants.{Memory as NoRoom};
 
 use crate::held::Held;
@@ -16,8 +16,6 @@ const GUESSES: u32 = 1;
 const FLUSHES: u32 = 2;
 
 const ISSUE_DISPATCHES: u32 = 4;
-
-const ISSUE_EXECUTES: u32 = 8;
 
 /// Why there is no judge.
 #[derive(Clone, Copy)]
@@ -43,17 +41,22 @@ impl<T: Drop> From<AllocFailed<T>> for NotMade {
     }
 }
 
-fn issue_of(flags: u32) -> Option<Issue> {
-    match flags & (ISSUE_DISPATCHES | ISSUE_EXECUTES) {
+// What flags say that `issue` means; none where that is two things.
+fn issue_of(flags: u32) -> Option<Issue>
+    ensures { IfSome result (λ issue. issue ≡ issue_by flags) }
+{
+    match flags / ISSUE_DISPATCHES {
         0 => Some(Issue::Ambiguous),
-        ISSUE_DISPATCHES => Some(Issue::Dispatch),
-        ISSUE_EXECUTES => Some(Issue::Execute),
+        1 => Some(Issue::Dispatch),
+        2 => Some(Issue::Execute),
         _ => None,
     }
 }
 
 /// What flags ask for; none where one of them is unknown, or `issue` would have two meanings.
-pub(crate) fn rules_of(flags: u32) -> Option<Rules> {
+pub(crate) fn rules_of(flags: u32) -> Option<Rules>
+    ensures { IfSome result (λ rules. rules.issue ≡ issue_by flags) }
+{
     if flags > 15 {
         return None;
     }
@@ -74,6 +77,7 @@ pub(crate) fn made(
     rules: Rules,
 ) -> Result<Box<Held>, NotMade>
     ensures ok { IfOk result (λ b. IsMade (listing text.now) stations queue b.value) }
+    ensures rules { IfOk result (λ b. b.value.rules ≡ rules) }
     ensures err { IfErr result (IsNotMade (listing text.now)) }
 {
     let program = match parse(alloc, text) {

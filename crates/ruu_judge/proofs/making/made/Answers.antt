@@ -7,6 +7,6 @@ returns-clause-ok c = record {
   program = c.in-Ok.program;
   unit = c.in_ok-unit.unit;
   listing = c.in-Ok.ensures.ok;
-  is = ap (λ (h : Held). h.found) c.in_ok-new.ensures.ok ∙ c.new-2.ensures;
+  is = ap (λ (h : Held). h.found) c.in_ok-new.ensures.ok ∙ c.new-2.ensures.found;
   new = c.in_ok-unit.ensures;
 }
