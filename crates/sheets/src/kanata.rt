@@ -1,5 +1,6 @@
 //! Logs of the format Kanata, version 0004.
 use crate::labels::{Labelled, label_in};
+use crate::lines::{ReadsLines, read_lines};
 use crate::misread::{Flaw, Trouble};
 use crate::order::{Within, in_order, youngest_first};
 use crate::placed::{Moment, Place, Placed};
@@ -7,7 +8,7 @@ use crate::stage::Stage;
 use crate::step::{Step, StepNames};
 use events::Event;
 use instructions::Program;
-use lexical::{cut, decimal_in, next_line, trim};
+use lexical::{cut, decimal_in, trim};
 use std::alloc::{AllocError, Global};
 use std::collections::BTreeMap;
 
@@ -241,8 +242,11 @@ impl Reading<'_> {
         }
         Ok(())
     }
+}
 
-    fn read_line(&mut self, text: &[u8]) -> Result<(), Trouble> {
+impl ReadsLines for Reading<'_> {
+    fn read_line(&mut self, number: u64, text: &[u8]) -> Result<(), Trouble> {
+        self.line = number;
         let (command, rest) = field(text);
         let Fields {
             first,
@@ -292,16 +296,7 @@ pub fn kanata_in(
         entries: BTreeMap::new(alloc),
         events: Vec::new(alloc),
     };
-    let mut rest = Some(bytes);
-    for _ in 0..bytes.len().saturating_add(1) {
-        let Some(text) = rest else {
-            break;
-        };
-        let (line, after) = next_line(text);
-        rest = after;
-        reading.line = reading.line.saturating_add(1);
-        reading.read_line(line)?;
-    }
+    read_lines(&mut reading, bytes)?;
     match within {
         Within::File => Ok(youngest_first(alloc, reading.events.as_slice())?),
         _ => Ok(in_order(alloc, reading.events.as_slice(), within)?),

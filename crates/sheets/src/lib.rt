@@ -7,6 +7,7 @@ mod facts;
 mod held;
 mod kanata;
 mod labels;
+mod lines;
 mod making;
 mod misread;
 mod naming;

@@ -1,6 +1,7 @@
 //! Logs of gem5's `O3PipeView` lines: seven for each instruction, with the tick of each stage, 0 where it was not reached.
 use crate::cells::Span;
 use crate::columns::Columns;
+use crate::lines::{ReadsLines, read_lines};
 use crate::misread::{Flaw, Trouble};
 use crate::naming::Named;
 use crate::order::Within;
@@ -8,7 +9,7 @@ use crate::row::Row;
 use crate::sheet::{Sheet, sheet_of};
 use crate::stage::Stage;
 use instructions::Program;
-use lexical::{cut, next_line, number_in};
+use lexical::{cut, number_in};
 use std::alloc::{AllocError, Global};
 use std::str;
 
@@ -109,8 +110,11 @@ impl Reading {
         }
         Ok(())
     }
+}
 
-    fn read_line(&mut self, text: &[u8]) -> Result<(), Trouble> {
+impl ReadsLines for Reading {
+    fn read_line(&mut self, number: u64, text: &[u8]) -> Result<(), Trouble> {
+        self.line = number;
         if text.is_empty() {
             return Ok(());
         }
@@ -142,16 +146,7 @@ pub fn pipeview_in(
         last: None,
         entries: Vec::new(alloc),
     };
-    let mut rest = Some(bytes);
-    for _ in 0..bytes.len().saturating_add(1) {
-        let Some(text) = rest else {
-            break;
-        };
-        let (line, after) = next_line(text);
-        rest = after;
-        reading.line = reading.line.saturating_add(1);
-        reading.read_line(line)?;
-    }
+    read_lines(&mut reading, bytes)?;
     reading.keep()?;
     reading.entries.sort_by_key(|entry| entry.number)?;
     let mut rows = Vec::new(alloc);
