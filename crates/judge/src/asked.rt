@@ -95,7 +95,7 @@ fn command<'a>(alloc: Global) -> Result<Command<'a>, AllocError> {
         .arg(listing)?
         .arg(logs)?;
     for option in OPTIONS.iter() {
-        command = command.arg(made(alloc, *option))?;
+        command = command.arg(made(alloc, *option)?)?;
     }
     let named = Command::new(alloc, "ruu");
     named.version(VERSION).subcommand(command)
@@ -143,7 +143,7 @@ fn read<'a>(alloc: Global, matches: &ArgMatches<'a>) -> Result<Asked<'a>, NoJudg
     for log in matches.get_strs("LOG").unwrap_or(&[]) {
         logs.push(*log)?;
     }
-    let wanted = wanted_in(alloc, matches)?;
+    let wanted = wanted_in(matches);
     if logs.len() > 1 && !matches!(wanted, Wanted::Grades | Wanted::GradesAsCells) {
         return Err(mistaken(alloc, "there is one log, unless --grade is given"));
     }
@@ -173,22 +173,17 @@ fn is_set(matches: &ArgMatches<'_>, name: &str) -> bool {
     matches.get_str(name).is_some_and(|text| text == "true")
 }
 
-fn wanted_in(alloc: Global, matches: &ArgMatches<'_>) -> Result<Wanted, NoJudging> {
-    let (events, grade, tsv) = (
-        is_set(matches, "events"),
-        is_set(matches, "grade"),
-        is_set(matches, "tsv"),
-    );
-    match (events, grade, tsv) {
-        (false, false, false) => Ok(match matches.get_str("stations") {
-            Some(_) => Wanted::Stations,
-            None => Wanted::Verdict,
-        }),
-        (true, false, false) => Ok(Wanted::Events),
-        (false, true, false) => Ok(Wanted::Grades),
-        (false, true, true) => Ok(Wanted::GradesAsCells),
-        (true, true, _) => Err(mistaken(alloc, "--events and --grade do not go together")),
-        (_, false, true) => Err(mistaken(alloc, "--tsv goes with --grade")),
+fn wanted_in(matches: &ArgMatches<'_>) -> Wanted {
+    if is_set(matches, "tsv") {
+        Wanted::GradesAsCells
+    } else if is_set(matches, "grade") {
+        Wanted::Grades
+    } else if is_set(matches, "events") {
+        Wanted::Events
+    } else if matches.get_str("stations").is_some() {
+        Wanted::Stations
+    } else {
+        Wanted::Verdict
     }
 }
 

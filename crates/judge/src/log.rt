@@ -6,7 +6,6 @@ use counted_io::Fault;
 use events::{Event, Judge, Unread, event_in};
 use grading::stations_compared;
 use instructions::Program;
-use lexical::{before_comment, cut};
 use sheets::Held;
 use std::alloc::{AllocError, AllocFailed, Global};
 use std::io::Read;
@@ -215,13 +214,6 @@ fn push_item(out: &mut String, item: &Item) -> Result<(), AllocError> {
     }
 }
 
-// A line before its comment and its end.
-fn code_of(line: &[u8]) -> &[u8] {
-    let (line, _) = cut(line, b'\n');
-    let (line, _) = cut(line, b'\r');
-    before_comment(line)
-}
-
 /// Judges the log of a reader, or compares stations with those of the unit after it.
 pub fn judged<R: Read + Drop>(
     alloc: Global,
@@ -240,7 +232,7 @@ pub fn judged<R: Read + Drop>(
         if let (1, Some(format)) = (line, format_of(lines.text())) {
             return judged_stages(alloc, program, asked, format, judging, lines);
         }
-        let ended = match event_in(code_of(lines.text()), asked.issue) {
+        let ended = match event_in(lines.text(), asked.issue) {
             Ok(None) => None,
             Ok(Some(event)) => judging.take(Item {
                 line,

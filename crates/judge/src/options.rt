@@ -1,6 +1,6 @@
 //! The options of `judge`, as help shows them.
 use clap::{Arg, ArgAction};
-use std::alloc::Global;
+use std::alloc::{AllocError, Global};
 
 /// An option: its name, what help calls its value where it has one, and its help.
 #[derive(Clone, Copy)]
@@ -122,6 +122,13 @@ pub static OPTIONS: [Offered; 18] = [
     ),
 ];
 
+// Options that only grades have a use for, and those that they have no use for.
+const OF_GRADES: [&'static str; 7] = [
+    "tsv", "lets", "begins", "results", "commits", "latency", "units",
+];
+
+const NOT_OF_GRADES: [&'static str; 5] = ["events", "guess", "flush", "stations", "after"];
+
 /// What stands below the options in help.
 pub const NOTES: &str = "\
 Example: ruu judge examples/judge/branch.s examples/judge/branch.right.log
@@ -134,21 +141,28 @@ A table has a row for each instruction that was dispatched, and columns by their
 Write, Commit, Squash, Value, with ; , | or tabs between cells such as 3, 3-5 and -. See docs/TEACHING.md. Other logs
 with cycles are those of the format Kanata 0004, as chart --trace writes them, and gem5's O3PipeView lines.
 
-A log names no links, no deliveries, and a mend only where it likes. Where the judge places them, and what a machine
-may do that no event says, with the verdict that it gets, is told in docs/REFERENCE.md.
+A log names no links, no deliveries, and a mend only where it likes. docs/REFERENCE.md says where the judge places them,
+and what a machine may do that no event says, with the verdict that it gets.
 
 Exit status: 0 the log is legal, or all rows are right, 1 an event is refused, or a cell is wrong, 2 a fault in the
 listing, 3 a mistake on the command line, 4 a log is not read, 5 no memory, or a file could not be opened, read or
 written.";
 
 /// An option as an argument of a command.
-pub fn made<'a>(alloc: Global, option: Offered) -> Arg<'a> {
+pub fn made<'a>(alloc: Global, option: Offered) -> Result<Arg<'a>, AllocError> {
     let arg = Arg::new(alloc, option.name)
         .long(option.name)
         .action(option.action)
         .help(option.help);
-    match option.value {
+    let arg = match option.value {
         Some(value) => arg.value_name(value),
         None => arg,
+    };
+    if OF_GRADES.iter().any(|name| *name == option.name) {
+        arg.requires_arg("grade")
+    } else if NOT_OF_GRADES.iter().any(|name| *name == option.name) {
+        arg.conflicts_with("grade")
+    } else {
+        Ok(arg)
     }
 }
