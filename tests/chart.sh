@@ -33,8 +33,8 @@ done
 [ $count -ge 7 ] || fail "only $count charts"
 echo "$count charts, and the logs beside them, are as they were counted by hand"
 
-# Draws each tenant of a log, and compares the lines with those of the chart. The log and its pictures are described in
-# crates/chart/specs.
+# Draws each tenant of a log, and compares the lines with those of the chart. The log and its pictures are those of
+# crates/chart/src (kanata.rt, drawing.rt).
 cat > "$work/draw.py" << 'DRAW'
 import re
 import sys

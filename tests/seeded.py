@@ -1,6 +1,6 @@
 """Draws the chart of a listing of additions in the order of a seed: seeded.py LISTING SEED RING.
 
-Written after the definitions in crates/one_thread/specs (Possible, Choices, Seeds) and crates/chart/specs (Drawings). The listing has a
+Written after the definitions in crates/one_thread/specs (Possible, Choices, Seeds) and crates/chart/src (drawing.rt). The listing has a
 line for each instruction, `addiu $1,$2,3` or `addu $1,$2,$3`, and a last one `break`."""
 import re
 import sys

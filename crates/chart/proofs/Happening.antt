@@ -24,13 +24,13 @@ use Rattle.lsq.specs.declared.entry.Entry.{Entry}
 use Rattle.one_thread.specs.Loads.{waits}
 use Rattle.chart.specs.declared.event.Event.TheVariants.{Blocked}
 use Rattle.chart.specs.declared.row.Row.{Row}
-use Rattle.chart.specs.Styles.{Style}
+use Rattle.chart.specs.declared.lines.Style.{Style}
 use Rattle.chart.specs.Blocked.{Queued, block_event, block_events, blocker, blocker_of, entry_after, held_by, joined, joined_by, no_rows, position_at, waits_for}
 use Rattle.chart.specs.Events.{entry_events, events, left_events, went_on, moved_events, retired_event, squash, squashes, worked_on}
 use Rattle.chart.specs.Happened.{Awaits, Happened, HasGone, StandsAs}
 use Rattle.chart.specs.Named.{IsRowOf, StandsIn, live_positions}
 use Rattle.chart.specs.Rows.{SoFar, all_seen, awaited, is_recovery, let_row, newcomer, retires as leaves_one, rows_behind, staying}
-use Rattle.chart.specs.Watched.{AreTurns, Passed, unit_behind, events_at, kept_behind}
+use Rattle.chart.specs.Traced.{AreTurns, Passed, unit_behind, events_at, kept_behind}
 use Rattle.counted_io.specs.Counted.{raised}
 use Rattle.chart.proofs.LivePositions.{Fewer, OneLess, OneMore}
 use Rattle.chart.proofs.Lists.{all_behind, all_both, all_but_first, all_get, all_take, get_before, get_last, get_map}

@@ -1,9 +1,7 @@
 pub mod Lists
-pub mod Spelled
-pub mod Taken
+pub mod Shown
 pub mod LiveRowsKept
 pub mod Turns
-pub mod WholeRuns
 pub mod LivePositions
 pub mod TurnPositions
 pub mod RowsNamed

@@ -7,13 +7,10 @@ use Rattle.std.proofs.lemmas.Bool.{lt-ltb}
 use Rattle.std.specs.List.{AllByRecursion}
 use Rattle.std.specs.Prelude.{nat_lt, slice_get}
 use Rattle.chart.specs.declared.event.Event.{Event}
-use Rattle.chart.specs.declared.lines.Line.{Line}
 use Rattle.chart.specs.declared.row.Row.{Row}
 use Rattle.one_thread.specs.declared.station.Station.{Station}
 use Rattle.chart.specs.Rows.{all_seen, seen_in}
-use Rattle.chart.specs.Drawings.{axis_above, line, lines_text, round}
 use Rattle.chart.specs.Events.{squash, squashes}
-use Rattle.chart.specs.Sources.{Source}
 
 not_less : (n live : ℕ) → live ≤ n → nat_lt n live ≡ false
 not_less n live h = grind (arith, h)
@@ -55,20 +52,6 @@ seen_goes_on turn W i rows r s o later new whole less is there says made so_far 
     ∙ append_assoc later (s ∷ []) rest
     ∙ ap (λ x. later ++ (x ∷ rest)) (says ∙ ap (seen_in turn r) there)
     ∙ ap (λ l. later ++ all_seen turn W i l) (sym (dropped rows i r less is))
-    ∙ so_far
-
--- one more line of a chart
-pub lines_go_on : (s : Source) (before : Option ℕ) (lines : List Line) (i : ℕ) (l : Line) (q : ℕ) (out mid new whole : List ℕ) →
-    i < length lines → l ≡ get_or lines i l → q ≡ round l.row.let_at → mid ≡ out ++ axis_above before q → new ≡ mid ++ line s l →
-    out ++ lines_text s before (drop i lines) ≡ whole → new ++ lines_text s (Some q) (drop (i + 1) lines) ≡ whole
-lines_go_on s before lines i l q out mid new whole less is at above drawn so_far =
-    let a = axis_above before (round l.row.let_at) in
-    let rest = lines_text s (Some (round l.row.let_at)) (drop (i + 1) lines) in
-    ap (λ n. n ++ lines_text s (Some q) (drop (i + 1) lines)) (drawn ∙ ap (λ m. m ++ line s l) above)
-    ∙ ap (λ x. ((out ++ axis_above before x) ++ line s l) ++ lines_text s (Some x) (drop (i + 1) lines)) at
-    ∙ ap (λ x. x ++ rest) (append_assoc out a (line s l))
-    ∙ append_assoc out (a ++ line s l) rest
-    ∙ ap (λ x. out ++ lines_text s before x) (sym (dropped lines i l less is))
     ∙ so_far
 
 -- one more squash

@@ -8,7 +8,7 @@ use Rattle.inorder.proofs.OneCaller.Sequences.{reach_on}
 use Rattle.one_thread.specs.declared.bench.Turn.{Turn}
 use Rattle.one_thread.specs.declared.bench.Turn.TheVariants.{Halved, Let, Loaded, Over, Ran, Recovered, Retired}
 use Rattle.one_thread.specs.Turns.{Before, Does, Now, Nowhere}
-use Rattle.chart.specs.Watched.{AreTurns, Passed, unit_behind}
+use Rattle.chart.specs.Traced.{AreTurns, Passed, unit_behind}
 
 module _ (P : Program) (C : Sizes) (U V : UpdateUnit) (r : IsReached P C U) where
   by_steps : (steps : List Step) → Leads P C 0 U steps V → IsReached P C V

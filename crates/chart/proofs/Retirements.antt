@@ -26,8 +26,8 @@ use Rattle.one_thread.specs.Turns.{Before, Does, Now, Nowhere, Retires}
 use Rattle.one_thread.specs.Window.{window}
 use Rattle.chart.specs.Kept.{next_kept}
 use Rattle.chart.specs.Rows.{SoFar}
-use Rattle.chart.specs.Styles.{Style}
-use Rattle.chart.specs.Watched.{AreTurns, Passed, unit_behind, kept_behind}
+use Rattle.chart.specs.declared.lines.Style.{Style}
+use Rattle.chart.specs.Traced.{AreTurns, Passed, unit_behind, kept_behind}
 use Rattle.counted_io.specs.Counted.{counted, raised}
 use Rattle.chart.proofs.RowsNamed.{Named, named, positions_length, row_count}
 use Rattle.chart.proofs.TurnPositions.{grows, retires}

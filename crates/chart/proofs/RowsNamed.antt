@@ -16,13 +16,13 @@ use Rattle.one_thread.specs.declared.station.Station.{Station}
 use Rattle.one_thread.specs.Turns.{Before, Does, Now, Nowhere}
 use Rattle.one_thread.specs.Window.{station_of, window}
 use Rattle.chart.specs.declared.row.Row.{Row}
-use Rattle.chart.specs.Styles.{Style}
+use Rattle.chart.specs.declared.lines.Style.{Style}
 use Rattle.chart.specs.Named.{AreNamed, IsRowOf, StandsIn, live_positions}
 use Rattle.lsq.specs.declared.entry.Entry.{Entry}
 use Rattle.chart.specs.Blocked.{Queued, all_held, blocker, entry_after, held_by, held_rows, joined, joined_by, no_rows}
 use Rattle.chart.specs.Kept.{next_kept}
 use Rattle.chart.specs.Rows.{SoFar, all_seen, let_row, newcomer, rows_behind, seen_in, staying, with_row}
-use Rattle.chart.specs.Watched.{AreTurns, Passed, unit_behind, kept_behind}
+use Rattle.chart.specs.Traced.{AreTurns, Passed, unit_behind, kept_behind}
 use Rattle.counted_io.specs.Counted.{counted, raised}
 use Rattle.chart.proofs.LivePositions.{Fewer, OneLess, OneMore}
 use Rattle.chart.proofs.Lists.{as_list, take_next}

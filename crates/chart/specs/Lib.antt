@@ -1,15 +1,9 @@
-pub mod Names
-pub mod Sources
-pub mod Styles
 pub mod Rows
 pub mod Blocked
 pub mod Events
 pub mod Lines
 pub mod Kept
-pub mod Drawings
-pub mod Kanata
-pub mod Telling
-pub mod Watched
+pub mod Traced
 pub mod Named
 pub mod Happened
 pub mod Statuses

@@ -4,7 +4,7 @@ use Rattle.chart.specs.declared.event.Event.{Event}
 use Rattle.chart.specs.declared.event.Event.TheVariants.{Left, Let}
 use Rattle.chart.specs.declared.lines.Line.{Line}
 use Rattle.chart.specs.declared.row.Row.{Row}
-use Rattle.chart.specs.Styles.{Style}
+use Rattle.chart.specs.declared.lines.Style.{Style}
 
 -- A line in the place of its row, where that has one
 abbrev pub placed : List Line → Line → List Line

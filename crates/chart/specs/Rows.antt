@@ -11,7 +11,7 @@ use Rattle.chart.specs.declared.row.Phase.TheVariants.{Waiting, Address, Done, M
 use Rattle.chart.specs.declared.row.Row.{Row}
 use Rattle.chart.specs.declared.live_rows.LiveRows.{LiveRows}
 use Rattle.chart.specs.declared.lines.Line.{Line}
-use Rattle.chart.specs.Styles.{Style, styled}
+use Rattle.chart.specs.declared.lines.Style.{Style}
 use Rattle.counted_io.specs.Counted.{raised}
 
 -- The phase of a tenant, by the stage of its station
@@ -118,8 +118,8 @@ awaited register rows =
 
 -- The live rows
 
--- How a run is told; counts of the turns that were made, the tenants that were let and those that have retired; the
--- rows of the live ones, the oldest first; and the lines that are drawn
+-- Which lines are drawn; counts of the turns that were made, the tenants that were let and those that have retired; the
+-- rows of the live ones, the oldest first; and the lines
 pub record SoFar : Type 0 where
   pub style : Style
   pub turns : ℕ
@@ -132,7 +132,7 @@ pub record SoFar : Type 0 where
 abbrev pub kept : LiveRows → SoFar
 kept b =
     record {
-      style = styled b.style;
+      style = b.style;
       turns = b.turns;
       lets = b.lets;
       retirements = b.retirements;

@@ -3,10 +3,10 @@ ghost use Rattle.std.specs.Prelude.{◌<◌, ◌^◌, List, ◌∷◌, length};
 ghost use Rattle.std.specs.List.{AllByRecursion};
 ghost use Rattle.instructions.specs.Programs.{Program};
 ghost use Rattle.inorder.specs.Unit.{Sizes};
-ghost use Rattle.chart.specs.Styles.{Style};
+ghost use Rattle.chart.specs.declared.lines.Style.{Style};
 ghost use Rattle.chart.specs.Happened.{Happened};
 ghost use Rattle.chart.specs.Named.{AreNamed};
-ghost use Rattle.chart.specs.Watched.{AreTurns, Passed, unit_behind, events_at, kept_behind};
+ghost use Rattle.chart.specs.Traced.{AreTurns, Passed, unit_behind, events_at, kept_behind};
 
 /// Each row is that of the tenant at its position, which is live and stands in the row's station, and each live
 /// tenant has one: behind any turns, while tenants can be counted.

@@ -1,12 +1,19 @@
 //! The lines of a chart, from turn to turn.
 ghost use Rattle.std.specs.Prelude.{◌≡◌, OnOk};
 ghost use Rattle.chart.specs.Lines.{added, after_event, after_events, begun, with_live};
-ghost use Rattle.chart.specs.Styles.{styled};
 
 use crate::event::{Event, Way};
 use crate::row::Row;
-use crate::telling::Style;
 use std::alloc::AllocError;
+
+/// Which tenants have a line, and in which order.
+#[derive(Clone, Copy)]
+pub struct Style {
+    /// How many tenants have a line: those that were dispatched first.
+    pub rows: u64,
+    /// The lines stand in the order in which their tenants have left, and not in that of the program.
+    pub by_leave: bool,
+}
 
 /// A line of a chart: a row, the turn up to which it is drawn, and how its tenant has left, if it has.
 #[derive(Clone, Copy)]
@@ -18,8 +25,8 @@ pub struct Line {
 
 // Adds a line as its tenant leaves, or stays live to the end: in its row's place in the order of the program, and at
 // the end in the order of leaving.
-fn add(lines: &mut Vec<Line>, style: &Style<'_>, line: Line) -> Result<(), AllocError>
-    ensures { OnOk result (lines.new.items ≡ added (styled style.now) lines.old.items line) }
+fn add(lines: &mut Vec<Line>, style: Style, line: Line) -> Result<(), AllocError>
+    ensures { OnOk result (lines.new.items ≡ added style lines.old.items line) }
 {
     let position = line.row.position;
     if position >= style.rows {
@@ -37,8 +44,8 @@ fn add(lines: &mut Vec<Line>, style: &Style<'_>, line: Line) -> Result<(), Alloc
 }
 
 // Adds a line as its tenant is let, which keeps its place in the order of the program.
-fn begin(lines: &mut Vec<Line>, style: &Style<'_>, line: Line) -> Result<(), AllocError>
-    ensures { OnOk result (lines.new.items ≡ begun (styled style.now) lines.old.items line) }
+fn begin(lines: &mut Vec<Line>, style: Style, line: Line) -> Result<(), AllocError>
+    ensures { OnOk result (lines.new.items ≡ begun style lines.old.items line) }
 {
     if !style.by_leave && line.row.position < style.rows {
         lines.push(line)?;
@@ -46,13 +53,8 @@ fn begin(lines: &mut Vec<Line>, style: &Style<'_>, line: Line) -> Result<(), All
     Ok(())
 }
 
-fn note(
-    lines: &mut Vec<Line>,
-    style: &Style<'_>,
-    turn: u64,
-    event: &Event,
-) -> Result<(), AllocError>
-    ensures { OnOk result (lines.new.items ≡ after_event (styled style.now) turn lines.old.items event.now) }
+fn note(lines: &mut Vec<Line>, style: Style, turn: u64, event: &Event) -> Result<(), AllocError>
+    ensures { OnOk result (lines.new.items ≡ after_event style turn lines.old.items event.now) }
 {
     match event {
         Event::Let { row, .. } => {
@@ -70,12 +72,12 @@ fn note(
 /// Adds what the events of a turn change.
 pub(crate) fn note_all(
     lines: &mut Vec<Line>,
-    style: &Style<'_>,
+    style: Style,
     turn: u64,
     events: &[Event],
 ) -> Result<(), AllocError>
     ensures { OnOk result
-        (lines.new.items ≡ after_events (styled style.now) turn lines.old.items events.now) }
+        (lines.new.items ≡ after_events style turn lines.old.items events.now) }
 {
     for event in events.iter() {
         note(lines, style, turn, event)?;
@@ -86,11 +88,11 @@ pub(crate) fn note_all(
 /// Adds the lines of the tenants that are still live.
 pub(crate) fn add_live(
     lines: &mut Vec<Line>,
-    style: &Style<'_>,
+    style: Style,
     turn: u64,
     rows: &[Row],
 ) -> Result<(), AllocError>
-    ensures { OnOk result (lines.new.items ≡ with_live (styled style.now) turn lines.old.items rows.now) }
+    ensures { OnOk result (lines.new.items ≡ with_live style turn lines.old.items rows.now) }
 {
     for row in rows.iter() {
         let (row, way) = (*row, None);

@@ -5,25 +5,23 @@ ghost use Rattle.chart.specs.Rows.{all_seen as all_seen_of, kept};
 ghost use Rattle.chart.specs.Kept.{closed, next_kept};
 ghost use Rattle.chart.specs.Rows.{let_row as let_row_of};
 ghost use Rattle.chart.specs.Rows.{seen_in, start_kept, with_row};
-ghost use Rattle.chart.specs.Styles.{styled};
 ghost use Rattle.counted_io.specs.Counted.{counted as counted_of, raised as raised_of};
 
 use crate::blocked::hold;
 use crate::event::Event;
 use crate::leaving::{leave, retires, row_at};
-use crate::lines::{Line, add_live, note_all};
+use crate::lines::{Line, Style, add_live, note_all};
 use crate::row::{Row, phase_of};
-use crate::telling::Style;
 use crate::waits::entry;
 use instructions::Predictor;
 use one_thread::{Bench, Station, Turn};
 use std::alloc::{AllocError, Global};
 
-/// How a run is told; counts of the turns that were made, the tenants that were let and those that have retired; a row
-/// for each live tenant, the oldest first; and the lines that are drawn.
+/// Which lines are drawn; counts of the turns that were made, the tenants that were let and those that have retired; a row
+/// for each live tenant, the oldest first; and the lines.
 #[derive(Drop)]
-pub(crate) struct LiveRows<'a> {
-    pub(crate) style: Style<'a>,
+pub(crate) struct LiveRows {
+    pub(crate) style: Style,
     turns: u64,
     pub(crate) lets: u64,
     retirements: u64,
@@ -162,9 +160,9 @@ fn push_row(rows: &mut Vec<Row>, new: Option<Row>) -> Result<(), AllocError>
     Ok(())
 }
 
-impl<'a> LiveRows<'a> {
-    pub(crate) fn new(alloc: Global, style: Style<'a>) -> LiveRows<'a>
-        ensures { kept result ≡ start_kept (styled style.entry) }
+impl LiveRows {
+    pub(crate) fn new(alloc: Global, style: Style) -> LiveRows
+        ensures { kept result ≡ start_kept style }
     {
         LiveRows {
             style,
@@ -201,7 +199,7 @@ impl<'a> LiveRows<'a> {
         push_entry(&mut events, seen.as_slice(), &new)?;
         push_row(&mut seen, new)?;
         let rows = hold(alloc, &mut events, seen.as_slice(), turn)?;
-        note_all(&mut self.lines, &self.style, turn, events.as_slice())?;
+        note_all(&mut self.lines, self.style, turn, events.as_slice())?;
         let retired = counted(retires(answer, live, count), retirements);
         let lets = counted(new.is_some(), self.lets);
         self.turns = turn;
@@ -216,6 +214,6 @@ impl<'a> LiveRows<'a> {
         ensures { OnOk result (kept self.new ≡ closed (kept self.old)) }
     {
         let turn = raised(self.turns);
-        add_live(&mut self.lines, &self.style, turn, self.rows.as_slice())
+        add_live(&mut self.lines, self.style, turn, self.rows.as_slice())
     }
 }

@@ -11,15 +11,11 @@ mod leaving;
 mod lines;
 mod live_rows;
 mod log_file;
-mod naming;
 mod pictures;
 mod row;
 mod source;
-mod spelling;
-mod telling;
+mod traced;
 mod waits;
-mod watched;
-mod watching;
 
 use answering::chart;
 use command_line::{Charted, REFUSED, end, is_standard_input, parse_chart, refuse, words};
@@ -67,19 +63,25 @@ fn chart_from<R: Read + Drop>(
     input: Option<R>,
     listing: Option<Metadata>,
 ) -> ExitCode {
-    let reader = input.map(Counted::new);
+    let mut reader = input.map(Counted::new);
     let mut writer = Counted::new(rt.stdout());
     match asked.log {
         Some(path) if reader.is_some() => match open_log(rt, path, listing) {
             Ok(file) => {
                 let mut log = Counted::new(file);
-                end(rt, chart(rt.alloc(), asked, reader, &mut writer, &mut log))
+                end(
+                    rt,
+                    chart(rt.alloc(), asked, &mut reader, &mut writer, &mut log),
+                )
             },
             Err(no_log) => refuse_log(rt, path, &no_log),
         },
         _ => {
             let mut log = Counted::new(Vec::new(rt.alloc()));
-            end(rt, chart(rt.alloc(), asked, reader, &mut writer, &mut log))
+            end(
+                rt,
+                chart(rt.alloc(), asked, &mut reader, &mut writer, &mut log),
+            )
         },
     }
 }

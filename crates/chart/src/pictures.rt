@@ -1,132 +1,65 @@
 //! What became of each instruction of a run: its chart and its log.
-ghost use Rattle.std.specs.Prelude.{◌≡◌, ◌≢◌, ◌+◌, ◌-◌, ◌^◌, ◌<◌, IfErr, OnOk, OnErr, is_some, true};
-ghost use Rattle.counted_io.specs.Counted.{failures_of, known_by};
-ghost use Rattle.chart.specs.Answers.{HasBegun, HasToldWhole, IsLogged, IsOfLog};
-ghost use Rattle.chart.specs.Answers.{log_failures, log_refusal, style_of as style_in};
-ghost use Rattle.chart.specs.Sources.{sourced};
-ghost use Rattle.chart.specs.Styles.{styled};
-ghost use Rattle.command_line.specs.Exits.{IsOfWriting, failed_writes};
+ghost use Rattle.std.specs.Prelude.{◌-◌, ◌^◌, ◌<◌, Ok};
+ghost use Rattle.counted_io.specs.Counted.{failures_of};
+ghost use Rattle.counted_io.specs.Writes.{Writes};
+ghost use Rattle.chart.specs.Answers.{HasBegunFrom, HasTextFrom, IsShown, IsShownInPart, log_head};
 
+use crate::drawing::chart_text;
+use crate::kanata::{HEAD, turn_text};
+use crate::lines::Style;
 use crate::source::Source;
-use crate::telling::{Format, Style};
-use crate::watched::watch;
-use command_line::{Charted, Refusal, choose};
-use counted_io::{Counted, Fault};
+use crate::traced::{Traced, trace_all};
+use answers::Status;
+use command_line::Charted;
+use counted_io::{Counted, Fault, write_text, write_whole};
 use instructions::Program;
-use one_thread::Order;
+use isa::report_text;
 use std::alloc::Global;
 use std::io::Write;
 
-/// Draws the chart.
+/// Writes the report of the run that is asked for, and after it the chart. The result is the status of the run.
 pub(crate) fn draw<W: Write>(
     alloc: Global,
     asked: &Charted<'_>,
     source: &Source<'_>,
     program: &Program,
     writer: &mut Counted<W>,
-) -> Result<(), Refusal>
-    requires room { failures_of writer.old < 2 ^ 64 - 1 }
-    ensures told { OnOk result (HasToldWhole Format.Chart asked.now (sourced source.now) program.now
-        (known_by W.contents writer.old) (known_by W.contents writer.new)) }
-    ensures quiet { OnOk result (failures_of writer.new ≡ failures_of writer.old) }
-    ensures err { IfErr result IsOfWriting }
-    ensures write { IfErr result (λ refusal.
-        failures_of writer.new ≡ failures_of writer.old + failed_writes refusal) }
-    ensures trace { IfErr result (λ refusal. log_failures refusal ≡ 0) }
-    ensures begun { OnErr result (HasBegun Format.Chart asked.now (sourced source.now) program.now
-        (known_by W.contents writer.old) (known_by W.contents writer.new)) }
+) -> Result<Status, Fault>
+    requires { failures_of writer.old < 2 ^ 64 - 1 }
+    ensures { Writes W.contents writer.old writer.new
+        (IsShown asked.now.run.config.limit (Ok program.now))
+        (IsShownInPart asked.now.run.config.limit (Ok program.now)) result }
 {
-    picture(alloc, asked, source, program, Format::Chart, writer)?;
-    Ok(())
+    let style = Style {
+        rows: asked.rows,
+        by_leave: asked.by_leave,
+    };
+    let drawn = trace_all(alloc, &asked.run, program, style)?;
+    let report = report_text(alloc, &drawn.end)?;
+    write_whole(writer, report.as_str().as_bytes())?;
+    write_text(writer, chart_text(alloc, source, &drawn.rows))?;
+    Ok(Status::of(drawn.end.outcome))
 }
 
-/// Writes the log, where one is wanted.
+/// Makes the run that is asked for once more, and writes its log turn by turn.
 pub(crate) fn trace<L: Write>(
     alloc: Global,
     asked: &Charted<'_>,
     source: &Source<'_>,
     program: &Program,
     log: &mut Counted<L>,
-) -> Result<(), Refusal>
-    requires room { failures_of log.old < 2 ^ 64 - 1 }
-    ensures told { OnOk result (IsLogged (is_some asked.now.log) asked.now (sourced source.now) program.now
-        (known_by L.contents log.old) (known_by L.contents log.new)) }
-    ensures quiet { OnOk result (failures_of log.new ≡ failures_of log.old) }
-    ensures err { IfErr result IsOfLog }
-    ensures wanted { OnErr result (is_some asked.now.log ≡ true) }
-    ensures write { IfErr result (λ refusal. failed_writes refusal ≡ 0) }
-    ensures trace { IfErr result (λ refusal.
-        failures_of log.new ≡ failures_of log.old + log_failures refusal) }
-    ensures begun { OnErr result (HasBegun Format.Kanata asked.now (sourced source.now) program.now
-        (known_by L.contents log.old) (known_by L.contents log.new)) }
-{
-    if asked.log.is_none() {
-        return Ok(());
-    }
-    match picture(alloc, asked, source, program, Format::Kanata, log) {
-        Ok(()) => Ok(()),
-        Err(fault) => Err(log_refusal(fault)),
-    }
-}
-
-// Makes the run again in its order, and tells it turn by turn.
-fn picture<W: Write>(
-    alloc: Global,
-    asked: &Charted<'_>,
-    source: &Source<'_>,
-    program: &Program,
-    format: Format,
-    writer: &mut Counted<W>,
 ) -> Result<(), Fault>
-    requires { failures_of writer.old < 2 ^ 64 - 1 }
-    ensures told { OnOk result (HasToldWhole format asked.now (sourced source.now) program.now
-        (known_by W.contents writer.old) (known_by W.contents writer.new)) }
-    ensures begun { OnErr result (HasBegun format asked.now (sourced source.now) program.now
-        (known_by W.contents writer.old) (known_by W.contents writer.new)) }
-    ensures quiet { OnOk result (failures_of writer.new ≡ failures_of writer.old) }
-    ensures write { IfErr result (λ fault. fault ≡ Fault.Write →
-        failures_of writer.new ≡ failures_of writer.old + 1) }
-    ensures memory { IfErr result (λ fault. fault ≡ Fault.Memory →
-        failures_of writer.new ≡ failures_of writer.old) }
-    ensures read { IfErr result (λ fault. fault ≢ Fault.Read) }
+    requires { failures_of log.old < 2 ^ 64 - 1 }
+    ensures { Writes L.contents log.old log.new (λ _. HasTextFrom log_head) (HasBegunFrom log_head) result }
 {
-    let predictor = choose(asked.run.predictor);
-    let order = Order::by_seed(asked.run.seed);
-    let style = style_of(format, asked, source);
-    watch(
-        alloc,
-        program,
-        &asked.run.config,
-        predictor,
-        order,
-        style,
-        writer,
-    )?;
-    Ok(())
-}
-
-// How a run is told that is asked for.
-fn style_of<'a>(format: Format, asked: &Charted<'_>, source: &'a Source<'a>) -> Style<'a>
-    ensures { styled result ≡ style_in format asked.now (sourced source.now) }
-{
-    let rows = match format {
-        Format::Chart => asked.rows,
-        Format::Kanata => 0,
+    let style = Style {
+        rows: 0,
+        by_leave: false,
     };
-    let by_leave = asked.by_leave;
-    Style {
-        format,
-        source,
-        rows,
-        by_leave,
+    let mut traced = Traced::new(alloc, &asked.run, program, style)?;
+    write_whole(log, HEAD.as_bytes())?;
+    'turns: while let Some(events) = traced.turn(alloc)? {
+        write_text(log, turn_text(alloc, source, events.as_slice()))?;
     }
-}
-
-fn log_refusal(fault: Fault) -> Refusal
-    ensures { result ≡ log_refusal fault }
-{
-    match fault {
-        Fault::Write => Refusal::Trace,
-        Fault::Read | Fault::Memory => Refusal::from(fault),
-    }
+    Ok(())
 }

@@ -1,28 +1,66 @@
-//! The lines of a listing.
-ghost use Rattle.std.specs.Prelude.{◌≡◌, IfOk, map};
-ghost use Rattle.std.specs.Option.{option_map};
-ghost use Rattle.lexical.specs.Line.{lines_of};
-ghost use Rattle.isa.specs.Listing.{instruction_lines};
-ghost use Rattle.chart.specs.Sources.{code_at as code_in, line_of as line_in, source_of, sourced};
+//! The lines of a listing, and instructions with their registers as these lines write them.
 
-use crate::naming::naming_of;
-use instructions::Program;
-use isa::RegisterStyle;
+use instructions::{Half, Instr, Program};
+use isa::{InstrText, RegisterStyle, register_in};
 use lexical::{before_comment, next_line};
+use one_thread::Station;
 use std::alloc::{AllocError, Global};
+use std::str;
 
 /// The lines of a listing, the number of the line of each instruction, and the way in which most registers are written.
 #[derive(Drop)]
 pub struct Source<'a> {
-    pub(crate) naming: RegisterStyle,
+    naming: RegisterStyle,
     lines: Vec<&'a [u8]>,
     numbers: Vec<u64>,
 }
 
-// The lines of a text.
-fn lines_in(alloc: Global, bytes: &[u8]) -> Result<Vec<&[u8]>, AllocError>
-    ensures { IfOk result (λ lines. map (λ l. l.now) lines.items ≡ lines_of bytes.now) }
-{
+impl<'a> Source<'a> {
+    /// The source of a listing whose instructions are those of lines with these numbers.
+    pub(crate) fn new(
+        alloc: Global,
+        bytes: &'a [u8],
+        numbers: Vec<u64>,
+    ) -> Result<Source<'a>, AllocError> {
+        let lines = lines_in(alloc, bytes)?;
+        Ok(Source {
+            naming: naming_of(lines.as_slice()),
+            lines,
+            numbers,
+        })
+    }
+
+    // The line of instruction i, if there is one.
+    fn line(&self, i: usize) -> Option<&'a [u8]> {
+        let number = self.numbers.get(i).copied()?;
+        self.lines.get((number as usize).saturating_sub(1)).copied()
+    }
+
+    // The code of the line of the instruction at a pc, without its comment.
+    fn code_at(&self, pc: u32) -> &'a [u8] {
+        let i = pc.saturating_sub(Program::START) / 4;
+        match self.line(i as usize) {
+            None => &[],
+            Some(line) => before_comment(line),
+        }
+    }
+
+    /// The instruction of a tenant, or its half, with each register as its line writes it; one that the line does not name
+    /// is written as most are.
+    pub(crate) fn text_of(&self, alloc: Global, station: &Station) -> Result<String, AllocError> {
+        let naming = self.naming;
+        let instr = station.instr.to_instr();
+        let half = half_text(&instr, station.half);
+        let instr = InstrText { naming, instr };
+        let text = format!(in alloc; "{instr}")?;
+        let names = names_in(alloc, self.code_at(station.pc))?;
+        let bytes = with_names(alloc, names.as_slice(), text.as_str().as_bytes())?;
+        let named = str::from_utf8(bytes.as_slice()).unwrap_or(text.as_str());
+        format!(in alloc; "{named}{half}")
+    }
+}
+
+fn lines_in(alloc: Global, bytes: &[u8]) -> Result<Vec<&[u8]>, AllocError> {
     let mut lines = Vec::new(alloc);
     let mut rest = Some(bytes);
     while let Some(text) = rest {
@@ -33,41 +71,96 @@ fn lines_in(alloc: Global, bytes: &[u8]) -> Result<Vec<&[u8]>, AllocError>
     Ok(lines)
 }
 
-impl<'a> Source<'a> {
-    /// The source of a listing whose instructions are those of lines with these numbers.
-    pub(crate) fn new(
-        alloc: Global,
-        bytes: &'a [u8],
-        numbers: Vec<u64>,
-    ) -> Result<Source<'a>, AllocError>
-        requires { numbers.items ≡ instruction_lines bytes.now }
-        ensures { IfOk result (λ source. sourced source ≡ source_of bytes.now) }
-    {
-        let naming = naming_of(bytes);
-        let lines = lines_in(alloc, bytes)?;
-        Ok(Source {
-            naming,
-            lines,
-            numbers,
-        })
-    }
-
-    // The line of instruction i, if there is one.
-    fn line(&self, i: usize) -> Option<&'a [u8]>
-        ensures { option_map (λ l. l.now) result ≡ line_in (sourced self.now) i }
-    {
-        let number = self.numbers.get(i).copied()?;
-        self.lines.get((number as usize).saturating_sub(1)).copied()
-    }
-
-    /// The code of the line of the instruction at a pc, without its comment.
-    pub(crate) fn code_at(&self, pc: u32) -> &'a [u8]
-        ensures { result.now ≡ code_in (sourced self.now) pc }
-    {
-        let i = pc.saturating_sub(Program::START) / 4;
-        match self.line(i as usize) {
-            None => &[],
-            Some(line) => before_comment(line),
+// By names, where more registers have one than a number, outside of comments.
+fn naming_of(lines: &[&[u8]]) -> RegisterStyle {
+    let mut names = 0u64;
+    let mut numbers = 0u64;
+    for line in lines.iter() {
+        for pair in before_comment(line).windows(2) {
+            match pair {
+                [b'$', b'a'..=b'z'] => names = names.saturating_add(1),
+                [b'$', b'0'..=b'9'] => numbers = numbers.saturating_add(1),
+                _ => {}
+            }
         }
+    }
+    if numbers < names {
+        RegisterStyle::Names
+    } else {
+        RegisterStyle::Numbers
+    }
+}
+
+// The label of a half, where an instruction has two.
+fn half_text(instr: &Instr, half: Half) -> &'static str {
+    match half {
+        Half::High => " hi",
+        Half::Low if instr.is_first_half(Half::Low) => " lo",
+        Half::Low => "",
+    }
+}
+
+// Words consist of letters, digits and `$`.
+fn ends_word(byte: u8) -> bool {
+    !byte.is_ascii_alphanumeric() && byte != b'$'
+}
+
+// The words of a text that name registers.
+fn names_in(alloc: Global, text: &[u8]) -> Result<Vec<&[u8]>, AllocError> {
+    let mut names = Vec::new(alloc);
+    for word in text.split(|byte| ends_word(*byte)) {
+        if register_in(word).is_ok() {
+            names.push(word)?;
+        }
+    }
+    Ok(names)
+}
+
+// A text with each register as a line of these names writes it.
+fn with_names(alloc: Global, names: &[&[u8]], text: &[u8]) -> Result<Vec<u8>, AllocError> {
+    let mut out = Vec::new(alloc);
+    let mut at = 0usize;
+    for part in text.split_inclusive(|byte| ends_word(*byte)) {
+        let (word, gap) = split_word(part);
+        match name_for(names, at, word) {
+            None => out.extend_from_slice(word)?,
+            Some(name) => out.extend_from_slice(name)?,
+        }
+        out.extend_from_slice(gap)?;
+        if register_in(word).is_ok() {
+            at = at.saturating_add(1);
+        }
+    }
+    Ok(out)
+}
+
+// A word, and the text after it.
+fn split_word(text: &[u8]) -> (&[u8], &[u8]) {
+    match text.iter().position(|byte| ends_word(*byte)) {
+        None => (text, &[]),
+        Some(at) => text.split_at(at),
+    }
+}
+
+// A line's name of a word's register, if it has one: the name at the word's place among registers, or else the first.
+fn name_for<'a>(names: &[&'a [u8]], at: usize, word: &[u8]) -> Option<&'a [u8]> {
+    if let Some(name) = names.get(at) {
+        if are_one(name, word) {
+            return Some(*name);
+        }
+    }
+    for name in names {
+        if are_one(name, word) {
+            return Some(*name);
+        }
+    }
+    None
+}
+
+// Whether two words name one register.
+fn are_one(one: &[u8], other: &[u8]) -> bool {
+    match (register_in(one), register_in(other)) {
+        (Ok(one), Ok(other)) => one.number() == other.number(),
+        _ => false,
     }
 }
