@@ -16,11 +16,11 @@ unfoldable pub first_after : Lines → Lines → Option (ℕ × FaultKind)
 first_after before [] = None
 first_after before (l ∷ ls) = fault_at (length before + 1) (fault_in before l) (first_after (before ++ l ∷ []) ls)
 
-take_before : (before ls : Lines) → take (length before) (before ++ ls) ≡ before
+pub take_before : (before ls : Lines) → take (length before) (before ++ ls) ≡ before
 take_before [] ls = refl
 take_before (b ∷ before) ls = ap (λ (xs : Lines). b ∷ xs) (take_before before ls)
 
-line_after : (before ls : Lines) (l : List ℕ) → slice_get (before ++ l ∷ ls) (length before) ≡ Some l
+pub line_after : (before ls : Lines) (l : List ℕ) → slice_get (before ++ l ∷ ls) (length before) ≡ Some l
 line_after [] ls l = refl
 line_after (b ∷ before) ls l = line_after before ls l
 

@@ -1,5 +1,5 @@
 -- Labels that are held, and one more.
-use Rattle.std.proofs.Common.{◌≡◌, ℕ, Bool, true, false, ◌||◌, cond, List, [], ◌∷◌, ◌++◌, map, Option, Some, None, Ordering, Less, Equal, Greater, refl, sym, ap, ◌∙◌, append_assoc, inl, inr}
+use Rattle.std.proofs.Common.{◌≡◌, ℕ, ◌+◌, Bool, true, false, ◌||◌, cond, List, [], ◌∷◌, ◌++◌, map, Some, None, Ordering, Less, Equal, Greater, refl, sym, ap, ◌∙◌, append_assoc, inl, inr}
 use Rattle.std.specs.Prelude.{is_some}
 use Rattle.std.specs.Bool.{one_answer}
 use Rattle.std.specs.BTreeMap.{UpdatesBy}
@@ -14,7 +14,9 @@ use Rattle.std.proofs.lemmas.Cmp.{nat_cmp_total, nat_list_cmp_total, tied_itself
 use Rattle.std.proofs.lemmas.Map.Text.{is_eq-slice_cmp}
 use Rattle.std.proofs.lemmas.Slice.Eq.{bytes_eq-Decides}
 use Rattle.isa.specs.Labels.{LabelMap, AreHeld, address_of, ending_of, key_cmp, key_of, names_of}
+use Rattle.isa.specs.declared.listing.spot.Spot.TheVariants.{Label}
 use Rattle.isa.specs.Listing.{stands_in, stands_twice, is_double, labels_at}
+use Rattle.isa.specs.Spots.{double_spot}
 
 -- ---- one more name
 
@@ -113,18 +115,19 @@ names_append (x ∷ xs) ys = ap (λ (ns : List (List ℕ)). x.0 ∷ ns) (names_a
 
 -- ---- the labels of a line
 
--- Labels `held` were held before a line; of its labels `all` those before `rest` have been added.
-pub record AreAdded (labels : LabelMap) (held : List (List ℕ × ℕ)) (address : ℕ) (rest all : List (List ℕ)) : Type 0 where
+-- Labels `held` were held before a line; of its labels `all` those before `rest`, which are n, have been added.
+pub record AreAdded (labels : LabelMap) (held : List (List ℕ × ℕ)) (address n : ℕ) (rest all : List (List ℕ)) : Type 0 where
   pub now : List (List ℕ × ℕ)
   pub are : AreHeld labels now
   pub together : now ++ labels_at address rest ≡ held ++ labels_at address all
   pub double : is_double (names_of now) rest ≡ is_double (names_of held) all
+  pub spot : double_spot n (names_of now) rest ≡ double_spot 0 (names_of held) all
 
 pub added_none : (labels : LabelMap) (held : List (List ℕ × ℕ)) (address : ℕ) (all : List (List ℕ)) → AreHeld labels held
-    → AreAdded labels held address all all
-added_none labels held address all are = record { now = held; are = are; together = refl; double = refl }
+    → AreAdded labels held address 0 all all
+added_none labels held address all are = record { now = held; are = are; together = refl; double = refl; spot = refl }
 
-module _ (labels : LabelMap) (held : List (List ℕ × ℕ)) (address : ℕ) (rest all : List (List ℕ)) (so_far : AreAdded labels held address rest all) where
+module _ (labels : LabelMap) (held : List (List ℕ × ℕ)) (address n : ℕ) (rest all : List (List ℕ)) (so_far : AreAdded labels held address n rest all) where
   pub added_done : rest ≡ [] → (is_double (names_of held) all ≡ false) × AreHeld labels (held ++ labels_at address all)
   added_done none =
       let together : so_far.now ++ [] ≡ held ++ labels_at address all = rw none at so_far.together in
@@ -135,12 +138,18 @@ module _ (labels : LabelMap) (held : List (List ℕ × ℕ)) (address : ℕ) (re
     name_more : (stands_in (names_of so_far.now) name || is_double (names_of so_far.now ++ name ∷ []) names) ≡ is_double (names_of held) all
     name_more = sym (double_more (names_of so_far.now) names name) ∙ (rw front at so_far.double)
 
-    pub added_double : ((ps : List (List ℕ × ℕ)) → AreHeld labels ps → stands_in (names_of ps) name ≡ true) → is_double (names_of held) all ≡ true
-    added_double stands = sym (rw (stands so_far.now so_far.are) at name_more)
+    spot_more : double_spot n (names_of so_far.now) (name ∷ names) ≡ double_spot 0 (names_of held) all
+    spot_more = rw front at so_far.spot
+
+    pub added_double : ((ps : List (List ℕ × ℕ)) → AreHeld labels ps → stands_in (names_of ps) name ≡ true)
+        → (is_double (names_of held) all ≡ true) × (Label n ≡ double_spot 0 (names_of held) all)
+    added_double stands =
+        let twice = stands so_far.now so_far.are in
+        (sym (rw twice at name_more), rw twice at spot_more)
 
     pub added_more : (after : LabelMap)
         → ((ps : List (List ℕ × ℕ)) → AreHeld labels ps → (stands_in (names_of ps) name ≡ false) × AreHeld after (ps ++ (name, address) ∷ []))
-        → AreAdded after held address names all
+        → AreAdded after held address (n + 1) names all
     added_more after step =
         let one = step so_far.now so_far.are in
         record {
@@ -148,4 +157,5 @@ module _ (labels : LabelMap) (held : List (List ℕ × ℕ)) (address : ℕ) (re
           are = one.1;
           together = append_assoc so_far.now ((name, address) ∷ []) (labels_at address names) ∙ (rw front at so_far.together);
           double = rw (names_append so_far.now ((name, address) ∷ [])) (rw one.0 at name_more);
+          spot = rw (names_append so_far.now ((name, address) ∷ [])) (rw one.0 at spot_more);
         }

@@ -5,6 +5,7 @@ pub mod Bytes
 pub mod Slots
 pub mod FormSearch
 pub mod Statements
+pub mod SpotSearch
 pub mod Rows
 pub mod NextLine
 pub mod FirstFault

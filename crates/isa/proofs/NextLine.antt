@@ -1,7 +1,7 @@
 -- One line after the lines before it.
-use Rattle.std.proofs.Common.{◌≡◌, ℕ, ◌+◌, ◌<◌, ◌≤◌, true, false, List, [], ◌∷◌, ◌++◌, length, map, Option, Some, None, Result, Err, refl, sym, ap, ◌∙◌, append_assoc, arith, inl, inr}
+use Rattle.std.proofs.Common.{◌≡◌, ℕ, ◌+◌, ◌<◌, ◌≤◌, true, false, List, [], ◌∷◌, ◌++◌, length, map, Option, Some, None, Result, Err, refl, sym, ap, ◌∙◌, append_assoc, arith}
 use Rattle.std.specs.Prelude.{nat_lt}
-use Rattle.std.proofs.lemmas.Bool.{lt-ltb, le-ltb, cases_Bool}
+use Rattle.std.proofs.lemmas.Bool.{lt-ltb, le-ltb}
 use Rattle.std.proofs.lemmas.List.{length-append, length-map, append-nil}
 use Rattle.std.proofs.lemmas.Grind.{flat_map-append}
 use Rattle.lexical.specs.Line.{before_comment}
@@ -15,6 +15,9 @@ use Rattle.instructions.specs.Programs.{address}
 use Rattle.isa.specs.Statement.{Parsed, Line, statement}
 use Rattle.isa.specs.Listing.{Lines, labels as labels_in, read, code_in, bytes_in, labels_at, table, numbered, memory, instruction_count, is_double, all_labels, fault_of, fault_in}
 use Rattle.isa.specs.Labels.{LabelMap, AreHeld, names_of}
+use Rattle.isa.specs.declared.listing.spot.Spot.{Spot}
+use Rattle.isa.specs.declared.listing.spot.Spot.TheVariants.{Whole}
+use Rattle.isa.specs.Spots.{double_spot, read_spot, spot_in, statement_spot}
 use Rattle.isa.specs.Held.{IsAdded, IsRead, name_of, rows}
 use Rattle.isa.proofs.Rows.{rows_length, rows_push}
 use Rattle.isa.proofs.HeldLabels.{names_append}
@@ -71,11 +74,11 @@ module _ (before : Lines) (line text : List ℕ) (labels : LabelMap) (code : Lis
   pub how_many_is : instruction_count before ≡ length code
   how_many_is = sym (ap length is.code_is) ∙ rows_length code ts is.length_is
 
-  pub fault_not_plain : is_plain_text text ≡ false → fault_in before line ≡ Some NotAscii
-  unfolding fault_in
+  pub fault_not_plain : is_plain_text text ≡ false → (fault_in before line ≡ Some NotAscii) × (Whole ≡ spot_in before line)
+  unfolding fault_in spot_in
   fault_not_plain e =
       let p : is_plain_text (before_comment line) ≡ false = rw front at e in
-      rw p refl
+      (rw p refl, rw p refl)
 
   module _ (plain : is_plain_text text ≡ true) where
     is_plain : is_plain_text (before_comment line) ≡ true
@@ -85,10 +88,16 @@ module _ (before : Lines) (line text : List ℕ) (labels : LabelMap) (code : Lis
     double_is : is_double (all_labels before) (labels_in line) ≡ is_double (names_of (table 0 before)) (labels_of text)
     double_is = rw (names_are 0 before, front) refl
 
-    pub fault_double : ((held : List (List ℕ × ℕ)) → AreHeld labels held → is_double (names_of held) (labels_of text) ≡ true)
-        → fault_in before line ≡ Some DoubleLabel
-    unfolding fault_in
-    fault_double twice = rw (is_plain, double_is, twice (table 0 before) is.labels_are) refl
+    pub fault_double : (at : Spot)
+        → ((held : List (List ℕ × ℕ)) → AreHeld labels held
+        → (is_double (names_of held) (labels_of text) ≡ true) × (at ≡ double_spot 0 (names_of held) (labels_of text)))
+        → (fault_in before line ≡ Some DoubleLabel) × (at ≡ spot_in before line)
+    unfolding fault_in spot_in
+    fault_double at twice =
+        let here = twice (table 0 before) is.labels_are in
+        let same : double_spot 0 (names_of (table 0 before)) (labels_of text) ≡ double_spot 0 (all_labels before) (labels_in line) =
+        rw (names_are 0 before, front) refl in
+        (rw (is_plain, double_is, here.0) refl, rw (is_plain, double_is, here.0) (here.1 ∙ same))
 
     module _ (a : ℕ) (at_a : a ≡ address (length code)) (new : LabelMap)
         (added : (held : List (List ℕ × ℕ)) → AreHeld labels held
@@ -100,6 +109,13 @@ module _ (before : Lines) (line text : List ℕ) (labels : LabelMap) (code : Lis
       unfolding fault_in
       fault_is f e =
           let other : fault_of (instruction_count before) (length (memory before)) (read line) ≡ f = rw (how_many_is, ← is.bytes_are, ← front) e in
+          rw (is_plain, double_is, (added (table 0 before) is.labels_are).0) other
+
+      spot_is : (r : Result Line FaultKind) → statement (statement_of text) ≡ r → spot_in before line ≡ read_spot r (statement_of text)
+      unfolding spot_in
+      spot_is r e =
+          let other : read_spot (read line) (statement_of (before_comment line)) ≡ read_spot r (statement_of text) =
+          rw (← front) (ap (λ (q : Result Line FaultKind). read_spot q (statement_of text)) e) in
           rw (is_plain, double_is, (added (table 0 before) is.labels_are).0) other
 
       labels_are : AreHeld new (table 0 (before ++ line ∷ []))
@@ -124,22 +140,23 @@ module _ (before : Lines) (line text : List ℕ) (labels : LabelMap) (code : Lis
           memory_push before line ∙ ap (λ (q : Result Line FaultKind). memory before ++ bytes_in q) (read_is r e)
           ∙ ap (λ (t : List ℕ). t ++ bytes_in r) (sym is.bytes_are)
 
-      pub fault_statement : (k : FaultKind) → statement (statement_of text) ≡ Err k → fault_in before line ≡ Some k
-      fault_statement k e = fault_is (Some k) (ap (fault_of (length code) (length bytes)) e)
+      pub fault_statement : (k : FaultKind) → statement (statement_of text) ≡ Err k
+          → (fault_in before line ≡ Some k) × (statement_spot (statement_of text) ≡ spot_in before line)
+      fault_statement k e = (fault_is (Some k) (ap (fault_of (length code) (length bytes)) e), sym (spot_is (Err k) e))
 
       module _ (ps : List Parsed) (bytes' : List ℕ) (grown : IsAdded (statement (statement_of text)) ps bytes bytes') where
         size_is : length bytes' ≡ length bytes + length grown.bytes
         size_is = ap length grown.grown ∙ length-append bytes grown.bytes
 
-        pub fault_long_memory : 65536 < length bytes' → fault_in before line ≡ Some TooLong
+        pub fault_long_memory : 65536 < length bytes' → (fault_in before line ≡ Some TooLong) × (Whole ≡ spot_in before line)
         fault_long_memory long =
             let over : nat_lt 65536 (length bytes + length grown.bytes) ≡ true = lt-ltb _ _ (omega (arith, size_is)) in
-            fault_is (Some TooLong) (ap (fault_of (length code) (length bytes)) grown.is ∙ grind (arith, over))
+            (fault_is (Some TooLong) (ap (fault_of (length code) (length bytes)) grown.is ∙ grind (arith, over)), sym (spot_is _ grown.is))
 
-        pub fault_long_code : 16384 < length code + length ps → fault_in before line ≡ Some TooLong
+        pub fault_long_code : 16384 < length code + length ps → (fault_in before line ≡ Some TooLong) × (Whole ≡ spot_in before line)
         fault_long_code long =
             let over : nat_lt 16384 (length code + length ps) ≡ true = lt-ltb _ _ long in
-            fault_is (Some TooLong) (ap (fault_of (length code) (length bytes)) grown.is ∙ rw over refl)
+            (fault_is (Some TooLong) (ap (fault_of (length code) (length bytes)) grown.is ∙ rw over refl), sym (spot_is _ grown.is))
 
         no_fault : length code + length ps ≤ 16384 → length bytes' ≤ 65536 → fault_in before line ≡ None
         no_fault short small =

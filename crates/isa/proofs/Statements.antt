@@ -5,6 +5,7 @@ use Rattle.std.specs.List.{before_first, after_first}
 use Rattle.lexical.specs.Blank.{is_blank}
 use Rattle.lexical.specs.Operand.{operands}
 use Rattle.isa.specs.declared.listing.fault.FaultKind.{FaultKind}
+use Rattle.isa.specs.Spots.{spot_with, statement_spot}
 use Rattle.isa.specs.Statement.{Parsed, is_word, space, data_words, instruction, with_operands, statement, gives_code, gives_bytes}
 
 module _ (word : List ℕ) (parts : List (List ℕ)) where
@@ -44,3 +45,8 @@ pub statement_is : (text word : List ℕ) (parts : List (List ℕ)) → (length 
     → parts ≡ operands (after_first is_blank text) → statement text ≡ with_operands word parts
 unfolding statement
 statement_is text word parts e w p = rw (e, w, p) refl
+
+pub spot_is : (text word : List ℕ) (parts : List (List ℕ)) → word ≡ before_first is_blank text → parts ≡ operands (after_first is_blank text)
+    → spot_with word parts ≡ statement_spot text
+unfolding statement_spot
+spot_is text word parts w p = rw (w, p) refl

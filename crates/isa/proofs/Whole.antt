@@ -1,5 +1,5 @@
 -- All lines of a listing.
-use Rattle.std.proofs.Common.{◌≡◌, ℕ, ◌+◌, ◌≤◌, ◌<◌, List, [], ◌∷◌, ◌++◌, length, Option, Some, None, Result, Err, refl, sym, ap, ◌∙◌, subst, append_assoc, arith}
+use Rattle.std.proofs.Common.{◌≡◌, ℕ, suc, ◌+◌, ◌≤◌, ◌<◌, List, [], ◌∷◌, ◌++◌, length, Option, Some, None, Result, Err, refl, sym, ap, ◌∙◌, subst, append_assoc, arith}
 use Rattle.std.proofs.lemmas.Bool.{lt-ltb, le-ltb}
 use Rattle.std.proofs.lemmas.List.{append-nil, length-append}
 use Rattle.lexical.specs.Line.{lines_of, lines_left}
@@ -7,11 +7,15 @@ use Rattle.instructions.specs.declared.instr.Instr.{Instr}
 use Rattle.isa.specs.declared.listing.fault.FaultKind.{FaultKind}
 use Rattle.isa.specs.declared.listing.fault.FaultKind.TheVariants.{TooLong}
 use Rattle.isa.specs.declared.listing.line.Target.{Target}
-use Rattle.isa.specs.Listing.{Lines, table, numbered, memory, fault_in, first_fault, resolved, with_bytes, listing}
+use Rattle.isa.specs.Listing.{Lines, table, numbered, memory, first_fault, resolved, with_bytes, listing}
 use Rattle.isa.specs.Labels.{LabelMap, AreHeld, address_of}
 use Rattle.isa.specs.Held.{IsRead, IsReadLine, IsFaultLine, rows}
 use Rattle.isa.proofs.Rows.{rows_length}
-use Rattle.isa.proofs.FirstFault.{first_after, after_none}
+use Rattle.isa.specs.declared.listing.spot.Spot.TheVariants as spot
+use Rattle.isa.specs.declared.listing.fault.LineFault.{LineFault}
+use Rattle.isa.specs.declared.listing.spot.Spot.{Spot}
+use Rattle.isa.specs.Spots.{spot_in, spot_of_line, spot_of}
+use Rattle.isa.proofs.FirstFault.{first_after, after_none, take_before, line_after}
 
 -- the lines before, which have no fault, and those that are left
 pub record LinesSoFar (labels : LabelMap) (code : List Instr) (ts : List Target) (bytes : List ℕ) (number : ℕ) (left all : Lines) : Type 0 where
@@ -20,6 +24,10 @@ pub record LinesSoFar (labels : LabelMap) (code : List Instr) (ts : List Target)
   pub read : IsRead before labels code ts bytes
   pub fault : first_after before left ≡ first_fault all
   pub whole : before ++ left ≡ all
+
+-- the line after those before has its spot there
+spot_after : (before ls : Lines) (l : List ℕ) → spot_of_line (before ++ l ∷ ls) (suc (length before)) ≡ spot_in before l
+spot_after before ls l = rw (take_before before (l ∷ ls), line_after before ls l) refl
 
 module _ (labels : LabelMap) (code : List Instr) (ts : List Target) (bytes : List ℕ) (number : ℕ) (left all : Lines)
     (so_far : LinesSoFar labels code ts bytes number left all) where
@@ -40,14 +48,20 @@ module _ (labels : LabelMap) (code : List Instr) (ts : List Target) (bytes : Lis
         whole = append_assoc so_far.before (one.line ∷ []) ls ∙ whole;
       }
 
-  pub so_far_fault : (text : List ℕ) (k : FaultKind) → left ≡ lines_of text
-      → ((before : Lines) → IsRead before labels code ts bytes → IsFaultLine before text k) → first_fault all ≡ Some (number + 1, k)
+  pub so_far_fault : (text : List ℕ) (found : LineFault) → left ≡ lines_of text
+      → ((before : Lines) → IsRead before labels code ts bytes → IsFaultLine before text found)
+      → (first_fault all ≡ Some (number + 1, found.kind)) × (found.at ≡ spot_of_line all (number + 1))
   unfolding first_after
-  so_far_fault text k is step =
+  so_far_fault text found is step =
       let one = step so_far.before so_far.read in
       let fault : first_after so_far.before (one.line ∷ one.others) ≡ first_fault all = rw (is ∙ one.lines) at so_far.fault in
+      let whole : so_far.before ++ one.line ∷ one.others ≡ all = rw (is ∙ one.lines) at so_far.whole in
       let place : length so_far.before + 1 ≡ number + 1 = omega (arith, so_far.count) in
-      sym (rw one.fault at fault) ∙ ap (λ (n : ℕ). Some (n, k)) place
+      let count : suc (length so_far.before) ≡ number + 1 = omega (arith, so_far.count) in
+      let part : spot_in so_far.before one.line ≡ spot_of_line all (number + 1) =
+      sym (spot_after so_far.before one.others one.line) ∙ ap (λ (ls : Lines). spot_of_line ls (suc (length so_far.before))) whole
+      ∙ ap (spot_of_line all) count in
+      (sym (rw one.fault.0 at fault) ∙ ap (λ (n : ℕ). Some (n, found.kind)) place, one.fault.1 ∙ part)
 
   pub so_far_done : left ≡ [] → (first_fault all ≡ None) × IsRead all labels code ts bytes
   unfolding first_after
@@ -85,6 +99,19 @@ listing_long bytes lt = rw (lt-ltb 4194304 (length bytes) lt) refl
 pub listing_fault : (bytes : List ℕ) (f : ℕ × FaultKind) → length bytes ≤ 4194304 → first_fault (lines_of bytes) ≡ Some f → listing bytes ≡ Err f
 unfolding listing
 listing_fault bytes f le e = rw (le-ltb 4194304 (length bytes) le, e) refl
+
+pub spot_long : (bytes : List ℕ) → 4194304 < length bytes → spot.Whole ≡ spot_of bytes
+unfolding spot_of
+spot_long bytes lt = rw (lt-ltb 4194304 (length bytes) lt) refl
+
+pub spot_fault : (bytes : List ℕ) (f : ℕ × FaultKind) (at : Spot) → length bytes ≤ 4194304 → first_fault (lines_of bytes) ≡ Some f
+    → at ≡ spot_of_line (lines_of bytes) f.0 → at ≡ spot_of bytes
+unfolding spot_of
+spot_fault bytes f at le e is = rw (le-ltb 4194304 (length bytes) le, e) is
+
+pub spot_unknown : (bytes : List ℕ) (at : Spot) → length bytes ≤ 4194304 → first_fault (lines_of bytes) ≡ None → at ≡ spot.Target → at ≡ spot_of bytes
+unfolding spot_of
+spot_unknown bytes at le e is = rw (le-ltb 4194304 (length bytes) le, e) is
 
 -- no line has a fault
 pub listing_done : (text : List ℕ) (labels : LabelMap) (code : List Instr) (ts : List Target) (bytes : List ℕ) (r : Result (List Instr) (ℕ × FaultKind))

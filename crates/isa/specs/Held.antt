@@ -1,13 +1,16 @@
 -- The state of the reader of a listing after the lines that it has read.
 use Rattle.std.specs.Prelude.{◌≡◌, ℕ, ◌++◌, List, [], ◌∷◌, length, Option, Some, None, Result, Ok}
 use Rattle.isa.specs.declared.listing.fault.FaultKind.{FaultKind}
+use Rattle.isa.specs.declared.listing.fault.LineFault.{LineFault}
 use Rattle.instructions.specs.declared.instr.Instr.{Instr}
 use Rattle.isa.specs.declared.listing.line.Target.{Target}
+use Rattle.isa.specs.declared.listing.statement.Added.{Added}
 use Rattle.std.specs.Option.{option_map}
 use Rattle.isa.specs.Statement.{Parsed, Line}
 use Rattle.lexical.specs.Line.{lines_of, lines_left}
 use Rattle.isa.specs.Labels.{LabelMap, AreHeld}
 use Rattle.isa.specs.Listing.{Lines, table, numbered, memory, fault_in}
+use Rattle.isa.specs.Spots.{spot_in}
 
 -- the label that an instruction names
 abbrev pub name_of : Target → Option (List ℕ)
@@ -32,6 +35,17 @@ pub record IsAdded (read : Result Line FaultKind) (code : List Parsed) (old new 
   pub grown : new ≡ old ++ bytes
   pub is : read ≡ Ok (record { code = code; bytes = bytes })
 
+-- the label that the instruction of a line names
+abbrev pub label_of : List Parsed → Option (List ℕ)
+label_of [] = None
+label_of (p ∷ ps) = p.label
+
+-- how much a line adds to a program, and the label that its instruction names
+pub record IsSizeOf (line : Line) (added : Added) : Type 0 where
+  pub instructions : added.instructions ≡ length line.code
+  pub bytes : added.bytes ≡ length line.bytes
+  pub label : option_map (λ t. t.now) added.label ≡ label_of line.code
+
 -- the state after the lines that were read
 pub record IsRead (before : Lines) (labels : LabelMap) (code : List Instr) (ts : List Target)
     (bytes : List ℕ) : Type 0 where
@@ -48,9 +62,13 @@ pub record IsReadLine (before : Lines) (text : List ℕ) (rest : Option (List �
   pub fault : fault_in before line ≡ None
   pub read : IsRead (before ++ line ∷ []) labels code ts bytes
 
+-- a line has this fault, in this part
+abbrev pub IsFaultIn : (before : Lines) → (line : List ℕ) → LineFault → Type 0
+IsFaultIn before line found = (fault_in before line ≡ Some found.kind) × (found.at ≡ spot_in before line)
+
 -- the first line of a text has this fault
-pub record IsFaultLine (before : Lines) (text : List ℕ) (kind : FaultKind) : Type 0 where
+pub record IsFaultLine (before : Lines) (text : List ℕ) (found : LineFault) : Type 0 where
   pub line : List ℕ
   pub others : Lines
   pub lines : lines_of text ≡ line ∷ others
-  pub fault : fault_in before line ≡ Some kind
+  pub fault : IsFaultIn before line found

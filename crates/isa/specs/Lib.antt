@@ -5,6 +5,7 @@ pub mod Forms
 pub mod Statement
 pub mod Listing
 pub mod Faults
+pub mod Spots
 pub mod Labels
 pub mod Held
 pub mod Report

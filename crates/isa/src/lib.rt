@@ -10,8 +10,8 @@ pub use instructions::{
     Predictor, Program, Reg, Stop, Taken, loaded, outcome, outcome_of, pc_plus_4,
 };
 pub use listing::{
-    FaultKind, Form, InstrText, Label, Operands, RegisterStyle, Slot, TextFault, directive_text,
-    form_of, forms, parse, parse_with_lines, register_in, text_is_read_back,
-    the_first_fault_is_named,
+    Added, FaultKind, Form, InstrText, Label, LineFault, Marked, Operands, RegisterStyle, Slot,
+    Spot, TextFault, directive_text, form_of, forms, parse, parse_marked, parse_with_lines,
+    register_in, statement_alone, text_is_read_back, the_first_fault_is_named,
 };
 pub use report::{Hexadecimal, RegisterName, fault_text, report_text};

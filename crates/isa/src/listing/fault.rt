@@ -1,8 +1,10 @@
 //! The faults of a listing.
 ghost use Rattle.std.specs.Prelude.{◌≡◌, ◌≢◌};
 ghost use Rattle.isa.specs.declared.listing.fault.FaultKind.TheVariants.{Memory};
+ghost use Rattle.isa.specs.declared.listing.spot.Spot.TheVariants.{Whole};
 ghost use Rattle.isa.specs.Reading.{fault_code, fault_name};
 
+use super::spot::Spot;
 use std::alloc::{AllocError, AllocFailed};
 use thiserror::Error;
 
@@ -90,6 +92,39 @@ pub struct TextFault {
     pub kind: FaultKind,
 }
 
+/// The fault for which a listing is refused, and the part of its line that is at fault.
+#[derive(Clone, Copy)]
+pub struct Marked {
+    pub fault: TextFault,
+    pub at: Spot,
+}
+
+/// A fault of a line, and the part that is at fault.
+#[derive(Clone, Copy)]
+pub struct LineFault {
+    pub kind: FaultKind,
+    pub at: Spot,
+}
+
+impl From<FaultKind> for LineFault {
+    ghost from_gives = { λ kind f. (f.kind ≡ kind) × (f.at ≡ Whole) };
+
+    fn from(kind: FaultKind) -> LineFault {
+        LineFault {
+            kind,
+            at: Spot::Whole,
+        }
+    }
+}
+
+impl From<Marked> for TextFault {
+    ghost from_gives = { λ marked f. f ≡ marked.fault };
+
+    fn from(marked: Marked) -> TextFault {
+        marked.fault
+    }
+}
+
 /// A fault of a line. Want of memory has no line.
 pub fn fault_at(line: u64, kind: FaultKind) -> TextFault
     ensures kind { result.kind ≡ kind }
@@ -109,6 +144,17 @@ impl From<AllocError> for TextFault {
         TextFault {
             line: 0,
             kind: FaultKind::Memory,
+        }
+    }
+}
+
+impl From<AllocError> for Marked {
+    ghost from_gives = { λ _ f. (f.fault.line ≡ 0) × (f.fault.kind ≡ Memory) };
+
+    fn from(error: AllocError) -> Marked {
+        Marked {
+            fault: TextFault::from(error),
+            at: Spot::Whole,
         }
     }
 }

@@ -54,8 +54,9 @@ impl<'a> Draft<'a> {
     }
 }
 
+/// Puts an operand into a draft.
 #[tactic(auto, unfolding(crate::specs::Statement::fill))]
-fn fill<'a>(draft: &mut Draft<'a>, slot: Slot, text: &'a [u8]) -> Result<(), FaultKind>
+pub fn fill<'a>(draft: &mut Draft<'a>, slot: Slot, text: &'a [u8]) -> Result<(), FaultKind>
     ensures ok { OnOk result
         (fill slot text.now (draft_view draft.old) ≡ Ok (draft_view draft.new)) }
     ensures err { IfErr result (λ e. fill slot text.now (draft_view draft.old) ≡ Err e) }

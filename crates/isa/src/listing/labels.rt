@@ -3,8 +3,10 @@ ghost use Rattle.std.specs.Prelude.{◌≡◌, ◌≢◌, ◌∷◌, ◌++◌, [
 ghost use Rattle.lexical.specs.Label.{labels_of, statement_of};
 ghost use Rattle.isa.specs.Labels.{address_of as address_of_name, ending_of, names_of, AreHeld};
 ghost use Rattle.isa.specs.Listing.{stands_in, is_double, labels_at};
+ghost use Rattle.isa.specs.Spots.{double_spot};
 
-use super::fault::FaultKind;
+use super::fault::{FaultKind, LineFault};
+use super::spot::Spot;
 use lexical::{next_label, trim};
 use std::collections::BTreeMap;
 
@@ -53,19 +55,26 @@ pub fn add_labels<'a>(
     labels: &mut Labels<'a>,
     code: &'a [u8],
     address: u32,
-) -> Result<&'a [u8], FaultKind>
+) -> Result<&'a [u8], LineFault>
     ensures ok { IfOk result (λ text. text.now ≡ statement_of code.entry.now) }
     ensures added { OnOk result ((held : List (List ℕ × ℕ)) → AreHeld labels.old held
         → (is_double (names_of held) (labels_of code.entry.now) ≡ false)
         × AreHeld labels.new (held ++ labels_at address (labels_of code.entry.now))) }
-    ensures double { IfErr result (λ e. e ≢ FaultKind.Memory → (e ≡ FaultKind.DoubleLabel)
+    ensures double { IfErr result (λ e. e.kind ≢ FaultKind.Memory
+        → (e.kind ≡ FaultKind.DoubleLabel)
         × ((held : List (List ℕ × ℕ)) → AreHeld labels.old held
-        → is_double (names_of held) (labels_of code.entry.now) ≡ true)) }
+        → (is_double (names_of held) (labels_of code.entry.now) ≡ true)
+        × (e.at ≡ double_spot 0 (names_of held) (labels_of code.entry.now)))) }
 {
+    let mut n = 0;
     let mut rest = code;
     while let Some((name, after)) = next_label(rest) {
-        add_label(labels, name, address)?;
+        if let Err(kind) = add_label(labels, name, address) {
+            let at = Spot::Label(n);
+            return Err(LineFault { kind, at });
+        }
         rest = after;
+        n += 1;
     }
     Ok(trim(rest))
 }

@@ -3,9 +3,9 @@ ghost use Rattle.std.specs.Prelude.{◌≡◌, ◌≢◌, ◌+◌, ◌≤◌, �
 ghost use Rattle.std.specs.Option.{option_map};
 ghost use Rattle.lexical.specs.Line.{plain_code};
 ghost use Rattle.isa.specs.Listing.{Lines, fault_in};
-ghost use Rattle.isa.specs.Held.{IsRead, IsReadLine, IsFaultLine};
+ghost use Rattle.isa.specs.Held.{IsRead, IsReadLine, IsFaultIn, IsFaultLine};
 
-use super::fault::FaultKind;
+use super::fault::{FaultKind, LineFault};
 use super::instruction::Draft;
 use super::labels::{Labels, add_labels};
 use super::statement::statement;
@@ -55,7 +55,7 @@ fn read_line<'a>(
     memory: &mut Vec<u8>,
     source: Option<&'a [u8]>,
     number: u32,
-) -> Result<(), FaultKind>
+) -> Result<(), LineFault>
     requires small_code { length code.old.items ≤ 16384 }
     requires small_memory { length memory.old.items ≤ 65536 }
     ensures small_code { OnOk result (length code.new.items ≤ 16384) }
@@ -67,23 +67,26 @@ fn read_line<'a>(
         → IsRead before labels.old code.old.items targets.old.items memory.old.items
         → (fault_in before line ≡ None) × IsRead (before ++ line ∷ []) labels.new code.new.items
         targets.new.items memory.new.items) }
-    ensures fault { IfErr result (λ e. e ≢ FaultKind.Memory → (before : Lines) (line : List ℕ)
+    ensures fault { IfErr result (λ e. e.kind ≢ FaultKind.Memory → (before : Lines) (line : List ℕ)
         → option_map (λ t. t.now) source.entry ≡ plain_code line
         → IsRead before labels.old code.old.items targets.old.items memory.old.items
-        → fault_in before line ≡ Some e) }
+        → IsFaultIn before line e) }
 {
-    let text = source.ok_or(FaultKind::NotAscii)?;
+    let Some(text) = source else {
+        return Err(LineFault::from(FaultKind::NotAscii));
+    };
     let index = code.len();
     let rest = add_labels(labels, text, Program::START + 4 * index as u32)?;
     let mut draft = Draft::new();
     let found = statement(memory, &mut draft, rest)?;
     if memory.len() > Program::MOST_BYTES {
-        return Err(FaultKind::TooLong);
+        return Err(LineFault::from(FaultKind::TooLong));
     }
     if !found {
         return Ok(());
     }
-    add_instruction(code, targets, draft, number)
+    add_instruction(code, targets, draft, number)?;
+    Ok(())
 }
 
 /// Reads the first line of a text. The result is the text after its line feed, if it has one.
@@ -94,7 +97,7 @@ pub fn read_first_line<'a>(
     memory: &mut Vec<u8>,
     text: &'a [u8],
     number: u32,
-) -> Result<Option<&'a [u8]>, FaultKind>
+) -> Result<Option<&'a [u8]>, LineFault>
     requires small_code { length code.old.items ≤ 16384 }
     requires small_memory { length memory.old.items ≤ 65536 }
     ensures small_code { OnOk result (length code.new.items ≤ 16384) }
@@ -107,7 +110,7 @@ pub fn read_first_line<'a>(
         → IsRead before labels.old code.old.items targets.old.items memory.old.items
         → IsReadLine before text.entry.now (option_map (λ r. r.now) rest) labels.new
         code.new.items targets.new.items memory.new.items) }
-    ensures fault { IfErr result (λ e. e ≢ FaultKind.Memory → (before : Lines)
+    ensures fault { IfErr result (λ e. e.kind ≢ FaultKind.Memory → (before : Lines)
         → IsRead before labels.old code.old.items targets.old.items memory.old.items
         → IsFaultLine before text.entry.now e) }
 {

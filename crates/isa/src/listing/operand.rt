@@ -37,7 +37,8 @@ pub fn label(text: &[u8]) -> Result<&[u8], FaultKind>
     }
 }
 
-fn offset(text: &[u8]) -> Result<u32, FaultKind>
+/// An offset, which may be left out.
+pub fn offset(text: &[u8]) -> Result<u32, FaultKind>
     ensures { Reads (λ n. n) result (offset text.now) }
 {
     if text.is_empty() {

@@ -3,7 +3,7 @@ use Rattle.std.proofs.lemmas.Result.{err_from_is_err_and}
 use Rattle.isa.specs.declared.listing.fault.FaultKind.{FaultKind}
 use Rattle.instructions.specs.Programs.{Program}
 use Rattle.isa.specs.Statement.{Parsed}
-use Rattle.isa.proofs.Whole.{listing_long, listing_fault, listing_done, read_nothing}
+use Rattle.isa.proofs.Whole.{listing_long, listing_fault, listing_done, read_nothing, spot_long, spot_fault, spot_unknown}
 use Rattle.isa.proofs.Rows.{lines_of_rows, written_back}
 use Rattle.isa.proofs.listing.read_all.Goals as goal
 
@@ -25,6 +25,21 @@ pub returns-in_err-read_lines-clause-fault : goal.returns-in_err-read_lines-clau
 returns-in_err-read_lines-clause-fault c =
     let p = err_from_is_err_and c.from_residual.result c.from_residual.ensures.1 in
     rw (p.1, p.2) (λ apart. listing_fault c.args.bytes.now _ c.if-bytes-gt-MOST_TEXT.false (c.in_err-read_lines.ensures.fault apart))
+
+pub returns-then-bytes-gt-MOST_TEXT-clause-at : goal.returns-then-bytes-gt-MOST_TEXT-clause-at
+returns-then-bytes-gt-MOST_TEXT-clause-at c = λ _. spot_long c.args.bytes.now c.if-bytes-gt-MOST_TEXT.true
+
+pub returns-in_err-read_lines-clause-at : goal.returns-in_err-read_lines-clause-at
+returns-in_err-read_lines-clause-at c =
+    let p = err_from_is_err_and c.from_residual.result c.from_residual.ensures.1 in
+    rw (p.1, p.2) (λ apart.
+    spot_fault c.args.bytes.now _ _ c.if-bytes-gt-MOST_TEXT.false (c.in_err-read_lines.ensures.fault apart) (c.in_err-read_lines.ensures.at apart))
+
+pub returns-in_err-resolve_all-clause-at : goal.returns-in_err-resolve_all-clause-at
+returns-in_err-resolve_all-clause-at c =
+    let p = err_from_is_err_and c.from_residual-in_err-resolve_all.result c.from_residual-in_err-resolve_all.ensures.1 in
+    rw (p.1, p.2) (λ _.
+    spot_unknown c.args.bytes.now _ c.if-bytes-gt-MOST_TEXT.false c.in_ok-read_lines.ensures.ok.0 c.in_err-resolve_all.ensures.at)
 
 pub returns-in_err-resolve_all-clause-fault : goal.returns-in_err-resolve_all-clause-fault
 returns-in_err-resolve_all-clause-fault c =

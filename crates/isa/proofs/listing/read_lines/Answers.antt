@@ -36,10 +36,17 @@ loop-rest-preserved c = record {
 
 pub returns-in-Err-clause-fault : goal.returns-in-Err-clause-fault
 returns-in-Err-clause-fault c = λ apart.
-    let kind_apart : c.in-Err.kind ≢ Memory = λ e. apart (c.fault_at.ensures.kind ∙ e) in
-    rw (c.fault_at.ensures.line kind_apart, c.from.ensures, c.fault_at.ensures.kind)
-    (so_far_fault _ _ _ _ c.loop-rest.number _ _ c.loop-rest.invariant.lines c.in-Some.text.now c.in-Err.kind
-    (ap left_of c.in-Some.is) (c.in-Err.ensures.fault kind_apart))
+    let kind_apart : c.in-Err.found.kind ≢ Memory = λ e. apart (c.fault_at-fault.ensures.kind ∙ e) in
+    rw (c.fault_at-fault.ensures.line kind_apart, c.from.ensures, c.fault_at-fault.ensures.kind)
+    (so_far_fault _ _ _ _ c.loop-rest.number _ _ c.loop-rest.invariant.lines c.in-Some.text.now c.in-Err.found
+    (ap left_of c.in-Some.is) (c.in-Err.ensures.fault kind_apart)).0
+
+pub returns-in-Err-clause-at : goal.returns-in-Err-clause-at
+returns-in-Err-clause-at c = λ apart.
+    let kind_apart : c.in-Err.found.kind ≢ Memory = λ e. apart (c.fault_at-fault.ensures.kind ∙ e) in
+    rw (c.fault_at-fault.ensures.line kind_apart, c.from.ensures)
+    (so_far_fault _ _ _ _ c.loop-rest.number _ _ c.loop-rest.invariant.lines c.in-Some.text.now c.in-Err.found
+    (ap left_of c.in-Some.is) (c.in-Err.ensures.fault kind_apart)).1
 
 pub returns-clause-ok : goal.returns-clause-ok
 returns-clause-ok c = so_far_done _ _ _ _ c.loop-rest.number _ _ c.loop-rest.invariant.lines (ap left_of c.in_default.is)

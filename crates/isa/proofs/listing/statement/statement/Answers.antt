@@ -1,10 +1,9 @@
 use Rattle.std.proofs.Common.{◌≡◌, ℕ, List, [], Option, Bor, ◌∙◌, sym, ap}
 use Rattle.std.specs.Option.{option_map}
 use Rattle.std.proofs.lemmas.List.{append-nil}
-use Rattle.std.proofs.lemmas.Result.{IfOk-weaker, IfErr-weaker}
 use Rattle.lexical.specs.Operand.{operands, operands_left}
 use Rattle.isa.specs.Statement.{statement, with_operands}
-use Rattle.isa.proofs.Statements.{statement_empty, statement_is}
+use Rattle.isa.proofs.Statements.{spot_is, statement_empty, statement_is}
 use Rattle.isa.proofs.listing.statement.statement.Goals as goal
 
 abbrev left_of : Option (Bor (List ℕ)) → List (List ℕ)
@@ -17,16 +16,17 @@ returns-then-is_empty-clause-ok c = record {
   is = statement_empty c.args.text.now (sym c.is_empty.ensures ∙ c.if-is_empty.true);
 }
 
-pub returns-clause-ok : goal.returns-clause-ok
-returns-clause-ok c =
-    let same : statement c.args.text.now ≡ with_operands c.cut_word.result.0.now (left_of c.operand_part.result) =
+pub returns-in-Ok-clause-ok : goal.returns-in-Ok-clause-ok
+returns-in-Ok-clause-ok c =
+    let same : statement c.args.text.now ≡ with_operands c.cut_word.result.0.now (left_of c.operand_part-part.result) =
     statement_is c.args.text.now _ _ (sym c.is_empty.ensures ∙ c.if-is_empty.false) c.cut_word.ensures.word
-    (c.operand_part.ensures ∙ ap operands c.cut_word.ensures.rest) in
-    IfOk-weaker c.with_operands.result _ _ (λ found added. record { bytes = added.bytes; grown = added.grown; is = same ∙ added.is }) c.with_operands.ensures.ok
+    (c.operand_part-part.ensures ∙ ap operands c.cut_word.ensures.rest) in
+    let added = c.in-Ok.ensures.ok in
+    record { bytes = added.bytes; grown = added.grown; is = same ∙ added.is }
 
-pub returns-clause-fault : goal.returns-clause-fault
-returns-clause-fault c =
-    let same : statement c.args.text.now ≡ with_operands c.cut_word.result.0.now (left_of c.operand_part.result) =
-    statement_is c.args.text.now _ _ (sym c.is_empty.ensures ∙ c.if-is_empty.false) c.cut_word.ensures.word
-    (c.operand_part.ensures ∙ ap operands c.cut_word.ensures.rest) in
-    IfErr-weaker c.with_operands.result _ _ (λ e was apart. same ∙ was apart) c.with_operands.ensures.fault
+pub returns-in-Err-clause-fault : goal.returns-in-Err-clause-fault
+returns-in-Err-clause-fault c = λ apart.
+    let parts = c.operand_part-part.ensures ∙ ap operands c.cut_word.ensures.rest in
+    let same : statement c.args.text.now ≡ with_operands c.cut_word.result.0.now (left_of c.operand_part-part.result) =
+    statement_is c.args.text.now _ _ (sym c.is_empty.ensures ∙ c.if-is_empty.false) c.cut_word.ensures.word parts in
+    (same ∙ c.in-Err.ensures.fault apart, c.spot_with-at.ensures ∙ spot_is c.args.text.now _ _ c.cut_word.ensures.word parts)
