@@ -1,55 +1,61 @@
--- The faults that are found in turn.
-use Rattle.std.proofs.Common.{◌≡◌, ◌-◌, ◌≤◌, ◌<◌, ◌++◌, ℕ, suc, false, List, [], ◌∷◌, length, Err, refl, sym, subst, append_assoc, arith}
-use Rattle.std.proofs.lemmas.List.{append-nil, length-append}
-use Rattle.isa.specs.declared.listing.fault.TextFault.{TextFault}
-use Rattle.isa.specs.Listing.{listing}
-use Rattle.checker.specs.Faults.{AreFaults, IsFollowed, IsGood, IsCleared, is_line}
-use Rattle.checker.specs.Faults.IsFollowed.{Cleared, Nowhere}
+-- The faults of lines, one after the other.
+use Rattle.std.proofs.Common.{◌≡◌, ◌∙◌, ◌+◌, ◌≤◌, ℕ, List, [], ◌∷◌, ◌++◌, length, take, Option, Some, None, refl, sym, ap, append_assoc}
+use Rattle.std.proofs.lemmas.List.{append-nil, take_all}
+use Rattle.isa.specs.declared.listing.fault.LineFault.{LineFault}
+use Rattle.isa.specs.declared.listing.fault.Marked.{Marked}
+use Rattle.isa.specs.Listing.{Lines, all_labels}
+use Rattle.checker.specs.Faults.{IsSeen, IsStep, Sight, after_line, all_faults, faults_from, numbered}
+use Rattle.checker.specs.declared.faults.Seen.{Seen}
 
--- the faults that the text has are the rest of all
-abbrev pub HasFound : (bytes text : List ℕ) (found : List TextFault) → Type 0
-HasFound bytes text found =
-    (rest : List TextFault) → AreFaults (200 - length found) text rest → AreFaults 200 bytes (found ++ rest)
+-- the faults that were found, and those of the lines that are left, are all
+abbrev pub HaveFound : (seen : Seen) (found : List Marked) (n : ℕ) (left all : Lines) → Type 0
+HaveFound seen found n left all =
+    (s : Sight) × (IsSeen seen s × (found ++ faults_from (all_labels all) (n + 1) s left ≡ all_faults all))
 
-left : (n : ℕ) → n < 200 → 200 - n ≡ suc (199 - n)
-left n few = omega (arith, few)
+pub none_found : (seen : Seen) (all : Lines) → IsSeen seen (record { names = []; instructions = 0; bytes = 0 }) → HaveFound seen [] 0 all all
+unfolding all_faults
+none_found seen all is = (record { names = []; instructions = 0; bytes = 0 }, (is, refl))
 
--- nothing is found at first
-pub begins : (bytes text : List ℕ) → text ≡ bytes → HasFound bytes text []
-begins bytes text is rest has = subst (λ (t : List ℕ). AreFaults 200 t rest) is has
+module _ (seen after : Seen) (found : List Marked) (n : ℕ) (left all : Lines) (line : List ℕ) (others : Lines) (fault : Option LineFault)
+    (so_far : HaveFound seen found n left all) (front : left ≡ line ∷ others)
+    (step : (s : Sight) → IsSeen seen s → IsStep fault after (after_line (all_labels all) s line)) where
+  more_found : HaveFound after (found ++ numbered (n + 1) fault) (n + 1) others all
+  more_found =
+      let s = so_far.0 in
+      let one = step s so_far.1.0 in
+      let next : Sight = (after_line (all_labels all) s line).1 in
+      let rest : List Marked = faults_from (all_labels all) (n + 1 + 1) next others in
+      let together : found ++ (numbered (n + 1) (after_line (all_labels all) s line).0 ++ rest) ≡ all_faults all = rw front at so_far.1.1 in (
+        next,
+        (
+          one.1,
+          append_assoc found (numbered (n + 1) fault) rest
+              ∙ ap (λ (f : Option LineFault). found ++ (numbered (n + 1) f ++ rest)) one.0 ∙ together,
+        ),
+      )
 
-ended : (bytes text : List ℕ) (found : List TextFault) → HasFound bytes text found → AreFaults (200 - length found) text []
-    → AreFaults 200 bytes found
-ended bytes text found has none = subst (AreFaults 200 bytes) (append-nil found) (has [] none)
+  pub none_more : fault ≡ None → HaveFound after found (n + 1) others all
+  none_more none =
+      let more : HaveFound after (found ++ []) (n + 1) others all = rw none at more_found in
+      rw (append-nil found) at more
 
--- the text has no fault
-pub ends_good : (bytes text : List ℕ) (found : List TextFault) → HasFound bytes text found → length found < 200
-    → IsGood (listing text) → AreFaults 200 bytes found
-ends_good bytes text found has few good =
-    ended bytes text found has (subst (λ (n : ℕ). AreFaults n text []) (sym (left (length found) few)) good)
+  pub one_more : (f : LineFault) → fault ≡ Some f → (new : List Marked)
+      → new ≡ found ++ record { fault = record { line = n + 1; kind = f.kind }; at = f.at } ∷ [] → HaveFound after new (n + 1) others all
+  one_more f is new e =
+      let more : HaveFound after (found ++ numbered (n + 1) (Some f)) (n + 1) others all = rw is at more_found in
+      rw e more
 
--- n are found
-pub ends_full : (bytes text : List ℕ) (found : List TextFault) → HasFound bytes text found → 200 ≤ length found
-    → AreFaults 200 bytes found
-ends_full bytes text found has full =
-    let none : 0 ≡ 200 - length found = omega (arith, full) in
-    ended bytes text found has (subst (λ (n : ℕ). AreFaults n text []) none refl)
+take_whole : (xs ys : List Marked) → take (length xs) (xs ++ ys) ≡ xs
+take_whole [] ys = refl
+take_whole (x ∷ xs) ys = ap (λ (l : List Marked). x ∷ l) (take_whole xs ys)
 
-more : (bytes text : List ℕ) (found rest : List TextFault) (f : TextFault) → HasFound bytes text found → length found < 200
-    → listing text ≡ Err (f.line, f.kind) → IsFollowed f.line text (AreFaults (199 - length found)) rest
-    → AreFaults 200 bytes (found ++ (f ∷ rest))
-more bytes text found rest f has few is follows =
-    has (f ∷ rest) (subst (λ (n : ℕ). AreFaults n text (f ∷ rest)) (sym (left (length found) few)) (is, follows))
+module _ (seen : Seen) (found : List Marked) (n : ℕ) (left all : Lines) (so_far : HaveFound seen found n left all) where
+  -- so many are found
+  pub found_most : (most : ℕ) → length found ≡ most → found ≡ take most (all_faults all)
+  found_most most is = rw (sym is, sym so_far.1.1) (sym (take_whole found _))
 
--- a fault is in no line
-pub ends_nowhere : (bytes text : List ℕ) (found : List TextFault) (f : TextFault) → HasFound bytes text found → length found < 200
-    → listing text ≡ Err (f.line, f.kind) → is_line f.line text ≡ false → AreFaults 200 bytes (found ++ f ∷ [])
-ends_nowhere bytes text found f has few is nowhere = more bytes text found [] f has few is (Nowhere nowhere refl)
-
--- a line is cleared
-pub goes_on : (bytes text better : List ℕ) (found : List TextFault) (f : TextFault) → HasFound bytes text found → length found < 200
-    → listing text ≡ Err (f.line, f.kind) → IsCleared f.line text better → HasFound bytes better (found ++ f ∷ [])
-goes_on bytes text better found f has few is cleared rest still =
-    let size : 200 - length (found ++ f ∷ []) ≡ 199 - length found = omega (arith, length-append found (f ∷ [])) in
-    let others : AreFaults (199 - length found) better rest = subst (λ (n : ℕ). AreFaults n better rest) size still in
-    subst (AreFaults 200 bytes) (sym (append_assoc found (f ∷ []) rest)) (more bytes text found rest f has few is (Cleared better cleared others))
+  -- no line is left
+  pub found_all : (most : ℕ) → length found ≤ most → left ≡ [] → found ≡ take most (all_faults all)
+  found_all most few none =
+      let together : found ++ [] ≡ all_faults all = rw none at so_far.1.1 in
+      sym (take_all most found few) ∙ ap (take most) (sym (append-nil found) ∙ together)

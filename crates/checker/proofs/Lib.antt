@@ -1,11 +1,11 @@
 mod Ended
 mod Explained
 mod FaultsFound
+mod LabelsNoted
 mod Keys
 mod LabelsWalked
 mod Lengths
 mod LinesCounted
-mod LongerTexts
 mod Remaining
 mod PartTexts
 mod Reached

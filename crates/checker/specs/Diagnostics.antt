@@ -5,10 +5,11 @@ use Rattle.std.specs.Prelude.{Option, Some, None, Result, Ok, Err, if◌then◌e
 use Rattle.lexical.specs.Line.{lines_of}
 use Rattle.isa.specs.declared.listing.fault.FaultKind.{FaultKind}
 use Rattle.isa.specs.declared.listing.fault.FaultKind.TheVariants as kind
-use Rattle.isa.specs.declared.listing.fault.TextFault.{TextFault}
+use Rattle.isa.specs.declared.listing.fault.Marked.{Marked}
 use Rattle.isa.specs.Listing.{Lines, labels}
 use Rattle.instructions.specs.Programs.{Program}
 use Rattle.isa.specs.Report.{fault_line, newline}
+use Rattle.isa.specs.Spots.{spot_of}
 use Rattle.checker.specs.Forms.{word_note}
 use Rattle.checker.specs.Lines.{numbered_line, word_in}
 use Rattle.checker.specs.Parts.{IsPartOf}
@@ -65,27 +66,27 @@ whole file kind = file ++ (codes ": " ++ (error ++ (sentence kind ++ newline)))
 
 -- the diagnostic of a fault: the line with its place and a mark under some part, some remedy without control characters, the
 -- rule that is broken, and the forms of the operation; a fault of the listing as a whole has no line
-abbrev pub IsExplanation : (file : List ℕ) → (number : ℕ) → FaultKind → Option (List ℕ) → List ℕ → Type 0
-IsExplanation file number kind None text = text ≡ whole file kind
-IsExplanation file number kind (Some line) text = (part : Part) × ((remedy : List ℕ) × (IsPartOf line part
-    × (text ≡ advice_text file number line part error remedy (sentence kind) ++ form_note kind line)))
+abbrev pub IsExplanation : (file : List ℕ) → Marked → Option (List ℕ) → List ℕ → Type 0
+IsExplanation file found None text = text ≡ whole file found.fault.kind
+IsExplanation file found (Some line) text = (part : Part) × ((remedy : List ℕ) × (IsPartOf line part
+    × (text ≡ advice_text file found.fault.line line part error remedy (sentence found.fault.kind) ++ form_note found.fault.kind line)))
 
 -- the new text is the old one with a diagnostic behind it
-pub record IsExplanationBehind (file : List ℕ) (number : ℕ) (kind : FaultKind) (line : Option (List ℕ)) (old new : List ℕ) : Type 0 where
+pub record IsExplanationBehind (file : List ℕ) (found : Marked) (line : Option (List ℕ)) (old new : List ℕ) : Type 0 where
   pub rest : List ℕ
   pub is : new ≡ old ++ rest
-  pub explains : IsExplanation file number kind line rest
+  pub explains : IsExplanation file found line rest
 
 -- the new text is the old one with the diagnostics of these faults behind it
-abbrev pub AreExplained : (file bytes : List ℕ) → List TextFault → (old new : List ℕ) → Type 0
+abbrev pub AreExplained : (file bytes : List ℕ) → List Marked → (old new : List ℕ) → Type 0
 AreExplained file bytes [] old new = new ≡ old
 AreExplained file bytes (f ∷ fs) old new = (text : List ℕ)
-    × (IsExplanationBehind file f.line f.kind (numbered_line f.line (lines_of bytes)) old text × AreExplained file bytes fs text new)
+    × (IsExplanationBehind file f (numbered_line f.fault.line (lines_of bytes)) old text × AreExplained file bytes fs text new)
 
 -- the line that a report has for the fault, and the diagnostics of the chosen faults
-abbrev pub IsExplained : (file : List ℕ) → (all : Bool) → (bytes : List ℕ) → (line : ℕ) → FaultKind → List ℕ → Type 0
-IsExplained file all bytes line kind text = (chosen : List TextFault)
-    × (AreChosen all bytes (record { line = line; kind = kind }) chosen × AreExplained file bytes chosen (fault_line line kind) text)
+abbrev pub IsExplained : (file : List ℕ) → (all : Bool) → (bytes : List ℕ) → Marked → List ℕ → Type 0
+IsExplained file all bytes first text = (chosen : List Marked)
+    × (AreChosen all bytes first chosen × AreExplained file bytes chosen (fault_line first.fault.line first.fault.kind) text)
 
 -- ---- any listing
 
@@ -95,4 +96,4 @@ IsCheckOf file all bytes (Ok P) status text =
     (status ≡ 0)
     × AreWarned file bytes P (counts_text (length P.code) (how_many_labels (lines_of bytes)) (length P.bytes)) text
 IsCheckOf file all bytes (Err fault) status text =
-    (status ≡ 2) × IsExplained file all bytes fault.0 fault.1 text
+    (status ≡ 2) × IsExplained file all bytes (record { fault = record { line = fault.0; kind = fault.1 }; at = spot_of bytes }) text

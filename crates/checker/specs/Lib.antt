@@ -6,6 +6,7 @@ pub mod Parts
 pub mod Quotes
 pub mod Names
 pub mod Spots
+pub mod Keys
 pub mod Faults
 pub mod Reach
 pub mod Warnings

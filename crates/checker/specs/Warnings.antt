@@ -2,9 +2,7 @@
 use Rattle.std.specs.Prelude.{◌≡◌, ◌-◌, ◌==◌, ◌++◌, ℕ, Bool, false, true, List, [], ◌∷◌, codes, drop, length, Some, IfSome, is_some, slice_get, if◌then◌else◌}
 use Rattle.std.specs.List.{flat_map, after_first}
 use Rattle.std.specs.Borrow.{Bor}
-use Rattle.std.specs.BTreeMap.{BTreeMap, get_by}
-use Rattle.std.specs.Cmp.Lexicographic.{slice_cmp}
-use Rattle.std.specs.Ordering.{nat_cmp}
+use Rattle.std.specs.BTreeMap.{BTreeMap}
 use Rattle.lexical.specs.Blank.{is_blank}
 use Rattle.lexical.specs.Label.{statement_of}
 use Rattle.lexical.specs.Line.{before_comment, lines_of}
@@ -12,6 +10,7 @@ use Rattle.lexical.specs.Operand.{operands}
 use Rattle.instructions.specs.Programs.{Program}
 use Rattle.isa.specs.Listing.{Lines, labels, stands_in, instruction_lines}
 use Rattle.isa.specs.Statement.{directive_text}
+use Rattle.checker.specs.Keys.{AreNames}
 use Rattle.checker.specs.Lines.{numbered_line, word_in}
 use Rattle.checker.specs.Parts.{IsPartOf, part_text}
 use Rattle.checker.specs.Reach.{HasPath, HavePaths, IsClosedSet, IsStackUnset, IsUnreached, may_run_past_end}
@@ -43,13 +42,9 @@ operands_of_line line = operands (after_first is_blank (statement_of (before_com
 abbrev pub all_operands : Lines → List (List ℕ)
 all_operands ls = flat_map operands_of_line ls
 
--- whether a name is a key of a map
-abbrev pub has_key : BTreeMap (Bor (List ℕ)) ℕ → List ℕ → Bool
-has_key map name = is_some (get_by (λ k. slice_cmp nat_cmp name k.now) map)
-
--- the keys of a map are the operands of all lines
+-- the names are the operands of all lines
 abbrev pub AreOperandsOf : Lines → BTreeMap (Bor (List ℕ)) ℕ → Type 0
-AreOperandsOf ls map = (name : List ℕ) → has_key map name ≡ stands_in (all_operands ls) name
+AreOperandsOf ls map = AreNames map (all_operands ls)
 
 -- whether the first statement of lines is data
 abbrev pub begin_with_data : Lines → Bool

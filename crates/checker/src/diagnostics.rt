@@ -8,7 +8,7 @@ use crate::explanation::explained;
 use crate::file_name::shown_name;
 use crate::summary::counted;
 use crate::warnings::push_warnings;
-use isa::{FaultKind, parse_with_lines};
+use isa::{FaultKind, parse_marked};
 use std::alloc::{AllocError, Global};
 
 // The status and the text for a listing, with the name of its file as it is shown.
@@ -21,15 +21,15 @@ fn diagnosed(
     ensures { IfOk result (λ found.
         IsCheckOf file.now all bytes.now (listing bytes.now) found.0 found.1.items) }
 {
-    match parse_with_lines(alloc, bytes) {
+    match parse_marked(alloc, bytes) {
         Ok((program, lines)) => {
             let mut text = counted(alloc, &program, bytes)?;
             push_warnings(alloc, &mut text, file, bytes, &program, lines.as_slice())?;
             Ok((0, text))
         },
-        Err(fault) if fault.kind == FaultKind::Memory => Err(AllocError),
-        Err(fault) => {
-            let text = explained(alloc, file, bytes, all, &fault)?;
+        Err(found) if found.fault.kind == FaultKind::Memory => Err(AllocError),
+        Err(found) => {
+            let text = explained(alloc, file, bytes, all, found)?;
             Ok((2, text))
         },
     }

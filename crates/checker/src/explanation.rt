@@ -1,19 +1,18 @@
 //! The diagnostics of faults.
-ghost use Rattle.std.specs.Prelude.{◌≡◌, ◌++◌, IfOk, OnOk, None, Some};
+ghost use Rattle.std.specs.Prelude.{◌≡◌, ◌++◌, IfOk, OnOk, Some};
 ghost use Rattle.std.specs.Option.{option_map};
 ghost use Rattle.lexical.specs.Line.{lines_of};
 ghost use Rattle.checker.specs.Diagnostics.{AreExplained, IsExplained, IsExplanationBehind};
 ghost use Rattle.checker.specs.Lines.{numbered_line};
-ghost use Rattle.checker.specs.Diagnostics.{form_note, sentence};
+ghost use Rattle.checker.specs.Diagnostics.{form_note, sentence, whole};
 
-use super::blame::part_at_fault;
-use super::clearing::Labels;
 use super::faults::chosen_faults;
 use super::forms::push_forms;
 use super::lines::{numbered_line, word_in};
+use super::marks::marked;
 use super::remedies::remedy;
 use super::spot::{Spot, push_advice};
-use isa::{FaultKind, TextFault, fault_text};
+use isa::{FaultKind, Marked, fault_text};
 use std::alloc::{AllocError, Global};
 
 // The beginning of a diagnostic of a fault.
@@ -72,20 +71,20 @@ fn push_line(
     alloc: Global,
     text: &mut Vec<u8>,
     source: Source<'_>,
-    labels: &Labels<'_>,
-    fault: TextFault,
+    found: Marked,
     line: &[u8],
 ) -> Result<(), AllocError>
-    ensures { OnOk result (IsExplanationBehind source.entry.file.now fault.line fault.kind
-        (Some line.now) text.old.items text.new.items) }
+    ensures { OnOk result (IsExplanationBehind source.entry.file.now found (Some line.now)
+        text.old.items text.new.items) }
 {
+    let fault = found.fault;
     let spot = Spot {
         file: source.file,
         number: fault.line,
         line,
     };
-    let part = part_at_fault(labels, line, fault);
-    let remedy = remedy(alloc, source.bytes, labels, line, fault)?;
+    let part = marked(line, found.at);
+    let remedy = remedy(alloc, source.bytes, line, found)?;
     let rule = sentence(fault.kind);
     push_advice(alloc, text, spot, part, ERROR, remedy.as_slice(), rule)?;
     push_form(text, fault.kind, line)?;
@@ -93,14 +92,13 @@ fn push_line(
 }
 
 // Adds the diagnostic of a fault of the listing as a whole.
-fn push_whole(text: &mut Vec<u8>, file: &[u8], fault: TextFault) -> Result<(), AllocError>
-    ensures { OnOk result (IsExplanationBehind file.now fault.line fault.kind
-        None text.old.items text.new.items) }
+fn push_whole(text: &mut Vec<u8>, file: &[u8], kind: FaultKind) -> Result<(), AllocError>
+    ensures { OnOk result (text.new.items ≡ text.old.items ++ whole file.now kind) }
 {
     text.extend_from_slice(file)?;
     text.extend_from_slice(b": ")?;
     text.extend_from_slice(ERROR.as_bytes())?;
-    text.extend_from_slice(sentence(fault.kind).as_bytes())?;
+    text.extend_from_slice(sentence(kind).as_bytes())?;
     text.extend_from_slice(b"\n")
 }
 
@@ -109,16 +107,15 @@ fn push_explanation(
     alloc: Global,
     text: &mut Vec<u8>,
     source: Source<'_>,
-    labels: &Labels<'_>,
-    fault: TextFault,
+    found: Marked,
 ) -> Result<(), AllocError>
-    ensures { OnOk result (IsExplanationBehind source.entry.file.now fault.line fault.kind
-        (numbered_line fault.line (lines_of source.entry.bytes.now))
+    ensures { OnOk result (IsExplanationBehind source.entry.file.now found
+        (numbered_line found.fault.line (lines_of source.entry.bytes.now))
         text.old.items text.new.items) }
 {
-    match numbered_line(source.bytes, fault.line) {
-        Some(line) => push_line(alloc, text, source, labels, fault, line),
-        None => push_whole(text, source.file, fault),
+    match numbered_line(source.bytes, found.fault.line) {
+        Some(line) => push_line(alloc, text, source, found, line),
+        None => push_whole(text, source.file, found.fault.kind),
     }
 }
 
@@ -127,14 +124,13 @@ fn push_all(
     alloc: Global,
     text: &mut Vec<u8>,
     source: Source<'_>,
-    labels: &Labels<'_>,
-    faults: &[TextFault],
+    faults: &[Marked],
 ) -> Result<(), AllocError>
     ensures { OnOk result (AreExplained source.entry.file.now source.entry.bytes.now faults.now
         text.old.items text.new.items) }
 {
     for fault in faults {
-        push_explanation(alloc, text, source, labels, *fault)?;
+        push_explanation(alloc, text, source, *fault)?;
     }
     Ok(())
 }
@@ -146,16 +142,15 @@ pub(crate) fn explained<'a>(
     file: &'a [u8],
     bytes: &'a [u8],
     all: bool,
-    fault: &TextFault,
+    first: Marked,
 ) -> Result<Vec<u8>, AllocError>
-    ensures { IfOk result (λ text. IsExplained file.entry.now all bytes.entry.now
-        fault.now.line fault.now.kind text.items) }
+    ensures { IfOk result (λ text. IsExplained file.entry.now all bytes.entry.now first
+        text.items) }
 {
-    let head = fault_text(alloc, fault)?;
-    let labels = Labels::of(alloc, bytes)?;
+    let head = fault_text(alloc, &first.fault)?;
     let source = Source { file, bytes };
-    let faults = chosen_faults(alloc, bytes, &labels, all, fault)?;
+    let faults = chosen_faults(alloc, bytes, all, first)?;
     let mut text = head.into_bytes();
-    push_all(alloc, &mut text, source, &labels, faults.as_slice())?;
+    push_all(alloc, &mut text, source, faults.as_slice())?;
     Ok(text)
 }

@@ -1,15 +1,15 @@
 //! The program `checker`, which is `./ruu check FILE`: its words, its file and its standard streams.
 #![tactic(auto)]
 
-mod blame;
 mod checking;
-mod clearing;
 mod diagnostics;
 mod explanation;
 mod faults;
 mod file_name;
 mod forms;
 mod lines;
+mod marks;
+mod names;
 mod parts;
 mod quoting;
 mod reach;

@@ -1,12 +1,12 @@
 //! The parts of a line: its labels, its statement, its word and its operands.
-ghost use Rattle.std.specs.Prelude.{◌≡◌, ◌+◌, ◌≤◌, ◌<◌, ◌∷◌, IfSome, slice_range};
-ghost use Rattle.std.specs.List.{prefix_len};
+ghost use Rattle.std.specs.Prelude.{◌≡◌, ◌==◌, ◌<◌, ◌∷◌, [], IfNone, IfSome};
+ghost use Rattle.std.specs.List.{prefix_len, slice_split};
 ghost use Rattle.lexical.specs.Blank.{is_blank, trim};
 ghost use Rattle.lexical.specs.Label.{labels_of};
 ghost use Rattle.lexical.specs.Line.{before_comment};
 ghost use Rattle.checker.specs.Parts.{IsPartOf, LiesIn, part_text};
 
-use lexical::{before_comment, cut, is_blank, is_name, trim};
+use lexical::{before_comment, cut, cut_word, is_blank, is_name, trim};
 
 /// A part of a line: from the byte `from` up to the byte `to`, which is behind it.
 #[derive(Clone, Copy)]
@@ -15,38 +15,11 @@ pub(crate) struct Part {
     pub to: usize,
 }
 
-/// The first place of a byte in a part.
-pub(crate) fn find(line: &[u8], part: Part, byte: u8) -> Option<usize>
-    requires { IsPartOf line.now part }
-    ensures { IfSome result (λ at. (part.from ≤ at) × (at < part.to)) }
-{
-    for at in part.from..part.to {
-        if line[at] == byte {
-            return Some(at);
-        }
-    }
-    None
-}
-
 // The number of blanks at the front of a text.
 fn blanks(text: &[u8]) -> usize
     ensures { result ≡ prefix_len is_blank text.now }
 {
     text.iter().take_while(|byte| is_blank(**byte)).count()
-}
-
-// The place of the first blank of a part, or the end.
-fn before_blank(line: &[u8], part: Part) -> usize
-    requires { IsPartOf line.now part }
-    ensures least { part.from ≤ result }
-    ensures most { result ≤ part.to }
-{
-    for at in part.from..part.to {
-        if is_blank(line[at]) {
-            return at;
-        }
-    }
-    part.to
 }
 
 /// A part without the blanks at its ends.
@@ -70,20 +43,32 @@ pub(crate) fn code(line: &[u8]) -> Part
     Part { from: 0, to }
 }
 
-// The place of the colon behind the label at the front of a part, if there is one.
-fn colon(line: &[u8], part: Part) -> Option<usize>
+/// The parts before and after the first place of a byte, if it is there.
+pub(crate) fn split(line: &[u8], part: Part, byte: u8) -> Option<(Part, Part)>
     requires { IsPartOf line.now part }
-    ensures inside { IfSome result (λ at. (part.from ≤ at) × (at < part.to)) }
-    ensures label { IfSome result (λ at. labels_of (part_text line.now part)
-        ≡ trim (slice_range line.now part.from at)
-        ∷ labels_of (slice_range line.now (at + 1) part.to)) }
+    ensures front { IfSome result (λ found. LiesIn part found.0) }
+    ensures behind { IfSome result (λ found. LiesIn part found.1) }
+    ensures shorter { IfSome result (λ found. part.from < found.1.from) }
+    ensures texts { IfSome result (λ found. slice_split (λ b. b == byte) (part_text line.now part)
+        ≡ part_text line.now found.0
+        ∷ slice_split (λ b. b == byte) (part_text line.now found.1)) }
+    ensures whole { IfNone result (slice_split (λ b. b == byte) (part_text line.now part)
+        ≡ part_text line.now part ∷ []) }
 {
-    let (front, behind) = cut(&line[part.from..part.to], b':');
-    if behind.is_some() && is_name(trim(front)) {
-        Some(part.from + front.len())
-    } else {
-        None
+    let (front, behind) = cut(&line[part.from..part.to], byte);
+    if behind.is_none() {
+        return None;
     }
+    let at = part.from + front.len();
+    let before = Part {
+        from: part.from,
+        to: at,
+    };
+    let after = Part {
+        from: at + 1,
+        to: part.to,
+    };
+    Some((before, after))
 }
 
 /// The name of the label at the front of a part, if there is one, and the part behind its colon.
@@ -95,30 +80,13 @@ pub(crate) fn label_at(line: &[u8], part: Part) -> Option<(Part, Part)>
     ensures label { IfSome result (λ found. labels_of (part_text line.now part)
         ≡ part_text line.now found.0 ∷ labels_of (part_text line.now found.1)) }
 {
-    let at = colon(line, part)?;
-    let front = Part {
-        from: part.from,
-        to: at,
-    };
-    let behind = Part {
-        from: at + 1,
-        to: part.to,
-    };
-    Some((trimmed(line, front), behind))
-}
-
-// The place at which the labels end, behind their last colon.
-fn behind_labels(line: &[u8], code: Part) -> usize
-    requires { IsPartOf line.now code }
-    ensures least { code.from ≤ result }
-    ensures most { result ≤ code.to }
-{
-    let to = code.to;
-    let mut from = code.from;
-    while let Some(at) = colon(line, Part { from, to }) {
-        from = at + 1;
+    let found = split(line, part, b':')?;
+    let name = trimmed(line, found.0);
+    if is_name(&line[name.from..name.to]) {
+        Some((name, found.1))
+    } else {
+        None
     }
-    from
 }
 
 /// The statement of a line: its code without labels and without blanks at its ends.
@@ -126,31 +94,47 @@ pub(crate) fn statement(line: &[u8], code: Part) -> Part
     requires { IsPartOf line.now code }
     ensures { LiesIn code result }
 {
-    let from = behind_labels(line, code);
-    trimmed(line, Part { from, to: code.to })
+    let mut rest = code;
+    while let Some((_, behind)) = label_at(line, rest) {
+        rest = behind;
+    }
+    trimmed(line, rest)
 }
 
-/// The word of a statement.
-pub(crate) fn word(line: &[u8], statement: Part) -> Part
-    requires { IsPartOf line.now statement }
-    ensures { LiesIn statement result }
+/// The first word of a part: all before its first blank.
+pub(crate) fn word(line: &[u8], part: Part) -> Part
+    requires { IsPartOf line.now part }
+    ensures { LiesIn part result }
 {
-    let to = before_blank(line, statement);
+    let (word, _) = cut_word(&line[part.from..part.to]);
     Part {
-        from: statement.from,
-        to,
+        from: part.from,
+        to: part.from + word.len(),
     }
 }
 
-/// The operands of a statement; where there are none, the place behind the word.
-pub(crate) fn operands(line: &[u8], statement: Part) -> Part
-    requires { IsPartOf line.now statement }
-    ensures { LiesIn statement result }
+/// What stands behind the first word of a part.
+pub(crate) fn behind_word(line: &[u8], part: Part) -> Part
+    requires { IsPartOf line.now part }
+    ensures { LiesIn part result }
 {
-    let word = word(line, statement);
+    let word = word(line, part);
     let behind = Part {
         from: word.to,
-        to: statement.to,
+        to: part.to,
     };
     trimmed(line, behind)
+}
+
+/// The first operand, and the operands behind its comma, if it has one.
+pub(crate) fn next_operand(line: &[u8], operands: Part) -> (Part, Option<Part>)
+    requires { IsPartOf line.now operands }
+    ensures first { LiesIn operands result.0 }
+    ensures rest { IfSome result.1 (LiesIn operands) }
+    ensures shorter { IfSome result.1 (λ rest. operands.from < rest.from) }
+{
+    match split(line, operands, b',') {
+        Some((first, rest)) => (trimmed(line, first), Some(rest)),
+        None => (trimmed(line, operands), None),
+    }
 }

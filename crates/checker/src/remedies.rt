@@ -18,12 +18,11 @@ mod tried;
 pub(crate) mod warned;
 mod words;
 
-use super::blame::other_comment;
-use super::clearing::Labels;
+use super::marks::other_comment;
 use super::parts::code;
 use super::statements::{Statement, statement_in};
 use instead::{example, instead};
-use isa::{FaultKind, TextFault};
+use isa::{FaultKind, Marked};
 use lexical::before_comment;
 use sentences::{Remedy, filled, said};
 use std::alloc::{AllocError, Global};
@@ -45,20 +44,19 @@ fn is_of_statement(kind: FaultKind) -> bool {
 // What is said of the fault of a line before instructions are tried in its place, if anything is.
 fn said_first<'a>(
     bytes: &'a [u8],
-    labels: &Labels<'_>,
     line: &'a [u8],
     statement: &Statement<'a>,
-    fault: TextFault,
+    found: Marked,
 ) -> Option<Remedy<'a>> {
     let code_text = before_comment(line);
     let has_other_comment = other_comment(line, code(line)).is_some();
     let second = second::statement(code_text);
-    let sentence = match fault.kind {
+    let sentence = match found.fault.kind {
         FaultKind::NotAscii if bytes.starts_with(EXECUTABLE) => {
             "Write ./ruu listing FILE for its listing: this is an executable."
         },
         FaultKind::NotAscii => characters::sentence(code_text)?,
-        FaultKind::DoubleLabel => return labels::double(labels, line, fault.line),
+        FaultKind::DoubleLabel => return labels::double(bytes, line, found.at),
         FaultKind::UnknownLabel => return labels::unknown(bytes, statement),
         FaultKind::TooLong | FaultKind::Memory => return None,
         _ if second.is_some() => return second,
@@ -72,12 +70,8 @@ fn said_first<'a>(
 }
 
 // What is said where no instructions can be written in place of a statement, if anything is.
-fn said_last<'a>(
-    line: &'a [u8],
-    statement: &Statement<'a>,
-    fault: TextFault,
-) -> Option<Remedy<'a>> {
-    match fault.kind {
+fn said_last<'a>(line: &'a [u8], statement: &Statement<'a>, kind: FaultKind) -> Option<Remedy<'a>> {
+    match kind {
         FaultKind::UnknownOp => words::unknown(before_comment(line), statement),
         _ => {
             numbers::bare_number(statement)?;
@@ -90,21 +84,21 @@ fn said_last<'a>(
 pub(crate) fn remedy(
     alloc: Global,
     bytes: &[u8],
-    labels: &Labels<'_>,
     line: &[u8],
-    fault: TextFault,
+    found: Marked,
 ) -> Result<Vec<u8>, AllocError> {
     let statement = statement_in(line);
-    if is_of_statement(fault.kind) {
+    let kind = found.fault.kind;
+    if is_of_statement(kind) {
         if let Some(sentence) = rewritten(alloc, bytes, line, &statement)? {
             return Ok(sentence);
         }
     }
-    if let Some(remedy) = said_first(bytes, labels, line, &statement, fault) {
+    if let Some(remedy) = said_first(bytes, line, &statement, found) {
         return filled(alloc, &remedy, &statement);
     }
-    if is_of_statement(fault.kind) && fault.kind != FaultKind::BadRegister {
-        in_place(alloc, line, &statement, fault)
+    if is_of_statement(kind) && kind != FaultKind::BadRegister {
+        in_place(alloc, line, &statement, kind)
     } else {
         Ok(Vec::new(alloc))
     }
@@ -137,7 +131,7 @@ fn in_place(
     alloc: Global,
     line: &[u8],
     statement: &Statement<'_>,
-    fault: TextFault,
+    kind: FaultKind,
 ) -> Result<Vec<u8>, AllocError> {
     if let Some(sentence) = instead(alloc, statement)? {
         return Ok(sentence);
@@ -145,10 +139,10 @@ fn in_place(
     if let Some(sentence) = addresses::example(alloc, statement)? {
         return Ok(sentence);
     }
-    if let Some(remedy) = said_last(line, statement, fault) {
+    if let Some(remedy) = said_last(line, statement, kind) {
         return filled(alloc, &remedy, statement);
     }
-    if fault.kind == FaultKind::UnknownOp {
+    if kind == FaultKind::UnknownOp {
         if let Some(sentence) = example(alloc, statement)? {
             return Ok(sentence);
         }

@@ -10,6 +10,7 @@ ghost use Rattle.checker.specs.Warnings.{IsKnown, IsOfInstruction, IsSpotOf, sai
 mod labels;
 mod operands;
 
+use super::names::Names;
 use super::parts::{Part, code, statement};
 use super::reach::{Paths, ends_path, is_closed, reached, reads_stack};
 use super::remedies::warned;
@@ -17,7 +18,7 @@ use super::spot::{Spot, push_advice};
 use instructions::Program;
 use labels::{Next, begin_with_data, is_data_after, push_labels};
 use lexical::next_line;
-use operands::{Operands, operands_of};
+use operands::operands_of;
 use std::alloc::{AllocError, Global};
 
 // The beginning of a warning.
@@ -172,7 +173,7 @@ fn push_lines(
     alloc: Global,
     text: &mut Vec<u8>,
     good: &Good<'_>,
-    operands: &Operands<'_>,
+    operands: &Names<'_>,
 ) -> Result<(), AllocError>
     requires operands { AreOperandsOf (lines_of good.now.bytes.now) operands.now }
     requires known { IsKnown good.now }

@@ -1,30 +1,45 @@
 //! Remedies of labels that stand twice, or nowhere.
 
-use super::super::clearing::Labels;
-use super::super::parts::{code, label_at};
+use super::super::marks::label;
+use super::super::parts::code;
 use super::super::statements::Statement;
 use super::sentences::{Remedy, counting};
 use super::words::is_one_away;
+use isa::Spot;
 use lexical::{before_comment, next_label, next_line};
 
 /// The remedy of a label that stands twice: the line of the first place.
-pub(crate) fn double<'a>(labels: &Labels<'_>, line: &'a [u8], number: u64) -> Option<Remedy<'a>> {
-    let mut rest = code(line);
-    while let Some((part, behind)) = label_at(line, rest) {
-        let name = &line[part.from..part.to];
-        match labels.first(name) {
-            Some(first) if labels.is_double(line, part, number) => {
-                let sentence = "Write another name: @4 stands first in line @6.";
-                return Some(counting(sentence, name, [first.line.cast_signed(), 0]));
-            },
-            _ => rest = behind,
-        }
-    }
-    None
+pub(crate) fn double<'a>(bytes: &[u8], line: &'a [u8], at: Spot) -> Option<Remedy<'a>> {
+    let Spot::Label(n) = at else {
+        return None;
+    };
+    let part = label(line, code(line), n);
+    let name = &line[part.from..part.to];
+    let (_, first) = first_like(bytes, name, Likeness::Same)?;
+    let sentence = "Write another name: @4 stands first in line @6.";
+    Some(counting(sentence, name, [first.cast_signed(), 0]))
 }
 
-// The first label that is a name in letters of either case, or else is one edit away from it, with its line.
-fn first_like<'a>(bytes: &'a [u8], name: &[u8], is_in_any_case: bool) -> Option<(&'a [u8], u64)> {
+// How a label is like a name.
+#[derive(Clone, Copy)]
+enum Likeness {
+    Same,
+    InAnyCase,
+    OneAway,
+}
+
+impl Likeness {
+    fn holds(self, label: &[u8], name: &[u8]) -> bool {
+        match self {
+            Likeness::Same => label == name,
+            Likeness::InAnyCase => label.eq_ignore_ascii_case(name),
+            Likeness::OneAway => is_one_away(label, name),
+        }
+    }
+}
+
+// The first label that is like a name, with its line.
+fn first_like<'a>(bytes: &'a [u8], name: &[u8], likeness: Likeness) -> Option<(&'a [u8], u64)> {
     let mut number = 0u64;
     let mut rest = Some(bytes);
     while let Some(text) = rest {
@@ -32,12 +47,7 @@ fn first_like<'a>(bytes: &'a [u8], name: &[u8], is_in_any_case: bool) -> Option<
         number = number.wrapping_add(1);
         let mut code = before_comment(line);
         while let Some((label, behind)) = next_label(code) {
-            let is_like = if is_in_any_case {
-                label.eq_ignore_ascii_case(name)
-            } else {
-                is_one_away(label, name)
-            };
-            if is_like {
+            if likeness.holds(label, name) {
                 return Some((label, number));
             }
             code = behind;
@@ -55,11 +65,11 @@ pub(crate) fn unknown<'a>(bytes: &'a [u8], statement: &Statement<'_>) -> Option<
         2 => second,
         _ => third,
     };
-    if let Some((label, line)) = first_like(bytes, name, true) {
+    if let Some((label, line)) = first_like(bytes, name, Likeness::InAnyCase) {
         let sentence = "Write @4, as in line @6: the case of letters counts.";
         return Some(counting(sentence, label, [line.cast_signed(), 0]));
     }
-    let (label, line) = first_like(bytes, name, false)?;
+    let (label, line) = first_like(bytes, name, Likeness::OneAway)?;
     let sentence = "Is @4 meant, which stands in line @6?";
     Some(counting(sentence, label, [line.cast_signed(), 0]))
 }

@@ -4,7 +4,8 @@ use super::super::forms::takes_label;
 use super::super::statements::Statement;
 use super::registers::without_dollar;
 use super::sentences::{Remedy, counting, said};
-use lexical::{begins_number, parenthesized};
+use isa::register_in;
+use lexical::{begins_number, is_name, parenthesized};
 
 // The remedy of an operand that is no register, number or address.
 fn operand<'a>(operand: &'a [u8]) -> Option<Remedy<'a>> {
@@ -41,6 +42,16 @@ pub(crate) fn odd_operand<'a>(statement: &Statement<'a>) -> Option<Remedy<'a>> {
         if found.is_some() && !is_label {
             return found;
         }
+    }
+    one_register(statement)
+}
+
+// The remedy of a branch on two registers that names one alone.
+fn one_register(statement: &Statement<'_>) -> Option<Remedy<'static>> {
+    let [first, second, _] = statement.operands;
+    let is_short = statement.count == 2 && takes_label(statement.word, 3, 2);
+    if is_short && register_in(first).is_ok() && is_name(second) {
+        return Some(said("Write the register that @1 is compared with, as in @0 @1,$zero,@2."));
     }
     None
 }

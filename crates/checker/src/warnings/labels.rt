@@ -5,10 +5,10 @@ ghost use Rattle.lexical.specs.Line.{lines_of, lines_left};
 ghost use Rattle.checker.specs.Warnings.{AreOperandsOf, AreWarnedOf, IsSpotOf, begin_with_data, stands_at_data};
 
 use super::super::lines::word_in;
+use super::super::names::{Names, has_name};
 use super::super::parts::{code, label_at};
 use super::super::remedies::warned;
 use super::super::spot::Spot;
-use super::operands::{Operands, is_operand};
 use super::{Good, Warning, push_warning};
 use isa::directive_text;
 use lexical::next_line;
@@ -56,7 +56,7 @@ pub(crate) fn push_labels(
     alloc: Global,
     text: &mut Vec<u8>,
     good: &Good<'_>,
-    operands: &Operands<'_>,
+    operands: &Names<'_>,
     spot: Spot<'_>,
     next: Next,
 ) -> Result<(), AllocError>
@@ -80,7 +80,7 @@ pub(crate) fn push_labels(
                 Warning::AtData,
                 help.as_slice(),
             )?;
-        } else if next.k > 0 && !is_operand(operands, &line[name.from..name.to]) {
+        } else if next.k > 0 && !has_name(operands, &line[name.from..name.to]) {
             push_warning(alloc, text, good, spot, name, Warning::NeverUsed, b"")?;
         }
         rest = behind;

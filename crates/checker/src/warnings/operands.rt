@@ -1,28 +1,18 @@
 //! The operands of a listing as a set.
 ghost use Rattle.std.specs.Prelude.{◌≡◌, ◌||◌, ℕ, List, IfOk, OnOk};
-ghost use Rattle.std.specs.Str.{bytes_eq};
 ghost use Rattle.lexical.specs.Line.{lines_of};
 ghost use Rattle.isa.specs.Listing.{stands_in};
-ghost use Rattle.checker.specs.Warnings.{AreOperandsOf, has_key, operands_of_line};
+ghost use Rattle.checker.specs.Keys.{has_key};
+ghost use Rattle.checker.specs.Warnings.{AreOperandsOf, operands_of_line};
 
 use super::super::lines::statement;
+use super::super::names::{Names, note};
 use lexical::{before_comment, cut_word, next_line, next_operand, operand_part};
 use std::alloc::{AllocError, Global};
 use std::collections::BTreeMap;
 
-/// A set of operands: the keys of a map.
-pub(crate) type Operands<'a> = BTreeMap<&'a [u8], u8>;
-
-fn note<'a>(operands: &mut Operands<'a>, operand: &'a [u8]) -> Result<(), AllocError>
-    ensures { OnOk result ((name : List ℕ)
-        → has_key operands.new name ≡ (bytes_eq operand.now name || has_key operands.old name)) }
-{
-    operands.insert(operand, 0)?;
-    Ok(())
-}
-
 // Adds the operands of a line to the set.
-fn note_line<'a>(operands: &mut Operands<'a>, line: &'a [u8]) -> Result<(), AllocError>
+fn note_line<'a>(operands: &mut Names<'a>, line: &'a [u8]) -> Result<(), AllocError>
     ensures { OnOk result ((name : List ℕ) → has_key operands.new name
         ≡ (has_key operands.old name || stands_in (operands_of_line line.now) name)) }
 {
@@ -37,7 +27,7 @@ fn note_line<'a>(operands: &mut Operands<'a>, line: &'a [u8]) -> Result<(), Allo
 }
 
 /// The set of the operands of a listing.
-pub(crate) fn operands_of(alloc: Global, bytes: &[u8]) -> Result<Operands<'_>, AllocError>
+pub(crate) fn operands_of(alloc: Global, bytes: &[u8]) -> Result<Names<'_>, AllocError>
     ensures { IfOk result (AreOperandsOf (lines_of bytes.now)) }
 {
     let mut operands = BTreeMap::new(alloc);
@@ -48,11 +38,4 @@ pub(crate) fn operands_of(alloc: Global, bytes: &[u8]) -> Result<Operands<'_>, A
         rest = after;
     }
     Ok(operands)
-}
-
-/// Whether a name is one of the operands.
-pub(crate) fn is_operand(operands: &Operands<'_>, name: &[u8]) -> bool
-    ensures { result ≡ has_key operands.now name.now }
-{
-    operands.get(name).is_some()
 }

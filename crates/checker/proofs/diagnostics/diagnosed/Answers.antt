@@ -5,6 +5,5 @@ use Rattle.checker.proofs.diagnostics.diagnosed.Goals as goal
 
 pub returns-in_ok-text-in-Err-2 : goal.returns-in_ok-text-in-Err-2
 returns-in_ok-text-in-Err-2 c =
-    let fault = c.in-Err.fault in
-    fault_checked c.args.file.now c.args.all c.args.bytes.now (listing c.args.bytes.now) fault.line fault.kind
-    c.in_ok-text-in-Err-2.text.items (c.in-Err.ensures.fault (search rules)) c.in_ok-text-in-Err-2.ensures
+    fault_checked c.args.file.now c.args.all c.args.bytes.now (listing c.args.bytes.now) c.in-Err.found
+    c.in_ok-text-in-Err-2.text.items (c.in-Err.ensures.fault (search rules)) (c.in-Err.ensures.at (search rules)) c.in_ok-text-in-Err-2.ensures

@@ -19,8 +19,8 @@ push_warning-requires-clause-right c =
       search rules,
     )
 
-pub push_warning-requires-then-not-is_operand-clause-right : goal.push_warning-requires-then-not-is_operand-clause-right
-push_warning-requires-then-not-is_operand-clause-right c =
+pub push_warning-requires-then-not-has_name-clause-right : goal.push_warning-requires-then-not-has_name-clause-right
+push_warning-requires-then-not-has_name-clause-right c =
     let line = c.args.spot.line.now in (
       first_label line (part_text line c.loop-name.rest) (part_text line c.in-Some.name) (part_text line c.in-Some.behind) c.in-Some.ensures.label
           c.loop-name.invariant.labels,

@@ -4,7 +4,8 @@ use Rattle.std.specs.Option.{option_map}
 use Rattle.lexical.specs.Line.{lines_of, lines_left}
 use Rattle.lexical.proofs.Splits.{size_left}
 use Rattle.isa.specs.Listing.{stands_in}
-use Rattle.checker.specs.Warnings.{all_operands, has_key}
+use Rattle.checker.specs.Keys.{has_key}
+use Rattle.checker.specs.Warnings.{all_operands}
 use Rattle.checker.proofs.warnings.operands.operands_of.Given as goal
 
 abbrev pub invariant-loop-rest : goal.invariant-loop-rest
