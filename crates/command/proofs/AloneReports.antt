@@ -10,13 +10,13 @@ use Rattle.command_line.specs.declared.exit.Line.TheVariants.{Nothing}
 use Rattle.command_line.specs.declared.request.Asked.{Asked}
 use Rattle.on_threads.specs.Answers.{IsReport, IsRunEnd, IsLineWith}
 use Rattle.on_threads.specs.Runs.{written_run}
-use Rattle.on_threads.specs.declared.went.Went.{Went}
+use Rattle.command_line.specs.declared.exit.Exit.{Exit}
 
 -- the report of a run on one thread
-pub alone_reports : (asked : Asked) (P : Program) (end : End) (status : Status) (text : List ℕ) (went : Went) → asked.alone ≡ true
+pub alone_reports : (asked : Asked) (P : Program) (end : End) (status : Status) (text : List ℕ) (exit : Exit) → asked.alone ≡ true
     → end_state end ≡ end_of P asked.config.limit → status ≡ ending_status end.outcome → text ≡ report_of end
-    → went ≡ written_run status Nothing → IsReport asked P text went
-alone_reports asked P end status text went is ends same reported told = rw (reported, told, same) (record {
+    → exit ≡ written_run status Nothing → IsReport asked P text exit
+alone_reports asked P end status text exit is ends same reported told = rw (reported, told, same) (record {
   ending = end.outcome;
   state = state_in end;
   is = subst (λ b. IsRunEnd b asked.config P end.outcome (state_in end)) (sym is) ends;

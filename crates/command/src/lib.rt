@@ -5,7 +5,7 @@ mod running;
 mod single_thread;
 
 pub use command_line::{
-    Asked, BranchPredictor, Line, NoRun, Progress, Refusal, asked, is_standard_input, status,
+    Asked, BranchPredictor, Exit as Went, Line, NoRun, Progress, Refusal, asked, end,
+    is_standard_input, status,
 };
-pub use on_threads::{Went, end};
 pub use running::go;

@@ -4,17 +4,17 @@ ghost use Rattle.answers.specs.Answer.{most_taken};
 ghost use Rattle.counted_io.specs.Counted.{failures_of};
 ghost use Rattle.counted_io.specs.Replies.{HasReplied};
 ghost use Rattle.inorder.specs.Runs.{end_of, end_state};
+ghost use Rattle.command_line.specs.Answered.{IsUnansweredBy};
 ghost use Rattle.command_line.specs.Exits.{IsOfOneThread};
 ghost use Rattle.command_line.specs.Predictors.{IsChosen};
 ghost use Rattle.command_line.specs.declared.exit.Line.TheVariants.{Nothing};
-ghost use Rattle.on_threads.specs.Answers.{IsAnswerTo, IsReport, IsSomeAnswerTo};
-ghost use Rattle.on_threads.specs.Runs.{went_of};
-ghost use Rattle.on_threads.specs.Unanswered.{IsUnansweredBy};
+ghost use Rattle.on_threads.specs.Answers.{IsAnswerTo, IsSomeAnswerTo, IsTold};
+ghost use Rattle.on_threads.specs.Runs.{line_of};
 
-use crate::{Asked, Line, Refusal, Went};
+use crate::{Asked, Line, Refusal};
 use answers::{Status, read_listing};
 use bench::{run, run_by};
-use command_line::{Chosen, choose};
+use command_line::{Chosen, Exit, choose};
 use counted_io::{Counted, write_whole};
 use instructions::{End, Memory, Program};
 use isa::report_text;
@@ -30,24 +30,44 @@ pub(crate) fn answered<R: Read, W: Write>(
     asked: &Asked<'_>,
     reader: &mut Counted<R>,
     writer: &mut Counted<W>,
-) -> Result<Went, Refusal>
+) -> Result<Exit, Refusal>
     requires alone { asked.now.alone ≡ true }
     requires reader_room { failures_of reader.old < 2 ^ 64 - 1 }
     requires writer_room { failures_of writer.old < 2 ^ 64 - 1 }
-    ensures ok { IfOk result (λ went. HasReplied R.remaining W.contents most_taken
-        reader.old reader.new writer.old writer.new (IsAnswerTo asked.now went)) }
-    ensures line { IfOk result (λ went. went.line ≡ Nothing) }
-    ensures alone { IsOfOneThread (went_of result).line }
-    ensures err { IfErr result (IsUnansweredBy R.remaining W.contents
+    ensures ok { IfOk result (λ exit. HasReplied R.remaining W.contents most_taken
+        reader.old reader.new writer.old writer.new (IsAnswerTo asked.now exit)) }
+    ensures line { IfOk result (λ exit. exit.line ≡ Nothing) }
+    ensures alone { IsOfOneThread (line_of result) }
+    ensures err { IfErr result (IsUnansweredBy R.remaining W.contents most_taken
         reader.old reader.new writer.old writer.new (IsSomeAnswerTo asked.now)) }
 {
-    let predictor = choose(asked.predictor);
-    let (went, text) = match read_listing(alloc, reader)? {
-        Ok(program) => report(alloc, asked, &program, predictor)?,
-        Err(line) => (written(Status::TextFault, Line::Nothing), line),
-    };
+    let listing = read_listing(alloc, reader)?;
+    let (exit, text) = tell(alloc, asked, listing, choose(asked.predictor))?;
     write_whole(writer, text.as_str().as_bytes())?;
-    Ok(went)
+    Ok(exit)
+}
+
+// Runs the program of a listing on the one-thread unit with the predictor that is asked for: how it went, and its report; or
+// the line of the listing's fault.
+fn tell(
+    alloc: Global,
+    asked: &Asked<'_>,
+    listing: Result<Program, String>,
+    predictor: Chosen,
+) -> Result<(Exit, String), Memory>
+    requires alone { asked.now.alone ≡ true }
+    requires predictor { IsChosen asked.now.predictor predictor }
+    ensures ok { IfOk result (λ told. IsTold asked.now listing (string_bytes told.1) told.0) }
+    ensures line { IfOk result (λ told. told.0.line ≡ Nothing) }
+{
+    let program = match listing {
+        Ok(program) => program,
+        Err(line) => return Ok((written(Status::TextFault, Line::Nothing), line)),
+    };
+    let end = ended(alloc, asked, &program, predictor)?;
+    let text = report_text(alloc, &end)?;
+    let status = Status::of(end.outcome);
+    Ok((written(status, Line::Nothing), text))
 }
 
 // Runs a program on the one-thread unit, by the choices of the seed where there is one.
@@ -66,23 +86,4 @@ fn ended(
             run_by(alloc, program, &asked.config, predictor, &mut chooser)
         }
     }
-}
-
-// Runs a program on the one-thread unit with the predictor that is asked for: the reply of the run, and its report.
-fn report(
-    alloc: Global,
-    asked: &Asked<'_>,
-    program: &Program,
-    predictor: Chosen,
-) -> Result<(Went, String), Memory>
-    requires alone { asked.now.alone ≡ true }
-    requires predictor { IsChosen asked.now.predictor predictor }
-    ensures ok { IfOk result (λ answer.
-        IsReport asked.now program.now (string_bytes answer.1) answer.0) }
-    ensures line { IfOk result (λ answer. answer.0.line ≡ Nothing) }
-{
-    let end = ended(alloc, asked, program, predictor)?;
-    let text = report_text(alloc, &end)?;
-    let status = Status::of(end.outcome);
-    Ok((written(status, Line::Nothing), text))
 }

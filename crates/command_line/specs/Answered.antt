@@ -7,6 +7,7 @@ use Rattle.counted_io.specs.declared.fault.Fault.{Fault}
 use Rattle.counted_io.specs.declared.fault.Fault.TheVariants as fault
 use Rattle.command_line.specs.declared.exit.Line.{Line}
 use Rattle.command_line.specs.declared.exit.Line.TheVariants.{Nothing, Tally, Refused}
+use Rattle.command_line.specs.declared.exit.Refusal.{Refusal}
 use Rattle.command_line.specs.declared.exit.Refusal.TheVariants.{Open, Read, Memory, Thread, Write, Trace}
 
 -- there is a reader, and this holds of it before and after
@@ -22,25 +23,27 @@ pub record HasNoReader {R W : Type 0} (reader : Option (Counted R)) (writer writ
   pub none : reader ≡ None
   pub silent : writer_new ≡ writer
 
--- how a program that makes its whole text before it writes leaves reader and writer, by the line that it ends with:
--- without a reader, and only then, opening is blamed; a device is blamed for one failed call, and only then; and
+-- how a reader and a writer are left by a refusal of an answer: a device is blamed for one failed call, and only then; and
 -- where it does not blame the writer, a refusal leaves nothing written. There is no trace to blame
+abbrev pub IsUnansweredBy : {R W : Type 0} → (R → Option (List ℕ)) → (W → Option (List ℕ)) → (most : ℕ)
+    → (reader reader_new : Counted R) → (writer writer_new : Counted W)
+    → (IsText : (input text : List ℕ) → Type 0) → Refusal → Type 0
+IsUnansweredBy remaining contents most r r' w w' IsText Open = ⊥
+IsUnansweredBy remaining contents most r r' w w' IsText Read = HasNoReply 1 remaining most r r' w w'
+IsUnansweredBy remaining contents most r r' w w' IsText Memory = HasNoReply 0 remaining most r r' w w'
+IsUnansweredBy remaining contents most r r' w w' IsText Thread = HasNoReply 0 remaining most r r' w w'
+IsUnansweredBy remaining contents most r r' w w' IsText Write = HasReplyBegun remaining contents most r r' w w' IsText
+IsUnansweredBy remaining contents most r r' w w' IsText Trace = ⊥
+
+-- how a program that makes its whole text before it writes leaves reader and writer, by the line that it ends with:
+-- without a reader, and only then, opening is blamed
 abbrev pub IsRepliedWith : {R W : Type 0} → (R → Option (List ℕ)) → (W → Option (List ℕ)) → (most : ℕ)
     → (reader reader_new : Option (Counted R)) → (writer writer_new : Counted W)
     → (IsText : (input text : List ℕ) → Type 0) → Line → Type 0
 IsRepliedWith remaining contents most r r' w w' IsText (Refused Open) = HasNoReader r w w'
-IsRepliedWith remaining contents most r r' w w' IsText (Refused Read) =
-    HasReader r r' (λ old new. HasNoReply 1 remaining most old new w w')
-IsRepliedWith remaining contents most r r' w w' IsText (Refused Memory) =
-    HasReader r r' (λ old new. HasNoReply 0 remaining most old new w w')
-IsRepliedWith remaining contents most r r' w w' IsText (Refused Thread) =
-    HasReader r r' (λ old new. HasNoReply 0 remaining most old new w w')
-IsRepliedWith remaining contents most r r' w w' IsText (Refused Write) =
-    HasReader r r' (λ old new. HasReplyBegun remaining contents most old new w w' IsText)
-IsRepliedWith remaining contents most r r' w w' IsText (Refused Trace) = ⊥
-IsRepliedWith remaining contents most r r' w w' IsText Nothing =
-    HasReader r r' (λ old new. HasReplied remaining contents most old new w w' IsText)
-IsRepliedWith remaining contents most r r' w w' IsText (Tally totals) =
+IsRepliedWith remaining contents most r r' w w' IsText (Refused refusal) =
+    HasReader r r' (λ old new. IsUnansweredBy remaining contents most old new w w' IsText refusal)
+IsRepliedWith remaining contents most r r' w w' IsText written =
     HasReader r r' (λ old new. HasReplied remaining contents most old new w w' IsText)
 
 -- there is a reader, and it and the writer are left so by a call that reads an input and then writes

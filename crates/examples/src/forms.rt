@@ -84,8 +84,8 @@ pub fn run<T: Threads + Wait + Sync, G: Gate + Sync>(
         return Err(mistake());
     };
     let mut text = Counted::new(Vec::new(alloc));
-    let reader = Counted::new(listing);
-    let went = go(wait, alloc, &asked, Some(reader), &mut text, gate);
+    let mut reader = Some(Counted::new(listing));
+    let went = go(wait, alloc, &asked, &mut reader, &mut text, gate);
     Ok(Answer {
         status: went.status,
         text: text.into_inner(),

@@ -1,4 +1,5 @@
 pub mod Answering
 pub mod AsAlone
+pub mod Ended
 mod ThreadAnswers
 mod WholeRuns

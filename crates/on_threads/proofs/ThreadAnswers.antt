@@ -19,15 +19,14 @@ use Rattle.command_line.specs.declared.exit.Line.TheVariants.{Tally}
 use Rattle.on_threads.specs.Answers.{AsAlone, Early, IsRunEnd, IsEndOfThreads, IsLineWith, IsReport}
 use Rattle.on_threads.specs.Runs.{written_run}
 use Rattle.on_threads.specs.Threads.{ended_of}
-use Rattle.on_threads.specs.declared.threads.Ended.{Ended}
-use Rattle.on_threads.specs.declared.went.Went.{Went}
+use Rattle.command_line.specs.declared.exit.Exit.{Exit}
 use Rattle.on_threads.proofs.WholeRuns.{at_a_stop, at_the_limit}
 
 -- what is known of a run on threads that came to its end
-record IsKnown (config : Settings) (P : Program) (e : Ended) : Type 0 where
-  pub is : IsEndOfThreads config.limit P e.end.outcome (state_in e.end)
-  pub turns : e.end.n ≤ config.turns
-  pub retires : e.tally.retires ≡ e.end.n
+record IsKnown (config : Settings) (P : Program) (e : End × Totals) : Type 0 where
+  pub is : IsEndOfThreads config.limit P e.0.outcome (state_in e.0)
+  pub turns : e.0.n ≤ config.turns
+  pub retires : e.1.retires ≡ e.0.n
 
 -- at the limit a run ends as on one thread, and early before it
 limit_end : (config : Settings) (P : Program) (end : End) (totals : Totals) → IsAfter P end totals → end.outcome ≡ Limit
@@ -39,19 +38,19 @@ limit_end config P end totals after outcome within =
           ∙ at_the_limit P end.n config.limit (state_in end) after.in_order.state (omega (arith, within, above)))
     ]
 
-known : (config : Settings) (P : Program) (r : Run) (e : Ended) → RunIsRight P r → IsWithinLimit config.limit r
+known : (config : Settings) (P : Program) (r : Run) (e : End × Totals) → RunIsRight P r → IsWithinLimit config.limit r
     → TakesTurns config.turns r → ended_of r ≡ Some e → IsKnown config P e
 known config P (run.Ended end totals) e right within turns is =
-    let same : ◌≡◌ {A = Ended} (record { end = end; tally = totals }) e = cc in
+    let same : ◌≡◌ {A = End × Totals} (end, totals) e = cc in
     let order = right.0.in_order in
-    subst (λ (o : Ended). IsKnown config P o) same (record {
+    subst (λ (o : End × Totals). IsKnown config P o) same (record {
       is = AsAlone (at_a_stop P end.n config.limit (state_in end) end.outcome order.state right.1 order.stops within);
       turns = turns;
       retires = right.0.retires;
     })
 known config P (run.LimitReached end totals) e right within turns is =
-    let same : ◌≡◌ {A = Ended} (record { end = end; tally = totals }) e = cc in
-    subst (λ (o : Ended). IsKnown config P o) same (record {
+    let same : ◌≡◌ {A = End × Totals} (end, totals) e = cc in
+    subst (λ (o : End × Totals). IsKnown config P o) same (record {
       is = limit_end config P end totals right.0 right.1 within;
       turns = turns;
       retires = right.0.retires;
@@ -59,21 +58,21 @@ known config P (run.LimitReached end totals) e right within turns is =
 known config P (run.Refused why) e right within turns is = absurd (grind arith)
 
 -- the report of that end
-thread_reports : (asked : Asked) (P : Program) (e : Ended) → asked.alone ≡ false → IsKnown asked.config P e
-    → IsReport asked P (report_of e.end) (written_run (ending_status e.end.outcome) (Tally e.tally))
+thread_reports : (asked : Asked) (P : Program) (e : End × Totals) → asked.alone ≡ false → IsKnown asked.config P e
+    → IsReport asked P (report_of e.0) (written_run (ending_status e.0.outcome) (Tally e.1))
 thread_reports asked P e is known = record {
-  ending = e.end.outcome;
-  state = state_in e.end;
-  is = subst (λ b. IsRunEnd b asked.config P e.end.outcome (state_in e.end)) (sym is) (known.is, known.turns);
+  ending = e.0.outcome;
+  state = state_in e.0;
+  is = subst (λ b. IsRunEnd b asked.config P e.0.outcome (state_in e.0)) (sym is) (known.is, known.turns);
   report = refl;
   status = refl;
-  line = subst (λ b. IsLineWith b e.end.n (Tally e.tally)) (sym is) known.retires;
+  line = subst (λ b. IsLineWith b e.0.n (Tally e.1)) (sym is) known.retires;
 }
 
 -- the text and what is told where the threads have run a program
-pub thread_answers : (asked : Asked) (P : Program) (r : Run) (e : Ended)
-    (status : Status) (text : List ℕ) (went : Went) → asked.alone ≡ false → RunIsRight P r → IsWithinLimit asked.config.limit r
-    → TakesTurns asked.config.turns r → ended_of r ≡ Some e → status ≡ ending_status e.end.outcome → text ≡ report_of e.end
-    → went ≡ written_run status (Tally e.tally) → IsReport asked P text went
-thread_answers asked P r e status text went is right within turns ended same reported told =
+pub thread_answers : (asked : Asked) (P : Program) (r : Run) (e : End × Totals)
+    (status : Status) (text : List ℕ) (exit : Exit) → asked.alone ≡ false → RunIsRight P r → IsWithinLimit asked.config.limit r
+    → TakesTurns asked.config.turns r → ended_of r ≡ Some e → status ≡ ending_status e.0.outcome → text ≡ report_of e.0
+    → exit ≡ written_run status (Tally e.1) → IsReport asked P text exit
+thread_answers asked P r e status text exit is right within turns ended same reported told =
     rw (reported, told, same) (thread_reports asked P e is (known asked.config P r e right within turns ended))

@@ -10,4 +10,4 @@ mod went;
 
 pub use running::go;
 pub use watcher::{ProgressWatcher, watch};
-pub use went::{Went, end, refused, written};
+pub use went::written;

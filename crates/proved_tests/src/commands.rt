@@ -23,7 +23,7 @@ fn answer<R: Threads + Wait + Sync, S: AsStr>(
         return Err(Fail::new("there is no run"));
     };
     let mut writer = Counted::new(Vec::new(alloc));
-    let reader = Counted::new(listing);
-    let went = go(wait, alloc, &asked, Some(reader), &mut writer, &Open);
+    let mut reader = Some(Counted::new(listing));
+    let went = go(wait, alloc, &asked, &mut reader, &mut writer, &Open);
     Ok((went, writer.into_inner()))
 }

@@ -3,9 +3,9 @@
 
 ghost use Rattle.std.specs.Prelude.{◌≡◌, false};
 
-use command_line::{Asked, NoRun, REFUSED, asked, is_standard_input, refuse, words};
+use command_line::{Asked, NoRun, REFUSED, asked, end, is_standard_input, refuse, words};
 use counted_io::{ClosedStreams, Counted};
-use on_threads::{ProgressWatcher, end, go, watch};
+use on_threads::{ProgressWatcher, go, watch};
 use std::fs::File;
 use std::io::Read;
 use std::process::ExitCode;
@@ -49,12 +49,10 @@ fn run_from<T: Threads + Wait + Sync, R: Read + Drop>(
 ) -> ExitCode
     requires threads { asked.now.alone ≡ false }
 {
-    let reader = input.map(Counted::new);
+    let mut reader = input.map(Counted::new);
     let mut writer = Counted::new(rt.stdout());
-    end(
-        rt,
-        go(wait, rt.alloc(), asked, reader, &mut writer, watcher),
-    )
+    let exit = go(wait, rt.alloc(), asked, &mut reader, &mut writer, watcher);
+    end(rt, exit)
 }
 
 // The program `ruu` has the one-thread unit too.

@@ -2,9 +2,9 @@
 #![tactic(auto)]
 
 use command::go;
-use command_line::{Asked, NoRun, REFUSED, asked, is_standard_input, refuse, words};
+use command_line::{Asked, NoRun, REFUSED, asked, end, is_standard_input, refuse, words};
 use counted_io::{ClosedStreams, Counted};
-use on_threads::{ProgressWatcher, end, watch};
+use on_threads::{ProgressWatcher, watch};
 use std::fs::File;
 use std::io::Read;
 use std::process::ExitCode;
@@ -43,10 +43,8 @@ fn run_from<T: Threads + Wait + Sync, R: Read + Drop>(
     input: Option<R>,
     watcher: &ProgressWatcher<'_>,
 ) -> ExitCode {
-    let reader = input.map(Counted::new);
+    let mut reader = input.map(Counted::new);
     let mut writer = Counted::new(rt.stdout());
-    end(
-        rt,
-        go(wait, rt.alloc(), asked, reader, &mut writer, watcher),
-    )
+    let exit = go(wait, rt.alloc(), asked, &mut reader, &mut writer, watcher);
+    end(rt, exit)
 }

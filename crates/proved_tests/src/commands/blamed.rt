@@ -36,9 +36,9 @@ fn a_reader_that_fails_is_blamed_and_nothing_is_written(rt: HostRuntime) -> Resu
             return Err(Fail::new("there is no run"));
         };
         for most in 0..=LISTING.len() {
-            let reader = Counted::new(FailingReader { given: 0, most });
+            let mut reader = Some(Counted::new(FailingReader { given: 0, most }));
             let mut writer = Counted::new(FailingWriter::new(rt.alloc(), 0, false));
-            let went = go(&rt, rt.alloc(), &asked, Some(reader), &mut writer, &Open);
+            let went = go(&rt, rt.alloc(), &asked, &mut reader, &mut writer, &Open);
             same_in(&rt, &most, &is_refused(&went, Refusal::Read), &true);
             same(&rt, &writer.failures(), &0);
             assert!(rt; writer.into_inner().taken.is_empty());
@@ -55,9 +55,9 @@ fn keeps_a_beginning<R: Threads + Wait + Sync>(
     (listing, text): (&[u8], &[u8]),
     (room, is_silent): (usize, bool),
 ) -> bool {
-    let reader = Counted::new(listing);
+    let mut reader = Some(Counted::new(listing));
     let mut writer = Counted::new(FailingWriter::new(alloc, room, is_silent));
-    let went = go(rt, alloc, asked, Some(reader), &mut writer, &Open);
+    let went = go(rt, alloc, asked, &mut reader, &mut writer, &Open);
     let is_blamed = is_refused(&went, Refusal::Write) && writer.failures() == 1;
     is_blamed && text.get(..room) == Some(writer.into_inner().taken.as_slice())
 }

@@ -25,8 +25,8 @@ fn watched<R: Threads + Wait + Sync, S: AsStr, G: Gate + Sync>(
         return Err(Fail::new("there is no run"));
     };
     let mut writer = Counted::new(Vec::new(alloc));
-    let reader = Counted::new(listing);
-    Ok(go(wait, alloc, &asked, Some(reader), &mut writer, gate))
+    let mut reader = Some(Counted::new(listing));
+    Ok(go(wait, alloc, &asked, &mut reader, &mut writer, gate))
 }
 
 /// Ten instructions that wait for nothing.

@@ -62,8 +62,8 @@ fn held_for_more_than_half<T: Threads + Wait + Sync>(
     }
     listing.extend_from_slice(b"break\n")?;
     let mut writer = Counted::new(Vec::new(alloc));
-    let reader = Counted::new(listing.as_slice());
-    let went = go(wait, alloc, &asked, Some(reader), &mut writer, &gate);
+    let mut reader = Some(Counted::new(listing.as_slice()));
+    let went = go(wait, alloc, &asked, &mut reader, &mut writer, &gate);
     Ok(went.status == 0 && TURNS / 2 < gate.asked.load(SeqCst))
 }
 
