@@ -50,7 +50,8 @@ pub(crate) fn trace<L: Write>(
     log: &mut Counted<L>,
 ) -> Result<(), Fault>
     requires { failures_of log.old < 2 ^ 64 - 1 }
-    ensures { Writes L.contents log.old log.new (λ _. HasTextFrom log_head) (HasBegunFrom log_head) result }
+    ensures { Writes L.contents log.old log.new
+        (λ _. HasTextFrom log_head) (HasBegunFrom log_head) result }
 {
     let style = Style {
         rows: 0,
