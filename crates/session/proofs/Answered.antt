@@ -4,7 +4,7 @@ use Rattle.back.specs.Backs.{IsSameBack, TheBack}
 use Rattle.back.specs.declared.answers.Commit.{Commit as Committed}
 use Rattle.front.specs.declared.answers.Turn.{Turn as Turned}
 use Rattle.session.specs.declared.commands.Command.TheVariants.{Claim, Commit, Turn}
-use Rattle.session.specs.declared.producers.Producer.{Producer}
+use Rattle.session.specs.declared.replies.Producer.{Producer}
 use Rattle.session.specs.declared.replies.Info.{Info}
 use Rattle.session.specs.declared.replies.Reply.TheVariants as say
 use Rattle.session.specs.declared.replies.Row.{Row}

@@ -7,8 +7,8 @@ pub mod Scripts
 pub mod Meetings
 pub mod InOrder
 pub mod WordsRead
-pub mod TableRows
 pub mod Renewing
+pub mod Calls
 pub mod Looks
 pub mod Answered
 pub mod Played

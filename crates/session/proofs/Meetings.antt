@@ -2,8 +2,8 @@
 use Rattle.std.proofs.Common.{◌≢◌, List, Option, ◌∙◌}
 use Rattle.instructions.specs.Histories.{StartsWith}
 use Rattle.back.specs.Backs.{IsSameBack, TheBack}
-use Rattle.session.specs.declared.parties.Party.{Party}
-use Rattle.session.specs.declared.parties.Party.TheVariants.{Back, Front, Unit}
+use Rattle.session.specs.declared.names.Party.{Party}
+use Rattle.session.specs.declared.names.Party.TheVariants.{Back, Front, Unit}
 use Rattle.session.specs.declared.units.UnitJob.{UnitJob}
 use Rattle.session.specs.Sessions.{HasToldAll, IsSomebody, seen_by, StaysAsSeen, TheSession, TwoHaveMet}
 use Rattle.session.specs.Workers.{StaySeen, seen_at}

@@ -10,7 +10,7 @@ use Rattle.station.specs.declared.answers.SourceState.{SourceState}
 use Rattle.station.specs.declared.answers.SourceState.TheVariants.{Unset, Val, Wait}
 use Rattle.station.specs.Looking.{SeesInfo, SeesLink, SeesOperand, SeesStation}
 use Rattle.station.specs.Seats.{TheCore}
-use Rattle.session.specs.declared.producers.Producer.{Producer}
+use Rattle.session.specs.declared.replies.Producer.{Producer}
 use Rattle.session.specs.declared.replies.Info.{Info}
 use Rattle.session.specs.declared.replies.Operand.{Operand}
 use Rattle.session.specs.Accounts.{IsFrom, IsNotFrom, IsOfOperand, IsOperandTold, IsProducerSeen, producer_named}

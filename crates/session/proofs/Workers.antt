@@ -36,6 +36,13 @@ are_set core units at v within are is place w here = go (cases_eq place at)
 none_is_some : (core : TheCore) (w : UnitJob) → ◌≡◌ {A = Option UnitJob} None (Some w) → IsWorker core w
 none_is_some core w e = cc
 
+no_job : (core : TheCore) (seat : Caller) (job : Job) → ◌≡◌ {A = Option Job} None (Some job) → HoldsJob core seat job
+no_job core seat job e = cc
+
+-- Who is of a core and holds nothing works
+pub idle_works : (core : TheCore) (seat : Caller) → seat.core ≡ core → IsWorker core (record { seat = seat; job = None })
+idle_works core seat same = record { core_is = same; holds = no_job core seat }
+
 -- where no unit is made, each that is made works
 pub none_works : (core : TheCore) (units : List (Option UnitJob)) → HasNone units → AreWorkers core units
 none_works core units none place w here = none_is_some core w (sym (none place) ∙ here)

@@ -14,7 +14,7 @@ use Rattle.station.specs.Looking.{SeesStation}
 use Rattle.station.specs.Seats.{TheCore}
 use Rattle.station.specs.Waking.{HasWoken}
 use Rattle.station.specs.Writeback.{FinishAnswers}
-use Rattle.session.specs.declared.producers.Producer.{Producer}
+use Rattle.session.specs.declared.replies.Producer.{Producer}
 use Rattle.session.specs.declared.replies.Finished.{Finished}
 use Rattle.session.specs.declared.replies.Info.{Info}
 use Rattle.session.specs.declared.replies.Operand.{Operand}

@@ -13,8 +13,8 @@ use Rattle.session.specs.declared.verbs.Verb.{Verb}
 use Rattle.session.specs.declared.verbs.Verb.TheVariants.{Claim, Commit, Creator, Finish, Help, Info, Learn, Link, List as Listing, Look, Meet, Operand, Queue, Quit, Recover, Refresh, Renew, Report, Rest, Ring, Show, Station, Step, Table, Take, Touched, Turn, Undo, Until}
 use Rattle.inorder.specs.declared.history.Source.{Source}
 use Rattle.inorder.specs.declared.history.Source.TheVariants.{First, Second}
-use Rattle.session.specs.declared.parties.Party.{Party}
-use Rattle.session.specs.declared.parties.Party.TheVariants as party
+use Rattle.session.specs.declared.names.Party.{Party}
+use Rattle.session.specs.declared.names.Party.TheVariants as party
 use Rattle.session.specs.Units.{unit_named}
 use Rattle.session.specs.Tokens.{Texts, is_empty}
 

@@ -11,7 +11,6 @@ pub mod Rows
 pub mod Sessions
 pub mod Texts
 pub mod Turns
-pub mod Tables
 pub mod Telling
 pub mod Undoing
 pub mod Transcripts

@@ -19,8 +19,8 @@ use Rattle.snapshots.specs.Snapshots.{IsSnapshotOf, snapshot}
 use Rattle.station.specs.Seats.{Caller, TheCore}
 use Rattle.session.specs.declared.commands.Command.{Command}
 use Rattle.session.specs.declared.commands.Command.TheVariants as ask
-use Rattle.session.specs.declared.parties.Party.{Party}
-use Rattle.session.specs.declared.parties.Party.TheVariants as party
+use Rattle.session.specs.declared.names.Party.{Party}
+use Rattle.session.specs.declared.names.Party.TheVariants as party
 use Rattle.session.specs.declared.reading.Line.{Line}
 use Rattle.session.specs.declared.replies.Refusal.{Refusal}
 use Rattle.session.specs.declared.replies.Refusal.TheVariants as no

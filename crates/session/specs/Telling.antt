@@ -8,11 +8,10 @@ use Rattle.session.specs.declared.verbs.Verb.{Verb}
 use Rattle.session.specs.declared.verbs.Verb.TheVariants as verb
 use Rattle.session.specs.declared.replies.Reply.{Reply}
 use Rattle.session.specs.declared.help.TheConstants.{HELP}
-use Rattle.session.specs.Tables.{IsTable}
 use Rattle.session.specs.Commands.{verb_name}
 use Rattle.session.specs.Sessions.{IsReplied, OnlyLooked, TheSession}
 use Rattle.session.specs.Texts.{IsLineOf}
-use Rattle.session.specs.Turns.{TurnsSay}
+use Rattle.session.specs.Turns.{IsTable, TurnsSay}
 
 -- The text that names the operands of a command
 abbrev pub operands_of_verb : Verb → List ℕ
@@ -58,7 +57,7 @@ LineSays old new number Unknown text = (text ≡ unknown_text number) × (new �
 LineSays old new number Miscounted text = (text ≡ miscounted_text number) × (new ≡ old)
 LineSays old new number (Wants v) text = (text ≡ wants_text number v) × (new ≡ old)
 LineSays old new number (Asks command) text = IsAnswered old new number command text
-LineSays old new number Table text = IsTable old new text
+LineSays old new number Table text = IsTable number old new text
 LineSays old new number Queue text = OnlyLooked old new
 LineSays old new number (Turns goal) text = TurnsSay goal number old new text
 LineSays old new number Undo text = (text ≡ []) × (new ≡ old)

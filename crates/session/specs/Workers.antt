@@ -6,7 +6,7 @@ use Rattle.session.specs.declared.units.Claimed.{Claimed}
 use Rattle.session.specs.declared.units.Claimed.TheVariants as claimed
 use Rattle.session.specs.declared.units.Held.{Held}
 use Rattle.session.specs.declared.units.UnitJob.{UnitJob}
-use Rattle.session.specs.declared.producers.Producer.{Producer}
+use Rattle.session.specs.declared.replies.Producer.{Producer}
 use Rattle.session.specs.declared.replies.Finished.{Finished}
 use Rattle.session.specs.Accounts.{IsAwaited, IsFinish}
 use Rattle.session.specs.Replies.{IsClaim}

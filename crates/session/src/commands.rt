@@ -3,11 +3,10 @@ ghost use Rattle.std.specs.Prelude.{◌≡◌};
 ghost use Rattle.session.specs.Commands.{command_of, refresh_of, turn_of};
 ghost use Rattle.session.specs.Tokens.{texts_of};
 
-use crate::names::UnitName;
+use crate::names::{Party, UnitName};
 use crate::operands::{
     bare, only_number, only_pc, only_register, station_and_source, two_parties, unit_and_number,
 };
-use crate::parties::Party;
 use crate::tokens::Tokens;
 use crate::verbs::Verb;
 use isa::Hexadecimal;

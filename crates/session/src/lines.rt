@@ -5,11 +5,10 @@ ghost use Rattle.session.specs.Turns.{HasTried, is_nowhere};
 ghost use Rattle.session.specs.Undoing.{LineIsDone};
 
 use crate::help::help;
-use crate::listed::list;
 use crate::reading::{Goal, Line};
 use crate::session::Session;
 use crate::tables::table;
-use crate::texts::line_of;
+use crate::texts::{line_of, list};
 use crate::turns::turns;
 use crate::verbs::{Verb, word};
 use back::OfProgram;
@@ -103,7 +102,7 @@ fn said<P: Predictor + Drop, J: OfProgram, R: Wait>(
             let reply = session.answer(wait, alloc, command);
             line_of(alloc, session.program(), number, &reply)
         }
-        Line::Table => table(wait, alloc, session),
+        Line::Table => table(wait, alloc, session, number),
         Line::Queue => session.queue(alloc),
         Line::Turns(goal) => turns_to(wait, alloc, session, number, goal),
         Line::Help => help(alloc),

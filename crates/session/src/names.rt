@@ -1,8 +1,8 @@
-//! The names of units and of registers.
+//! The names of units, of those that meet, and of registers.
 ghost use Rattle.std.specs.Prelude.{◌≡◌, ◌<◌, ◌≤◌, IfNone, IfSome};
 ghost use Rattle.instructions.specs.Registers.{register_count};
 ghost use Rattle.isa.specs.RegisterNames.{register};
-ghost use Rattle.session.specs.Commands.{read_number, register_of};
+ghost use Rattle.session.specs.Commands.{party_of, read_number, register_of};
 ghost use Rattle.session.specs.Units.{both_letters, letter, unit_count, unit_named};
 
 use instructions::Reg;
@@ -44,6 +44,27 @@ pub fn unit_in(name: &[u8]) -> Option<usize>
         [a] => letter(*a),
         [a, b] => both_letters(letter(*a), letter(*b)),
         _ => None,
+    }
+}
+
+/// One that can meet another: the front, the back, or a unit by its place.
+#[derive(Clone, Copy, PartialEq, Eq)]
+pub enum Party {
+    Front,
+    Back,
+    Unit(usize),
+}
+
+/// The one with this name: `front`, `back`, or that of a unit.
+pub(crate) fn party_in(name: &[u8]) -> Option<Party>
+    ensures { result ≡ party_of name.now }
+{
+    if name == b"front".as_slice() {
+        Some(Party::Front)
+    } else if name == b"back".as_slice() {
+        Some(Party::Back)
+    } else {
+        Some(Party::Unit(unit_in(name)?))
     }
 }
 

@@ -4,8 +4,7 @@ ghost use Rattle.session.specs.Commands.{has_one, has_two, whole_number, only_ev
 ghost use Rattle.session.specs.Tokens.{texts_of};
 
 use crate::events::{Event, event_in};
-use crate::names::{register_in, unit_in};
-use crate::parties::{Party, party_in};
+use crate::names::{Party, party_in, register_in, unit_in};
 use crate::tokens::Tokens;
 use lexical::decimal_in;
 use station::Source;

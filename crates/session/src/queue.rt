@@ -12,80 +12,19 @@ use std::alloc::{AllocError, Global};
 use std::fmt;
 
 // What is not there yet, and who makes it.
-#[derive(Clone, Copy)]
-struct Missing<'a>(&'a Operand);
-
-impl fmt::Display for Missing<'_> {
-    fn fmt<W: fmt::Write>(&self, f: &mut fmt::Formatter<W>) -> fmt::Result {
-        write!(f, "WAIT{}", After(" for ", self.0.from))
-    }
+fn missing<W: fmt::Write>(operand: &Operand, f: &mut fmt::Formatter<W>) -> fmt::Result {
+    write!(f, "WAIT{}", After(" for ", operand.from))
 }
 
-// The address of a load or store, or for what it waits.
-#[derive(Clone, Copy)]
-struct Address<'a>(Instr, &'a Row);
-
-impl Address<'_> {
-    // The producer of the base, or the step that computes the address.
-    fn missing<W: fmt::Write>(&self, f: &mut fmt::Formatter<W>) -> fmt::Result {
-        let row = self.1;
-        match (row.first.seen.state, row.unit) {
-            (SourceState::Val, Some(unit)) => write!(f, "WAIT for unit {}", UnitName(unit)),
-            (SourceState::Val, None) => f.write_str("WAIT for a claim"),
-            _ => write!(f, "{}", Missing(&row.first)),
+// The place of the youngest store to a byte of a load.
+fn met_at(entries: &[Entry], address: u32, width: Width) -> Option<usize> {
+    let mut met = None;
+    for place in 0..entries.len() {
+        if overlaps(&entries[place], address, width) {
+            met = Some(place);
         }
     }
-}
-
-impl fmt::Display for Address<'_> {
-    fn fmt<W: fmt::Write>(&self, f: &mut fmt::Formatter<W>) -> fmt::Result {
-        let (instr, row) = (self.0, self.1);
-        match row.seen.state {
-            StationState::Addr => write!(f, "{}", Hexadecimal(row.seen.value)),
-            StationState::Open | StationState::Busy => self.missing(f),
-            _ => {
-                let address = row.first.seen.value.wrapping_add(instr.number());
-                write!(f, "{}", Hexadecimal(address))
-            }
-        }
-    }
-}
-
-// Where the value of a load with its address comes from, by the rule for loads, or what blocks it.
-#[derive(Clone, Copy)]
-struct Origin<'a> {
-    stations: &'a [usize],
-    entries: &'a [Entry],
-    address: u32,
-    width: Width,
-}
-
-impl Origin<'_> {
-    // The place of the youngest store to a byte of the load.
-    fn met_at(&self) -> Option<usize> {
-        let mut met = None;
-        for place in 0..self.entries.len() {
-            if overlaps(&self.entries[place], self.address, self.width) {
-                met = Some(place);
-            }
-        }
-        met
-    }
-}
-
-impl fmt::Display for Origin<'_> {
-    fn fmt<W: fmt::Write>(&self, f: &mut fmt::Formatter<W>) -> fmt::Result {
-        let (word, place) = match answer_over(self.entries, self.address, self.width) {
-            Answer::Memory => return f.write_str("from memory"),
-            Answer::Blocked(place) => ("blocked by", Some(place)),
-            Answer::Forward(_) => ("from", self.met_at()),
-        };
-        let station = match place {
-            Some(place) => self.stations.get(place).copied(),
-            None => None,
-        };
-        write!(f, "{word} station {}", SomeStation(station))
-    }
+    met
 }
 
 // A load or store of a station, after those of others.
@@ -99,25 +38,51 @@ struct Access<'a> {
 }
 
 impl Access<'_> {
+    // The address, or the producer of the base, or the step that computes the address.
+    fn address<W: fmt::Write>(&self, f: &mut fmt::Formatter<W>) -> fmt::Result {
+        let (seen, base) = (self.row.seen, &self.row.first);
+        match (seen.state, base.seen.state, self.row.unit) {
+            (StationState::Addr, _, _) => write!(f, "{}", Hexadecimal(seen.value)),
+            (StationState::Open | StationState::Busy, SourceState::Val, Some(unit)) => {
+                write!(f, "WAIT for unit {}", UnitName(unit))
+            }
+            (StationState::Open | StationState::Busy, SourceState::Val, None) => {
+                f.write_str("WAIT for a claim")
+            }
+            (StationState::Open | StationState::Busy, _, _) => missing(base, f),
+            _ => {
+                let address = base.seen.value.wrapping_add(self.instr.number());
+                write!(f, "{}", Hexadecimal(address))
+            }
+        }
+    }
+
+    // Where the value of a load with its address comes from, by the rule for loads, or what blocks it.
+    fn origin<W: fmt::Write>(&self, f: &mut fmt::Formatter<W>) -> fmt::Result {
+        let (address, width) = (self.row.seen.value, access_width(self.instr.op()));
+        let (word, place) = match answer_over(self.entries, address, width) {
+            Answer::Memory => return f.write_str("from memory"),
+            Answer::Blocked(place) => ("blocked by", Some(place)),
+            Answer::Forward(_) => ("from", met_at(self.entries, address, width)),
+        };
+        let station = match place {
+            Some(place) => self.stations.get(place).copied(),
+            None => None,
+        };
+        write!(f, "{word} station {}", SomeStation(station))
+    }
+
     fn data<W: fmt::Write>(&self, f: &mut fmt::Formatter<W>) -> fmt::Result {
         let row = self.row;
         if is_store(self.instr.op()) {
             return match row.second.seen.state {
                 SourceState::Val => write!(f, "{}", Hexadecimal(row.second.seen.value)),
-                _ => write!(f, "{}", Missing(&row.second)),
+                _ => missing(&row.second, f),
             };
         }
         match row.seen.state {
             StationState::Done => write!(f, "{}", Hexadecimal(row.seen.value)),
-            StationState::Addr => {
-                let origin = Origin {
-                    stations: self.stations,
-                    entries: self.entries,
-                    address: row.seen.value,
-                    width: access_width(self.instr.op()),
-                };
-                write!(f, "{origin}")
-            }
+            StationState::Addr => self.origin(f),
             StationState::Stop => f.write_str("STOP"),
             _ => f.write_str("WAIT"),
         }
@@ -127,11 +92,13 @@ impl Access<'_> {
 impl fmt::Display for Access<'_> {
     fn fmt<W: fmt::Write>(&self, f: &mut fmt::Formatter<W>) -> fmt::Result {
         let (station, tag, state) = (self.station, self.row.seen.tag, state(self.row.seen.state));
-        let (instr, address) = (Shown(Some(self.instr)), Address(self.instr, self.row));
+        let instr = Shown(Some(self.instr));
         write!(
             f,
-            "station {station}: tag {tag} state {state}{instr}; address {address}; data "
+            "station {station}: tag {tag} state {state}{instr}; address "
         )?;
+        self.address(f)?;
+        f.write_str("; data ")?;
         self.data(f)?;
         f.write_str("\n")
     }

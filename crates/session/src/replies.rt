@@ -1,10 +1,13 @@
 //! What a session answers.
-use crate::producers::Producer;
+ghost use Rattle.std.specs.Prelude.{◌≡◌, ◌<◌};
+ghost use Rattle.session.specs.Accounts.{producer_named};
+ghost use Rattle.session.specs.Rows.{head_with, is_free};
+
 use crate::units::Claimed;
 use back::{Commit, Mark, Refresh, Snap};
 use front::{Made, Recovery, Rest, Turn};
 use instructions::{End, Half};
-use station::{Finish, Seen, Source, SourceState, StationState};
+use station::{Finish, LinkWord, Seen, Source, SourceState, StationState};
 
 /// Why a command is not allowed. Nothing is done then.
 #[derive(Clone, Copy)]
@@ -53,6 +56,13 @@ pub struct Finished {
 pub struct Refreshed {
     pub answer: Refresh,
     pub woken: u32,
+}
+
+/// A tenant whose value another one waits for, by its station and tag.
+#[derive(Clone, Copy)]
+pub struct Producer {
+    pub station: usize,
+    pub tag: u32,
 }
 
 /// An operand word, the info word of its station, and the producer that it waits for.
@@ -119,4 +129,44 @@ pub enum Reply {
     Report(End),
     Renewed,
     Refused(Refusal),
+}
+
+/// The producer that the link word of a station names for the tenant with this tag.
+pub(crate) fn producer_named(seen: Option<LinkWord>, station: usize, tag: u32) -> Option<Producer>
+    ensures { result ≡ producer_named seen station tag }
+{
+    match seen {
+        Some(found) if found.consumer == tag => Some(Producer {
+            station,
+            tag: found.producer,
+        }),
+        _ => None,
+    }
+}
+
+/// A free station.
+pub(crate) fn is_free(state: StationState) -> bool
+    ensures { result ≡ is_free state }
+{
+    match state {
+        StationState::Free => true,
+        _ => false,
+    }
+}
+
+/// One more station was looked at.
+pub(crate) fn head_with(head: Head, station: usize, free: bool) -> Head
+    requires { head.free < 32 }
+    ensures { result ≡ head_with head station free }
+{
+    if free {
+        return Head {
+            station: head.station,
+            free: head.free + 1,
+        };
+    }
+    Head {
+        station: head.station.or(Some(station)),
+        free: head.free,
+    }
 }

@@ -1,15 +1,14 @@
 //! A session: a core with all its seats in one hand.
 mod choosing;
 mod driving;
-mod in_flight;
 mod looking;
 mod meeting;
-mod ordering;
 mod reading;
 mod renewing;
 mod resting;
 mod showing;
 mod undoing;
+mod working;
 
 use crate::commands::Command;
 use crate::reading::Line;

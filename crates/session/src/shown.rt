@@ -1,8 +1,7 @@
 //! What stands in a line after the words of an answer: instructions, producers, and what was woken or changed.
 use crate::answer_words::{half, state};
 use crate::names::UnitName;
-use crate::producers::Producer;
-use crate::replies::{Finished, Info, Operand, Refreshed, Reply, Row};
+use crate::replies::{Info, Operand, Producer, Reply, Row};
 use crate::units::{Claimed, Held};
 use back::{Commit, Refresh};
 use front::Turn;
@@ -79,54 +78,39 @@ impl fmt::Display for After {
 }
 
 // The stations whose bits are set, if any is.
-#[derive(Clone, Copy)]
-struct Woken(u32);
-
-impl fmt::Display for Woken {
-    fn fmt<W: fmt::Write>(&self, f: &mut fmt::Formatter<W>) -> fmt::Result {
-        if self.0 == 0 {
-            return Ok(());
-        }
-        f.write_str(" woke")?;
-        let mut left = self.0;
-        for station in 0..32_u32 {
-            if left % 2 == 1 {
-                write!(f, " {station}")?;
-            }
-            left /= 2;
-        }
-        Ok(())
+fn woken<W: fmt::Write>(bits: u32, f: &mut fmt::Formatter<W>) -> fmt::Result {
+    if bits == 0 {
+        return Ok(());
     }
+    f.write_str(" woke")?;
+    let mut left = bits;
+    for station in 0..32_u32 {
+        if left % 2 == 1 {
+            write!(f, " {station}")?;
+        }
+        left /= 2;
+    }
+    Ok(())
 }
 
 // The registers that are not 0.
-#[derive(Clone, Copy)]
-struct Registers<'a>(&'a [u32; 34]);
-
-impl fmt::Display for Registers<'_> {
-    fn fmt<W: fmt::Write>(&self, f: &mut fmt::Formatter<W>) -> fmt::Result {
-        for (r, value) in self.0.iter().enumerate() {
-            if *value != 0 {
-                write!(f, " {} {}", RegisterName(r), Hexadecimal(*value))?;
-            }
+fn registers<W: fmt::Write>(values: &[u32; 34], f: &mut fmt::Formatter<W>) -> fmt::Result {
+    for (r, value) in values.iter().enumerate() {
+        if *value != 0 {
+            write!(f, " {} {}", RegisterName(r), Hexadecimal(*value))?;
         }
-        Ok(())
     }
+    Ok(())
 }
 
 // A register that was written, as a listing names it by its number; nothing of register 0, which never changes.
-#[derive(Clone, Copy)]
-struct Written(Reg, u32);
-
-impl fmt::Display for Written {
-    fn fmt<W: fmt::Write>(&self, f: &mut fmt::Formatter<W>) -> fmt::Result {
-        let value = Hexadecimal(self.1);
-        match self.0.number() {
-            0 => Ok(()),
-            32 => write!(f, " lo={value}"),
-            33 => write!(f, " hi={value}"),
-            number => write!(f, " ${number}={value}"),
-        }
+fn written<W: fmt::Write>(register: Reg, value: u32, f: &mut fmt::Formatter<W>) -> fmt::Result {
+    let value = Hexadecimal(value);
+    match register.number() {
+        0 => Ok(()),
+        32 => write!(f, " lo={value}"),
+        33 => write!(f, " hi={value}"),
+        number => write!(f, " ${number}={value}"),
     }
 }
 
@@ -141,26 +125,21 @@ fn low_bytes(width: u32, value: u32) -> u32 {
 
 // The change that a tenant makes when it retires. The word of a jump that links has the next pc, and its register gets the
 // address after the jump.
-#[derive(Clone, Copy)]
-struct Change<'a> {
+fn change<W: fmt::Write>(
     pc: u32,
-    instr: Instr,
-    row: &'a Row,
-}
-
-impl fmt::Display for Change<'_> {
-    fn fmt<W: fmt::Write>(&self, f: &mut fmt::Formatter<W>) -> fmt::Result {
-        let (instr, row) = (&self.instr, self.row);
-        let register = instr.destination(row.first.info.half);
-        match instr.op().kind() {
-            Kind::Stores => {
-                let address = row.first.seen.value.wrapping_add(instr.number());
-                let value = low_bytes(instr.op().width(), row.second.seen.value);
-                write!(f, " m {}={}", Hexadecimal(address), Hexadecimal(value))
-            }
-            Kind::Links => write!(f, "{}", Written(register, self.pc.wrapping_add(4))),
-            _ => write!(f, "{}", Written(register, row.seen.value)),
+    instr: &Instr,
+    row: &Row,
+    f: &mut fmt::Formatter<W>,
+) -> fmt::Result {
+    let register = instr.destination(row.first.info.half);
+    match instr.op().kind() {
+        Kind::Stores => {
+            let address = row.first.seen.value.wrapping_add(instr.number());
+            let value = low_bytes(instr.op().width(), row.second.seen.value);
+            write!(f, " m {}={}", Hexadecimal(address), Hexadecimal(value))
         }
+        Kind::Links => written(register, pc.wrapping_add(4), f),
+        _ => written(register, row.seen.value, f),
     }
 }
 
@@ -195,19 +174,6 @@ impl fmt::Display for Read<'_> {
     }
 }
 
-// The unit that holds the job, if one does.
-#[derive(Clone, Copy)]
-struct Holder(Option<usize>);
-
-impl fmt::Display for Holder {
-    fn fmt<W: fmt::Write>(&self, f: &mut fmt::Formatter<W>) -> fmt::Result {
-        match self.0 {
-            Some(unit) => write!(f, " unit {}", UnitName(unit)),
-            None => Ok(()),
-        }
-    }
-}
-
 /// What stands after the words of an answer.
 #[derive(Clone, Copy)]
 pub(crate) struct More<'a> {
@@ -225,11 +191,14 @@ impl More<'_> {
     }
 
     fn of_station<W: fmt::Write>(&self, row: &Row, f: &mut fmt::Formatter<W>) -> fmt::Result {
-        let (holder, info) = (Holder(row.unit), row.first.info);
+        if let Some(unit) = row.unit {
+            write!(f, " unit {}", UnitName(unit))?;
+        }
+        let info = row.first.info;
         let instr = Shown(instr_of(self.program, &info));
         let first = Read(self.program, Source::First, &row.first);
         let second = Read(self.program, Source::Second, &row.second);
-        write!(f, "{holder}{info}{instr}; 1 {first}; 2 {second}")
+        write!(f, "{info}{instr}; 1 {first}; 2 {second}")
     }
 
     fn of_retired<W: fmt::Write>(
@@ -240,7 +209,10 @@ impl More<'_> {
         f: &mut fmt::Formatter<W>,
     ) -> fmt::Result {
         match self.program.fetch(pc) {
-            Some(instr) => write!(f, " station {station}{}", Change { pc, instr, row }),
+            Some(instr) => {
+                write!(f, " station {station}")?;
+                change(pc, &instr, row, f)
+            }
             None => Ok(()),
         }
     }
@@ -254,26 +226,19 @@ impl fmt::Display for More<'_> {
             }
             Reply::Claim(Claimed::Job(held), _) => self.of_job(held, f),
             Reply::Claim(Claimed::Waiting { .. }, from) => write!(f, "{}", After(" from ", *from)),
-            Reply::Finish(
-                Finished {
-                    answer: Finish::Finished,
-                    woken,
-                    ..
-                },
-            ) => write!(f, "{}", Woken(*woken)),
-            Reply::Refresh(
-                Refreshed {
-                    answer: Refresh::Loaded { .. },
-                    woken,
-                },
-            ) => write!(f, "{}", Woken(*woken)),
+            Reply::Finish(finished) if matches!(finished.answer, Finish::Finished) => {
+                woken(finished.woken, f)
+            }
+            Reply::Refresh(refreshed) if matches!(refreshed.answer, Refresh::Loaded { .. }) => {
+                woken(refreshed.woken, f)
+            }
             Reply::Commit(Commit::Retired { pc, .. } | Commit::Half { pc }, Some((station, row))) =>
                 self.of_retired(*pc, *station, row, f),
             Reply::Commit(Commit::NotDone, Some((station, row))) => {
                 let (tag, state) = (row.seen.tag, state(row.seen.state));
                 write!(f, " station {station} tag {tag} state {state}")
             }
-            Reply::Taken(snap) => write!(f, "{}", Registers(&snap.registers)),
+            Reply::Taken(snap) => registers(&snap.registers, f),
             Reply::Info(info) => write!(f, "{}", Shown(instr_of(self.program, info))),
             Reply::Operand(k, operand) => write!(f, "{}", Read(self.program, *k, operand)),
             Reply::Station(row) => self.of_station(row, f),

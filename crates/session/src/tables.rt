@@ -1,21 +1,19 @@
 //! Tables: all stations, and who creates which register.
-ghost use Rattle.std.specs.Prelude.{◌≡◌, ◌≤◌, true, false, IfOk, OnOk, [], string_bytes};
-ghost use Rattle.session.specs.Tables.{EndsWith, HasRow, IsTable, RowSays, has_row, row_command};
+ghost use Rattle.std.specs.Prelude.{◌≡◌, ◌≤◌, IfOk, OnOk, string_bytes};
+ghost use Rattle.session.specs.Turns.{IsTable, IsTried, row_command};
 
 use crate::commands::Command;
-use crate::replies::Reply;
-use crate::rows::is_free;
+use crate::replies::{Reply, is_free};
 use crate::session::Session;
-use crate::texts::text_of;
+use crate::texts::line_of;
 use back::OfProgram;
 use front::Made;
-use instructions::{Predictor, Program};
+use instructions::Predictor;
 use std::alloc::{AllocError, Global};
 use std::sync::Wait;
 
-fn has_row(reply: &Reply) -> bool
-    ensures { result ≡ has_row reply.now }
-{
+// A station that is free has no row, nor has a register that nobody creates.
+fn has_row(reply: &Reply) -> bool {
     match reply {
         Reply::Creator(Made::Base(_)) => false,
         Reply::Station(row) => !is_free(row.seen.state),
@@ -23,46 +21,26 @@ fn has_row(reply: &Reply) -> bool
     }
 }
 
-fn push_told(row: &mut String, told: &str) -> Result<(), AllocError>
-    ensures { OnOk result (EndsWith (string_bytes row.new) told.now) }
-{
-    row.push_str(told)
-}
-
-// The row of an answer to a command, if it has one.
-fn row_text(
-    alloc: Global,
-    program: &Program,
-    command: Command,
-    reply: &Reply,
-) -> Result<String, AllocError>
-    ensures none { IfOk result (λ row. has_row reply.now ≡ false → string_bytes row ≡ []) }
-    ensures some { IfOk result (λ row. has_row reply.now ≡ true
-        → RowSays reply.now (string_bytes row)) }
-{
-    if !has_row(reply) {
-        return Ok(String::new(alloc));
-    }
-    let mut row = format!(in alloc; "{command}: ")?;
-    let told = text_of(alloc, program, reply)?;
-    push_told(&mut row, told.as_str())?;
-    Ok(row)
-}
-
-// Adds the row of a command.
+// Adds the row of a command, if it has one: the command, and the line of the answer.
 fn push_row<P: Predictor + Drop, J: OfProgram, R: Wait>(
     wait: &R,
     alloc: Global,
     session: &mut Session<'_, P, J>,
+    number: u64,
     command: Command,
     out: &mut String,
 ) -> Result<(), AllocError>
-    ensures { OnOk result
-        (HasRow session.old session.new command (string_bytes out.old) (string_bytes out.new)) }
+    ensures { OnOk result (IsTried number session.old session.new command
+        (string_bytes out.old) (string_bytes out.new)) }
 {
     let reply = session.answer(wait, alloc, command);
-    let row = row_text(alloc, session.program(), command, &reply)?;
-    out.push_str(row.as_str())
+    if !has_row(&reply) {
+        return Ok(());
+    }
+    let name = format!(in alloc; "{command}: ")?;
+    let line = line_of(alloc, session.program(), number, &reply)?;
+    out.push_str(name.as_str())?;
+    out.push_str(line.as_str())
 }
 
 // The command of a row: of the stations, then of the registers, and of the ring last.
@@ -85,13 +63,21 @@ pub(crate) fn table<P: Predictor + Drop, J: OfProgram, R: Wait>(
     wait: &R,
     alloc: Global,
     session: &mut Session<'_, P, J>,
+    number: u64,
 ) -> Result<String, AllocError>
-    ensures { IfOk result (λ text. IsTable session.old session.new (string_bytes text)) }
+    ensures { IfOk result (λ text. IsTable number session.old session.new (string_bytes text)) }
 {
     let mut out = String::new(alloc);
     let ring = session.ring();
     for row in 0..ring + 35 {
-        push_row(wait, alloc, session, row_command(ring, row), &mut out)?;
+        push_row(
+            wait,
+            alloc,
+            session,
+            number,
+            row_command(ring, row),
+            &mut out,
+        )?;
     }
     Ok(out)
 }

@@ -1,27 +1,21 @@
-//! The lines of answers.
-ghost use Rattle.std.specs.Prelude.{◌≡◌, IfOk, OnOk, string_bytes};
+//! The lines of answers, and of a program.
+ghost use Rattle.std.specs.Prelude.{◌≡◌, IfOk, string_bytes};
 ghost use Rattle.session.specs.Texts.{BeginsWith, IsLineOf, refused_line, reply_words};
 
 use crate::answer_words::{Words, refusal_text};
 use crate::replies::{Refusal, Reply};
-use crate::shown::More;
+use crate::shown::{More, Shown};
 use instructions::Program;
-use isa::report_text;
+use isa::{Hexadecimal, report_text};
 use std::alloc::{AllocError, Global};
 
-fn push_more(text: &mut String, more: &str) -> Result<(), AllocError>
-    ensures { OnOk result (BeginsWith (string_bytes text.new) (string_bytes text.old)) }
-{
-    text.push_str(more)
-}
-
-/// The line of an answer: its words and numbers, and what is shown beside them. A report has lines of its own.
-pub fn text_of(alloc: Global, program: &Program, reply: &Reply) -> Result<String, AllocError>
+// The line of an answer: its words and numbers, and what is shown beside them. A report has lines of its own.
+fn text_of(alloc: Global, program: &Program, reply: &Reply) -> Result<String, AllocError>
     ensures { IfOk result (λ text. BeginsWith (string_bytes text) (reply_words reply.now)) }
 {
     let mut text = format!(in alloc; "{}", Words(reply))?;
     let more = format!(in alloc; "{}\n", More { program, reply })?;
-    push_more(&mut text, more.as_str())?;
+    text.push_str(more.as_str())?;
     Ok(text)
 }
 
@@ -46,4 +40,15 @@ pub fn line_of(
         Reply::Report(end) => report_text(alloc, end),
         _ => text_of(alloc, program, reply),
     }
+}
+
+/// A line for each instruction of a program: its pc, its index and its text.
+pub(crate) fn list(alloc: Global, program: &Program) -> Result<String, AllocError> {
+    let mut out = String::new(alloc);
+    for index in 0..program.len() {
+        let pc = Hexadecimal(Program::START + 4 * index as u32);
+        let instr = Shown(Some(*program.instr(index)));
+        write!(&mut out, "{pc} {index}{instr}\n")?;
+    }
+    Ok(out)
 }

@@ -1,7 +1,6 @@
 //! Turns up to a goal, in the order of the unit on one thread.
 ghost use Rattle.std.specs.Prelude.{IfOk, OnOk, [], string_bytes};
-ghost use Rattle.session.specs.Texts.{HasAddedText, IsLineOf};
-ghost use Rattle.session.specs.Turns.{HasTried};
+ghost use Rattle.session.specs.Turns.{HasTried, IsTried};
 
 use crate::commands::Command;
 use crate::events::{Event, shows};
@@ -12,7 +11,7 @@ use crate::texts::line_of;
 use crate::units::Claimed;
 use back::{Commit, OfProgram, Refresh};
 use front::{Recovery, Turn};
-use instructions::{Predictor, Program};
+use instructions::Predictor;
 use std::alloc::{AllocError, Global};
 use std::sync::Wait;
 
@@ -57,21 +56,6 @@ fn is_quiet(progress: Progress, command: Command) -> bool {
     is_over(progress) && !matches!(command, Command::Commit)
 }
 
-// Adds the line of an answer.
-fn push_reply(
-    out: &mut String,
-    alloc: Global,
-    program: &Program,
-    number: u64,
-    reply: &Reply,
-) -> Result<(), AllocError>
-    ensures { OnOk result (HasAddedText (IsLineOf number reply.now)
-        (string_bytes out.old) (string_bytes out.new)) }
-{
-    let line = line_of(alloc, program, number, reply)?;
-    out.push_str(line.as_str())
-}
-
 // Answers a command, and tells the answer unless nothing was done.
 fn tried<P: Predictor + Drop, J: OfProgram, R: Wait>(
     wait: &R,
@@ -82,14 +66,16 @@ fn tried<P: Predictor + Drop, J: OfProgram, R: Wait>(
     command: Command,
     out: &mut String,
 ) -> Result<Progress, AllocError>
-    ensures { OnOk result (HasTried number session.old session.new (string_bytes out.old) (string_bytes out.new)) }
+    ensures { OnOk result (IsTried number session.old session.new command
+        (string_bytes out.old) (string_bytes out.new)) }
 {
     let reply = session.answer(wait, alloc, command);
     let progress = progress_by(sought, &reply);
     if is_quiet(progress, command) {
         return Ok(progress);
     }
-    push_reply(out, alloc, session.program(), number, &reply)?;
+    let line = line_of(alloc, session.program(), number, &reply)?;
+    out.push_str(line.as_str())?;
     Ok(progress)
 }
 
@@ -103,7 +89,8 @@ fn go<P: Predictor + Drop, J: OfProgram, R: Wait>(
     commands: &[Command],
     out: &mut String,
 ) -> Result<Progress, AllocError>
-    ensures { OnOk result (HasTried number session.old session.new (string_bytes out.old) (string_bytes out.new)) }
+    ensures { OnOk result (HasTried number session.old session.new
+        (string_bytes out.old) (string_bytes out.new)) }
 {
     for at in 0..commands.len() {
         let progress = tried(wait, alloc, session, number, sought, commands[at], out)?;
@@ -131,7 +118,8 @@ fn advance<P: Predictor + Drop, J: OfProgram, R: Wait>(
     sought: Option<Event>,
     out: &mut String,
 ) -> Result<Progress, AllocError>
-    ensures { OnOk result (HasTried number session.old session.new (string_bytes out.old) (string_bytes out.new)) }
+    ensures { OnOk result (HasTried number session.old session.new
+        (string_bytes out.old) (string_bytes out.new)) }
 {
     let reply = session.answer(wait, alloc, Command::Ring);
     let order = session.order(alloc, oldest_in(&reply))?;

@@ -72,22 +72,6 @@ fn once<P: Predictor + Copy + Drop, J: OfProgram, R: Wait>(
     }
 }
 
-// Does what a line asks for, once, and adds what is told of it.
-fn push_once<P: Predictor + Copy + Drop, J: OfProgram, R: Wait>(
-    wait: &R,
-    alloc: Global,
-    session: &mut Session<'_, P, J>,
-    number: u64,
-    line: Line,
-    out: &mut Vec<u8>,
-) -> Result<(), AllocError>
-    ensures { OnOk result (HasAddedText (LineComesTo session.old session.new number line)
-        out.old.items out.new.items) }
-{
-    let text = once(wait, alloc, session, number, line)?;
-    out.extend_from_slice(text.as_str().as_bytes())
-}
-
 /// Does what a line asks for as often as this, and adds what is told of it.
 pub(crate) fn push_told<P: Predictor + Copy + Drop, J: OfProgram, R: Wait>(
     wait: &R,
@@ -102,7 +86,8 @@ pub(crate) fn push_told<P: Predictor + Copy + Drop, J: OfProgram, R: Wait>(
         out.old.items out.new.items) }
 {
     for _ in 0..times {
-        push_once(wait, alloc, session, number, line, out)?;
+        let text = once(wait, alloc, session, number, line)?;
+        out.extend_from_slice(text.as_str().as_bytes())?;
     }
     Ok(())
 }

@@ -2,13 +2,13 @@
 ghost use Rattle.std.specs.Prelude.{◌≡◌, ◌<◌, IfOk, None, Some, slice_set, vec_len};
 ghost use Rattle.station.specs.Seats.{IsSameSeat};
 ghost use Rattle.session.specs.Rows.{IsHolder};
-ghost use Rattle.session.specs.Workers.{AreAtWork, AreWorkers, HasNone, IsAtWork, IsWorker, job_at, station_held, worker_at};
+ghost use Rattle.session.specs.Workers.{AreAtWork, AreWorkers, HasNone, IsAtWork, IsWorker, claim_of, held_job, job_at, job_from, station_held, worker_at};
 ghost use Rattle.session.specs.declared.units.UnitJob.{UnitJob};
 
 use crate::names::UNITS;
 use core::mem::replace_with;
 use instructions::{Half, Memory};
-use station::{Core, Job, Source, UnitSeat, abandon};
+use station::{Claim, Core, Job, Source, UnitSeat, abandon};
 use std::alloc::Global;
 
 /// What is told of a job.
@@ -169,5 +169,49 @@ pub(crate) fn put_worker(units: &mut Vec<Option<UnitJob>>, unit: usize, worker: 
 {
     if let Some(other) = units[unit].replace(worker) {
         give_up(other);
+    }
+}
+
+// What a job says.
+fn fields_of(job: &Job) -> Held
+    ensures { held_job result ≡ job.now }
+{
+    Held {
+        station: job.station(),
+        tag: job.tag(),
+        index: job.index(),
+        half: job.half(),
+        pc: job.pc(),
+        predicted: job.predicted(),
+        a: job.a(),
+        b: job.b(),
+    }
+}
+
+/// The answer of a claim, and its job.
+pub(crate) fn answer_of(claim: Claim) -> (Claimed, Option<Job>)
+    ensures answer { claim_of result.0 ≡ claim }
+    ensures job { result.1 ≡ job_from result.0 }
+{
+    match claim {
+        Claim::Job(job) => (Claimed::Job(fields_of(&job)), Some(job)),
+        Claim::NotOpen => (Claimed::NotOpen, None),
+        Claim::Waiting { tag, k } => (Claimed::Waiting { tag, k }, None),
+        Claim::Moved { tag } => (Claimed::Moved { tag }, None),
+    }
+}
+
+/// The seat of a unit that holds no job.
+pub(crate) fn free_seat(worker: UnitJob) -> UnitSeat
+    requires { worker.job ≡ None }
+    ensures { result ≡ worker.seat }
+{
+    let UnitJob { seat, job } = worker;
+    match job {
+        None => seat,
+        Some(job) => {
+            abandon(seat, job);
+            unreachable!()
+        }
     }
 }

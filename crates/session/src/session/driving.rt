@@ -1,14 +1,11 @@
-//! The calls of a session that drive its core: by the front, by units, and by the back. Each stands between two meetings
-//! with the seat that has seen all.
+//! The calls of a session that drive its core: by the front and by the back. Each stands between two meetings with the
+//! seat that has seen all.
 ghost use Rattle.std.specs.Prelude.{◌≡◌};
 ghost use Rattle.front.specs.Fronts.{TurnsTo};
 ghost use Rattle.front.specs.Training.{given_or};
 
 use super::Session;
-use crate::names::UNITS;
 use crate::replies::{Refreshed, Refusal, Reply};
-use crate::units::{Claimed, held_station};
-use crate::working::{claim_by, finish_by};
 use back::{Commit as Committed, OfProgram};
 use front::{Front, Turn as Turned};
 use instructions::Predictor;
@@ -29,13 +26,11 @@ fn turn_by<P: Predictor + Drop>(core: &Core, front: &mut Front<'_, P>, given: Op
 }
 
 impl<'a, P: Predictor + Drop, J: OfProgram> Session<'a, P, J> {
-    ghost use Rattle.std.specs.Prelude.{◌≡◌, ◌<◌, ◌-◌, ◌^◌, None};
+    ghost use Rattle.std.specs.Prelude.{◌≡◌, ◌<◌, ◌-◌, ◌^◌};
     ghost use Rattle.back.specs.Backs.{back_state};
     ghost use Rattle.session.specs.Replies.{IsCommit, IsTurn};
-    ghost use Rattle.session.specs.Sessions.{BackHasStepped, FrontHasStepped, IsReplied, UnitHasStepped};
-    ghost use Rattle.session.specs.Units.{unit_count};
-    ghost use Rattle.session.specs.Workers.{HasClaimed, job_at};
-    ghost use Rattle.session.specs.declared.commands.Command.TheVariants.{Claim, Commit, Finish, Recover, Refresh, RefreshAt, Turn};
+    ghost use Rattle.session.specs.Sessions.{BackHasStepped, FrontHasStepped, IsReplied};
+    ghost use Rattle.session.specs.declared.commands.Command.TheVariants.{Commit, Recover, Refresh, RefreshAt, Turn};
 
     // A turn of the front. A given guess stands in for the predictor's.
     fn dispatch(&mut self, given: Option<u32>) -> Turned
@@ -69,56 +64,6 @@ impl<'a, P: Predictor + Drop, J: OfProgram> Session<'a, P, J> {
         Reply::Recovery(answer)
     }
 
-    // A claim by the unit at a place, which holds no job.
-    fn issue(&mut self, unit: usize, station: usize) -> Claimed
-        requires unit { unit < unit_count }
-        requires station { station < self.old.core.sizes.ring }
-        requires free { job_at self.old.units unit ≡ None }
-        ensures stays { UnitHasStepped self.old self.new }
-        ensures reply { HasClaimed self.old.core self.old.seen self.new.seen self.old.units self.new.units
-            unit station result }
-    {
-        let (core, all, units) = (&self.core, &mut self.all, &mut self.units);
-        claim_by(core, all, units, unit, station)
-    }
-
-    pub(super) fn claim(&mut self, unit: usize, station: u32) -> Reply
-        ensures { IsReplied self.old self.new (Claim unit station) result }
-    {
-        let ring = self.core.ring();
-        if UNITS <= unit {
-            return Reply::Refused(Refusal::NoUnit);
-        }
-        if ring <= station as usize {
-            return Reply::Refused(Refusal::NoStation);
-        }
-        if held_station(&self.units, unit).is_some() {
-            return Reply::Refused(Refusal::HoldsJob);
-        }
-        let answer = self.issue(unit, station as usize);
-        let from = self.awaited(station as usize, &answer);
-        Reply::Claim(answer, from)
-    }
-
-    pub(super) fn finish(&mut self, unit: usize, station: u32) -> Reply
-        ensures { IsReplied self.old self.new (Finish unit station) result }
-    {
-        let (units, ring) = (&self.units, self.core.ring());
-        if units.len() <= unit {
-            return Reply::Refused(Refusal::NoUnit);
-        }
-        if ring <= station as usize {
-            return Reply::Refused(Refusal::NoStation);
-        }
-        match held_station(units, unit) {
-            Some(held) if held == station as usize => {
-                let (core, all, units) = (&self.core, &mut self.all, &mut self.units);
-                Reply::Finish(finish_by(core, self.program, all, units, unit, held))
-            }
-            _ => Reply::Refused(Refusal::HoldsNone),
-        }
-    }
-
     pub(super) fn refresh(&mut self) -> Reply
         ensures { IsReplied self.old self.new Refresh result }
     {
@@ -149,7 +94,8 @@ impl<'a, P: Predictor + Drop, J: OfProgram> Session<'a, P, J> {
         requires { (back_state self.old.commits).count < 2 ^ 64 - 1 }
         ensures stays { BackHasStepped self.old self.new }
         ensures shown { self.new.commits.shown ≡ self.old.commits.shown }
-        ensures reply { IsCommit self.old.commits self.new.commits self.old.seen self.new.seen result }
+        ensures reply { IsCommit self.old.commits self.new.commits self.old.seen
+            self.new.seen result }
     {
         let (core, all, back) = (&self.core, &mut self.all, &mut self.back);
         back.meet(core, all);

@@ -1,14 +1,17 @@
 //! Two that meet in a session.
-ghost use Rattle.std.specs.Prelude.{◌≡◌, true, false};
+ghost use Rattle.std.specs.Prelude.{◌≡◌, ◌<◌, true, false, vec_len};
+ghost use Rattle.station.specs.Seats.{IsSameSeat};
+ghost use Rattle.session.specs.Moments.{GrowsLegally};
+ghost use Rattle.session.specs.Workers.{AreWorkers, UnitHasSeen};
 ghost use Rattle.session.specs.Sessions.{IsNobody, IsSomebody};
 
 use super::Session;
-use crate::meeting::tell_all;
-use crate::names::UNITS;
-use crate::parties::Party;
+use crate::names::{Party, UNITS};
 use crate::replies::{Refusal, Reply};
+use crate::units::{UnitJob, put_worker, take_worker};
 use back::OfProgram;
 use instructions::Predictor;
+use station::{Core, UnitSeat, jobs_stay};
 
 fn is_nobody(party: Party) -> bool
     ensures is { result ≡ true → IsNobody party }
@@ -18,6 +21,23 @@ fn is_nobody(party: Party) -> bool
         Party::Unit(unit) => UNITS <= unit,
         _ => false,
     }
+}
+
+// The unit at a place, which is made if it is not there yet, learns all, and tells what it has seen.
+fn tell_all(core: &Core, all: &mut UnitSeat, units: &mut Vec<Option<UnitJob>>, unit: usize)
+    requires all { all.old.core ≡ core.now }
+    requires unit { unit < vec_len units.old }
+    requires workers { AreWorkers core.now units.old.items }
+    ensures all { IsSameSeat all.old all.new }
+    ensures grows { GrowsLegally core.now all.old.seen all.new.seen }
+    ensures workers { AreWorkers core.now units.new.items }
+    ensures places { vec_len units.new ≡ vec_len units.old }
+    ensures told { UnitHasSeen units.old.items units.new.items unit all.old.seen all.new.seen }
+{
+    let UnitJob { mut seat, job } = take_worker(core, all, units, unit);
+    jobs_stay();
+    core.meet(&mut seat, all);
+    put_worker(units, unit, UnitJob { seat, job });
 }
 
 impl<'a, P: Predictor + Drop, J: OfProgram> Session<'a, P, J> {

@@ -1,9 +1,9 @@
 //! What a session reads: words, the create vector, and where the path goes on. Each call stands between two meetings with
 //! the seat that has seen all.
 use super::Session;
-use crate::producers::{Producer, producer_named};
-use crate::replies::{Head, Info, NextFetch, Operand, Row};
-use crate::rows::{is_free, with};
+use crate::replies::{
+    Head, Info, NextFetch, Operand, Producer, Row, head_with, is_free, producer_named,
+};
 use crate::units::{Claimed, holder};
 use back::OfProgram;
 use front::{Made, Turn};
@@ -90,7 +90,8 @@ impl<'a, P: Predictor + Drop, J: OfProgram> Session<'a, P, J> {
         requires producer { producer < self.old.core.sizes.ring }
         requires consumer { consumer < self.old.core.sizes.ring }
         ensures stays { OnlyLooked self.old self.new }
-        ensures reply { IsLinkSeen self.old.core self.old.seen self.new.seen producer consumer k result }
+        ensures reply { IsLinkSeen self.old.core self.old.seen
+            self.new.seen producer consumer k result }
     {
         let (core, all, back) = (&self.core, &mut self.all, &mut self.back);
         back.meet(core, all);
@@ -103,7 +104,8 @@ impl<'a, P: Predictor + Drop, J: OfProgram> Session<'a, P, J> {
     fn producer(&mut self, station: usize, tag: u32, k: Source) -> Option<Producer>
         requires { station < self.old.core.sizes.ring }
         ensures stays { OnlyLooked self.old self.new }
-        ensures reply { IsProducerSeen self.old.core self.old.seen self.new.seen station tag k result }
+        ensures reply { IsProducerSeen self.old.core self.old.seen
+            self.new.seen station tag k result }
     {
         what_is_seen_is_legal(&self.all);
         for at in 0..self.core.ring() {
@@ -126,7 +128,8 @@ impl<'a, P: Predictor + Drop, J: OfProgram> Session<'a, P, J> {
     ) -> Option<Producer>
         requires { station < self.old.core.sizes.ring }
         ensures stays { OnlyLooked self.old self.new }
-        ensures reply { IsOfOperand self.old.core self.old.seen self.new.seen station tag k state result }
+        ensures reply { IsOfOperand self.old.core self.old.seen
+            self.new.seen station tag k state result }
     {
         what_is_seen_is_legal(&self.all);
         match state {
@@ -161,7 +164,8 @@ impl<'a, P: Predictor + Drop, J: OfProgram> Session<'a, P, J> {
     pub(super) fn awaited(&mut self, station: usize, answer: &Claimed) -> Option<Producer>
         requires { station < self.old.core.sizes.ring }
         ensures stays { OnlyLooked self.old self.new }
-        ensures reply { IsAwaited self.old.core self.old.seen self.new.seen station answer.now result }
+        ensures reply { IsAwaited self.old.core self.old.seen
+            self.new.seen station answer.now result }
     {
         what_is_seen_is_legal(&self.all);
         match answer {
@@ -199,7 +203,8 @@ impl<'a, P: Predictor + Drop, J: OfProgram> Session<'a, P, J> {
     pub(super) fn row(&mut self, station: usize) -> Row
         requires { station < self.old.core.sizes.ring }
         ensures stays { OnlyLooked self.old self.new }
-        ensures reply { IsRowSeen self.old.core self.old.seen self.new.seen self.old.units station result }
+        ensures reply { IsRowSeen self.old.core self.old.seen
+            self.new.seen self.old.units station result }
     {
         let seen = self.read_station(station);
         let unit = self.holder(station, seen.tag);
@@ -228,7 +233,7 @@ impl<'a, P: Predictor + Drop, J: OfProgram> Session<'a, P, J> {
         for at in 0..ring {
             let station = (tail + at) % ring;
             let seen = self.read_station(station);
-            head = with(head, station, is_free(seen.state));
+            head = head_with(head, station, is_free(seen.state));
         }
         head
     }
@@ -246,7 +251,8 @@ impl<'a, P: Predictor + Drop, J: OfProgram> Session<'a, P, J> {
     // The words of the oldest tenant's station, if one is live.
     pub(super) fn oldest(&mut self) -> Option<(usize, Row)>
         ensures stays { OnlyLooked self.old self.new }
-        ensures reply { IsOldestTold self.old.core self.old.seen self.new.seen self.old.units result }
+        ensures reply { IsOldestTold self.old.core self.old.seen
+            self.new.seen self.old.units result }
     {
         let (head, _) = self.ends();
         match head.station {

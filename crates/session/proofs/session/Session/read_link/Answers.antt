@@ -1,22 +1,16 @@
-use Rattle.std.proofs.Common.{rules, subst}
-use Rattle.session.specs.Moments.{GrowsLegally}
-use Rattle.session.specs.Sessions.{TheSession}
+use Rattle.std.proofs.Common.{rules}
 use Rattle.station.specs.Looking.{SeesLink}
-use Rattle.session.specs.Replies.{IsLinkSeen}
-use Rattle.session.proofs.Histories.{between, grows_twice}
+use Rattle.session.proofs.Calls.{has_grown, was_so}
 use Rattle.session.proofs.session.Session.read_link.Goals as goal
 
 pub returns-clause-stays : goal.returns-clause-stays
 returns-clause-stays g c = record {
-  grows = subst (λ (s : TheSession). GrowsLegally s.core s.seen c.meet-2.new.other.seen) c.self.view_is
-      (grows_twice c.self.inside.core _ _ _ _ _ c.meet.ensures.other_history c.meet-2.ensures.other_history);
+  grows = has_grown _ _ c.self.view_is _ _ _ _ c.meet.ensures.other_history c.meet-2.ensures.other_history;
   kept = search rules;
   commits = search rules;
 }
 
 pub returns-clause-reply : goal.returns-clause-reply
 returns-clause-reply g c =
-    let core = c.self.inside.core in
-    subst (λ (s : TheSession). IsLinkSeen s.core s.seen c.meet-2.new.other.seen c.args.producer c.args.consumer c.args.k c.link-answer.result) c.self.view_is
-    (between (λ before behind. SeesLink core.program core.sizes behind c.args.producer c.args.consumer c.args.k c.link-answer.result) _ _ _ _ _
-    c.meet.ensures.told c.link-answer.ensures.reply c.meet-2.ensures.history.begins c.meet-2.ensures.other_told)
+    was_so _ _ c.self.view_is (λ s before behind. SeesLink s.core.program s.core.sizes behind c.args.producer c.args.consumer c.args.k c.link-answer.result) _ _ _ _
+    c.meet.ensures.told c.link-answer.ensures.reply c.meet-2.ensures.history.begins c.meet-2.ensures.other_told

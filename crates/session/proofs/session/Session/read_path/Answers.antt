@@ -2,16 +2,14 @@ use Rattle.std.proofs.Common.{◌≡◌, rules, subst}
 use Rattle.back.specs.Backs.{unit_in}
 use Rattle.inorder.specs.Unit.{front_pc, next_station, recent}
 use Rattle.session.specs.declared.replies.NextFetch.{NextFetch}
-use Rattle.session.specs.Moments.{GrowsLegally}
-use Rattle.session.specs.Rows.{IsAhead, IsAheadOf}
-use Rattle.session.specs.Sessions.{TheSession}
+use Rattle.session.specs.Rows.{IsAheadOf}
 use Rattle.station.specs.Seats.{TheCore}
+use Rattle.session.proofs.Calls.{has_seen, was_seen}
 use Rattle.session.proofs.session.Session.read_path.Goals as goal
 
 pub returns-clause-stays : goal.returns-clause-stays
 returns-clause-stays g c = record {
-  grows = subst (λ (s : TheSession). GrowsLegally s.core s.seen c.meet.new.other.seen) c.self.view_is
-      (record { begins = c.meet.ensures.other_history.begins; legal = c.meet.ensures.other_history.legal });
+  grows = has_seen _ _ c.self.view_is _ _ c.meet.ensures.other_history;
   kept = search rules;
   commits = search rules;
 }
@@ -25,5 +23,4 @@ returns-clause-reply g c =
       station = subst (λ (k : TheCore). told.station ≡ next_station core.sizes (recent (unit_in k seen))) c.meet.ensures.core c.next_station-station.ensures;
       pc = subst (λ (k : TheCore). told.pc ≡ front_pc (unit_in k seen).tenants) c.meet.ensures.core c.next_pc-pc.ensures;
     } in
-    subst (λ (s : TheSession). IsAhead s.core s.seen c.meet.new.other.seen told) c.self.view_is
-    (record { before = seen; behind = seen; begins = c.meet.ensures.told; ends = c.meet.ensures.other_told; fact = says })
+    was_seen _ _ c.self.view_is (λ s behind. IsAheadOf s.core behind told) _ _ c.meet.ensures.told says c.meet.ensures.other_told

@@ -1,9 +1,9 @@
 use Rattle.std.proofs.Common.{◌∙◌, rules, subst, sym}
+use Rattle.back.specs.Wakings.{RefreshWakes}
 use Rattle.inorder.specs.History.{back}
-use Rattle.session.specs.Moments.{GrowsLegally}
-use Rattle.session.specs.Replies.{IsRefreshAt, RefreshAtSays}
-use Rattle.session.specs.Sessions.{TheSession}
-use Rattle.session.proofs.Histories.{between, grows_twice}
+use Rattle.session.specs.Replies.{RefreshAtSays}
+use Rattle.session.specs.declared.replies.Refreshed.{Refreshed}
+use Rattle.session.proofs.Calls.{has_grown, was_so}
 use Rattle.session.proofs.session.Session.refresh_at.Goals as goal
 
 pub returns : goal.returns
@@ -11,19 +11,20 @@ returns g c =
     let core = c.self.inside.core in
     let met = c.meet.new.self in
     let done = c.refresh_at-answer.new.self in
-    let answer = c.refresh_at-answer.result in
-    let says : RefreshAtSays core met.by met.seen done.seen c.args.station (record { answer = answer; woken = done.woken }) =
-    record { says = c.refresh_at-answer.ensures.reply; was = met.woken; woken = c.refresh_at-answer.ensures.woken } in
-    let told = subst (λ n. RefreshAtSays core n met.seen done.seen c.args.station (record { answer = answer; woken = c.woken-woken.result })) (c.meet.ensures.kept.by ∙ c.self.invariant.back_by)
-    (subst (λ w. RefreshAtSays core met.by met.seen done.seen c.args.station (record { answer = answer; woken = w })) (sym c.woken-woken.ensures) says) in
+    let told : Refreshed = record { answer = c.refresh_at-answer.result; woken = c.woken-woken.result } in
+    let says : RefreshAtSays core met.by met.seen done.seen c.args.station told =
     record {
-      grows = subst (λ (s : TheSession). GrowsLegally s.core s.seen c.meet-2.new.other.seen) c.self.view_is
-          (grows_twice core _ _ _ _ _ c.meet.ensures.other_history c.meet-2.ensures.other_history);
+      says = c.refresh_at-answer.ensures.reply;
+      was = met.woken;
+      woken = subst (λ w. RefreshWakes core met.by met.seen done.seen met.woken w told.answer) (sym c.woken-woken.ensures) c.refresh_at-answer.ensures.woken;
+    } in
+    let by_back = subst (λ n. RefreshAtSays core n met.seen done.seen c.args.station told) (c.meet.ensures.kept.by ∙ c.self.invariant.back_by) says in
+    record {
+      grows = has_grown _ _ c.self.view_is _ _ _ _ c.meet.ensures.other_history c.meet-2.ensures.other_history;
       says = (
         search rules,
-        subst (λ (s : TheSession). IsRefreshAt s.core back s.seen c.meet-2.new.other.seen c.args.station (record { answer = answer; woken = c.woken-woken.result })) c.self.view_is
-            (between (λ before behind. RefreshAtSays core back before behind c.args.station (record { answer = answer; woken = c.woken-woken.result })) _ _ _ _ _
-            c.meet.ensures.told told c.meet-2.ensures.history.begins c.meet-2.ensures.other_told),
+        was_so _ _ c.self.view_is (λ s before behind. RefreshAtSays s.core back before behind c.args.station told) _ _ _ _
+            c.meet.ensures.told by_back c.meet-2.ensures.history.begins c.meet-2.ensures.other_told,
         search rules,
       );
       kept = search rules;

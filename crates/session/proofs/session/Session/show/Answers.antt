@@ -1,11 +1,10 @@
-use Rattle.std.proofs.Common.{◌∙◌, ap, rules, subst, sym}
+use Rattle.std.proofs.Common.{◌≡◌, ◌∙◌, ap, rules, subst, sym}
 use Rattle.back.specs.Backs.{IsSameBack, TheBack, back_state, committed_in}
 use Rattle.inorder.specs.Machine.{State}
 use Rattle.snapshots.specs.Snapshots.{snapshot}
-use Rattle.session.specs.Moments.{GrowsLegally}
-use Rattle.session.specs.Replies.{IsShown}
 use Rattle.session.specs.Sessions.{TheSession}
 use Rattle.session.proofs.Backs.{new_shown, shows}
+use Rattle.session.proofs.Calls.{has_seen, was_seen}
 use Rattle.session.proofs.session.Session.show.Goals as goal
 
 pub returns-in-Ok : goal.returns-in-Ok
@@ -17,16 +16,10 @@ returns-in-Ok g c =
     let kept = c.meet.ensures.kept in
     let is = c.in-Ok.ensures.ok in
     record {
-      grows = subst (λ (s : TheSession). GrowsLegally s.core s.seen c.meet.new.other.seen) c.self.view_is
-          (record { begins = c.meet.ensures.other_history.begins; legal = c.meet.ensures.other_history.legal });
+      grows = has_seen _ _ c.self.view_is _ _ c.meet.ensures.other_history;
       says = record {
-        says = subst (λ (s : TheSession). IsShown s.core s.seen c.meet.new.other.seen mark) c.self.view_is (record {
-          before = met.seen;
-          behind = met.seen;
-          begins = c.meet.ensures.told;
-          ends = c.meet.ensures.other_told;
-          fact = c.in-Ok.ensures.mark ∙ ap (λ k. (committed_in k met.seen).count) (kept.core ∙ c.self.invariant.back_core);
-        });
+        says = was_seen _ _ c.self.view_is (λ s behind. mark.n ≡ (committed_in s.core behind).count) _ _ c.meet.ensures.told
+            (c.in-Ok.ensures.mark ∙ ap (λ k. (committed_in k met.seen).count) (kept.core ∙ c.self.invariant.back_core)) c.meet.ensures.other_told;
         count = c.in-Ok.ensures.mark ∙ (ap (λ (S : State). S.count) kept.state ∙ ap (λ (s : TheSession). (back_state s.commits).count) c.self.view_is);
         shown = ap (λ (b : TheBack). b.shown) is ∙ (ap snapshot kept.state ∙ ap (λ (s : TheSession). snapshot (back_state s.commits)) c.self.view_is);
         kept = search rules;
@@ -39,8 +32,7 @@ pub returns-in-Err : goal.returns-in-Err
 returns-in-Err g c =
     let new = c.show.new.self in
     record {
-      grows = subst (λ (s : TheSession). GrowsLegally s.core s.seen c.meet.new.other.seen) c.self.view_is
-          (record { begins = c.meet.ensures.other_history.begins; legal = c.meet.ensures.other_history.legal });
+      grows = has_seen _ _ c.self.view_is _ _ c.meet.ensures.other_history;
       says = record {
         mark = search rules;
         commits = subst (λ (s : TheSession). IsSameBack s.commits new) c.self.view_is

@@ -5,7 +5,7 @@ use Rattle.session.specs.declared.units.UnitJob.{UnitJob}
 use Rattle.session.specs.Workers.{AreWorkers, UnitHasSeen, seen_at}
 use Rattle.instructions.proofs.Histories.{starts_on}
 use Rattle.session.proofs.Workers.{free_now, has_told, put_back, stay_seen, still_works, taken_seen}
-use Rattle.session.proofs.meeting.tell_all.Goals as goal
+use Rattle.session.proofs.session.meeting.tell_all.Goals as goal
 
 pub put_worker-requires-clause-free : goal.put_worker-requires-clause-free
 put_worker-requires-clause-free c =
