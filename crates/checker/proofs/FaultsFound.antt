@@ -50,7 +50,7 @@ take_whole [] ys = refl
 take_whole (x ∷ xs) ys = ap (λ (l : List Marked). x ∷ l) (take_whole xs ys)
 
 module _ (seen : Seen) (found : List Marked) (n : ℕ) (left all : Lines) (so_far : HaveFound seen found n left all) where
-  -- so many are found
+  -- as many are found as are shown
   pub found_most : (most : ℕ) → length found ≡ most → found ≡ take most (all_faults all)
   found_most most is = rw (sym is, sym so_far.1.1) (sym (take_whole found _))
 

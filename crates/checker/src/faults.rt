@@ -134,7 +134,7 @@ fn labels_of(alloc: Global, bytes: &[u8]) -> Result<Names<'_>, AllocError>
     Ok(names)
 }
 
-// The first fault of each line, in the order of the lines, and at most so many as are shown.
+// The first fault of each line, in the order of the lines, and no more than are shown.
 fn faults(alloc: Global, bytes: &[u8]) -> Result<Vec<Marked>, AllocError>
     ensures { IfOk result (λ found.
         found.items ≡ take most_faults (all_faults (lines_of bytes.now))) }

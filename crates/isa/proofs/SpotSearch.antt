@@ -14,14 +14,14 @@ pub none_left : (n : ℕ) (ss : List Slot) → operands_spot n ss [] ≡ Whole
 none_left n [] = refl
 none_left n (s ∷ ss) = refl
 
--- the word is an operation, and none of its forms has so many operands
+-- the word is an operation, and none of its forms has that number of operands
 pub no_form : (is : Bool) (o : Option Form) (k : FaultKind) → (if is then ok_or o BadOperands else Err UnknownOp) ≡ Err k → k ≢ UnknownOp
     → (is ≡ true) × (o ≡ None)
 no_form true None k e apart = (refl, refl)
 no_form true (Some form) k e apart = absurd cc
 no_form false o k e apart = absurd (apart cc)
 
--- none of the forms of an operation has so many operands
+-- none of the forms of an operation has that number of operands
 pub spot_of_other : (word : List ℕ) (parts : List (List ℕ)) (n most : ℕ) (k : FaultKind) (at : Spot) → is_word (codes ".space") word ≡ false
     → is_word (codes ".word") word ≡ false → n ≡ length parts → form_of word n ≡ Err k → k ≢ UnknownOp → most ≡ most_operands word
     → at ≡ count_spot most n → at ≡ spot_with word parts
