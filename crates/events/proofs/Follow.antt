@@ -9,7 +9,7 @@ use Rattle.inorder.specs.Legal.{Allowed, MayAct, change_at}
 use Rattle.inorder.specs.Steps.{MayLet, new_tenant}
 use Rattle.inorder.specs.Tenants.{Tenant}
 use Rattle.inorder.specs.Moves.{Leads, MayTake}
-use Rattle.inorder.specs.Unit.{Sizes, UpdateUnit, at}
+use Rattle.inorder.specs.Unit.{Sizes, UpdateUnit, at, front_pc}
 use Rattle.inorder.proofs.OneCaller.Sequences.{leads_more, leads_nowhere, leads_once}
 use Rattle.replay.specs.declared.step.Step.{Step}
 use Rattle.replay.specs.declared.step.Step.TheVariants.{Let, On}
@@ -154,12 +154,12 @@ executes_untold u v w p a b = record { told = a.told; follows = then_untold u v 
 
 let_lift : (v : Held) (A B : List Step → Type 0) (told ss : List Step) (r : NoLet) → ((rr : List Step) → A rr → B (rr ++ ss)) →
     NextLet v A told r → NextLet v B (told ++ ss) r
-let_lift v A B told ss RingFull f n = record { index = n.index; predicted = n.predicted; next = f (Let n.index n.predicted ∷ told) n.next; why = n.why }
-let_lift v A B told ss QueueFull f n = record { index = n.index; predicted = n.predicted; next = f (Let n.index n.predicted ∷ told) n.next; why = n.why }
-let_lift v A B told ss NoSuch f n = record { index = n.index; predicted = n.predicted; next = f (Let n.index n.predicted ∷ told) n.next; why = n.why }
+let_lift v A B told ss RingFull f n = record { index = n.index; predicted = n.predicted; path = n.path; next = f (Let n.index n.predicted ∷ told) n.next; why = n.why }
+let_lift v A B told ss QueueFull f n = record { index = n.index; predicted = n.predicted; path = n.path; next = f (Let n.index n.predicted ∷ told) n.next; why = n.why }
+let_lift v A B told ss NoSuch f n = record { index = n.index; predicted = n.predicted; path = n.path; next = f (Let n.index n.predicted ∷ told) n.next; why = n.why }
 let_lift v A B told ss (OtherPc front) f n = f told n
-let_lift v A B told ss (OtherNext x) f n = record { index = n.index; predicted = n.predicted; next = f (Let n.index n.predicted ∷ told) n.next; why = n.why }
-let_lift v A B told ss (NoSupply k) f n = record { index = n.index; predicted = n.predicted; next = f (Let n.index n.predicted ∷ told) n.next; why = n.why }
+let_lift v A B told ss (OtherNext x) f n = record { index = n.index; predicted = n.predicted; path = n.path; next = f (Let n.index n.predicted ∷ told) n.next; why = n.why }
+let_lift v A B told ss (NoSupply k) f n = record { index = n.index; predicted = n.predicted; path = n.path; next = f (Let n.index n.predicted ∷ told) n.next; why = n.why }
 
 -- what is next after fewer steps
 next_lift : (v : Held) (A B : List Step → Type 0) (told ss : List Step) (why : Why) → ((rr : List Step) → A rr → B (rr ++ ss)) →
@@ -181,9 +181,9 @@ refuses_here u v p deed r same why =
     subst (Refuses u (Only (On p deed)) (WhyAct p deed r)) (sym same) (record { told = []; follows = stays u; next = refl; holds = why })
 
 -- an instruction that is let
-pub let_refused : (u m v : Held) (pc next : Option ℕ) (index w : ℕ) (r : NoLet) → Follows u [] m → v ≡ m → IfSome pc (λ x. x ≡ address index) →
-    IfSome next (λ x. x ≡ w) → IsNoLet m index w r → Refuses u (λ ss. (ss ≡ []) ⊎ IsLet pc next ss) (WhyLet r) v
-let_refused u m v pc next index w r f same at goes why =
+pub let_refused : (u m v : Held) (pc next : Option ℕ) (index w : ℕ) (r : NoLet) → Follows u [] m → v ≡ m → front_pc (shown m.tenants.items) ≡ address index →
+    IfSome pc (λ x. x ≡ address index) → IfSome next (λ x. x ≡ w) → IsNoLet m index w r → Refuses u (λ ss. (ss ≡ []) ⊎ IsLet pc next ss) (WhyLet r) v
+let_refused u m v pc next index w r f same path at goes why =
     subst (Refuses u (λ ss. (ss ≡ []) ⊎ IsLet pc next ss) (WhyLet r)) (sym same)
     (record { told = []; follows = f; next = by r why; holds = true_of r why })
   where
@@ -191,12 +191,12 @@ let_refused u m v pc next index w r f same at goes why =
     one ss e = inr (record { index = index; predicted = w; is = e; at = at; goes = goes })
 
     by : (x : NoLet) → IsNoLet m index w x → NextLet m (λ ss. (ss ≡ []) ⊎ IsLet pc next ss) [] x
-    by RingFull n = record { index = index; predicted = w; next = one (Let index w ∷ []) refl; why = n }
-    by QueueFull n = record { index = index; predicted = w; next = one (Let index w ∷ []) refl; why = n }
-    by NoSuch n = record { index = index; predicted = w; next = one (Let index w ∷ []) refl; why = n }
+    by RingFull n = record { index = index; predicted = w; path = path; next = one (Let index w ∷ []) refl; why = n }
+    by QueueFull n = record { index = index; predicted = w; path = path; next = one (Let index w ∷ []) refl; why = n }
+    by NoSuch n = record { index = index; predicted = w; path = path; next = one (Let index w ∷ []) refl; why = n }
     by (OtherPc front) n = inl refl
-    by (OtherNext x) n = record { index = index; predicted = w; next = one (Let index w ∷ []) refl; why = n }
-    by (NoSupply k) n = record { index = index; predicted = w; next = one (Let index w ∷ []) refl; why = n }
+    by (OtherNext x) n = record { index = index; predicted = w; path = path; next = one (Let index w ∷ []) refl; why = n }
+    by (NoSupply k) n = record { index = index; predicted = w; path = path; next = one (Let index w ∷ []) refl; why = n }
 
     true_of : (x : NoLet) → IsNoLet m index w x → IsTrueOf m (WhyLet x)
     true_of RingFull n = tt

@@ -1,4 +1,5 @@
 pub mod Lines
 pub mod Following
 pub mod Told
+pub mod Denied
 pub mod Logs

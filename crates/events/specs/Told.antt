@@ -4,6 +4,7 @@ use Rattle.std.specs.List.{AllByRecursion}
 use Rattle.instructions.specs.Programs.{address}
 use Rattle.instructions.specs.declared.op.Kind.{Kind}
 use Rattle.instructions.specs.declared.op.Kind.TheVariants.{Stores}
+use Rattle.inorder.specs.Legal.{MayAct}
 use Rattle.inorder.specs.Tenants.{Live, kind_of}
 use Rattle.inorder.specs.Unit.{front_pc}
 use Rattle.replay.specs.declared.acting.Deed.{Deed}
@@ -15,7 +16,7 @@ use Rattle.replay.specs.declared.tenant.Fate.TheVariants.{Addr, Done, Guessed, M
 use Rattle.replay.specs.declared.tenant.Tenant.{Tenant}
 use Rattle.replay.specs.declared.unit.Unit.{Unit as Held}
 use Rattle.replay.specs.Lets.{IsNoLet}
-use Rattle.replay.specs.Reasons.{Is, IsHeldLive, Reason as ActReason, held}
+use Rattle.replay.specs.Reasons.{Is, IsHeldLive, IsLoadValue, Reason as ActReason, act_of, held}
 use Rattle.replay.specs.declared.dispatch.NoLet.{NoLet as Reason}
 use Rattle.replay.specs.declared.dispatch.NoLet.TheVariants.{OtherPc}
 use Rattle.replay.specs.Shown.{shown, tenant_of}
@@ -91,22 +92,41 @@ outcome_of (Addr v) = Some v
 outcome_of (Guessed v) = Some v
 outcome_of _ = None
 
--- The execution of the tenant at a position has ended with this value
-pub record HasOutcome (hs : List Tenant) (p v : ℕ) : Type 0 where
+-- The outcome of the tenant at a position is this value, or there is none
+pub record OutcomeIs (hs : List Tenant) (p : ℕ) (there : Option ℕ) : Type 0 where
   pub tenant : Tenant
   pub is : slice_get hs p ≡ Some tenant
-  pub value : outcome_of tenant.fate ≡ Some v
+  pub value : outcome_of tenant.fate ≡ there
+
+-- The execution of the tenant at a position has ended with this value
+abbrev pub HasOutcome : List Tenant → ℕ → ℕ → Type 0
+HasOutcome hs p v = OutcomeIs hs p (Some v)
 
 -- What a tenant leaves as it retires: the data of a store, or what it has made
 abbrev pub left_by : Kind → (second made : Option ℕ) → Option ℕ
 left_by Stores second made = second
 left_by _ second made = made
 
--- The tenant at a position has left this value
-pub record HasLeft (u : Held) (p v : ℕ) : Type 0 where
+-- The tenant at a position has left this value, or none
+pub record LeftIs (u : Held) (p : ℕ) (there : Option ℕ) : Type 0 where
   pub tenant : Tenant
   pub is : slice_get u.tenants.items p ≡ Some tenant
-  pub value : left_by (kind_of u.program.now (tenant_of tenant)) tenant.second.value tenant.made ≡ Some v
+  pub value : left_by (kind_of u.program.now (tenant_of tenant)) tenant.second.value tenant.made ≡ there
+
+-- The tenant at a position has left this value
+abbrev pub HasLeft : Held → ℕ → ℕ → Type 0
+HasLeft u p v = LeftIs u p (Some v)
+
+-- The load at a position can have this value now
+pub record CanRead (u : Held) (p v : ℕ) : Type 0 where
+  pub may : MayAct u.program.now (shown u.tenants.items) 0 p (act_of Load)
+  pub value : IsLoadValue u.program.now (shown u.tenants.items) p v
+
+-- The load at a position can have its value now, which is the one that is said
+pub record Reads (u : Held) (p : ℕ) (said : Option ℕ) : Type 0 where
+  pub value : ℕ
+  pub can : CanRead u p value
+  pub is : IfSome said (λ x. x ≡ value)
 
 -- A tenant is squashed so
 abbrev pub IsSquashing : Deed → Type 0
@@ -145,6 +165,17 @@ pub record Retires (u : Held) (who : Option ℕ) (v : Held) : Type 0 where
   pub follows : Follows u told v
   pub is : IsRetire who told
 
+-- The tenant at position p retires: the one that is named, or the oldest
+pub record RetiresAt (u : Held) (who : Option ℕ) (p : ℕ) (v : Held) : Type 0 where
+  pub named : IfSome who (λ q. q ≡ p)
+  pub retires : Retires u (Some p) v
+
+-- A tenant retires, and has left this value
+pub record Leaves (u : Held) (who : Option ℕ) (v : Held) (x : ℕ) : Type 0 where
+  pub p : ℕ
+  pub retires : RetiresAt u who p v
+  pub left : HasLeft v p x
+
 -- A tenant is squashed
 pub record Squashes (u : Held) (who : Option ℕ) (v : Held) : Type 0 where
   pub told : List Step
@@ -163,21 +194,23 @@ pub record Recovers (u : Held) (p : ℕ) (v : Held) : Type 0 where
   pub follows : Follows u told v
   pub is : IsRecover p told
 
--- What an event states of the unit after it: producers, and the values of execution
-abbrev pub States : Held → Event → Type 0
-States v (ToldFrom p q) = ComesFrom v.tenants.items p q
-States v (ToldEnd p x) = IfSome x (HasOutcome v.tenants.items p)
-States v (ToldExecute p x) = IfSome x (HasOutcome v.tenants.items p)
-States v (ToldLoad p x) = IfSome x (HasOutcome v.tenants.items p)
-States v (ToldComplete p x) = IfSome x (HasOutcome v.tenants.items p)
-States v _ = ⊤
+-- What an event states of the unit after it, v: producers, and values
+abbrev pub States : Held → Event → Held → Type 0
+States u (ToldFrom p q) v = ComesFrom v.tenants.items p q
+States u (ToldEnd p x) v = IfSome x (HasOutcome v.tenants.items p)
+States u (ToldExecute p x) v = IfSome x (HasOutcome v.tenants.items p)
+States u (ToldRead p x) v = Reads v p x
+States u (ToldLoad p x) v = IfSome x (HasOutcome v.tenants.items p)
+States u (ToldComplete p x) v = IfSome x (HasOutcome v.tenants.items p)
+States u (ToldRetire who x) v = IfSome x (Leaves u who v)
+States u _ v = ⊤
 
 -- Legal steps that an event says lead from a unit to a later one, of which what it states is true
 pub record Tells (u : Held) (event : Event) (v : Held) : Type 0 where
   pub told : List Step
   pub follows : Follows u told v
   pub says : Says event told
-  pub states : States v event
+  pub states : States u event v
 
 -- One step
 abbrev pub Only : Step → List Step → Type 0
@@ -207,10 +240,11 @@ Begins (ToldSquash who) ss = (ss ≡ []) ⊎ IsSquash who ss
 Begins (ToldMend p) ss = Only (On p Mend) ss
 Begins (ToldRecover p) ss = AllByRecursion (IsSquashAfter p) ss ⊎ IsRecover p ss
 
--- The instruction that is let next may not be let for this reason
+-- The next instruction of the path may not be let for this reason
 pub record IsNextLet (v : Held) (Begin : List Step → Type 0) (told : List Step) (reason : Reason) : Type 0 where
   pub index : ℕ
   pub predicted : ℕ
+  pub path : front_pc (shown v.tenants.items) ≡ address index
   pub next : Begin (Let index predicted ∷ told)
   pub why : IsNoLet v index predicted reason
 

@@ -1,6 +1,8 @@
 //! Dispatch.
-ghost use Rattle.std.specs.Prelude.{◌≡◌, ◌⊎◌, ◌<◌, ◌^◌, IfErr, IfOk, IfSome, IsTrue, OnOk, [], length};
-ghost use Rattle.instructions.specs.Programs.{address};
+ghost use Rattle.std.specs.Prelude.{◌≡◌, ◌⊎◌, ◌<◌, ◌^◌, IfErr, IfNone, IfOk, IfSome, IsFalse, IsTrue, None, OnOk, [], length};
+ghost use Rattle.instructions.specs.Instruction.{fixed_next};
+ghost use Rattle.instructions.specs.Programs.{address, instr_at, instr_of};
+ghost use Rattle.events.specs.Denied.{DeniesLet, IsOther};
 ghost use Rattle.events.specs.Following.{Follows};
 ghost use Rattle.events.specs.Told.{IsLet, Lets, Refuses};
 ghost use Rattle.replay.specs.Lets.{IsFit};
@@ -18,6 +20,7 @@ const MOST: usize = 1 << 61;
 fn index_at(program: &Program, pc: u32) -> Option<usize>
     ensures inside { IfSome result (λ index. index < length program.now.code) }
     ensures at { IfSome result (λ index. address index ≡ pc) }
+    ensures none { IfNone result (instr_at program.now pc ≡ None) }
 {
     let index = (pc.wrapping_sub(Program::START) / 4) as usize;
     if index < program.len() && Program::START + 4 * index as u32 == pc {
@@ -29,7 +32,8 @@ fn index_at(program: &Program, pc: u32) -> Option<usize>
 
 // What the log says, if it says it, is where the path goes on.
 fn goes_on_at(pc: Option<u32>, front: u32) -> bool
-    ensures { IsTrue result → IfSome pc (λ x. x ≡ front) }
+    ensures yes { IsTrue result → IfSome pc (λ x. x ≡ front) }
+    ensures no { IsFalse result → IsOther pc front }
 {
     match pc {
         Some(pc) => pc == front,
@@ -58,7 +62,8 @@ impl<'a> Judge<'a> {
     // The predicted next pc of the next instruction: the only one there is, what the log says, or a guess.
     fn predicted(&self, front: Front, index: usize, next: Option<u32>, guess: Option<u32>) -> u32
         requires { index < length self.now.unit.program.now.code }
-        ensures { IfSome next (λ x. x ≡ result) }
+        ensures said { IfSome next (λ x. x ≡ result) }
+        ensures fixed { next ≡ None → IfSome (fixed_next (instr_of self.now.unit.program.now index) front.half front.pc) (λ x. x ≡ result) }
     {
         match next {
             Some(next) => next,
@@ -90,6 +95,7 @@ impl<'a> Judge<'a> {
     ) -> Result<Result<(), Why>, AllocError>
         ensures ok { IfOk result (λ answer. OnOk answer (Lets self.old.unit pc next self.new.unit)) }
         ensures err { IfOk result (λ answer. IfErr answer (λ why. Refuses self.old.unit (λ ss. (ss ≡ []) ⊎ IsLet pc next ss) why self.new.unit)) }
+        ensures denied { IfOk result (λ answer. IfErr answer (DeniesLet self.new.unit.program.now pc next)) }
     {
         self.mend_towards(pc);
         let front = self.unit.front();

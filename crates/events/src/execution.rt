@@ -1,7 +1,8 @@
 //! Execution.
 ghost use Rattle.std.specs.Prelude.{◌≡◌, ◌⊎◌, ℕ, IfErr, IfSome, OnOk, List, [], ◌∷◌};
+ghost use Rattle.events.specs.Denied.{DeniesOutcome, DeniesRead, IsOfAct};
 ghost use Rattle.events.specs.Following.{Follows};
-ghost use Rattle.events.specs.Told.{AreExecution, Executes, HasOutcome, IsExecution, Only, Refuses};
+ghost use Rattle.events.specs.Told.{AreExecution, Executes, HasOutcome, IsExecution, Only, Reads, Refuses};
 ghost use Rattle.replay.specs.declared.step.Step.TheVariants.{On};
 ghost use Rattle.replay.specs.declared.acting.Deed.TheVariants.{Claim, Finish, Load};
 
@@ -16,6 +17,7 @@ impl<'a> Judge<'a> {
     pub(crate) fn begin(&mut self, who: usize) -> Result<(), Why>
         ensures ok { OnOk result (Follows self.old.unit (On who Claim ∷ []) self.new.unit) }
         ensures err { IfErr result (λ why. Refuses self.old.unit (Only (On who Claim)) why self.new.unit) }
+        ensures denied { IfErr result IsOfAct }
     {
         self.act(who, Deed::Claim)
     }
@@ -24,6 +26,7 @@ impl<'a> Judge<'a> {
     fn finish(&mut self, who: usize) -> Result<(), Why>
         ensures ok { OnOk result (Follows self.old.unit (On who Finish ∷ []) self.new.unit) }
         ensures err { IfErr result (λ why. Refuses self.old.unit (Only (On who Finish)) why self.new.unit) }
+        ensures denied { IfErr result IsOfAct }
     {
         self.act(who, Deed::Finish)?;
         self.broadcast(who);
@@ -35,6 +38,7 @@ impl<'a> Judge<'a> {
         ensures ok { OnOk result (Follows self.old.unit (On who Finish ∷ []) self.new.unit) }
         ensures value { OnOk result (IfSome said (HasOutcome self.new.unit.tenants.items who)) }
         ensures err { IfErr result (λ why. Refuses self.old.unit (Only (On who Finish)) why self.new.unit) }
+        ensures denied { IfErr result (DeniesOutcome self.new.unit.tenants.items who said) }
     {
         self.finish(who)?;
         self.has_outcome(who, said)
@@ -43,6 +47,7 @@ impl<'a> Judge<'a> {
     fn begin_if_open(&mut self, who: usize) -> Result<(), Why>
         ensures ok { OnOk result (Executes self.old.unit who self.new.unit) }
         ensures err { IfErr result (λ why. Refuses self.old.unit (AreExecution who) why self.new.unit) }
+        ensures denied { IfErr result IsOfAct }
     {
         match self.unit.tenant(who).map(|t| t.fate) {
             Some(Fate::Open) => self.begin(who),
@@ -55,6 +60,7 @@ impl<'a> Judge<'a> {
         ensures ok { OnOk result (Executes self.old.unit who self.new.unit) }
         ensures value { OnOk result (IfSome said (HasOutcome self.new.unit.tenants.items who)) }
         ensures err { IfErr result (λ why. Refuses self.old.unit (AreExecution who) why self.new.unit) }
+        ensures denied { IfErr result (DeniesOutcome self.new.unit.tenants.items who said) }
     {
         self.begin_if_open(who)?;
         self.end(who, said)
@@ -62,7 +68,9 @@ impl<'a> Judge<'a> {
 
     /// The load could have its value now.
     pub(crate) fn read(&self, who: usize, said: Option<u32>) -> Result<(), Why>
-        ensures { IfErr result (λ why. Refuses self.now.unit (λ ss. (ss ≡ []) ⊎ Only (On who Load) ss) why self.now.unit) }
+        ensures ok { OnOk result (Reads self.now.unit who said) }
+        ensures err { IfErr result (λ why. Refuses self.now.unit (λ ss. (ss ≡ []) ⊎ Only (On who Load) ss) why self.now.unit) }
+        ensures denied { IfErr result (DeniesRead self.now.unit who said) }
     {
         match self.unit.read(who) {
             Ok(value) => is_value(who, Some(value), said),
@@ -86,6 +94,7 @@ impl<'a> Judge<'a> {
     fn take_value(&mut self, who: usize, said: Option<u32>) -> Result<(), Why>
         ensures ok { OnOk result (Executes self.old.unit who self.new.unit) }
         ensures err { IfErr result (λ why. Refuses self.old.unit (AreExecution who) why self.new.unit) }
+        ensures denied { IfErr result IsOfAct }
     {
         self.act(who, self.loading(who, said))
     }
@@ -95,6 +104,7 @@ impl<'a> Judge<'a> {
         ensures ok { OnOk result (Executes self.old.unit who self.new.unit) }
         ensures value { OnOk result (IfSome said (HasOutcome self.new.unit.tenants.items who)) }
         ensures err { IfErr result (λ why. Refuses self.old.unit (AreExecution who) why self.new.unit) }
+        ensures denied { IfErr result (DeniesOutcome self.new.unit.tenants.items who said) }
     {
         self.take_value(who, said)?;
         self.broadcast(who);
@@ -106,6 +116,7 @@ impl<'a> Judge<'a> {
         ensures ok { OnOk result (Executes self.old.unit who self.new.unit) }
         ensures value { OnOk result (IfSome said (HasOutcome self.new.unit.tenants.items who)) }
         ensures err { IfErr result (λ why. Refuses self.old.unit (AreExecution who) why self.new.unit) }
+        ensures denied { IfErr result (DeniesOutcome self.new.unit.tenants.items who said) }
     {
         self.begin_if_open(who)?;
         let Some(tenant) = self.unit.tenant(who) else {
@@ -122,6 +133,7 @@ impl<'a> Judge<'a> {
     fn compute(&mut self, who: usize) -> Result<(), Why>
         ensures ok { OnOk result (Executes self.old.unit who self.new.unit) }
         ensures err { IfErr result (λ why. Refuses self.old.unit (AreExecution who) why self.new.unit) }
+        ensures denied { IfErr result IsOfAct }
     {
         self.finish(who)
     }
@@ -131,6 +143,7 @@ impl<'a> Judge<'a> {
         ensures ok { OnOk result (Executes self.old.unit who self.new.unit) }
         ensures value { OnOk result (IfSome said (HasOutcome self.new.unit.tenants.items who)) }
         ensures err { IfErr result (λ why. Refuses self.old.unit (AreExecution who) why self.new.unit) }
+        ensures denied { IfErr result (DeniesOutcome self.new.unit.tenants.items who said) }
     {
         self.compute(who)?;
         match self.unit.tenant(who).map(|t| t.fate) {

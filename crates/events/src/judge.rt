@@ -1,6 +1,7 @@
 //! A judge: the unit as the events before have left it.
 ghost use Rattle.std.specs.Prelude.{◌≡◌, ℕ, IfErr, IfNone, IfOk, IfSome, IsTrue, OnErr, OnOk, [], ◌∷◌, length};
 ghost use Rattle.inorder.specs.declared.history.Step.TheVariants.{On as UnitOn};
+ghost use Rattle.events.specs.Denied.{Denies, IsOfAct};
 ghost use Rattle.events.specs.Following.{Follows, IsUntold};
 ghost use Rattle.events.specs.Told.{Begins, IsEmpty, Only, Refuses, Tells};
 ghost use Rattle.replay.specs.declared.step.Step.TheVariants.{On};
@@ -48,6 +49,7 @@ impl<'a> Judge<'a> {
     pub fn event(&mut self, event: Event, guess: Option<u32>) -> Result<Result<(), Why>, AllocError>
         ensures ok { IfOk result (λ answer. OnOk answer (Tells self.old.unit event self.new.unit)) }
         ensures err { IfOk result (λ answer. IfErr answer (λ why. Refuses self.old.unit (Begins event) why self.new.unit)) }
+        ensures denied { IfOk result (λ answer. IfErr answer (Denies self.old.unit event self.new.unit)) }
     {
         match event {
             Event::Let(pc, next) => self.dispatch(pc, next, guess),
@@ -69,6 +71,7 @@ impl<'a> Judge<'a> {
     pub(crate) fn act(&mut self, who: usize, deed: Deed) -> Result<(), Why>
         ensures ok { OnOk result (Follows self.old.unit (On who deed ∷ []) self.new.unit) }
         ensures err { IfErr result (λ why. Refuses self.old.unit (Only (On who deed)) why self.new.unit) }
+        ensures denied { IfErr result IsOfAct }
     {
         match self.unit.act(who, deed) {
             Ok(()) => Ok(()),

@@ -1,8 +1,9 @@
 //! Retirement and recovery.
 ghost use Rattle.std.specs.Prelude.{◌≡◌, ◌⊎◌, ◌<◌, ℕ, IfErr, IfOk, IfSome, OnOk, Some, [], ◌∷◌};
 ghost use Rattle.std.specs.List.{AllByRecursion};
+ghost use Rattle.events.specs.Denied.{DeniesRetire, DeniesSquash, IsOfAct};
 ghost use Rattle.events.specs.Following.{Follows};
-ghost use Rattle.events.specs.Told.{Confirms, IsRecover, IsRetiring, IsSquash, IsSquashAfter, IsSquashing, Only, Recovers, Refuses, Retires, Squashes, SquashesOne};
+ghost use Rattle.events.specs.Told.{Confirms, IsRecover, IsRetiring, IsSquash, IsSquashAfter, IsSquashing, Leaves, Only, Recovers, Refuses, Retires, Squashes, SquashesOne};
 ghost use Rattle.replay.specs.declared.step.Step.TheVariants.{On};
 ghost use Rattle.replay.specs.declared.acting.Deed.TheVariants.{Confirm, Mend};
 
@@ -25,6 +26,7 @@ impl<'a> Judge<'a> {
     fn confirm_late(&mut self, who: usize) -> Result<(), Why>
         ensures ok { OnOk result (Confirms self.old.unit who self.new.unit) }
         ensures err { IfErr result (λ why. Refuses self.old.unit (Only (On who Confirm)) why self.new.unit) }
+        ensures denied { IfErr result IsOfAct }
     {
         match self.unit.tenant(who).map(|t| t.fate) {
             Some(Fate::Guessed(_)) if self.unit.live_before(who).is_none() => {
@@ -38,6 +40,7 @@ impl<'a> Judge<'a> {
     fn ready(&mut self, who: usize) -> Result<(), Why>
         ensures ok { OnOk result (Confirms self.old.unit who self.new.unit) }
         ensures err { IfErr result (λ why. Refuses self.old.unit (IsRetiring (Some who)) why self.new.unit) }
+        ensures denied { IfErr result IsOfAct }
     {
         self.mend_late(who);
         self.confirm_late(who)
@@ -47,6 +50,7 @@ impl<'a> Judge<'a> {
     fn depart(&mut self, who: usize) -> Result<(), Why>
         ensures ok { OnOk result (Retires self.old.unit (Some who) self.new.unit) }
         ensures err { IfErr result (λ why. Refuses self.old.unit (IsRetiring (Some who)) why self.new.unit) }
+        ensures denied { IfErr result IsOfAct }
     {
         self.ready(who)?;
         self.act(who, Deed::Retire)
@@ -56,6 +60,7 @@ impl<'a> Judge<'a> {
     fn leave(&mut self, who: usize) -> Result<(), Why>
         ensures ok { OnOk result (Retires self.old.unit (Some who) self.new.unit) }
         ensures err { IfErr result (λ why. Refuses self.old.unit (IsRetiring (Some who)) why self.new.unit) }
+        ensures denied { IfErr result IsOfAct }
     {
         self.depart(who)?;
         self.broadcast(who);
@@ -65,7 +70,9 @@ impl<'a> Judge<'a> {
     /// The oldest retires, with the value that is said.
     pub(crate) fn retire(&mut self, who: Option<usize>, said: Option<u32>) -> Result<(), Why>
         ensures ok { OnOk result (Retires self.old.unit who self.new.unit) }
+        ensures value { OnOk result (IfSome said (Leaves self.old.unit who self.new.unit)) }
         ensures err { IfErr result (λ why. Refuses self.old.unit (IsRetiring who) why self.new.unit) }
+        ensures denied { IfErr result (DeniesRetire self.old.unit who said self.new.unit) }
     {
         let Some(who) = who.or(self.oldest()) else {
             return Err(Why::Nobody);
@@ -91,6 +98,7 @@ impl<'a> Judge<'a> {
     pub(crate) fn squash(&mut self, who: Option<usize>) -> Result<(), Why>
         ensures ok { OnOk result (Squashes self.old.unit who self.new.unit) }
         ensures err { IfErr result (λ why. Refuses self.old.unit (λ ss. (ss ≡ []) ⊎ IsSquash who ss) why self.new.unit) }
+        ensures denied { IfErr result (DeniesSquash who) }
     {
         let Some(who) = who.or(self.youngest()) else {
             return Err(Why::Nobody);
@@ -102,6 +110,7 @@ impl<'a> Judge<'a> {
     pub(crate) fn mend(&mut self, who: usize) -> Result<(), Why>
         ensures ok { OnOk result (Follows self.old.unit (On who Mend ∷ []) self.new.unit) }
         ensures err { IfErr result (λ why. Refuses self.old.unit (Only (On who Mend)) why self.new.unit) }
+        ensures denied { IfErr result IsOfAct }
     {
         self.act(who, Deed::Mend)
     }
@@ -111,6 +120,7 @@ impl<'a> Judge<'a> {
         requires { who < youngest }
         ensures ok { OnOk result (SquashesOne self.old.unit who self.new.unit) }
         ensures err { IfErr result (λ why. Refuses self.old.unit (AllByRecursion (IsSquashAfter who)) why self.new.unit) }
+        ensures denied { IfErr result IsOfAct }
     {
         self.act(youngest, Deed::Squash)
     }
@@ -119,6 +129,7 @@ impl<'a> Judge<'a> {
     fn squash_younger(&mut self, who: usize) -> Result<bool, Why>
         ensures ok { IfOk result (λ _. SquashesOne self.old.unit who self.new.unit) }
         ensures err { IfErr result (λ why. Refuses self.old.unit (AllByRecursion (IsSquashAfter who)) why self.new.unit) }
+        ensures denied { IfErr result IsOfAct }
     {
         match self.youngest() {
             Some(youngest) if who < youngest => {
@@ -133,6 +144,7 @@ impl<'a> Judge<'a> {
     fn squash_all(&mut self, who: usize) -> Result<(), Why>
         ensures ok { OnOk result (SquashesOne self.old.unit who self.new.unit) }
         ensures err { IfErr result (λ why. Refuses self.old.unit (AllByRecursion (IsSquashAfter who)) why self.new.unit) }
+        ensures denied { IfErr result IsOfAct }
     {
         for _turn in 0..self.unit.tenants.len() {
             let more = match self.squash_younger(who) {
@@ -150,6 +162,7 @@ impl<'a> Judge<'a> {
     pub(crate) fn recover(&mut self, who: usize) -> Result<(), Why>
         ensures ok { OnOk result (Recovers self.old.unit who self.new.unit) }
         ensures err { IfErr result (λ why. Refuses self.old.unit (λ ss. AllByRecursion (IsSquashAfter who) ss ⊎ IsRecover who ss) why self.new.unit) }
+        ensures denied { IfErr result IsOfAct }
     {
         match self.squash_all(who) {
             Ok(()) => self.mend(who),

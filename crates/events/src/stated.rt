@@ -2,7 +2,8 @@
 ghost use Rattle.std.specs.Prelude.{◌≡◌, ◌≤◌, IfErr, IfSome, OnOk, Some, None, [], slice_get};
 ghost use Rattle.inorder.specs.Tenants.{kind_of};
 ghost use Rattle.replay.specs.Shown.{tenant_of};
-ghost use Rattle.events.specs.Told.{ComesFrom, HasLeft, HasOutcome, IsOfState, IsOfValues, IsTrueOf, Refuses, left_by, outcome_of};
+ghost use Rattle.events.specs.Denied.{DeniesOutcome, DeniesProducer, DeniesValue, IsUnknown};
+ghost use Rattle.events.specs.Told.{ComesFrom, HasLeft, HasOutcome, IsOfState, IsOfValues, IsTrueOf, LeftIs, Refuses, left_by, outcome_of};
 
 use crate::judge::Judge;
 use crate::why::Why;
@@ -23,6 +24,7 @@ pub(crate) fn outcome_value(tenant: &Tenant) -> Option<u32>
 pub(crate) fn is_value(who: usize, is: Option<u32>, said: Option<u32>) -> Result<(), Why>
     ensures ok { OnOk result (IfSome said (λ v. is ≡ Some v)) }
     ensures err { IfErr result (IsOfValues) }
+    ensures denied { IfErr result (DeniesValue (λ p. p ≡ who) (λ p there. there ≡ is) said) }
 {
     match (said, is) {
         (None, _) => Ok(()),
@@ -38,6 +40,7 @@ impl<'a> Judge<'a> {
         requires { self.now.unit.tenants.from ≤ who → slice_get self.now.unit.tenants.items who ≡ None }
         ensures holds { IsTrueOf self.now.unit result }
         ensures of { IsOfState result }
+        ensures named { IsUnknown who result }
     {
         if who < self.unit.tenants.first() {
             Why::Gone(who)
@@ -60,6 +63,7 @@ impl<'a> Judge<'a> {
     pub(crate) fn has_outcome(&self, who: usize, said: Option<u32>) -> Result<(), Why>
         ensures ok { OnOk result (IfSome said (HasOutcome self.now.unit.tenants.items who)) }
         ensures err { IfErr result (λ why. IsOfState why × IsTrueOf self.now.unit why) }
+        ensures denied { IfErr result (DeniesOutcome self.now.unit.tenants.items who said) }
     {
         match self.unit.tenant(who) {
             Some(tenant) => is_value(who, outcome_value(&tenant), said),
@@ -71,6 +75,7 @@ impl<'a> Judge<'a> {
     pub(crate) fn has_left(&self, who: usize, said: Option<u32>) -> Result<(), Why>
         ensures ok { OnOk result (IfSome said (HasLeft self.now.unit who)) }
         ensures err { IfErr result (λ why. IsOfState why × IsTrueOf self.now.unit why) }
+        ensures denied { IfErr result (DeniesValue (λ p. p ≡ who) (LeftIs self.now.unit) said) }
     {
         match self.unit.tenant(who) {
             Some(tenant) => is_value(who, self.left_value(&tenant), said),
@@ -82,6 +87,7 @@ impl<'a> Judge<'a> {
     pub(crate) fn comes_from(&self, who: usize, producer: usize) -> Result<(), Why>
         ensures ok { OnOk result (ComesFrom self.now.unit.tenants.items who producer) }
         ensures err { IfErr result (λ why. Refuses self.now.unit (λ ss. ss ≡ []) why self.now.unit) }
+        ensures denied { IfErr result (DeniesProducer who producer) }
     {
         let Some(tenant) = self.unit.tenant(who) else {
             return Err(self.unknown(who));

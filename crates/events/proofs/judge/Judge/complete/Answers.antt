@@ -22,6 +22,7 @@ returns-in_default-Loads c = record {
   err = if_err c.complete_load.result _ _
       (λ why r. refuses_executed c.args.self.now.unit c.begin_if_open.new.self.unit c.complete_load.new.self.unit c.args.who why
       (AreExecution c.args.who) (λ rr a. a) c.in_ok-begin_if_open.ensures.ok r) c.complete_load.ensures.err;
+  denied = c.complete_load.ensures.denied;
 }
 
 pub returns-in_default-2-clause-ok : goal.returns-in_default-2-clause-ok

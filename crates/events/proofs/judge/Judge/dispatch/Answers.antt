@@ -1,7 +1,10 @@
-use Rattle.std.proofs.Common.{◌≡◌, ◌∷◌, [], ap, inl, refl, sym, ◌∙◌, subst}
+use Rattle.std.proofs.Common.{◌≡◌, ◌∷◌, [], None, ap, inl, refl, sym, ◌∙◌, subst}
 use Rattle.std.specs.Prelude.{IfSome}
+use Rattle.instructions.specs.Instruction.{fixed_next}
+use Rattle.instructions.specs.Programs.{instr_of}
 use Rattle.replay.specs.declared.front.Front.{Front}
 use Rattle.replay.specs.declared.step.Step.TheVariants.{Let}
+use Rattle.events.proofs.Denials.{path_denied}
 use Rattle.events.proofs.Follow.{entered, let_refused, then_untold, told_once, untold_then}
 use Rattle.events.proofs.judge.Judge.dispatch.Goals as goal
 
@@ -24,8 +27,8 @@ returns-in-Ok-clause-ok c =
         index = c.in-Some.index;
         predicted = c.predicted-predicted.result;
         is = refl;
-        at = subst (λ n. IfSome c.args.pc (λ x. x ≡ n)) (ap (λ (f : Front). f.pc) c.front-front.ensures ∙ may.pc) (c.if-not-goes_on_at.ensures refl);
-        goes = c.predicted-predicted.ensures;
+        at = subst (λ n. IfSome c.args.pc (λ x. x ≡ n)) (ap (λ (f : Front). f.pc) c.front-front.ensures ∙ may.pc) (c.if-not-goes_on_at.ensures.yes refl);
+        goes = c.predicted-predicted.ensures.said;
       };
     }
 
@@ -45,11 +48,24 @@ returns-in_default-clause-err c = record {
   holds = sym (ap (λ (f : Front). f.pc) c.front-front.ensures);
 }
 
+pub returns-then-not-goes_on_at-clause-denied : goal.returns-then-not-goes_on_at-clause-denied
+returns-then-not-goes_on_at-clause-denied c = c.if-not-goes_on_at.ensures.no refl
+
 pub returns-in-Err-clause-err : goal.returns-in-Err-clause-err
 returns-in-Err-clause-err c =
     let same = rw c.in-Err.is at c.in_ok-reason.ensures.same in
     let why = rw c.in-Err.is at c.in_ok-reason.ensures.err in
     let_refused c.args.self.now.unit c.mend_towards.new.self.unit c.enter.new.self c.args.pc c.args.next c.in-Some.index c.predicted-predicted.result
-    c.in-Err.reason c.mend_towards.ensures same
-    (subst (λ n. IfSome c.args.pc (λ x. x ≡ n)) (sym c.in-Some.ensures.at) (c.if-not-goes_on_at.ensures refl))
-    c.predicted-predicted.ensures why
+    c.in-Err.reason c.mend_towards.ensures same (sym (c.in-Some.ensures.at ∙ ap (λ (f : Front). f.pc) c.front-front.ensures))
+    (subst (λ n. IfSome c.args.pc (λ x. x ≡ n)) (sym c.in-Some.ensures.at) (c.if-not-goes_on_at.ensures.yes refl))
+    c.predicted-predicted.ensures.said why
+
+pub returns-in-Err-clause-denied : goal.returns-in-Err-clause-denied
+returns-in-Err-clause-denied c =
+    let m = c.mend_towards.new.self.unit in
+    let why = rw c.in-Err.is at c.in_ok-reason.ensures.err in
+    path_denied m c.args.pc c.args.next c.in-Some.index c.predicted-predicted.result c.in-Err.reason
+    (sym (c.in-Some.ensures.at ∙ ap (λ (f : Front). f.pc) c.front-front.ensures)) c.predicted-predicted.ensures.said
+    (subst (λ (f : Front). c.args.next ≡ None → IfSome (fixed_next (instr_of m.program.now c.in-Some.index) f.half f.pc) (λ x. x ≡ c.predicted-predicted.result))
+    c.front-front.ensures c.predicted-predicted.ensures.fixed)
+    why
