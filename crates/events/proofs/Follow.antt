@@ -29,7 +29,7 @@ use Rattle.replay.specs.Verdicts.{IsNamed, IsTaken}
 use Rattle.events.specs.declared.why.Why.{Why}
 use Rattle.events.specs.declared.why.Why.TheVariants.{Let as WhyLet, NoInstruction, Act as WhyAct, Gone, NotLet, OtherProducer, OtherValue, NoValue, Nobody}
 use Rattle.events.specs.Following.{AreTold, Follows, IsUntold}
-use Rattle.events.specs.Told.{AreExecution, Confirms, Executes, IsConfirm, IsExecution, IsLet, IsNext, IsOfState, IsOfValues, IsRetire, IsRetiring, IsSquash, IsSquashAfter, IsSquashing, IsTrueOf, NextLet, Only, Recovers, Refuses, Retires, Squashes, SquashesOne}
+use Rattle.events.specs.Told.{AreExecution, Confirms, Executes, IsConfirm, IsExecution, IsLet, IsNext, IsOfState, IsRetire, IsRetiring, IsSquash, IsSquashAfter, IsSquashing, IsTrueOf, NextLet, Only, Recovers, Refuses, Retires, Squashes, SquashesOne}
 
 abbrev as_unit : List Tenant → ℕ → UpdateUnit
 as_unit ts n = record { tenants = ts; fresh = n }
@@ -344,18 +344,6 @@ recovers u v w p s f = record {
   follows = then u v w s.told (On p Mend ∷ []) s.follows f;
   is = record { squashes = s.told; is = refl; are = s.are };
 }
-
--- a reason that speaks of values alone
-pub of_values : (u : Held) (why : Why) → IsOfValues why → IsOfState why × IsTrueOf u why
-of_values u (WhyLet r) t = absurd t
-of_values u (NoInstruction pc) t = absurd t
-of_values u (WhyAct p deed r) t = absurd t
-of_values u (NotLet p) t = absurd t
-of_values u (Gone p) t = absurd t
-of_values u (OtherProducer p a b) t = absurd t
-of_values u (OtherValue p v) t = (tt, tt)
-of_values u (NoValue p) t = (tt, tt)
-of_values u Nobody t = absurd t
 
 pub if_none : {X : Type 0} (o : Option X) (A B : Type 0) → (A → B) → IfNone o A → IfNone o B
 if_none None A B f a = f a

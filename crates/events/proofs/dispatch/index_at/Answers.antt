@@ -1,5 +1,4 @@
-use Rattle.std.proofs.Common.{◌≡◌, ◌<◌, length, arith}
-use Rattle.instructions.specs.Programs.{address}
+use Rattle.std.proofs.Common.{arith}
 use Rattle.events.proofs.Denials.{no_instruction}
 use Rattle.events.proofs.dispatch.index_at.Goals as goal
 use Rattle.events.proofs.dispatch.index_at.Goals.{else-index-len-via-then-index-len+else-index-pc, else-index-len-via-else-index-len}
