@@ -55,7 +55,7 @@ pub record HasOther (Names : ℕ → Type 0) (Has : ℕ → Option ℕ → Type 
   pub has : Has p (Some v)
   pub other : IsOther said v
 
--- It has no value, and one is said
+-- The tenant at position p has no value, and one is said
 pub record HasNone (Names : ℕ → Type 0) (Has : ℕ → Option ℕ → Type 0) (said : Option ℕ) (p : ℕ) : Type 0 where
   pub named : Names p
   pub has : Has p None
@@ -70,15 +70,15 @@ DeniesValue Names Has said (NotLet p) = Names p
 DeniesValue Names Has said (Gone p) = Names p
 DeniesValue Names Has said _ = ⊥
 
--- The outcome of the tenant at position p
+-- The reason denies the outcome that is said of the tenant at position p
 abbrev pub DeniesOutcome : List Tenant → (p : ℕ) (said : Option ℕ) → Why → Type 0
 DeniesOutcome hs p said why = DeniesValue (λ q. q ≡ p) (OutcomeIs hs) said why
 
--- The value that the load at position p can have now
+-- The reason denies the value that is said of the load at position p, which can have another one now
 abbrev pub DeniesRead : Held → (p : ℕ) (said : Option ℕ) → Why → Type 0
 DeniesRead u p said why = DeniesValue (λ q. q ≡ p) (λ q there. IsSomeAnd there (CanRead u q)) said why
 
--- What the tenant leaves that retires as u becomes v
+-- The reason denies what is said to be left by the tenant that retires as u becomes v
 abbrev pub DeniesRetire : Held → (who said : Option ℕ) → Held → Why → Type 0
 DeniesRetire u who said v Nobody = who ≡ None
 DeniesRetire u who said v why = DeniesValue (λ p. RetiresAt u who p v) (LeftIs v) said why

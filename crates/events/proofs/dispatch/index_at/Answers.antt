@@ -7,6 +7,6 @@ pub returns-else-index-len-clause-none : goal.returns-else-index-len-clause-none
 returns-else-index-len-clause-none c =
     no_instruction c.args.program.now c.args.pc
     (λ k inside is. elim c.else-index-len.branch [
-      else-index-len-via-then-index-len+else-index-pc w ↦ omega arith
+      | else-index-len-via-then-index-len+else-index-pc w ↦ omega arith
       | else-index-len-via-else-index-len w ↦ omega arith
     ])
