@@ -237,7 +237,7 @@ judged --grade "$listing" "$work/table"
 is_status 4 'an empty file as a table'
 echo 'what is no table is named by line and cell'
 
-for words in '--lets x a b' '--latency lw a b' '--units run=1 a b' '--tsv a b' '--events --grade a b' '--lets 1 a b' '--units addu=1 a b' '--grade --guess a b' '--grade --flush a b' '--grade --after 2 a b' '--within never a b' '--stage Q a b' '--stage Q=run a b' 'a b c'; do
+for words in '--lets x a b' '--latency lw a b' '--units run=1 a b' '--tsv a b' '--events --grade a b' '--lets 1 a b' '--units addu=1 a b' '--grade --guess a b' '--grade --flush a b' '--grade --after 2 a b' '--events --guess a b' '--events --flush a b' '--events --ruu-size 4 a b' '--events --lsq-size 4 a b' '--events --stations c a b' '--within never a b' '--stage Q a b' '--stage Q=run a b' 'a b c'; do
   # shellcheck disable=SC2086
   judged $words
   is_status 3 "judge $words"

@@ -129,6 +129,9 @@ const OF_GRADES: [&'static str; 7] = [
 
 const NOT_OF_GRADES: [&'static str; 5] = ["events", "guess", "flush", "stations", "after"];
 
+// Options of the unit, which `--events` does not judge by.
+const NOT_OF_EVENTS: [&'static str; 5] = ["ruu-size", "lsq-size", "guess", "flush", "stations"];
+
 /// What stands below the options in help.
 pub const NOTES: &str = "\
 Example: ruu judge examples/judge/branch.s examples/judge/branch.right.log
@@ -158,11 +161,20 @@ pub fn made<'a>(alloc: Global, option: Offered) -> Result<Arg<'a>, AllocError> {
         Some(value) => arg.value_name(value),
         None => arg,
     };
-    if OF_GRADES.iter().any(|name| *name == option.name) {
-        arg.requires_arg("grade")
-    } else if NOT_OF_GRADES.iter().any(|name| *name == option.name) {
-        arg.conflicts_with("grade")
+    let arg = if stands_in(&OF_GRADES, option) {
+        arg.requires_arg("grade")?
+    } else if stands_in(&NOT_OF_GRADES, option) {
+        arg.conflicts_with("grade")?
+    } else {
+        arg
+    };
+    if stands_in(&NOT_OF_EVENTS, option) {
+        arg.conflicts_with("events")
     } else {
         Ok(arg)
     }
+}
+
+fn stands_in(names: &[&'static str], option: Offered) -> bool {
+    names.iter().any(|name| *name == option.name)
 }
