@@ -3,6 +3,7 @@ use Rattle.std.specs.List.{AllByRecursion}
 use Rattle.std.specs.Prelude.{Result, IfErr, IfNone, IfSome, OnOk, slice_get}
 use Rattle.std.proofs.Common.{◌≡◌, ◌⊎◌, ℕ, suc, ◌<◌, Option, Some, None, Ok, Err, length, List, [], ◌∷◌, ◌++◌, refl, sym, ap, ◌∙◌, subst, inl, inr, ⊎_elim, arith}
 use Rattle.instructions.specs.Programs.{Program, address}
+use Rattle.inorder.specs.declared.history.Act.TheVariants.{Claim, Deliver, Finish, Link, Load, Mend as UnitMend, Retire as UnitRetire, Speculate, Squash}
 use Rattle.inorder.specs.declared.history.Step.{Step as UnitStep}
 use Rattle.inorder.specs.declared.history.Step.TheVariants.{Let as UnitLet, On as UnitOn, Renew}
 use Rattle.inorder.specs.Legal.{Allowed, MayAct, change_at}
@@ -22,7 +23,9 @@ use Rattle.replay.specs.declared.dispatch.NoLet.{NoLet}
 use Rattle.replay.specs.declared.dispatch.NoLet.TheVariants.{NoInstruction as NoSuch, NoSupply, OtherNext, OtherPc, QueueFull, RingFull}
 use Rattle.replay.specs.declared.refusal.Refusal.{Refusal}
 use Rattle.replay.specs.declared.tenant.Tenant.{Tenant as HeldTenant}
-use Rattle.replay.proofs.Laid.{get_below}
+use Rattle.replay.proofs.Laid.{get_below, laid_length}
+use Rattle.replay.proofs.Left.{act_leaves, new_due, none_due, nothing_due}
+use Rattle.replay.specs.Placing.{AreDueTo, IsQuiet, IsSilent, LeadsSilently, LeavesDue, may_make}
 use Rattle.replay.specs.Reasons.{IsHeldLive, Reason as ActReason, act_of, held}
 use Rattle.replay.specs.Shown.{shown}
 use Rattle.replay.specs.Verdicts.{IsNamed, IsTaken}
@@ -55,30 +58,44 @@ stays u = record {
   steps = [];
   leads = leads_nowhere u.program.now (sizes_of u) 0 (unit_of u);
   are = tt;
+  due = λ quiet. quiet;
 }
 
--- a step that is told
-pub told_once : (u v : Held) (s : Step) → IsTaken u s v → v.program.now ≡ u.program.now → sizes_of v ≡ sizes_of u → Follows u (s ∷ []) v
-told_once u v s t program sizes = record {
-  program = program;
-  sizes = sizes;
-  steps = t.taken ∷ [];
-  leads = leads_once u.program.now (sizes_of u) 0 (unit_of u) (unit_of v) t.taken
-      (may_take u.program.now (sizes_of u) (unit_of u) s t.taken t.named t.allowed) (sym t.leads);
-  are = inl (t.named, tt);
-}
+-- no event tells a link or a delivery
+untold_silent : (t : UnitStep) → IsSilent t → IsUntold t
+untold_silent (UnitOn p (Link k)) silent = tt
+untold_silent (UnitOn p (Deliver k)) silent = tt
+untold_silent (UnitOn p Claim) silent = absurd silent
+untold_silent (UnitOn p Finish) silent = absurd silent
+untold_silent (UnitOn p Load) silent = absurd silent
+untold_silent (UnitOn p (UnitRetire n)) silent = absurd silent
+untold_silent (UnitOn p Squash) silent = absurd silent
+untold_silent (UnitOn p UnitMend) silent = tt
+untold_silent (UnitOn p (Speculate s)) silent = absurd silent
+untold_silent (UnitLet i p f g) silent = absurd silent
+untold_silent Renew silent = absurd silent
 
--- one that no event tells
-pub untold_once : (u v : Held) (s : Step) (t : IsTaken u s v) → IsUntold t.taken → v.program.now ≡ u.program.now → sizes_of v ≡ sizes_of u →
-    Follows u [] v
-untold_once u v s t never program sizes = record {
-  program = program;
-  sizes = sizes;
-  steps = t.taken ∷ [];
-  leads = leads_once u.program.now (sizes_of u) 0 (unit_of u) (unit_of v) t.taken
-      (may_take u.program.now (sizes_of u) (unit_of u) s t.taken t.named t.allowed) (sym t.leads);
-  are = (never, tt);
-}
+untold_all : (ts : List UnitStep) → AllByRecursion IsSilent ts → AreTold [] ts
+untold_all [] all = tt
+untold_all (t ∷ ts) all = (untold_silent t all.0, untold_all ts all.1)
+
+-- a step that is told, and then links and deliveries
+pub told_once : (u m v : Held) (s : Step) → IsTaken u s m → m.program.now ≡ u.program.now → sizes_of m ≡ sizes_of u → LeadsSilently m v →
+    (IsQuiet u → IsQuiet v) → Follows u (s ∷ []) v
+told_once u m v s t program sizes silent due =
+    let one =
+    leads_once u.program.now (sizes_of u) 0 (unit_of u) (unit_of m) t.taken
+    (may_take u.program.now (sizes_of u) (unit_of u) s t.taken t.named t.allowed) (sym t.leads) in
+    let more = subst (λ (P : Program). Leads P (sizes_of m) 0 (unit_of m) silent.steps (unit_of v)) program silent.leads in
+    let same = subst (λ (C : Sizes). Leads u.program.now C 0 (unit_of m) silent.steps (unit_of v)) sizes more in
+    record {
+      program = ap (λ p. p.now) silent.program ∙ program;
+      sizes = silent.sizes ∙ sizes;
+      steps = silent.steps ++ t.taken ∷ [];
+      leads = leads_more u.program.now (sizes_of u) 0 (unit_of u) (unit_of m) (unit_of v) silent.steps (t.taken ∷ []) one same;
+      are = told_more [] (s ∷ []) silent.steps (t.taken ∷ []) (inl (t.named, tt)) (untold_all silent.steps silent.silent);
+      due = due;
+    }
 
 -- one after another
 pub then : (u v w : Held) (ss rr : List Step) → Follows u ss v → Follows v rr w → Follows u (rr ++ ss) w
@@ -91,17 +108,15 @@ then u v w ss rr a b =
       steps = b.steps ++ a.steps;
       leads = leads_more u.program.now (sizes_of u) 0 (unit_of u) (unit_of v) (unit_of w) b.steps a.steps a.leads same;
       are = told_more rr ss b.steps a.steps a.are b.are;
+      due = λ quiet. b.due (a.due quiet);
     }
 
-append_nil : (ss : List Step) → ss ++ [] ≡ ss
+pub append_nil : (ss : List Step) → ss ++ [] ≡ ss
 append_nil [] = refl
 append_nil (s ∷ ss) = ap (λ rr. s ∷ rr) (append_nil ss)
 
 pub untold_then : (u v w : Held) (rr : List Step) → Follows u [] v → Follows v rr w → Follows u rr w
 untold_then u v w rr a b = subst (λ ss. Follows u ss w) (append_nil rr) (then u v w [] rr a b)
-
-pub then_untold : (u v w : Held) (ss : List Step) → Follows u ss v → Follows v [] w → Follows u ss w
-then_untold u v w ss a b = then u v w ss [] a b
 
 -- Steps of the unit
 
@@ -146,9 +161,6 @@ executes_then u v w p a b = record {
   follows = then u v w a.told b.told a.follows b.follows;
   are = all_more p b.told a.told b.are a.are;
 }
-
-pub executes_untold : (u v w : Held) (p : ℕ) → Executes u p v → Follows v [] w → Executes u p w
-executes_untold u v w p a b = record { told = a.told; follows = then_untold u v w a.told a.follows b; are = a.are }
 
 -- Refusals
 
@@ -265,18 +277,37 @@ retiring_named p who named rr (inr (inr r)) =
 pub retiring_told : (p : ℕ) (who : Option ℕ) (rr : List Step) → IfSome who (λ q. q ≡ p) → IsRetire (Some p) rr → IsRetiring who rr
 retiring_told p who rr named r = retiring_named p who named rr (inr (inr r))
 
-pub untold_act : (u v : Held) (p : ℕ) (deed : Deed) → MayAct u.program.now (shown u.tenants.items) 0 p (act_of deed) →
+-- What is due after a step
+
+pub act_left : (u v : Held) (p : ℕ) (deed : Deed) → MayAct u.program.now (shown u.tenants.items) 0 p (act_of deed) →
     shown v.tenants.items ≡ change_at u.program.now (shown u.tenants.items) 0 p (act_of deed) (at (shown u.tenants.items) p) →
-    length v.tenants.items ≡ length u.tenants.items → IsUntold (UnitOn p (act_of deed)) → v.program.now ≡ u.program.now → sizes_of v ≡ sizes_of u →
-    Follows u [] v
-untold_act u v p deed may done long never program sizes =
-    untold_once u v (On p deed)
-    (record {
-      taken = UnitOn p (act_of deed);
-      named = (refl, refl);
-      allowed = may;
-      leads = ap (λ n. as_unit (shown v.tenants.items) n) long ∙ ap (λ ts. as_unit ts (length u.tenants.items)) done;
-    }) never program sizes
+    v.program.now ≡ u.program.now → IsQuiet u → LeavesDue (may_make (act_of deed)) v.program.now (shown v.tenants.items) p
+act_left u v p deed may done program quiet =
+    subst (λ (P : Program). LeavesDue (may_make (act_of deed)) P (shown v.tenants.items) p) (sym program)
+    (subst (λ ts. LeavesDue (may_make (act_of deed)) u.program.now ts p) (sym done)
+    (act_leaves u.program.now (shown u.tenants.items) p (none_due u.program.now (sizes_of u) (unit_of u) quiet) (act_of deed) may))
+
+pub let_left : (u v : Held) (who : ℕ) (t : Tenant) → shown v.tenants.items ≡ t ∷ shown u.tenants.items → v.program.now ≡ u.program.now →
+    who ≡ length u.tenants.items → IsQuiet u → AreDueTo v.program.now (shown v.tenants.items) who
+let_left u v who t done program last quiet =
+    let long = laid_length u.tenants.items [] in
+    subst (λ (P : Program). AreDueTo P (shown v.tenants.items) who) (sym program)
+    (subst (λ ts. AreDueTo u.program.now ts who) (sym done)
+    (subst (AreDueTo u.program.now (t ∷ shown u.tenants.items)) (omega arith)
+    (new_due u.program.now t (shown u.tenants.items) (none_due u.program.now (sizes_of u) (unit_of u) quiet))))
+
+pub untold_mend : (u v : Held) (p : ℕ) → MayAct u.program.now (shown u.tenants.items) 0 p UnitMend →
+    shown v.tenants.items ≡ change_at u.program.now (shown u.tenants.items) 0 p UnitMend (at (shown u.tenants.items) p) →
+    length v.tenants.items ≡ length u.tenants.items → v.program.now ≡ u.program.now → sizes_of v ≡ sizes_of u → Follows u [] v
+untold_mend u v p may done long program sizes = record {
+  program = program;
+  sizes = sizes;
+  steps = UnitOn p UnitMend ∷ [];
+  leads = leads_once u.program.now (sizes_of u) 0 (unit_of u) (unit_of v) (UnitOn p UnitMend) may
+      (sym (ap (λ n. as_unit (shown v.tenants.items) n) long ∙ ap (λ ts. as_unit ts (length u.tenants.items)) done));
+  are = (tt, tt);
+  due = λ quiet. nothing_due v.program.now (sizes_of v) (unit_of v) (act_left u v p Mend may done program quiet);
+}
 
 -- Answers
 
@@ -303,9 +334,6 @@ retires_confirmed u v w p c f = record {
     is = ⊎_elim (λ e. inl (ap (λ ss. On p Retire ∷ ss) e)) (λ e. inr (ap (λ ss. On p Retire ∷ ss) e)) c.is;
   };
 }
-
-pub retires_untold : (u v w : Held) (who : Option ℕ) → Retires u who v → Follows v [] w → Retires u who w
-retires_untold u v w who r f = record { told = r.told; follows = then_untold u v w r.told r.follows f; is = r.is }
 
 pub retires_named : (u v : Held) (p : ℕ) (who : Option ℕ) → Retires u (Some p) v → IfSome who (λ q. q ≡ p) → Retires u who v
 retires_named u v p who r named = record {

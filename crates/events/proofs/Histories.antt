@@ -19,7 +19,7 @@ use Rattle.events.specs.Logs.{AreTaken, IsHistoryOf, Say, steps_of}
 use Rattle.events.proofs.Follow.{stays, then}
 
 -- steps of one caller, as a history
-abbrev by_one : List UnitStep → List Taken
+abbrev pub by_one : List UnitStep → List Taken
 by_one [] = []
 by_one (s ∷ ss) = record { by = 0; step = s } ∷ by_one ss
 
@@ -27,7 +27,7 @@ same_steps : (ss : List UnitStep) → steps_of (by_one ss) ≡ ss
 same_steps [] = refl
 same_steps (s ∷ ss) = ap (λ ts. s ∷ ts) (same_steps ss)
 
-run_reached : (P : Program) (C : Sizes) (ss : List UnitStep) → reached P C (by_one ss) ≡ run_on P C 0 empty_unit ss
+pub run_reached : (P : Program) (C : Sizes) (ss : List UnitStep) → reached P C (by_one ss) ≡ run_on P C 0 empty_unit ss
 run_reached P C [] = refl
 run_reached P C (s ∷ ss) = ap (λ U. applied P C U 0 s) (run_reached P C ss)
 
@@ -36,7 +36,7 @@ taken_allowed P C U (UnitLet i p f g) m = m
 taken_allowed P C U (UnitOn q act) m = m
 taken_allowed P C U Renew m = absurd m
 
-run_allowed : (P : Program) (C : Sizes) (ss : List UnitStep) → MayRun P C 0 empty_unit ss → AreAllowed P C (by_one ss)
+pub run_allowed : (P : Program) (C : Sizes) (ss : List UnitStep) → MayRun P C 0 empty_unit ss → AreAllowed P C (by_one ss)
 run_allowed P C [] m = tt
 run_allowed P C (s ∷ ss) m = (
   run_allowed P C ss m.0,
@@ -44,12 +44,12 @@ run_allowed P C (s ∷ ss) m = (
 )
 
 -- what the events say, one after another
-record AreSaid (u : Held) (events : List Event) (v : Held) : Type 0 where
-  told : List Step
-  say : Say events told
-  follows : Follows u told v
+pub record AreSaid (u : Held) (events : List Event) (v : Held) : Type 0 where
+  pub told : List Step
+  pub say : Say events told
+  pub follows : Follows u told v
 
-said : (u v : Held) (events : List Event) → AreTaken u events v → AreSaid u events v
+pub said : (u v : Held) (events : List Event) → AreTaken u events v → AreSaid u events v
 said u v [] same = record { told = []; say = refl; follows = subst (Follows u []) (sym same) (stays u) }
 said u v (e ∷ es) t =
     let one = t.1.0 in
@@ -60,7 +60,7 @@ said u v (e ∷ es) t =
       follows = then u t.0 v one.told more.told one.follows more.follows;
     }
 
-begins_empty : (u : Held) → u.tenants.items ≡ [] → unit_of u ≡ empty_unit
+pub begins_empty : (u : Held) → u.tenants.items ≡ [] → unit_of u ≡ empty_unit
 begins_empty u none = ap as_unit none
   where
     as_unit : List HeldTenant → UpdateUnit

@@ -1,3 +1,4 @@
 pub mod Denials
 pub mod Follow
 pub mod Histories
+pub mod Placed

@@ -3,3 +3,4 @@ pub mod Following
 pub mod Told
 pub mod Denied
 pub mod Logs
+pub mod Placed

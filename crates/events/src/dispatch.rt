@@ -10,7 +10,7 @@ ghost use Rattle.replay.specs.Lets.{IsFit};
 use crate::judge::Judge;
 use crate::why::Why;
 use instructions::{Program, pc_plus_4};
-use replay::{Deed, Fate, Front, NoLet};
+use replay::{Fate, Front, NoLet};
 use std::alloc::AllocError;
 
 // No memory holds as many tenants.
@@ -53,7 +53,7 @@ impl<'a> Judge<'a> {
         let front = self.unit.front().pc;
         match self.unit.tenant(youngest).map(|t| t.fate) {
             Some(Fate::Miss(next)) if pc.is_none() || (pc == Some(next) && front != next) => {
-                self.act_unsaid(youngest, Deed::Mend);
+                self.mend_unsaid(youngest);
             }
             _ => {}
         }
@@ -113,7 +113,7 @@ impl<'a> Judge<'a> {
         match self.unit.enter(index, predicted)? {
             Err(reason) => Ok(Err(Why::Let(reason))),
             Ok(_) => {
-                self.link(who);
+                self.unit.link_new(who);
                 Ok(Ok(()))
             }
         }

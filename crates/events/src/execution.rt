@@ -28,9 +28,7 @@ impl<'a> Judge<'a> {
         ensures err { IfErr result (λ why. Refuses self.old.unit (Only (On who Finish)) why self.new.unit) }
         ensures denied { IfErr result IsOfAct }
     {
-        self.act(who, Deed::Finish)?;
-        self.broadcast(who);
-        Ok(())
+        self.act(who, Deed::Finish)
     }
 
     /// Its execution ends with the outcome that is said.
@@ -107,7 +105,6 @@ impl<'a> Judge<'a> {
         ensures denied { IfErr result (DeniesOutcome self.new.unit.tenants.items who said) }
     {
         self.take_value(who, said)?;
-        self.broadcast(who);
         self.has_outcome(who, said)
     }
 

@@ -1,12 +1,10 @@
 //! A judge: the unit as the events before have left it.
 ghost use Rattle.std.specs.Prelude.{◌≡◌, ℕ, IfErr, IfNone, IfOk, IfSome, IsTrue, OnErr, OnOk, [], ◌∷◌, length};
-ghost use Rattle.inorder.specs.declared.history.Step.TheVariants.{On as UnitOn};
 ghost use Rattle.events.specs.Denied.{Denies, IsOfAct};
-ghost use Rattle.events.specs.Following.{Follows, IsUntold};
+ghost use Rattle.events.specs.Following.{Follows};
 ghost use Rattle.events.specs.Told.{Begins, IsEmpty, Only, Refuses, Tells};
 ghost use Rattle.replay.specs.declared.step.Step.TheVariants.{On};
 ghost use Rattle.replay.specs.Lets.{sizes_of};
-ghost use Rattle.replay.specs.Reasons.{act_of};
 
 use crate::event::Event;
 use crate::why::Why;
@@ -67,24 +65,26 @@ impl<'a> Judge<'a> {
         }
     }
 
-    // Does it to a tenant, if it is allowed.
+    // Does it to a tenant, if it is allowed, and delivers what the tenant has made by it.
     pub(crate) fn act(&mut self, who: usize, deed: Deed) -> Result<(), Why>
         ensures ok { OnOk result (Follows self.old.unit (On who deed ∷ []) self.new.unit) }
         ensures err { IfErr result (λ why. Refuses self.old.unit (Only (On who deed)) why self.new.unit) }
         ensures denied { IfErr result IsOfAct }
     {
         match self.unit.act(who, deed) {
-            Ok(()) => Ok(()),
+            Ok(()) => {
+                self.unit.deliver_after(who, deed);
+                Ok(())
+            }
             Err(refusal) => Err(Why::Act(who, deed, refusal)),
         }
     }
 
-    // Does what no event says to a tenant, if it is allowed.
-    pub(crate) fn act_unsaid(&mut self, who: usize, deed: Deed)
-        requires { IsUntold (UnitOn who (act_of deed)) }
+    // A misprediction that no event says to be mended is mended, if that is allowed.
+    pub(crate) fn mend_unsaid(&mut self, who: usize)
         ensures { Follows self.old.unit [] self.new.unit }
     {
-        match self.unit.act(who, deed) {
+        match self.unit.act(who, Deed::Mend) {
             Ok(()) => {}
             Err(_) => {}
         }

@@ -1,5 +1,6 @@
 //! What a log that is taken says.
 ghost use Rattle.events.specs.Logs.{EachLogIsAHistory};
+ghost use Rattle.events.specs.Placed.{EachRefusalIsFreeOfPlacing};
 
 use inorder::one_thread_unit_is_right;
 
@@ -10,3 +11,9 @@ pub fn a_log_that_is_taken_is_a_history()
 {
     one_thread_unit_is_right();
 }
+
+/// Where events are taken in turn and a step of the next one is refused, no legal history at all makes the steps before it
+/// and then that one, wherever its links and deliveries stand. Mends that the judge has made are among these steps.
+pub fn a_refused_event_is_free_of_placing()
+    ensures { EachRefusalIsFreeOfPlacing }
+{}

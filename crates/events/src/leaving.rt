@@ -17,7 +17,7 @@ impl<'a> Judge<'a> {
         ensures { Follows self.old.unit [] self.new.unit }
     {
         match self.unit.tenant(who).map(|t| t.fate) {
-            Some(Fate::Miss(_)) => self.act_unsaid(who, Deed::Mend),
+            Some(Fate::Miss(_)) => self.mend_unsaid(who),
             _ => {}
         }
     }
@@ -47,24 +47,13 @@ impl<'a> Judge<'a> {
     }
 
     // Retires a tenant that may be a known misprediction or a guess.
-    fn depart(&mut self, who: usize) -> Result<(), Why>
+    fn leave(&mut self, who: usize) -> Result<(), Why>
         ensures ok { OnOk result (Retires self.old.unit (Some who) self.new.unit) }
         ensures err { IfErr result (λ why. Refuses self.old.unit (IsRetiring (Some who)) why self.new.unit) }
         ensures denied { IfErr result IsOfAct }
     {
         self.ready(who)?;
         self.act(who, Deed::Retire)
-    }
-
-    // Retires a tenant, and delivers its value.
-    fn leave(&mut self, who: usize) -> Result<(), Why>
-        ensures ok { OnOk result (Retires self.old.unit (Some who) self.new.unit) }
-        ensures err { IfErr result (λ why. Refuses self.old.unit (IsRetiring (Some who)) why self.new.unit) }
-        ensures denied { IfErr result IsOfAct }
-    {
-        self.depart(who)?;
-        self.broadcast(who);
-        Ok(())
     }
 
     /// The oldest retires, with the value that is said.

@@ -10,13 +10,12 @@ mod law;
 mod leaving;
 mod stated;
 mod unread;
-mod wakeup;
 mod why;
 mod words;
 
 pub use event::{Event, Issue};
 pub use grammar::event_in;
 pub use judge::Judge;
-pub use law::a_log_that_is_taken_is_a_history;
+pub use law::{a_log_that_is_taken_is_a_history, a_refused_event_is_free_of_placing};
 pub use unread::Unread;
 pub use why::Why;

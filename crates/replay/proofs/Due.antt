@@ -10,9 +10,8 @@ use Rattle.inorder.specs.Legal.{MayAct, change_at, changed}
 use Rattle.inorder.specs.Moves.{Leads}
 use Rattle.inorder.specs.Tenants.{Operand, Tenant, operand, with_operand}
 use Rattle.inorder.specs.Unit.{Sizes, UpdateUnit, at, older, replaced, value_of}
-use Rattle.inorder.proofs.Basics.{eqb_less}
 use Rattle.inorder.proofs.OneCaller.Sequences.{all_more, leads_more, leads_nowhere, leads_once}
-use Rattle.inorder.proofs.Positions.{at_below, at_replaced_else, at_replaced_here, length_replaced, not_eqb}
+use Rattle.inorder.proofs.Positions.{at_below, at_replaced_here, not_eqb}
 use Rattle.replay.specs.declared.acting.Deed.{Deed}
 use Rattle.replay.specs.declared.acting.Deed.TheVariants.{Deliver as ToDeliver, Link as ToLink}
 use Rattle.replay.specs.declared.refusal.Refusal.{Refusal}
@@ -21,60 +20,15 @@ use Rattle.replay.specs.declared.tenant.Tenant.{Tenant as HeldTenant}
 use Rattle.replay.specs.declared.unit.Unit.{Unit as Held}
 use Rattle.replay.specs.Dropping.{IsDropped}
 use Rattle.replay.specs.Lets.{sizes_of, unit_of}
-use Rattle.replay.specs.Placing.{IsNotDue, HasNothingDue, IsSilent, IsTried, LeadsSilently, Supplies, SuppliesBoth, Tries}
+use Rattle.replay.specs.Placing.{AreDueTo, HasNothingDue, IsDueFrom, IsNotDue, IsSilent, IsTried, LeadsSilently, Supplies, SuppliesBoth, Tries}
 use Rattle.replay.specs.Reasons.{Reason, act_of}
 use Rattle.replay.specs.Shown.{shown}
 use Rattle.replay.proofs.Dropped.{dropped_deliver, dropped_link}
+use Rattle.replay.proofs.Elsewhere.{still_due_from, still_not_due}
 use Rattle.replay.proofs.Forbidden.{each_forbids}
 use Rattle.replay.proofs.Laid.{laid_length}
 
--- A source of a tenant that has changed elsewhere
-
--- the tenants before a position stay
-older_same : (ts : List Tenant) (p q : ℕ) (u : Tenant) → p < length ts → q ≤ p → older (replaced ts p u) q ≡ older ts q
-older_same [] p q u below le = refl
-older_same (x ∷ us) p q u below le = go (eqb p (length us)) refl (older_same us p q u)
-  where
-    go : (b : Bool) → eqb p (length us) ≡ b → (p < length us → q ≤ p → older (replaced us p u) q ≡ older us q) →
-        older (cond b (u ∷ us) (x ∷ replaced us p u)) q ≡ cond (eqb q (length us)) us (older us q)
-    go true e more = refl
-    go false e more =
-        let ne = not_eqb p (length us) e in
-        let off : eqb q (length us) ≡ false = eqb_less q (length us) (omega arith) in
-        ap (λ n. cond (eqb q n) (replaced us p u) (older (replaced us p u) q)) (length_replaced us p u)
-        ∙ ap (λ b. cond b (replaced us p u) (older (replaced us p u) q)) off
-        ∙ more (omega arith) le
-        ∙ sym (ap (λ b. cond b us (older us q)) off)
-
--- who has this source in the older list
-record Seen (ts us : List Tenant) (q : ℕ) (j : Source) (u : Tenant) : Type 0 where
-  pub tenant : Tenant
-  pub is : at ts q ≡ Some tenant
-  pub same : operand j u ≡ operand j tenant
-  pub before : older us q ≡ older ts q
-
-not_due_by : (P : Program) (ts us : List Tenant) (q : ℕ) (j : Source) →
-    ((u : Tenant) → at us q ≡ Some u → Seen ts us q j u) → IsNotDue P ts q j → IsNotDue P us q j
-not_due_by P ts us q j seen n = record {
-  link = λ m.
-      let s = seen m.tenant m.is in
-      n.link (record { tenant = s.tenant; is = s.is; may = record { way = sym (ap (λ (o : Operand). o.way) s.same) ∙ m.may.way } });
-  delivery = λ m.
-      let s = seen m.tenant m.is in
-      n.delivery (record {
-        tenant = s.tenant;
-        is = s.is;
-        may = record {
-          in_time = m.may.in_time;
-          way = sym (ap (λ (o : Operand). o.way) s.same) ∙ m.may.way;
-          waits = sym (ap (λ (o : Operand). o.value) s.same) ∙ m.may.waits;
-          value = m.may.value;
-          is_made =
-              ap (λ (o : Operand). value_of (older ts q) o.creator) (sym s.same)
-              ∙ ap (λ vs. value_of vs (operand j m.tenant).creator) (sym s.before) ∙ m.may.is_made;
-        };
-      });
-}
+-- A source elsewhere
 
 other_source : (j k : Source) (t : Tenant) (o : Operand) → j ≢ k → operand j (with_operand k t o) ≡ operand j t
 other_source First First t o ne = absurd (ne refl)
@@ -82,54 +36,46 @@ other_source First Second t o ne = refl
 other_source Second First t o ne = refl
 other_source Second Second t o ne = absurd (ne refl)
 
--- a source of an older tenant, or the other source of the tenant itself
-abbrev pub IsElsewhere : (p q : ℕ) (k j : Source) → Type 0
-IsElsewhere p q k j = (q < p) ⊎ ((q ≡ p) × (j ≢ k))
+same_made : (k : Source) (t : Tenant) (o : Operand) → (with_operand k t o).made ≡ t.made
+same_made First t o = refl
+same_made Second t o = refl
 
-seen_elsewhere : (ts : List Tenant) (p q : ℕ) (k j : Source) (t : Tenant) (o : Operand) → at ts p ≡ Some t → IsElsewhere p q k j →
-    (u : Tenant) → at (replaced ts p (with_operand k t o)) q ≡ Some u → Seen ts (replaced ts p (with_operand k t o)) q j u
-seen_elsewhere ts p q k j t o is where_is u there =
-    ⊎_elim
-    (λ less.
-    let ne : q ≢ p = omega (arith, less) in
-    record {
-      tenant = u;
-      is = sym (at_replaced_else ts p q (with_operand k t o) ne) ∙ there;
-      same = refl;
-      before = older_same ts p q (with_operand k t o) below (omega (arith, less));
-    })
-    (λ both.
-    let here : at (replaced ts p (with_operand k t o)) p ≡ Some u =
-    ap (at (replaced ts p (with_operand k t o))) (sym both.0) ∙ there in
-    let two : Some (with_operand k t o) ≡ Some u = sym (at_replaced_here ts p t (with_operand k t o) is) ∙ here in
-    let one : with_operand k t o ≡ u = cc in
-    record {
-      tenant = t;
-      is = ap (at ts) both.0 ∙ is;
-      same = ap (operand j) (sym one) ∙ other_source j k t o both.1;
-      before = older_same ts p q (with_operand k t o) below (omega (arith, both.0));
-    })
-    where_is
-  where
-    below : p < length ts
-    below = at_below ts p t is
+-- a source of another tenant, or the other source of the tenant itself
+abbrev pub IsElsewhere : (p q : ℕ) (k j : Source) → Type 0
+IsElsewhere p q k j = (q ≢ p) ⊎ (j ≢ k)
+
+kept : (p q : ℕ) (k j : Source) (t : Tenant) (o : Operand) → IsElsewhere p q k j → q ≡ p → operand j (with_operand k t o) ≡ operand j t
+kept p q k j t o away here = ⊎_elim (λ ne. absurd (ne here)) (other_source j k t o) away
 
 -- it is not due after a link or a delivery that is tried
 module _ (P : Program) (ts us : List Tenant) (p q : ℕ) (k j : Source) (away : IsElsewhere p q k j) (n : IsNotDue P ts q j) where
   put : (t : Tenant) (o : Operand) → at ts p ≡ Some t → us ≡ replaced ts p (with_operand k t o) → IsNotDue P us q j
   put t o is e =
       subst (λ vs. IsNotDue P vs q j) (sym e)
-      (not_due_by P ts (replaced ts p (with_operand k t o)) q j (seen_elsewhere ts p q k j t o is away) n)
+      (still_not_due P ts p t (with_operand k t o) is q j (kept p q k j t o away) (same_made k t o) n)
 
   stays_by_link : IsTried P ts p (Link k) us → IsNotDue P us q j
   stays_by_link tried =
       ⊎_elim (λ m. put m.0.tenant _ m.0.is (m.1 ∙ ap (change_at P ts 0 p (Link k)) m.0.is))
       (λ m. subst (λ vs. IsNotDue P vs q j) (sym m.1) n) tried
 
-  stays_by_delivery : IsTried P ts p (Deliver k) us → IsNotDue P us q j
+  pub stays_by_delivery : IsTried P ts p (Deliver k) us → IsNotDue P us q j
   stays_by_delivery tried =
       ⊎_elim (λ m. put m.0.tenant _ m.0.is (m.1 ∙ ap (change_at P ts 0 p (Deliver k)) m.0.is))
       (λ m. subst (λ vs. IsNotDue P vs q j) (sym m.1) n) tried
+
+-- or due from the same one
+pub from_by_delivery : (P : Program) (ts us : List Tenant) (r p q : ℕ) (k j : Source) → IsElsewhere p q k j → IsDueFrom P ts r q j →
+    IsTried P ts p (Deliver k) us → IsDueFrom P us r q j
+from_by_delivery P ts us r p q k j away n tried =
+    ⊎_elim
+    (λ m.
+    let t = m.0.tenant in
+    let o = record (operand k t) { value = value_of (older ts p) (operand k t).creator } in
+    subst (λ vs. IsDueFrom P vs r q j) (sym (m.1 ∙ ap (change_at P ts 0 p (Deliver k)) m.0.is))
+    (still_due_from P ts p t (with_operand k t o) m.0.is q j (kept p q k j t o away) (same_made k t o) r n))
+    (λ m. subst (λ vs. IsDueFrom P vs r q j) (sym m.1) n)
+    tried
 
 -- The source itself
 
@@ -157,7 +103,7 @@ no_link_after P ts us p k tried n =
     (λ m. m.0 (subst (λ vs. MayAct P vs 0 p (Link k)) m.1 n))
     tried
 
-not_due_after : (P : Program) (ts us : List Tenant) (p : ℕ) (k : Source) → ¬ MayAct P ts 0 p (Link k) →
+pub not_due_after : (P : Program) (ts us : List Tenant) (p : ℕ) (k : Source) → ¬ MayAct P ts 0 p (Link k) →
     IsTried P ts p (Deliver k) us → IsNotDue P us p k
 not_due_after P ts us p k none tried =
     ⊎_elim
@@ -211,12 +157,20 @@ module _ (u v : Held) (p : ℕ) (k : Source) (s : Supplies u p k v) where
 
 pub both_supplied : (u v : Held) (p : ℕ) (s : SuppliesBoth u p v) (j : Source) → NotDueIn v p j
 both_supplied u v p s First =
-    stays_supplied s.middle v p Second s.second p First (inr (refl, λ e. absurd (cc))) (is_supplied u s.middle p First s.first)
+    stays_supplied s.middle v p Second s.second p First (inr (λ e. absurd (cc))) (is_supplied u s.middle p First s.first)
 both_supplied u v p s Second = is_supplied s.middle v p Second s.second
 
-pub both_stay : (u v : Held) (p : ℕ) (s : SuppliesBoth u p v) (q : ℕ) (j : Source) → q < p → NotDueIn u q j → NotDueIn v q j
-both_stay u v p s q j less n =
-    stays_supplied s.middle v p Second s.second q j (inl less) (stays_supplied u s.middle p First s.first q j (inl less) n)
+pub both_stay : (u v : Held) (p : ℕ) (s : SuppliesBoth u p v) (q : ℕ) (j : Source) → q ≢ p → NotDueIn u q j → NotDueIn v q j
+both_stay u v p s q j other n =
+    stays_supplied s.middle v p Second s.second q j (inl other) (stays_supplied u s.middle p First s.first q j (inl other) n)
+
+-- where nothing was due but to the tenant that is supplied
+pub all_supplied : (u v : Held) (p : ℕ) → SuppliesBoth u p v → AreDueTo u.program.now (shown u.tenants.items) p → (q : ℕ) (k : Source) → NotDueIn v q k
+all_supplied u v p s due q k = go (eqb q p) refl
+  where
+    go : (b : Bool) → eqb q p ≡ b → NotDueIn v q k
+    go true e = subst (λ n. NotDueIn v n k) (sym (eqb-true q p e)) (both_supplied u v p s k)
+    go false e = let ne = not_eqb q p e in both_stay u v p s q k ne (due q k ne)
 
 -- Where they lead
 
@@ -246,7 +200,7 @@ silently_then u v w a b =
       leads = leads_more u.program.now (sizes_of u) 0 (unit_of u) (unit_of v) (unit_of w) b.steps a.steps a.leads same;
     }
 
-tried_silently : (u v : Held) (p : ℕ) (act : Act) → IsSilent (UnitOn p act) → Tries u p act v → LeadsSilently u v
+pub tried_silently : (u v : Held) (p : ℕ) (act : Act) → IsSilent (UnitOn p act) → Tries u p act v → LeadsSilently u v
 tried_silently u v p act silent t =
     ⊎_elim
     (λ m. record {
@@ -329,5 +283,4 @@ supplied_more u v q s before r k less = go (eqb r q) refl
     go true e = subst (λ n. NotDueIn v n k) (sym (eqb-true r q e)) (both_supplied u v q s k)
     go false e =
         let ne = not_eqb r q e in
-        let lt : r < q = omega arith in
-        both_stay u v q s r k lt (before r k lt)
+        both_stay u v q s r k ne (before r k (omega arith))

@@ -56,7 +56,7 @@ named_once u v steps k n s next there p t =
 
 -- Links and deliveries
 
-silently_among : (said : List Step) (t : Taken) (history : List Taken) → IsSilent t.step → AreAmong said history →
+pub silently_among : (said : List Step) (t : Taken) (history : List Taken) → IsSilent t.step → AreAmong said history →
     AreAmong said (t ∷ history)
 silently_among [] t history silent a = (silent, a)
 silently_among (s ∷ ss) t history silent a = inr (silent, a)

@@ -1,18 +1,20 @@
 -- Where links and deliveries stand in a history, which no log names.
-use Rattle.std.specs.Prelude.{⊤, ◌≡◌, ◌⊎◌, ℕ, List, [], ◌∷◌, ◌++◌, Some, length, slice_get, take}
+use Rattle.std.specs.Prelude.{⊤, ◌≡◌, ◌≢◌, ◌⊎◌, ℕ, Bool, true, false, List, [], ◌∷◌, ◌++◌, Some, length, slice_get, take}
 use Rattle.std.specs.List.{AllByRecursion}
 use Rattle.instructions.specs.Programs.{Program}
 use Rattle.inorder.specs.declared.history.Act.{Act}
-use Rattle.inorder.specs.declared.history.Act.TheVariants.{Deliver, Link}
+use Rattle.inorder.specs.declared.history.Act.TheVariants.{Deliver, Finish, Link, Load, Retire, Speculate}
+use Rattle.inorder.specs.declared.history.Speculation.TheVariants.{Guess}
 use Rattle.inorder.specs.declared.history.Source.{Source}
 use Rattle.inorder.specs.declared.history.Source.TheVariants.{First, Second}
 use Rattle.inorder.specs.declared.history.Step.{Step as UnitStep}
-use Rattle.inorder.specs.declared.history.Step.TheVariants.{On as UnitOn}
-use Rattle.inorder.specs.Legal.{Allowed, AreAllowed, MayAct, Taken, change_at, reached}
+use Rattle.inorder.specs.declared.history.Step.TheVariants.{Let as UnitLet, On as UnitOn, Renew}
+use Rattle.inorder.specs.Legal.{Allowed, AreAllowed, MayAct, Taken, applied, change_at, reached}
 use Rattle.inorder.specs.Moves.{Leads}
+use Rattle.inorder.specs.Steps.{MayDeliver}
 use Rattle.inorder.specs.Theorem.{IsInOrder}
-use Rattle.inorder.specs.Unit.{Sizes, UpdateUnit, at}
-use Rattle.inorder.specs.Tenants.{Tenant}
+use Rattle.inorder.specs.Unit.{Sizes, UpdateUnit, at, older}
+use Rattle.inorder.specs.Tenants.{Tenant, operand}
 use Rattle.replay.specs.declared.acting.Deed.TheVariants.{Deliver as ToDeliver, Link as ToLink}
 use Rattle.replay.specs.declared.judging.Verdict.{Verdict}
 use Rattle.replay.specs.declared.judging.Verdict.TheVariants.{Legal, Refused}
@@ -102,10 +104,68 @@ pub record LeadsSilently (u v : Held) : Type 0 where
   pub silent : AllByRecursion IsSilent steps
   pub leads : Leads u.program.now (sizes_of u) 0 (unit_of u) steps (unit_of v)
 
+-- What is due after a step
+
 -- Source k of the tenant at position p is not to be linked or delivered
 pub record IsNotDue (P : Program) (ts : List Tenant) (p : ℕ) (k : Source) : Type 0 where
   pub link : ¬ MayAct P ts 0 p (Link k)
   pub delivery : ¬ MayAct P ts 0 p (Deliver k)
+
+abbrev pub AreNotDue : Program → List Tenant → Type 0
+AreNotDue P ts = (q : ℕ) (k : Source) → IsNotDue P ts q k
+
+-- Nothing is due but to the tenant at position p
+abbrev pub AreDueTo : Program → List Tenant → ℕ → Type 0
+AreDueTo P ts p = (q : ℕ) (k : Source) → q ≢ p → IsNotDue P ts q k
+
+-- Nothing is due to source k of the tenant at position q but the value that the tenant at position p has made
+pub record IsDueFrom (P : Program) (ts : List Tenant) (p q : ℕ) (k : Source) : Type 0 where
+  pub link : ¬ MayAct P ts 0 q (Link k)
+  pub delivery : (t : Tenant) → at ts q ≡ Some t → MayDeliver (older ts q) t k → (operand k t).creator ≡ Some p
+
+abbrev pub AreDueFrom : Program → List Tenant → ℕ → Type 0
+AreDueFrom P ts p = (q : ℕ) (k : Source) → IsDueFrom P ts p q k
+
+-- An act by which a tenant may make a value
+abbrev pub may_make : Act → Bool
+may_make Finish = true
+may_make Load = true
+may_make (Retire n) = true
+may_make (Speculate (Guess v)) = true
+may_make _ = false
+
+-- What an act on the tenant at position p leaves due
+abbrev pub LeavesDue : Bool → Program → List Tenant → ℕ → Type 0
+LeavesDue true P ts p = AreDueFrom P ts p
+LeavesDue false P ts p = AreNotDue P ts
+
+-- What a step in the unit U leaves due to the tenants ts after it
+abbrev pub StepLeavesDue : UnitStep → Program → UpdateUnit → List Tenant → Type 0
+StepLeavesDue (UnitLet index predicted first second) P U ts = AreDueTo P ts (length U.tenants)
+StepLeavesDue (UnitOn p act) P U ts = LeavesDue (may_make act) P ts p
+StepLeavesDue Renew P U ts = AreNotDue P ts
+
+-- Where nothing is due, a step leaves only the sources of a new tenant due, or deliveries from the tenant that stepped
+abbrev pub EachStepLeavesDue : Type 0
+EachStepLeavesDue =
+    (P : Program) (C : Sizes) (U : UpdateUnit) (t : UnitStep) → HasNothingDue P C U → Allowed P C U 0 t →
+    StepLeavesDue t P U (applied P C U 0 t).tenants
+
+-- Nothing is due in a unit as it is held
+abbrev pub IsQuiet : Held → Type 0
+IsQuiet u = HasNothingDue u.program.now (sizes_of u) (unit_of u)
+
+-- The value that the tenant at position p has made is due to source k of the tenant at position q
+pub record IsDelivery (P : Program) (ts : List Tenant) (p q : ℕ) (k : Source) : Type 0 where
+  pub tenant : Tenant
+  pub is : at ts q ≡ Some tenant
+  pub may : MayDeliver (older ts q) tenant k
+  pub from : (operand k tenant).creator ≡ Some p
+
+-- That delivery is made if it is due
+abbrev pub Delivers : Held → (p q : ℕ) → Source → Held → Type 0
+Delivers u p q k v =
+    Tries u q (Deliver k) v ⊎ ((¬ IsDelivery u.program.now (shown u.tenants.items) p q k) × (v ≡ u))
 
 -- Verdicts on steps among which no link and no delivery is named
 

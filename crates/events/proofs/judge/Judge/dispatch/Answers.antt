@@ -5,7 +5,7 @@ use Rattle.instructions.specs.Programs.{instr_of}
 use Rattle.replay.specs.declared.front.Front.{Front}
 use Rattle.replay.specs.declared.step.Step.TheVariants.{Let}
 use Rattle.events.proofs.Denials.{path_denied}
-use Rattle.events.proofs.Follow.{entered, let_refused, then_untold, told_once, untold_then}
+use Rattle.events.proofs.Follow.{entered, let_left, let_refused, told_once, untold_then}
 use Rattle.events.proofs.judge.Judge.dispatch.Goals as goal
 
 pub returns-in-Ok-clause-ok : goal.returns-in-Ok-clause-ok
@@ -13,16 +13,18 @@ returns-in-Ok-clause-ok c =
     let u = c.args.self.now.unit in
     let m = c.mend_towards.new.self.unit in
     let e = c.enter.new.self in
-    let l = c.link.new.self.unit in
+    let l = c.link_new.new.self in
     let step = Let c.in-Some.index c.predicted-predicted.result in
     let may = rw c.in-Ok.is at c.in_ok-reason.ensures.ok in
     let done = rw c.in-Ok.is at c.in_ok-reason.ensures.done in
     let one = rw c.in-Ok.is at c.in_ok-reason.ensures.one in
     let taken = entered m e c.in-Some.index c.predicted-predicted.result c.in-Ok.field-0 may done one in
-    let told = told_once m e step taken (ap (λ p. p.now) c.in_ok-reason.ensures.program) c.in_ok-reason.ensures.sizes in
+    let program = ap (λ p. p.now) c.in_ok-reason.ensures.program in
+    let left = let_left m e c.len-who.result _ done program c.len-who.ensures.len in
+    let told = told_once m e l step taken program c.in_ok-reason.ensures.sizes c.link_new.ensures.leads (λ quiet. c.link_new.ensures.quiet (left quiet)) in
     record {
       told = step ∷ [];
-      follows = untold_then u m l (step ∷ []) c.mend_towards.ensures (then_untold m e l (step ∷ []) told c.link.ensures);
+      follows = untold_then u m l (step ∷ []) c.mend_towards.ensures told;
       is = record {
         index = c.in-Some.index;
         predicted = c.predicted-predicted.result;
