@@ -12,7 +12,7 @@ use Rattle.replay.specs.declared.tenant.Tenant.{Tenant as HeldTenant}
 use Rattle.replay.specs.declared.unit.Unit.{Unit as Held}
 use Rattle.replay.specs.Placing.{AreDueFrom, Delivers, IsDelivery, IsDueFrom, IsNotDue, IsTried, LeadsSilently, Tries}
 use Rattle.replay.specs.Shown.{operand_of, shown, tenant_of}
-use Rattle.replay.proofs.Due.{NotDueIn, dropped_not_due, from_by_delivery, not_due_after, silently_nowhere, silently_then, stays_by_delivery, tried_silently}
+use Rattle.replay.proofs.Due.{NotDueIn, dropped_not_due, from_by_delivery, not_due_after, silently_nowhere, stays_by_delivery, tried_silently}
 use Rattle.replay.proofs.Elsewhere.{from_none, none_from_later}
 use Rattle.replay.proofs.Laid.{shown_at, shown_none}
 

@@ -1,7 +1,7 @@
 -- What is due where one tenant changes: what was due before, and deliveries from that tenant.
 use Rattle.std.proofs.Common.{◌≡◌, ◌≢◌, ◌⊎◌, ℕ, ◌<◌, ◌≤◌, Bool, true, false, eqb, eqb-true, List, length, Option, Some, None, refl, sym, ap, ◌∙◌, inl, inr, ⊎_elim, arith}
 use Rattle.instructions.specs.Programs.{Program}
-use Rattle.inorder.specs.declared.history.Act.TheVariants.{Deliver, Link}
+use Rattle.inorder.specs.declared.history.Act.TheVariants.{Link}
 use Rattle.inorder.specs.declared.history.Source.{Source}
 use Rattle.inorder.specs.Legal.{MayAct}
 use Rattle.inorder.specs.Steps.{MayDeliver, MayLink}
