@@ -47,8 +47,7 @@ module _ (u v : Held) (p q : ℕ) (k : Source) (d : Delivers u p q k v) where
           sizes = refl;
           length = refl;
           tenants =
-              inr
-              (
+              inr (
                 λ n. m.0 (record { tenant = n.tenant; is = n.is; may = n.may; from = (due q k).delivery n.tenant n.is n.may }),
                 refl,
               );

@@ -1,4 +1,4 @@
-use Rattle.events.proofs.Follow.{if_err, on_ok, refuses_state}
+use Rattle.events.proofs.Follow.{if_err, refuses_state}
 use Rattle.events.specs.Told.{AreExecution}
 use Rattle.events.proofs.judge.Judge.load.Goals as goal
 

@@ -1,4 +1,3 @@
-use Rattle.std.proofs.Common.{◌≡◌, ℕ, ◌<◌, sym, ap, arith}
 use Rattle.events.proofs.Follow.{if_none, nobody_live}
 use Rattle.events.proofs.judge.Judge.oldest.Goals as goal
 

@@ -1,5 +1,4 @@
 use Rattle.std.proofs.Common.{Some}
-use Rattle.std.proofs.Common.{[]}
 use Rattle.replay.specs.declared.acting.Deed.TheVariants.{Confirm}
 use Rattle.replay.specs.declared.step.Step.TheVariants.{On}
 use Rattle.events.specs.Told.{IsRetiring, Only}

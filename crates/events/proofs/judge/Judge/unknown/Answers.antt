@@ -1,4 +1,4 @@
-use Rattle.std.proofs.Common.{◌<◌, arith}
+use Rattle.std.proofs.Common.{arith}
 use Rattle.replay.proofs.Dropped.{dropped_gone}
 use Rattle.events.proofs.judge.Judge.unknown.Goals as goal
 
