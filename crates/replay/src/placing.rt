@@ -78,12 +78,12 @@ impl<'a> Unit<'a> {
         source.creator == Some(producer) && is_nothing(source.value)
     }
 
-    // Delivers what a producer has made to source k of the tenant at a position, where it waits for that.
-    fn deliver_from(&mut self, producer: usize, who: usize, k: Source)
-        ensures { Delivers self.old producer who k self.new }
+    // Delivers what a producer has made to source k of a consumer, where it waits for that.
+    fn deliver_from(&mut self, producer: usize, consumer: usize, k: Source)
+        ensures { Delivers self.old producer consumer k self.new }
     {
-        if self.waits_for(who, k, producer) {
-            self.act_if_allowed(who, Deed::Deliver(k));
+        if self.waits_for(consumer, k, producer) {
+            self.act_if_allowed(consumer, Deed::Deliver(k));
         }
     }
 
