@@ -1,4 +1,4 @@
-//! What a log that is taken says.
+//! What a log says that is taken, and what a refusal says.
 ghost use Rattle.events.specs.Logs.{EachLogIsAHistory};
 ghost use Rattle.events.specs.Placed.{EachRefusalIsFreeOfPlacing};
 

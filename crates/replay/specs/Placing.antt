@@ -162,7 +162,7 @@ pub record IsDelivery (P : Program) (ts : List Tenant) (p q : ℕ) (k : Source) 
   pub may : MayDeliver (older ts q) tenant k
   pub from : (operand k tenant).creator ≡ Some p
 
--- That delivery is made if it is due
+-- The delivery of that value is made if it is due
 abbrev pub Delivers : Held → (p q : ℕ) → Source → Held → Type 0
 Delivers u p q k v =
     Tries u q (Deliver k) v ⊎ ((¬ IsDelivery u.program.now (shown u.tenants.items) p q k) × (v ≡ u))
