@@ -2,73 +2,22 @@
 use Rattle.std.proofs.Common.{◌≡◌, ◌<◌, ℕ, zero, suc, Bool, true, false, cond, ◌&&◌, eqb, ltb, ltb-true, List, [], ◌∷◌, ◌++◌, length, map, Option, Some, None, refl, sym, ap, ◌∙◌, subst, arith}
 use Rattle.std.specs.List.{AllByRecursion}
 use Rattle.instructions.specs.Programs.{Program}
-use Rattle.inorder.specs.declared.history.Act.TheVariants.{Claim, Deliver, Finish, Link, Load, Mend, Retire, Speculate, Squash}
-use Rattle.inorder.specs.declared.history.Source.{Source}
-use Rattle.inorder.specs.declared.history.Source.TheVariants.{First, Second}
-use Rattle.inorder.specs.declared.history.Step.{Step}
-use Rattle.inorder.specs.declared.history.Step.TheVariants.{Let, On, Renew}
-use Rattle.inorder.specs.Legal.{applied}
-use Rattle.inorder.specs.Moves.{IsLink, MayRun, MayTake, run_on}
-use Rattle.inorder.specs.Steps.{IsNoRetiredStop, linked, new_tenant}
+use Rattle.inorder.specs.Steps.{IsNoRetiredStop}
 use Rattle.inorder.specs.Tenants.{Live, Retired, Squashed, Standing, Tenant, destination_of, on_path, stands_live, stands_on_path}
-use Rattle.inorder.specs.Unit.{Sizes, UpdateUnit, creator, last_writer, older, value_of, younger}
-use Rattle.inorder.proofs.Basics.{last_writer_below, split_at, value_of_more}
-use Rattle.inorder.proofs.Kept.{parts}
+use Rattle.inorder.specs.Unit.{creator, last_writer, value_of}
+use Rattle.inorder.proofs.Basics.{last_writer_below, value_of_more}
 use Rattle.inorder.proofs.OneCaller.Left.{retired_all}
 use Rattle.inorder.proofs.SettledRegisters.{register_given, value_of_last, writer_if}
 use Rattle.inorder.proofs.Sound.{IsSound}
 use Rattle.one_thread.specs.declared.station.Station.{Station}
-use Rattle.one_thread.specs.Turns.{Lets}
 use Rattle.one_thread.specs.Window.{station_of, window}
-use Rattle.one_thread.proofs.Windows.{none_left, window_append, window_if, window_live}
+use Rattle.one_thread.proofs.Windows.{none_left, window_if, window_live}
 use Rattle.chart.specs.declared.row.Row.{Row}
 use Rattle.chart.specs.Happened.{Awaits}
 use Rattle.chart.specs.Named.{live_positions}
 use Rattle.chart.specs.Rows.{awaited, unmade, unmade_by, writer_from}
 use Rattle.chart.proofs.LivePositions.{positions_live, positions_past}
 use Rattle.chart.proofs.RowsNamed.{position_of, positions_length, station_in}
-
--- The window behind a let: its links change none of it
-
-module _ (P : Program) (C : Sizes) (by : ℕ) where
-  linked_once : (U : UpdateUnit) (s : Step) → IsLink s → MayTake P C U by s → window P (applied P C U by s).tenants ≡ window P U.tenants
-  linked_once U (On p (Link k)) q m =
-      ap (window P) (parts P U.tenants by p (Link k) m.tenant m.is)
-      ∙ window_append P ys (linked ts m.tenant k ∷ ts)
-      ∙ ap (λ l. l ++ window P ys) (same k)
-      ∙ sym (window_append P ys (m.tenant ∷ ts))
-      ∙ ap (window P) (sym (split_at U.tenants p m.tenant m.is))
-    where
-      ts : List Tenant
-      ts = older U.tenants p
-
-      ys : List Tenant
-      ys = younger U.tenants p
-
-      same : (k : Source) → window P (linked ts m.tenant k ∷ ts) ≡ window P (m.tenant ∷ ts)
-      same First = refl
-      same Second = refl
-  linked_once U (Let index predicted first second) q m = absurd q
-  linked_once U Renew q m = absurd q
-  linked_once U (On p Squash) q m = absurd q
-  linked_once U (On p (Deliver k)) q m = absurd q
-  linked_once U (On p Claim) q m = absurd q
-  linked_once U (On p Finish) q m = absurd q
-  linked_once U (On p Load) q m = absurd q
-  linked_once U (On p (Retire n)) q m = absurd q
-  linked_once U (On p (Speculate s)) q m = absurd q
-  linked_once U (On p Mend) q m = absurd q
-
-  linked_after : (U : UpdateUnit) (more ss : List Step) → AllByRecursion IsLink more → MayRun P C by U (more ++ ss) →
-      window P (run_on P C by U (more ++ ss)).tenants ≡ window P (run_on P C by U ss).tenants
-  linked_after U [] ss q m = refl
-  linked_after U (s ∷ more) ss q m = linked_once (run_on P C by U (more ++ ss)) s q.0 m.1 ∙ linked_after U more ss q.1 m.0
-
-pub let_window : (P : Program) (C : Sizes) (U V : UpdateUnit) → Lets P C U V → (w : Station) × (window P V.tenants ≡ window P U.tenants ++ w ∷ [])
-let_window P C U V l =
-    let t : Tenant = new_tenant P C U l.index l.predicted l.first l.second in
-    let steps : List Step = Let l.index l.predicted l.first l.second ∷ [] in
-    (station_of P t, ap (λ W. window P W.tenants) (sym l.leads.is) ∙ linked_after P C 0 U l.links steps l.are l.leads.may ∙ window_live P t U.tenants refl)
 
 -- The youngest writer among stations and their positions
 

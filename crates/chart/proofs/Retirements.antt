@@ -1,8 +1,8 @@
 -- How many tenants have retired, step by step and turn by turn.
-use Rattle.std.proofs.Common.{◌≡◌, ◌<◌, ◌≤◌, ℕ, suc, ◌^◌, Bool, true, false, cond, List, [], ◌∷◌, ◌++◌, length, refl, sym, ap, ◌∙◌, arith}
+use Rattle.std.proofs.Common.{◌≡◌, ◌<◌, ◌≤◌, ℕ, suc, ◌^◌, Bool, true, false, cond, List, [], ◌∷◌, ◌++◌, length, Option, Some, None, refl, sym, ap, ◌∙◌, arith}
 use Rattle.std.proofs.lemmas.Bool.{le-ltb, lt-ltb}
 use Rattle.std.specs.List.{AllByRecursion}
-use Rattle.std.specs.Prelude.{nat_lt}
+use Rattle.std.specs.Prelude.{nat_lt, slice_get}
 use Rattle.instructions.specs.Programs.{Program}
 use Rattle.inorder.specs.declared.history.Act.{Act}
 use Rattle.inorder.specs.declared.history.Act.TheVariants.{Claim, Deliver, Finish, Link, Load, Mend, Retire, Speculate, Squash}
@@ -22,9 +22,10 @@ use Rattle.inorder.proofs.OneCaller.Sequences.{all_more, all_weaker, deliver_qui
 use Rattle.inorder.proofs.Stations.{finished_station, mended_station}
 use Rattle.one_thread.specs.declared.bench.Turn.{Turn}
 use Rattle.one_thread.specs.declared.bench.Turn.TheVariants.{Halved, Let, Loaded, Over, Ran, Recovered, Retired}
+use Rattle.one_thread.specs.declared.station.Station.{Station}
 use Rattle.one_thread.specs.Turns.{Before, Does, Now, Nowhere, Retires}
 use Rattle.one_thread.specs.Window.{window}
-use Rattle.chart.specs.Kept.{next_kept}
+use Rattle.chart.specs.Events.{begun, entered, next_kept}
 use Rattle.chart.specs.Rows.{SoFar}
 use Rattle.chart.specs.declared.lines.Style.{Style}
 use Rattle.chart.specs.Traced.{AreTurns, Passed, unit_behind, kept_behind}
@@ -119,11 +120,16 @@ module _ (P : Program) (C : Sizes) (U V : UpdateUnit) where
         let all : length k.rows ≤ length (window P V.tenants) = omega (arith, row_count P C U V k n, as_many, positions_length P U.tenants) in
         ap (λ b. counted b k.retirements) (le-ltb (length (window P V.tenants)) (length k.rows) all) ∙ e ∙ ap (λ X. how_many is_retired X.tenants) (sym same)
 
+    -- nobody retires who enters
+    entering : (o : Option Station) → (entered (begun k) o).retirements ≡ k.retirements
+    entering None = refl
+    entering (Some w) = refl
+
     counts : (answer : Turn) → Does P C U V answer → (next_kept k answer (window P V.tenants)).retirements ≡ how_many is_retired V.tenants
     counts (Recovered age) d = e ∙ sym (none_more (On (length d.ts) Mend ∷ d.squashes) (tt, all_weaker IsSquash IsNoRetire squash_quiet d.squashes d.are) d.leads)
     counts Let d =
         let steps : List Step = LetStep d.index d.predicted d.first d.second ∷ [] in
-        e ∙ sym (none_more (d.links ++ steps) (all_more IsNoRetire d.links steps (all_weaker IsLink IsNoRetire link_quiet d.links d.are) (tt, tt)) d.leads)
+        entering (slice_get (window P V.tenants) (length k.rows)) ∙ e ∙ sym (none_more (d.links ++ steps) (all_more IsNoRetire d.links steps (all_weaker IsLink IsNoRetire link_quiet d.links d.are) (tt, tt)) d.leads)
     counts (Ran age) d =
         let steps : List Step = On (length d.ts) Finish ∷ On (length d.ts) Claim ∷ [] in
         e ∙ sym (none_more (d.delivers ++ steps) (all_more IsNoRetire d.delivers steps (all_weaker IsDeliver IsNoRetire deliver_quiet d.delivers d.are) (tt, (tt, tt))) d.leads)

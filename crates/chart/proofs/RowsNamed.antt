@@ -5,7 +5,7 @@ use Rattle.std.proofs.lemmas.Bool.{le-ltb, lt-ltb}
 use Rattle.std.proofs.lemmas.List.{append-nil, drop-map, length-map, map-append, take-map}
 use Rattle.std.proofs.Math.Seq.{take-append_seam, take-length}
 use Rattle.std.specs.List.{AllByRecursion}
-use Rattle.std.specs.Prelude.{is_some, nat_lt, slice_get}
+use Rattle.std.specs.Prelude.{nat_lt, slice_get}
 use Rattle.instructions.specs.Programs.{Program}
 use Rattle.inorder.specs.Tenants.{Live, Retired as HasRetired, Squashed, Standing, Tenant, is_live, stands_live}
 use Rattle.inorder.specs.Unit.{Sizes, UpdateUnit}
@@ -20,15 +20,14 @@ use Rattle.chart.specs.declared.lines.Style.{Style}
 use Rattle.chart.specs.Named.{AreNamed, IsRowOf, StandsIn, live_positions}
 use Rattle.lsq.specs.declared.entry.Entry.{Entry}
 use Rattle.chart.specs.Blocked.{Queued, all_held, blocker, entry_after, held_by, held_rows, joined, joined_by, no_rows}
-use Rattle.chart.specs.Kept.{next_kept}
-use Rattle.chart.specs.Rows.{SoFar, all_seen, let_row, newcomer, rows_behind, seen_in, staying, with_row}
+use Rattle.chart.specs.Events.{begun, entered, new_row, next_kept, rows_seen, stepped}
+use Rattle.chart.specs.Rows.{SoFar, all_seen, seen}
 use Rattle.chart.specs.Traced.{AreTurns, Passed, unit_behind, kept_behind}
-use Rattle.counted_io.specs.Counted.{counted, raised}
+use Rattle.counted_io.specs.Counted.{raised}
 use Rattle.chart.proofs.LivePositions.{Fewer, OneLess, OneMore}
-use Rattle.chart.proofs.Lists.{as_list, take_next}
 use Rattle.chart.proofs.TurnPositions.{grows, lets, loads, recovers, retires, runs}
 
--- Rows behind a turn
+-- Rows after a turn
 
 abbrev pub position_of : Row → ℕ
 position_of r = r.position
@@ -62,7 +61,7 @@ seen_positions turn W i (r ∷ rs) =
     ap (λ p. p ∷ map position_of (all_seen turn W (i + 1) rs)) (one (slice_get W i))
     ∙ ap (λ l. r.position ∷ l) (seen_positions turn W (i + 1) rs)
   where
-    one : (o : Option Station) → (seen_in turn r o).position ≡ r.position
+    one : (o : Option Station) → (seen turn r o).position ≡ r.position
     one None = refl
     one (Some w) = refl
 
@@ -73,7 +72,7 @@ seen_stations turn W i (r ∷ rs) h =
     let there = slice_there W i (omega (arith, h)) in
     let w : Station = there.0 in
     let more = seen_stations turn W (i + 1) rs (omega (arith, h)) in
-    ap (λ o. (seen_in turn r o).station ∷ map station_in (all_seen turn W (i + 1) rs)) there.1
+    ap (λ o. (seen turn r o).station ∷ map station_in (all_seen turn W (i + 1) rs)) there.1
     ∙ ap (λ l. w ∷ l) more
     ∙ ap (λ k. w ∷ take (length rs) (drop k W)) (add-one i)
     ∙ ap (take (suc (length rs))) (sym (drop_there W i w there.1))
@@ -108,9 +107,9 @@ held_stations turn rows = held_map station_in turn same no_rows rows
     same r None = refl
     same r (Some store) = refl
 
--- the live rows behind a turn, before the loads that are blocked are looked for
+-- the live rows after a turn, before the loads that are blocked are looked for
 abbrev pub unheld : SoFar → Turn → List Station → SoFar
-unheld k answer W = record (next_kept k answer W) { rows = rows_behind k answer W }
+unheld k answer W = record (stepped (begun k) answer W) { rows = rows_seen (stepped (begun k) answer W) W }
 
 -- The rows are those of the live tenants
 pub record Named (P : Program) (ts : List Tenant) (k : SoFar) : Type 0 where
@@ -118,59 +117,41 @@ pub record Named (P : Program) (ts : List Tenant) (k : SoFar) : Type 0 where
   pub positions : map position_of k.rows ≡ live_positions ts
   pub stations : map station_in k.rows ≡ window P ts
 
+-- The tenants are those that are live, and their stations are still to be seen
+record Listed (ts : List Tenant) (s : SoFar) : Type 0 where
+  pub lets : s.lets ≡ length ts
+  pub positions : map position_of s.rows ≡ live_positions ts
+
+all_named : (P : Program) (ts : List Tenant) (s : SoFar) → Listed ts s → Named P ts (record s { rows = rows_seen s (window P ts) })
+all_named P ts s n =
+    let W = window P ts in
+    let count : length s.rows ≡ length W = sym (length-map s.rows position_of) ∙ ap (λ l. length l) n.positions ∙ positions_length P ts in
+    record {
+      lets = n.lets;
+      positions = seen_positions s.turns W 0 s.rows ∙ n.positions;
+      stations = seen_stations s.turns W 0 s.rows (omega (arith, count)) ∙ ap (λ m. take m W) count ∙ take-length W;
+    }
+
 module _ (P : Program) (C : Sizes) (U V : UpdateUnit) (k : SoFar) (n : Named P U.tenants k) where
   pub row_count : length k.rows ≡ length (live_positions U.tenants)
   row_count = sym (length-map k.rows position_of) ∙ ap (λ l. length l) n.positions
 
-  -- nobody has come
-  plain_next : (answer : Turn) → length V.tenants ≡ length U.tenants → newcomer k answer (window P V.tenants) ≡ None →
-      map position_of (staying answer (length (window P V.tenants)) k.rows) ≡ live_positions V.tenants →
-      Named P V.tenants (unheld k answer (window P V.tenants))
-  plain_next answer counts none here =
-      let S = window P V.tenants in
-      let stay = staying answer (length S) k.rows in
-      let seen = all_seen (raised k.turns) S 0 stay in
-      let count : length stay ≡ length S = sym (length-map stay position_of) ∙ ap (λ l. length l) here ∙ positions_length P V.tenants in
-      record {
-        lets = ap (λ o. counted (is_some o) k.lets) none ∙ n.lets ∙ sym counts;
-        positions = ap (λ o. map position_of (with_row seen o)) none ∙ seen_positions (raised k.turns) S 0 stay ∙ here;
-        stations =
-            ap (λ o. map station_in (with_row seen o)) none
-            ∙ seen_stations (raised k.turns) S 0 stay (omega (arith, count))
-            ∙ ap (λ m. take m S) count
-            ∙ take-length S;
-      }
-
   -- one was let
-  let_next : OneMore U.tenants V.tenants → length V.tenants < 2 ^ 64 → Named P V.tenants (unheld k Let (window P V.tenants))
+  let_next : OneMore U.tenants V.tenants → length V.tenants < 2 ^ 64 → Listed V.tenants (stepped (begun k) Let (window P V.tenants))
   let_next one small =
-      let S = window P V.tenants in
       let m : ℕ = length k.rows in
       let more : length (live_positions V.tenants) ≡ m + 1 =
       omega (arith, row_count, ap (λ l. length l) one.positions, length-append (live_positions U.tenants) (length U.tenants ∷ [])) in
-      let wide : m + 1 ≡ length S = sym more ∙ positions_length P V.tenants in
-      let there = slice_there S m (omega (arith, wide)) in
-      let w : Station = there.0 in
-      let seen = all_seen (raised k.turns) S 0 k.rows in
-      let row : Row = record { position = k.lets; let_at = raised k.turns; ran = None; held = None; resolved_at = None; station = w } in
-      let new : newcomer k Let S ≡ Some row = ap (λ o. let_row Let o k.lets (raised k.turns)) there.1 in
+      let there = slice_there (window P V.tenants) m (omega (arith, more, positions_length P V.tenants)) in
       let next : raised (length U.tenants) ≡ length V.tenants = omega (arith, one.count, small) in
       record {
-        lets = ap (λ o. counted (is_some o) k.lets) new ∙ ap raised n.lets ∙ next;
+        lets = ap (λ o. (entered (begun k) o).lets) there.1 ∙ ap raised n.lets ∙ next;
         positions =
-            ap (λ o. map position_of (with_row seen o)) new
-            ∙ map-append position_of seen (row ∷ [])
-            ∙ ap (λ l. l ++ k.lets ∷ []) (seen_positions (raised k.turns) S 0 k.rows ∙ n.positions)
+            ap (λ o. map position_of (entered (begun k) o).rows) there.1
+            ∙ map-append position_of k.rows (new_row (begun k) there.0 ∷ [])
+            ∙ ap (λ l. l ++ k.lets ∷ []) n.positions
             ∙ ap (λ p. live_positions U.tenants ++ p ∷ []) n.lets
             ∙ sym one.positions;
-        stations =
-            ap (λ o. map station_in (with_row seen o)) new
-            ∙ map-append station_in seen (row ∷ [])
-            ∙ ap (λ l. l ++ w ∷ []) (seen_stations (raised k.turns) S 0 k.rows (omega (arith, wide)))
-            ∙ ap (λ o. take m S ++ as_list o) (sym there.1)
-            ∙ sym (take_next S m)
-            ∙ ap (λ j. take j S) wide
-            ∙ take-length S;
       }
 
   -- the oldest has left
@@ -199,25 +180,28 @@ module _ (P : Program) (C : Sizes) (U V : UpdateUnit) (k : SoFar) (n : Named P U
       ∙ ap (λ m. take m (live_positions V.tenants ++ f.gone)) (sym (positions_length P V.tenants))
       ∙ take-append_seam (live_positions V.tenants) f.gone
 
-  pub behind : (answer : Turn) → Does P C U V answer → length V.tenants < 2 ^ 64 → Named P V.tenants (unheld k answer (window P V.tenants))
-  behind (Recovered age) d small = let f = recovers P C U V d in plain_next (Recovered age) f.count refl (fewer_left f)
-  behind Let d small = let_next (lets P C U V d) small
-  behind (Ran age) d small = let s = runs P C U V d in plain_next (Ran age) s.count refl (n.positions ∙ sym s.positions)
-  behind (Loaded age) d small = let s = loads P C U V d in plain_next (Loaded age) s.count refl (n.positions ∙ sym s.positions)
-  behind Halved d small = let o = retires P C U V d.retires in plain_next Halved o.count refl (one_less o)
-  behind Retired d small = let o = retires P C U V d in plain_next Retired o.count refl (one_less o)
-  behind (Over c) (Before stopped same) small = plain_next (Over c) (ap (λ X. length X.tenants) same) refl (as_before same)
-  behind (Over c) (Now r stopped) small = let o = retires P C U V r in plain_next (Over c) o.count refl (one_less o)
-  behind (Over c) (Nowhere bad nowhere same) small = plain_next (Over c) (ap (λ X. length X.tenants) same) refl (as_before same)
+  listed : (answer : Turn) → Does P C U V answer → length V.tenants < 2 ^ 64 → Listed V.tenants (stepped (begun k) answer (window P V.tenants))
+  listed (Recovered age) d small = let f = recovers P C U V d in record { lets = n.lets ∙ sym f.count; positions = fewer_left f }
+  listed Let d small = let_next (lets P C U V d) small
+  listed (Ran age) d small = let s = runs P C U V d in record { lets = n.lets ∙ sym s.count; positions = n.positions ∙ sym s.positions }
+  listed (Loaded age) d small = let s = loads P C U V d in record { lets = n.lets ∙ sym s.count; positions = n.positions ∙ sym s.positions }
+  listed Halved d small = let o = retires P C U V d.retires in record { lets = n.lets ∙ sym o.count; positions = one_less o }
+  listed Retired d small = let o = retires P C U V d in record { lets = n.lets ∙ sym o.count; positions = one_less o }
+  listed (Over c) (Before stopped same) small = record { lets = n.lets ∙ ap (λ X. length X.tenants) (sym same); positions = as_before same }
+  listed (Over c) (Now r stopped) small = let o = retires P C U V r in record { lets = n.lets ∙ sym o.count; positions = one_less o }
+  listed (Over c) (Nowhere bad nowhere same) small = record { lets = n.lets ∙ ap (λ X. length X.tenants) (sym same); positions = as_before same }
+
+  pub after : (answer : Turn) → Does P C U V answer → length V.tenants < 2 ^ 64 → Named P V.tenants (unheld k answer (window P V.tenants))
+  after answer d small = all_named P V.tenants (stepped (begun k) answer (window P V.tenants)) (listed answer d small)
 
   next : (answer : Turn) → Does P C U V answer → length V.tenants < 2 ^ 64 → Named P V.tenants (next_kept k answer (window P V.tenants))
   next answer d small =
-      let n' = behind answer d small in
-      let R = rows_behind k answer (window P V.tenants) in
+      let n' = after answer d small in
+      let s = stepped (begun k) answer (window P V.tenants) in
       record {
         lets = n'.lets;
-        positions = held_positions (raised k.turns) R ∙ n'.positions;
-        stations = held_stations (raised k.turns) R ∙ n'.stations;
+        positions = held_positions s.turns (rows_seen s (window P V.tenants)) ∙ n'.positions;
+        stations = held_stations s.turns (rows_seen s (window P V.tenants)) ∙ n'.stations;
       }
 
 pub named : (f : Style) (P : Program) (C : Sizes) (turns : List Passed) → AreTurns P C turns → length (unit_behind turns).tenants < 2 ^ 64 →

@@ -140,10 +140,6 @@ text_on head a b c text t says = record {
   says = subst (Appends a c) (append_assoc head t.more text) (Appends-trans a b c (head ++ t.more) text t.says says);
 }
 
-pub head_written : (head text : List ℕ) (a b : Option (List ℕ)) → text ≡ head → Appends a b text → HasTextFrom head a b
-head_written head text a b same says =
-    record { more = []; says = subst (Appends a b) (same ∙ sym (append-nil head)) says }
-
 module _ {W : Type 0} (contents : W → Option (List ℕ)) (w w' w'' : Counted W) (head : List ℕ) (text : Result (String Global) AllocError)
     (so_far : HasTextFrom head (known_by contents w) (known_by contents w')) where
   log_part : (text : Result (String Global) AllocError) → IsBeginningOf text (known_by contents w') (known_by contents w'') →
@@ -176,15 +172,6 @@ pub log_stays : {L : Type 0} (logs : L → Option (List ℕ)) (wanted : Bool) (l
 log_stays logs true l = record { says = none_begun log_head (known_by logs l); failures = omega arith }
 log_stays logs false l = (refl, refl)
 
--- a run has no fault
-of_run : (wanted : Bool) (e : Ending) → is_logged wanted (ending_status e) ≡ wanted
-of_run wanted (ByStop Break) = refl
-of_run wanted (ByStop BadPc) = refl
-of_run wanted (ByStop Overflow) = refl
-of_run wanted (ByStop Unaligned) = refl
-of_run wanted (ByStop OutOfRange) = refl
-of_run wanted ByLimit = refl
-
 log_left : {L : Type 0} (logs : L → Option (List ℕ)) (wanted : Bool) (n : ℕ) (Says : (before after : Option (List ℕ)) → Type 0) (l l' : Counted L) →
     wanted ≡ true → HasWritten logs l l' n Says → IsLogged logs wanted n Says l l'
 log_left logs true n Says l l' is h = h
@@ -195,36 +182,7 @@ module _ {W L : Type 0} (contents : W → Option (List ℕ)) (logs : L → Optio
   abbrev found : Result Program (ℕ × FaultKind)
   found = Ok P
 
-  -- no log was wanted
-  pub unlogged : (status : Status) → wanted ≡ false → HasWritten contents w w' 0 (IsShown limit found status) →
-      Shows contents logs wanted (IsShown limit found) (IsShownInPart limit found) w w' l l (Ok status)
-  unlogged status is shown = (
-    shown,
-    subst (λ b. IsLogged logs b 0 (HasTextFrom log_head) l l)
-        (sym (ap (is_logged wanted) shown.says.0 ∙ of_run wanted (end_of P limit).0 ∙ is)) (refl, refl),
-  )
-
-  -- where the writer was not written whole, the log stays
-  pub not_shown : (result : Result Status Refusal) (e : Fault) → result ≡ Err (fault_refusal e) →
-      Writes contents w w' (IsShown limit found) (IsShownInPart limit found) (Err e) →
-      Shows contents logs wanted (IsShown limit found) (IsShownInPart limit found) w w' l l result
-  not_shown result e is h = subst (Shows contents logs wanted (IsShown limit found) (IsShownInPart limit found) w w' l l) (sym is) (go e h)
-    where
-      go : (e : Fault) → Writes {A = Status} contents w w' (IsShown limit found) (IsShownInPart limit found) (Err e) →
-          Shows contents logs wanted (IsShown limit found) (IsShownInPart limit found) w w' l l (Err (fault_refusal e))
-      go fault.Read h = absurd h
-      go fault.Memory h = (h, log_stays logs wanted l)
-      go fault.Write h = (h, refl)
-
   module _ (status : Status) (is : wanted ≡ true) (shown : HasWritten contents w w' 0 (IsShown limit found status)) where
-    runs : is_logged wanted status ≡ wanted
-    runs = ap (is_logged wanted) shown.says.0 ∙ of_run wanted (end_of P limit).0
-
-    -- the log was written
-    pub logged : HasWritten logs l l' 0 (HasTextFrom log_head) →
-        Shows contents logs wanted (IsShown limit found) (IsShownInPart limit found) w w' l l' (Ok status)
-    logged h = (shown, subst (λ b. IsLogged logs b 0 (HasTextFrom log_head) l l') (sym runs) (log_left logs wanted 0 (HasTextFrom log_head) l l' is h))
-
     -- it was not written whole
     pub no_log : (result : Result Status Refusal) (e : Fault) → result ≡ Err (log_refusal e) →
         Writes {A = Unit {0}} logs l l' (λ _. HasTextFrom log_head) (HasBegunFrom log_head) (Err e) →
@@ -244,24 +202,6 @@ module _ {W L : Type 0} (contents : W → Option (List ℕ)) (logs : L → Optio
 
 module _ {W L : Type 0} (contents : W → Option (List ℕ)) (logs : L → Option (List ℕ)) (wanted : Bool) (limit : ℕ) (found : Result Program (ℕ × FaultKind))
     (w w' : Counted W) (l : Counted L) (result : Result Status Refusal) where
-  -- there was no memory
-  pub not_begun : result ≡ Err Memory → Shows contents logs wanted (IsShown limit found) (IsShownInPart limit found) w w l l result
-  not_begun is = subst (Shows contents logs wanted (IsShown limit found) (IsShownInPart limit found) w w l l) (sym is)
-      (record { says = none_in_part limit found (known_by contents w); failures = omega arith }, log_stays logs wanted l)
-
-  -- the line of a fault was not written whole
-  pub line_broken : (f : ℕ × FaultKind) (text : List ℕ) → found ≡ Err f → text ≡ text_for limit (Err f) → result ≡ Err Write → GivesPart contents w w' text →
-      failures_of w' ≡ failures_of w + 1 → Shows contents logs wanted (IsShown limit found) (IsShownInPart limit found) w w' l l result
-  line_broken f text is same broken part failed =
-      subst (λ x. Shows contents logs wanted (IsShown limit x) (IsShownInPart limit x) w w' l l result) (sym is)
-      (subst (Shows contents logs wanted (IsShown limit (Err f)) (IsShownInPart limit (Err f)) w w' l l) (sym broken) (
-        record {
-          says = subst (λ x. IsBeginning x (known_by contents w) (known_by contents w')) same (record { n = part.0; inside = omega (arith, part.1); says = part.2 });
-          failures = failed;
-        },
-        refl,
-      ))
-
   -- it was
   pub line_written : (f : ℕ × FaultKind) (text : List ℕ) → found ≡ Err f → text ≡ text_for limit (Err f) →
       Gives contents w w' text → failures_of w' ≡ failures_of w → Shows contents logs wanted (IsShown limit found) (IsShownInPart limit found) w w' l l (Ok TextFault)

@@ -27,8 +27,7 @@ use Rattle.command_line.specs.Predictors.{IsChosen, LearnsAs, PredictsAs}
 use Rattle.command_line.specs.declared.chosen.Chosen.{Chosen}
 use Rattle.chart.specs.declared.event.Event.{Event}
 use Rattle.chart.specs.declared.traced.Traced.{Traced}
-use Rattle.chart.specs.Events.{events}
-use Rattle.chart.specs.Kept.{closed, next_kept}
+use Rattle.chart.specs.Events.{closed, events, next_kept}
 use Rattle.chart.specs.Rows.{SoFar, kept, start_kept}
 use Rattle.chart.specs.Traced.{AreTurnsOf, HasTraced, HasTurned, IsDone, IsDue, IsLast, IsTraced, NoTurnIsDue, Passed, Plan, StandsAfter, count_behind, is_last, kept_behind, sizes_by, unit_behind}
 use Rattle.chart.specs.Traced.{Ended, Full}
@@ -263,39 +262,4 @@ has_begun p t first chosen program r q tag starts fresh untold unasked none limi
         ∙ ap (λ X. end_from X (p.run.config.limit - 0) (start p.program)) program
         ∙ let all : p.run.config.limit - 0 ≡ p.run.config.limit = omega arith in ap (λ n. end_from p.program n (start p.program)) all;
   };
-}
-
--- where no turn is due, the state is that in which the run ends
-record IsThrough (p : Plan) (t : Traced) (turns : List Passed) : Type 0 where
-  pub over : NoTurnIsDue p.program p.run.config.limit turns (run_from t.bench.pipeline t.limit).0
-  pub stays : (run_from t.bench.pipeline t.limit).1 ≡ t.bench.pipeline.committed
-
-is_through : (p : Plan) (t new : Traced) (h : HasTraced p t) → IsDone t new → IsThrough p t h.turns
-is_through p t new h (Ended over same) =
-    let l = subst (λ o. IsLast o t.bench.pipeline t.limit h.turns) over h.stood.last in record {
-      over = subst (NoTurnIsDue p.program p.run.config.limit h.turns) (sym (ap (λ e. e.0) l.2)) l.1;
-      stays = ap (λ e. e.1) l.2;
-    }
-is_through p t new h (Full full same) =
-    let s = h.stood in
-    let count : t.bench.pipeline.committed.count ≡ count_behind p.program h.turns =
-    ap (λ e. e.count) (s.stands.committed ∙ ap (λ X. committed X (unit_behind h.turns).tenants) s.program) in
-    let is : t.bench.pipeline.committed.count ≡ t.limit = omega (arith, full, s.within) in
-    record {
-      over = subst (NoTurnIsDue p.program p.run.config.limit h.turns) (sym (ap (λ e. e.0) (at_limit t.limit t.bench.pipeline full))) (sym count ∙ is ∙ s.limit);
-      stays = ap (λ e. e.1) (at_limit t.limit t.bench.pipeline full);
-    }
-
-pub all_traced : (p : Plan) (t new : Traced) (end : End) (k : SoFar) → HasTraced p t → IsDone t new → end_state end ≡ run_from t.bench.pipeline t.limit →
-    k ≡ closed (kept t.rows) → IsTraced p (end_state end) k
-all_traced p t new end k h done is closes = let s = h.stood in let through = is_through p t new h done in record {
-  turns = h.turns;
-  predictor = t.bench.predictor;
-  order = t.order;
-  open_rows = kept t.rows;
-  are = h.are;
-  over = subst (NoTurnIsDue p.program p.run.config.limit h.turns) (sym (ap (λ e. e.0) is)) through.over;
-  ends = sym (s.stands.committed ∙ ap (λ X. committed X (unit_behind h.turns).tenants) s.program) ∙ sym through.stays ∙ ap (λ e. e.1) (sym is);
-  is = is ∙ s.ends;
-  closes = closes;
 }

@@ -76,15 +76,7 @@ blocker q r = blocker_of q r (waits r.station)
 -- A row that waits for this store after a turn
 abbrev pub held_by : (turn : ℕ) → Row → Option ℕ → Row
 held_by turn r None = r
-held_by turn r (Some store) =
-    record {
-      position = r.position;
-      let_at = r.let_at;
-      ran = r.ran;
-      held = Some (record { store = store; turn = turn });
-      resolved_at = r.resolved_at;
-      station = r.station;
-    }
+held_by turn r (Some store) = record r { held = Some (record { store = store; turn = turn }) }
 
 -- A row waits for this store already
 abbrev pub waits_for : Option Held → (store : ℕ) → Bool

@@ -11,10 +11,9 @@ use Rattle.one_thread.specs.Loads.{waits}
 use Rattle.chart.specs.declared.event.Event.{Event}
 use Rattle.chart.specs.declared.event.Event.TheVariants.{Blocked, Left, Let, Moved}
 use Rattle.chart.specs.declared.event.Way.TheVariants.{Retired, Squashed}
-use Rattle.chart.specs.declared.row.Phase.{Phase}
+use Rattle.one_thread.specs.declared.station.Stage.{Stage}
 use Rattle.chart.specs.declared.row.Row.{Row}
 use Rattle.chart.specs.Named.{IsRowOf, StandsIn}
-use Rattle.chart.specs.Rows.{phase_of}
 
 -- The tenant at this position is live, has retired, or was squashed
 pub record StandsAs (ts : List Tenant) (position : ℕ) (standing : Standing) : Type 0 where
@@ -37,14 +36,14 @@ pub record WasLet (P : Program) (before behind : List Tenant) (r : Row) (first s
   pub awaits_first : Awaits before (creator P before (first_of r.station.instr)) first
   pub awaits_second : Awaits before (creator P before (second_of r.station.instr)) second
 
--- The tenant at a position has gone on, from one phase to another
-pub record HasGoneOn (P : Program) (before behind : List Tenant) (position : ℕ) (from to : Phase) : Type 0 where
+-- The tenant at a position has gone on, from one stage to another
+pub record HasGoneOn (P : Program) (before behind : List Tenant) (position : ℕ) (from to : Stage) : Type 0 where
   pub old : Station
   pub new : Station
   pub stood : StandsIn P before position old
   pub stands : StandsIn P behind position new
-  pub from_is : from ≡ phase_of old.stage
-  pub to_is : to ≡ phase_of new.stage
+  pub from_is : from ≡ old.stage
+  pub to_is : to ≡ new.stage
 
 -- The load at a position has its address and no value, and the tenant that it waits for is live
 pub record WaitsFor (P : Program) (behind : List Tenant) (position store : ℕ) : Type 0 where

@@ -1,8 +1,7 @@
 pub mod Rows
 pub mod Blocked
-pub mod Events
 pub mod Lines
-pub mod Kept
+pub mod Events
 pub mod Traced
 pub mod Named
 pub mod Happened

@@ -6,25 +6,21 @@ use Rattle.chart.specs.declared.lines.Line.{Line}
 use Rattle.chart.specs.declared.row.Row.{Row}
 use Rattle.chart.specs.declared.lines.Style.{Style}
 
--- A line in the place of its row, where that has one
+-- A line in the place of its row, or at the end
 abbrev pub placed : List Line → Line → List Line
-placed lines l = if nat_lt l.row.position (length lines) then set lines l.row.position l else lines
+placed lines l = if nat_lt l.row.position (length lines) then set lines l.row.position l else lines ++ l ∷ []
 
--- A line as its tenant leaves, or stays live to the end
+-- A line more: in the order of the program its tenant has a place
 abbrev pub added : Style → List Line → Line → List Line
 added s lines l =
     if nat_lt l.row.position s.rows
     then (if s.by_leave then lines ++ l ∷ [] else placed lines l)
     else lines
 
--- A line as its tenant is let: its place in the order of the program
-abbrev pub begun : Style → List Line → Line → List Line
-begun s lines l =
-    if s.by_leave then lines else if nat_lt l.row.position s.rows then lines ++ l ∷ [] else lines
-
--- The lines after an event
+-- The lines after an event: in the order of the program a tenant has its line from its let on
 abbrev pub after_event : Style → (turn : ℕ) → List Line → Event → List Line
-after_event s turn lines (Let r first second) = begun s lines (record { row = r; turn = turn; way = None })
+after_event s turn lines (Let r first second) =
+    if s.by_leave then lines else added s lines (record { row = r; turn = turn; way = None })
 after_event s turn lines (Left r way) = added s lines (record { row = r; turn = turn; way = Some way })
 after_event s turn lines _ = lines
 

@@ -27,8 +27,7 @@ use Rattle.command_line.specs.declared.request.RunRequest.{RunRequest}
 use Rattle.chart.specs.declared.event.Event.{Event}
 use Rattle.chart.specs.declared.lines.Style.{Style}
 use Rattle.chart.specs.declared.traced.Traced.{Traced}
-use Rattle.chart.specs.Events.{events}
-use Rattle.chart.specs.Kept.{closed, next_kept}
+use Rattle.chart.specs.Events.{closed, events, next_kept}
 use Rattle.chart.specs.Rows.{SoFar, kept, start_kept}
 
 -- A turn that was made: its answer, and the unit after it

@@ -1,17 +1,17 @@
 //! The loads that are blocked, and the stores that they wait for.
 ghost use Rattle.std.specs.Prelude.{◌≡◌, ◌++◌, IfOk, OnOk};
-ghost use Rattle.one_thread.specs.Loads.{address_of as address_by, waits as waits_in};
+ghost use Rattle.one_thread.specs.Loads.{address_of as address_by};
 ghost use Rattle.chart.specs.Blocked.{block_event, block_events, blocker, entry_after as entry_of};
 ghost use Rattle.chart.specs.Blocked.{held_rows, joined, made_after as made_of, no_rows, queued};
-ghost use Rattle.chart.specs.Blocked.{waits_for as waits_for_in};
+ghost use Rattle.chart.specs.Rows.{all_seen};
 
 use crate::event::Event;
-use crate::row::{Held, Row};
+use crate::row::Row;
 use crate::waits::writer_of;
 use inorder::{access_entry, access_width};
-use instructions::{Kind, Reg};
+use instructions::{Kind, Predictor, Reg};
 use lsq::{Answer, Entry, answer_over};
-use one_thread::{Stage, Station};
+use one_thread::{Bench, Stage};
 use std::alloc::{AllocError, Global};
 
 // Rows, the oldest first, and the loads and stores among them: their entries in the queue, and their positions.
@@ -27,16 +27,6 @@ fn address_of(stage: Stage) -> Option<u32>
 {
     match stage {
         Stage::Addr(address) => Some(address),
-        _ => None,
-    }
-}
-
-// The address of a load that has no value yet.
-fn waits(station: &Station) -> Option<u32>
-    ensures { result ≡ waits_in station.now }
-{
-    match station.instr.to_instr().op().kind() {
-        Kind::Loads => address_of(station.stage),
         _ => None,
     }
 }
@@ -79,13 +69,16 @@ impl Queue {
         }
     }
 
-    // The position of the store that a row after these waits for.
+    // The position of the store that a row after these waits for: that of a load that has its address and is blocked.
     fn blocker(&self, row: &Row) -> Option<u64>
         ensures { result ≡ blocker (queued self.now) row.now }
     {
-        let address = waits(&row.station)?;
-        let width = access_width(row.station.instr.to_instr().op());
-        match answer_over(self.entries.as_slice(), address, width) {
+        let op = row.station.instr.op();
+        let address = match op.kind() {
+            Kind::Loads => address_of(row.station.stage)?,
+            _ => return None,
+        };
+        match answer_over(self.entries.as_slice(), address, access_width(op)) {
             Answer::Blocked(place) => self.positions.get(place).copied(),
             _ => None,
         }
@@ -103,46 +96,37 @@ impl Queue {
     }
 }
 
-// Whether a row waits for a store already.
-fn waits_for(held: Option<Held>, store: u64) -> bool
-    ensures { result ≡ waits_for_in held store }
-{
-    match held {
-        None => false,
-        Some(held) => held.store == store,
-    }
-}
-
 // Adds the event of a load that begins to wait for a store.
 fn push_block(events: &mut Vec<Event>, row: &Row, store: Option<u64>) -> Result<(), AllocError>
     ensures { OnOk result (events.new.items ≡ events.old.items ++ block_event row.now store) }
 {
-    let Some(store) = store else {
-        return Ok(());
-    };
-    if waits_for(row.held, store) {
-        return Ok(());
-    }
     let position = row.position;
-    events.push(Event::Blocked { position, store })?;
+    match (store, row.held) {
+        (None, _) => {}
+        (Some(store), Some(held)) if held.store == store => {}
+        (Some(store), _) => events.push(Event::Blocked { position, store })?,
+    }
     Ok(())
 }
 
-/// The rows after a turn, each by the store that it waits for, and the events of those that begin to wait.
-pub(crate) fn hold(
+/// The rows as a turn left them, each by the store that it waits for, and the events of those that begin to wait.
+pub(crate) fn hold<P: Predictor + Drop>(
     alloc: Global,
     events: &mut Vec<Event>,
     rows: &[Row],
+    bench: &Bench<'_, P>,
     turn: u64,
 ) -> Result<Vec<Row>, AllocError>
-    ensures rows { IfOk result (λ held. held.items ≡ held_rows turn rows.now) }
-    ensures events { OnOk result (events.new.items
-        ≡ events.old.items ++ block_events turn no_rows rows.now) }
+    ensures rows { IfOk result (λ held.
+        held.items ≡ held_rows turn (all_seen turn bench.now.pipeline.window 0 rows.now)) }
+    ensures events { OnOk result (events.new.items ≡ events.old.items
+        ++ block_events turn no_rows (all_seen turn bench.now.pipeline.window 0 rows.now)) }
 {
     let mut queue = Queue::new(alloc);
-    for row in rows.iter() {
-        let store = queue.blocker(row);
-        push_block(events, row, store)?;
+    for (age, row) in rows.iter().enumerate() {
+        let row = row.seen(turn, bench.tenant(age));
+        let store = queue.blocker(&row);
+        push_block(events, &row, store)?;
         queue.push(row.held_by(turn, store))?;
     }
     Ok(queue.rows)

@@ -3,7 +3,6 @@
 use crate::event::Way;
 use crate::lines::Line;
 use crate::live_rows::LiveRows;
-use crate::row::Held;
 use crate::source::Source;
 use instructions::Kind;
 use isa::Hexadecimal;
@@ -62,67 +61,38 @@ fn push_line(
     let (position, let_at) = (row.position, row.let_at);
     let pc = Hexadecimal(row.station.pc);
     let mut instr = source.text_of(alloc, &row.station)?;
-    if let Some(Held { store, .. }) = row.held {
-        write!(instr, " B:{store}")?;
+    if let Some(held) = row.held {
+        write!(instr, " B:{}", held.store)?;
     }
     let text = instr.as_str();
     write!(out, "{position}\t{let_at}\t{pc} {text:<26} ")?;
-    push_picture(out, line)?;
+    for _ in 0..let_at.saturating_sub(1) % TURNS {
+        out.push_str(" ")?;
+    }
+    out.push_str("L")?;
+    for turn in let_at.saturating_add(1)..line.turn {
+        out.push_str(mark_at(line, turn))?;
+    }
+    out.push_str(way_mark(line.way))?;
     out.push_str("\n")
 }
 
-fn push_picture(out: &mut String, line: &Line) -> Result<(), AllocError> {
+// The mark of a tenant at a turn after that of its dispatch, before it has left.
+fn mark_at(line: &Line, turn: u64) -> &'static str {
     let row = &line.row;
-    let left = way_mark(line.way);
-    push_times(out, row.let_at.saturating_sub(1) % TURNS, " ")?;
-    out.push_str("L")?;
     let Some(ran) = row.ran else {
-        return push_mark(out, between(row.let_at, line.turn), ".", left);
+        return ".";
     };
-    push_mark(out, between(row.let_at, ran), ".", "X")?;
-    match row.resolved_at {
-        None => push_after_ran(out, ran, row.held, line.turn, left),
-        Some(at) => {
-            let kind = row.station.instr.to_instr().op().kind();
-            push_after_ran(out, ran, row.held, at, resolved_mark(kind))?;
-            push_mark(out, between(at, line.turn), "=", left)
+    if turn <= ran {
+        return if turn < ran { "." } else { "X" };
+    }
+    if let Some(at) = row.resolved_at {
+        if at <= turn {
+            return if at < turn { "=" } else { resolved_mark(row.station.instr.kind()) };
         }
     }
-}
-
-// Adds a mark after the execution, and before it one for each turn in which a load was blocked.
-fn push_after_ran(
-    out: &mut String,
-    ran: u64,
-    held: Option<Held>,
-    turn: u64,
-    mark: &str,
-) -> Result<(), AllocError> {
-    let gap = between(ran, turn);
-    let blocked = match held {
-        None => 0,
-        Some(held) => held.turn.saturating_add(1).saturating_sub(ran).min(gap),
-    };
-    push_times(out, blocked, "B")?;
-    push_mark(out, gap.saturating_sub(blocked), "-", mark)
-}
-
-// How many turns are between two turns.
-fn between(before: u64, turn: u64) -> u64 {
-    turn.saturating_sub(before).saturating_sub(1)
-}
-
-// Adds a text n times, and then a mark.
-fn push_mark(out: &mut String, n: u64, text: &str, mark: &str) -> Result<(), AllocError> {
-    push_times(out, n, text)?;
-    out.push_str(mark)
-}
-
-fn push_times(out: &mut String, n: u64, text: &str) -> Result<(), AllocError> {
-    for _ in 0..n {
-        out.push_str(text)?;
-    }
-    Ok(())
+    let is_blocked = row.held.is_some_and(|held| turn <= held.turn.saturating_add(1));
+    if is_blocked { "B" } else { "-" }
 }
 
 // The mark of a load that got its value, or of a miss that was resolved.

@@ -1,8 +1,9 @@
 //! What became of a tenant at a turn.
-use crate::row::{Phase, Row};
+use crate::row::Row;
+use one_thread::Stage;
 
 /// How a tenant has left.
-#[derive(Clone, Copy, Debug, PartialEq, Eq)]
+#[derive(Clone, Copy)]
 pub enum Way {
     /// The tenant has retired, after this number of others.
     Retired(u64),
@@ -22,8 +23,8 @@ pub enum Event {
     /// The tenant at this position has gone on.
     Moved {
         position: u64,
-        from: Phase,
-        to: Phase,
+        from: Stage,
+        to: Stage,
     },
     /// The load at this position is blocked by the store at the other.
     Blocked {

@@ -2,9 +2,9 @@
 //! identifiers are positions.
 
 use crate::event::{Event, Way};
-use crate::row::{Phase, Row};
 use crate::source::Source;
 use isa::Hexadecimal;
+use one_thread::Stage;
 use std::alloc::{AllocError, Global};
 
 /// The first lines of a log.
@@ -31,9 +31,11 @@ fn push_event(
 ) -> Result<(), AllocError> {
     match event {
         Event::Let { row, first, second } => {
-            push_let(alloc, out, source, row)?;
-            push_wait(out, row.position, *first)?;
-            push_wait(out, row.position, *second)
+            let (at, pc) = (row.position, Hexadecimal(row.station.pc));
+            let instr = source.text_of(alloc, &row.station)?;
+            write!(out, "I\t{at}\t{at}\t0\nL\t{at}\t0\t{pc} {instr}\nS\t{at}\t0\tDs\n")?;
+            push_wait(out, at, *first)?;
+            push_wait(out, at, *second)
         }
         Event::Moved { position, from, to } => {
             let (from, to) = (stage_text(*from), stage_text(*to));
@@ -42,24 +44,14 @@ fn push_event(
         Event::Blocked { position, store } => {
             write!(out, "L\t{position}\t1\twaits for the store {store}\n")
         }
-        Event::Left { row, way } => push_left(out, row.position, *way),
+        Event::Left { row, way } => {
+            let at = row.position;
+            match way {
+                Way::Retired(before) => write!(out, "R\t{at}\t{before}\t0\n"),
+                Way::Squashed => write!(out, "R\t{at}\t0\t1\n"),
+            }
+        }
     }
-}
-
-fn push_let(
-    alloc: Global,
-    out: &mut String,
-    source: &Source<'_>,
-    row: &Row,
-) -> Result<(), AllocError> {
-    let position = row.position;
-    let pc = Hexadecimal(row.station.pc);
-    let instr = source.text_of(alloc, &row.station)?;
-    write!(
-        out,
-        "I\t{position}\t{position}\t0\nL\t{position}\t0\t{pc} {instr}\n"
-    )?;
-    write!(out, "S\t{position}\t0\tDs\n")
 }
 
 fn push_wait(out: &mut String, position: u64, producer: Option<u64>) -> Result<(), AllocError> {
@@ -69,19 +61,12 @@ fn push_wait(out: &mut String, position: u64, producer: Option<u64>) -> Result<(
     }
 }
 
-fn push_left(out: &mut String, position: u64, way: Way) -> Result<(), AllocError> {
-    match way {
-        Way::Retired(before) => write!(out, "R\t{position}\t{before}\t0\n"),
-        Way::Squashed => write!(out, "R\t{position}\t0\t1\n"),
-    }
-}
-
-fn stage_text(phase: Phase) -> &'static str {
-    match phase {
-        Phase::Waiting => "Ds",
-        Phase::Address => "Ad",
-        Phase::Done => "Cm",
-        Phase::Miss => "Ms",
-        Phase::Stop => "St",
+fn stage_text(stage: Stage) -> &'static str {
+    match stage {
+        Stage::Open => "Ds",
+        Stage::Addr(_) => "Ad",
+        Stage::Done => "Cm",
+        Stage::Miss(_) => "Ms",
+        Stage::Stops(_) => "St",
     }
 }

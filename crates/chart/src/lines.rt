@@ -1,6 +1,6 @@
 //! The lines of a chart, from turn to turn.
 ghost use Rattle.std.specs.Prelude.{◌≡◌, OnOk};
-ghost use Rattle.chart.specs.Lines.{added, after_event, after_events, begun, with_live};
+ghost use Rattle.chart.specs.Lines.{added, after_event, after_events, with_live};
 
 use crate::event::{Event, Way};
 use crate::row::Row;
@@ -9,7 +9,7 @@ use std::alloc::AllocError;
 /// Which tenants have a line, and in which order.
 #[derive(Clone, Copy)]
 pub struct Style {
-    /// How many tenants have a line: those that were dispatched first.
+    /// The number of tenants that have a line: those that were dispatched first.
     pub rows: u64,
     /// The lines stand in the order in which their tenants have left, and not in that of the program.
     pub by_leave: bool,
@@ -23,8 +23,7 @@ pub struct Line {
     pub way: Option<Way>,
 }
 
-// Adds a line as its tenant leaves, or stays live to the end: in its row's place in the order of the program, and at
-// the end in the order of leaving.
+// Adds a line: in the place of its row in the order of the program, and at the end in the order of leaving.
 fn add(lines: &mut Vec<Line>, style: Style, line: Line) -> Result<(), AllocError>
     ensures { OnOk result (lines.new.items ≡ added style lines.old.items line) }
 {
@@ -32,41 +31,25 @@ fn add(lines: &mut Vec<Line>, style: Style, line: Line) -> Result<(), AllocError
     if position >= style.rows {
         return Ok(());
     }
-    if style.by_leave {
-        lines.push(line)?;
-        return Ok(());
-    }
     let at = position as usize;
-    if at < lines.len() {
+    if !style.by_leave && at < lines.len() {
         lines[at] = line;
-    }
-    Ok(())
-}
-
-// Adds a line as its tenant is let, which keeps its place in the order of the program.
-fn begin(lines: &mut Vec<Line>, style: Style, line: Line) -> Result<(), AllocError>
-    ensures { OnOk result (lines.new.items ≡ begun style lines.old.items line) }
-{
-    if !style.by_leave && line.row.position < style.rows {
+    } else {
         lines.push(line)?;
     }
     Ok(())
 }
 
+// Adds the line of a tenant that has left, and in the order of the program that of one that was let, which keeps its place.
 fn note(lines: &mut Vec<Line>, style: Style, turn: u64, event: &Event) -> Result<(), AllocError>
     ensures { OnOk result (lines.new.items ≡ after_event style turn lines.old.items event.now) }
 {
-    match event {
-        Event::Let { row, .. } => {
-            let (row, way) = (*row, None);
-            begin(lines, style, Line { row, turn, way })
-        }
-        Event::Left { row, way } => {
-            let (row, way) = (*row, Some(*way));
-            add(lines, style, Line { row, turn, way })
-        }
-        _ => Ok(()),
-    }
+    let (row, way) = match event {
+        Event::Let { row, .. } if !style.by_leave => (*row, None),
+        Event::Left { row, way } => (*row, Some(*way)),
+        _ => return Ok(()),
+    };
+    add(lines, style, Line { row, turn, way })
 }
 
 /// Adds what the events of a turn change.

@@ -1,17 +1,14 @@
 //! The live tenants of a run, from turn to turn.
-ghost use Rattle.std.specs.Prelude.{◌≡◌, ◌++◌, OnOk, IfOk, length};
-ghost use Rattle.chart.specs.Events.{entry_events, events, moved_events, went_on, worked_on as worked_on_by};
-ghost use Rattle.chart.specs.Rows.{all_seen as all_seen_of, kept};
-ghost use Rattle.chart.specs.Kept.{closed, next_kept};
-ghost use Rattle.chart.specs.Rows.{let_row as let_row_of};
-ghost use Rattle.chart.specs.Rows.{seen_in, start_kept, with_row};
-ghost use Rattle.counted_io.specs.Counted.{counted as counted_of, raised as raised_of};
+ghost use Rattle.std.specs.Prelude.{◌≡◌, ◌++◌, IfOk, OnOk, slice_get, take};
+ghost use Rattle.chart.specs.Events.{closed, entered, entered_events, events, moved_events, next_kept};
+ghost use Rattle.chart.specs.Events.{retired, retired_events, squashes, step_events, stepped};
+ghost use Rattle.chart.specs.Rows.{kept, start_kept};
+ghost use Rattle.counted_io.specs.Counted.{raised as raised_of};
 
 use crate::blocked::hold;
-use crate::event::Event;
-use crate::leaving::{leave, retires, row_at};
+use crate::event::{Event, Way};
 use crate::lines::{Line, Style, add_live, note_all};
-use crate::row::{Row, phase_of};
+use crate::row::Row;
 use crate::waits::entry;
 use instructions::Predictor;
 use one_thread::{Bench, Station, Turn};
@@ -36,127 +33,50 @@ fn raised(n: u64) -> u64
     n.saturating_add(1)
 }
 
-// A count, and one more if there is one.
-pub(crate) fn counted(more: bool, n: u64) -> u64
-    ensures { result ≡ counted_of more n }
-{
-    if more { raised(n) } else { n }
-}
-
-fn row_count(rows: &Vec<Row>) -> usize
-    ensures { result ≡ length rows.now.items }
-{
-    rows.len()
-}
-
-// The age of the tenant that a turn has worked on, if that has gone on.
-fn worked_on(answer: Turn) -> Option<usize>
-    ensures { result ≡ worked_on_by answer }
-{
-    match answer {
-        Turn::Recovered(age) | Turn::Ran(age) | Turn::Loaded(age) => Some(age),
-        _ => None,
-    }
-}
-
-// Adds the event of a tenant that has gone on to the phase of its station.
-fn push_moved(
+// Takes out all tenants after the first `live`, the youngest first.
+fn squash(
+    rows: &mut Vec<Row>,
     events: &mut Vec<Event>,
-    row: Option<Row>,
-    station: Option<Station>,
+    live: usize,
 ) -> Result<(), AllocError>
-    ensures { OnOk result (events.new.items ≡ events.old.items ++ went_on row station) }
+    ensures rows { OnOk result (rows.new.items ≡ take live rows.old.items) }
+    ensures events { OnOk result
+        (events.new.items ≡ events.old.items ++ squashes live rows.old.items) }
 {
-    let Some(row) = row else {
-        return Ok(());
-    };
-    let Some(station) = station else {
-        return Ok(());
-    };
-    let position = row.position;
-    let from = phase_of(row.station.stage);
-    let to = phase_of(station.stage);
-    events.push(Event::Moved { position, from, to })?;
+    let way = Way::Squashed;
+    'squashes: while live < rows.len() {
+        if let Some(row) = rows.pop() {
+            events.push(Event::Left { row, way })?;
+        }
+    }
     Ok(())
 }
 
-// Adds the event of the tenant that a turn has worked on, if that has gone on.
-fn push_worked<P: Predictor + Drop>(
+fn row_at(rows: &[Row], age: usize) -> Option<Row>
+    ensures { result ≡ slice_get rows.now age }
+{
+    rows.get(age).copied()
+}
+
+// Adds the event of the tenant of an age, which a turn has worked on.
+fn push_moved<P: Predictor + Drop>(
     events: &mut Vec<Event>,
     rows: &[Row],
-    age: Option<usize>,
+    age: usize,
     bench: &Bench<'_, P>,
 ) -> Result<(), AllocError>
     ensures { OnOk result (events.new.items
         ≡ events.old.items ++ moved_events age bench.now.pipeline.window rows.now) }
 {
-    match age {
-        None => Ok(()),
-        Some(age) => push_moved(events, row_at(rows, age), bench.tenant(age)),
-    }
-}
-
-// The row of a tenant as a turn left it.
-fn seen(row: &Row, turn: u64, station: Option<Station>) -> Row
-    ensures { result ≡ seen_in turn row.now station }
-{
-    match station {
-        None => *row,
-        Some(station) => row.seen(turn, station),
-    }
-}
-
-// The rows as a turn left their tenants.
-fn all_seen<P: Predictor + Drop>(
-    alloc: Global,
-    rows: &[Row],
-    bench: &Bench<'_, P>,
-    turn: u64,
-) -> Result<Vec<Row>, AllocError>
-    ensures { IfOk result (λ later. later.items
-        ≡ all_seen_of turn bench.now.pipeline.window 0 rows.now) }
-{
-    let mut later = Vec::new(alloc);
-    for (i, row) in rows.iter().enumerate() {
-        later.push(seen(row, turn, bench.tenant(i)))?;
-    }
-    Ok(later)
-}
-
-// The row of a tenant that was let.
-fn let_row(answer: Turn, station: Option<Station>, position: u64, turn: u64) -> Option<Row>
-    ensures { result ≡ let_row_of answer station position turn }
-{
-    match (answer, station) {
-        (Turn::Let, Some(station)) => Some(Row {
-            position,
-            let_at: turn,
-            ran: None,
-            held: None,
-            resolved_at: None,
-            station,
-        }),
-        _ => None,
-    }
-}
-
-// Adds the event of the tenant that was let, if one was.
-fn push_entry(events: &mut Vec<Event>, rows: &[Row], new: &Option<Row>) -> Result<(), AllocError>
-    ensures { OnOk result (events.new.items
-        ≡ events.old.items ++ entry_events rows.now new.now) }
-{
-    if let Some(row) = new {
-        events.push(entry(rows, row))?;
-    }
-    Ok(())
-}
-
-fn push_row(rows: &mut Vec<Row>, new: Option<Row>) -> Result<(), AllocError>
-    ensures { OnOk result (rows.new.items ≡ with_row rows.old.items new) }
-{
-    if let Some(row) = new {
-        rows.push(row)?;
-    }
+    let Some(row) = row_at(rows, age) else {
+        return Ok(());
+    };
+    let Some(station) = bench.tenant(age) else {
+        return Ok(());
+    };
+    let position = row.position;
+    let (from, to) = (row.station.stage, station.stage);
+    events.push(Event::Moved { position, from, to })?;
     Ok(())
 }
 
@@ -174,6 +94,72 @@ impl LiveRows {
         }
     }
 
+    // A tenant enters this station after the others.
+    fn enter(&mut self, events: &mut Vec<Event>, station: Option<Station>) -> Result<(), AllocError>
+        ensures kept { OnOk result (kept self.new ≡ entered (kept self.old) station) }
+        ensures events { OnOk result (events.new.items
+            ≡ events.old.items ++ entered_events (kept self.old) station) }
+    {
+        let Some(station) = station else {
+            return Ok(());
+        };
+        let row = Row {
+            position: self.lets,
+            let_at: self.turns,
+            ran: None,
+            held: None,
+            resolved_at: None,
+            station,
+        };
+        events.push(entry(self.rows.as_slice(), &row))?;
+        self.rows.push(row)?;
+        self.lets = raised(self.lets);
+        Ok(())
+    }
+
+    // The oldest tenant retires, if fewer are live now.
+    fn retire(&mut self, events: &mut Vec<Event>, live: usize) -> Result<(), AllocError>
+        ensures kept { OnOk result (kept self.new ≡ retired live (kept self.old)) }
+        ensures events { OnOk result (events.new.items
+            ≡ events.old.items ++ retired_events live (kept self.old)) }
+    {
+        if live < self.rows.len() {
+            let row = self.rows.remove(0);
+            let way = Way::Retired(self.retirements);
+            events.push(Event::Left { row, way })?;
+            self.retirements = raised(self.retirements);
+        }
+        Ok(())
+    }
+
+    // What the step of a turn changes, before the stations of the rows are seen.
+    fn step<P: Predictor + Drop>(
+        &mut self,
+        events: &mut Vec<Event>,
+        answer: Turn,
+        bench: &Bench<'_, P>,
+    ) -> Result<(), AllocError>
+        ensures kept { OnOk result (kept self.new
+            ≡ stepped (kept self.old) answer bench.now.pipeline.window) }
+        ensures events { OnOk result (events.new.items ≡ events.old.items
+            ++ step_events (kept self.old) answer bench.now.pipeline.window) }
+    {
+        match answer {
+            Turn::Let => {
+                let youngest = bench.tenant(self.rows.len());
+                self.enter(events, youngest)
+            }
+            Turn::Recovered(age) => {
+                squash(&mut self.rows, events, bench.live())?;
+                push_moved(events, self.rows.as_slice(), age, bench)
+            }
+            Turn::Ran(age) | Turn::Loaded(age) => {
+                push_moved(events, self.rows.as_slice(), age, bench)
+            }
+            Turn::Halved | Turn::Retired | Turn::Over(_) => self.retire(events, bench.live()),
+        }
+    }
+
     /// Keeps the rows through a turn of a bench, and gives what became of the tenants.
     pub(crate) fn turn<P: Predictor + Drop>(
         &mut self,
@@ -187,25 +173,11 @@ impl LiveRows {
             ≡ next_kept (kept self.old) answer bench.now.pipeline.window) }
     {
         let mut events = Vec::new(alloc);
-        let live = bench.live();
-        let turn = raised(self.turns);
-        let count = row_count(&self.rows);
-        let new = let_row(answer, bench.tenant(count), self.lets, turn);
-        let retirements = self.retirements;
-        leave(&mut self.rows, &mut events, answer, live, retirements)?;
-        let worked = worked_on(answer);
-        push_worked(&mut events, self.rows.as_slice(), worked, bench)?;
-        let mut seen = all_seen(alloc, self.rows.as_slice(), bench, turn)?;
-        push_entry(&mut events, seen.as_slice(), &new)?;
-        push_row(&mut seen, new)?;
-        let rows = hold(alloc, &mut events, seen.as_slice(), turn)?;
-        note_all(&mut self.lines, self.style, turn, events.as_slice())?;
-        let retired = counted(retires(answer, live, count), retirements);
-        let lets = counted(new.is_some(), self.lets);
-        self.turns = turn;
-        self.lets = lets;
-        self.retirements = retired;
+        self.turns = raised(self.turns);
+        self.step(&mut events, answer, bench)?;
+        let rows = hold(alloc, &mut events, self.rows.as_slice(), bench, self.turns)?;
         self.rows = rows;
+        note_all(&mut self.lines, self.style, self.turns, events.as_slice())?;
         Ok(events)
     }
 

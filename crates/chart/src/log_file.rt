@@ -51,15 +51,10 @@ pub(crate) fn open_log(
     let file = File::options().write(true).create(true).open(rt, path)?;
     let metadata = file.metadata()?;
     if metadata.is_file() {
-        if listing.is_some_and(|listing| is_one(&listing, &metadata)) {
+        if listing.is_some_and(|it| it.dev() == metadata.dev() && it.ino() == metadata.ino()) {
             return Err(NoLog::IsListing);
         }
         file.set_len(0)?;
     }
     Ok(file)
-}
-
-// Two files are one.
-fn is_one(one: &Metadata, other: &Metadata) -> bool {
-    one.dev() == other.dev() && one.ino() == other.ino()
 }

@@ -7,7 +7,6 @@ mod drawing;
 mod event;
 mod kanata;
 mod laws;
-mod leaving;
 mod lines;
 mod live_rows;
 mod log_file;
@@ -49,10 +48,7 @@ fn start(rt: &HostRuntime, asked: &Charted<'_>) -> ExitCode {
         return chart_from(rt, asked, Some(rt.stdin()), metadata.ok());
     }
     let listing = File::open(rt, asked.run.file).ok();
-    let metadata = match &listing {
-        Some(file) => file.metadata().ok(),
-        None => None,
-    };
+    let metadata = listing.as_ref().and_then(|file| file.metadata().ok());
     chart_from(rt, asked, listing, metadata)
 }
 

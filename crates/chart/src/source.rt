@@ -2,12 +2,13 @@
 
 use instructions::{Half, Instr, Program};
 use isa::{InstrText, RegisterStyle, register_in};
-use lexical::{before_comment, next_line};
+use lexical::before_comment;
 use one_thread::Station;
 use std::alloc::{AllocError, Global};
 use std::str;
 
-/// The lines of a listing, the number of the line of each instruction, and the way in which most registers are written.
+/// The lines of a listing without comments, the number of the line of each instruction, and the way in which most registers
+/// are written.
 #[derive(Drop)]
 pub struct Source<'a> {
     naming: RegisterStyle,
@@ -22,7 +23,8 @@ impl<'a> Source<'a> {
         bytes: &'a [u8],
         numbers: Vec<u64>,
     ) -> Result<Source<'a>, AllocError> {
-        let lines = lines_in(alloc, bytes)?;
+        let each = bytes.split(|byte| *byte == b'\n').map(|line| before_comment(line));
+        let lines: Vec<&'a [u8]> = each.collect(alloc)?;
         Ok(Source {
             naming: naming_of(lines.as_slice()),
             lines,
@@ -30,19 +32,11 @@ impl<'a> Source<'a> {
         })
     }
 
-    // The line of instruction i, if there is one.
-    fn line(&self, i: usize) -> Option<&'a [u8]> {
-        let number = self.numbers.get(i).copied()?;
-        self.lines.get((number as usize).saturating_sub(1)).copied()
-    }
-
-    // The code of the line of the instruction at a pc, without its comment.
-    fn code_at(&self, pc: u32) -> &'a [u8] {
+    // The line of the instruction at a pc, if there is one.
+    fn line_at(&self, pc: u32) -> Option<&'a [u8]> {
         let i = pc.saturating_sub(Program::START) / 4;
-        match self.line(i as usize) {
-            None => &[],
-            Some(line) => before_comment(line),
-        }
+        let number = self.numbers.get(i as usize).copied()?;
+        self.lines.get((number as usize).saturating_sub(1)).copied()
     }
 
     /// The instruction of a tenant, or its half, with each register as its line writes it; one that the line does not name
@@ -53,30 +47,18 @@ impl<'a> Source<'a> {
         let half = half_text(&instr, station.half);
         let instr = InstrText { naming, instr };
         let text = format!(in alloc; "{instr}")?;
-        let names = names_in(alloc, self.code_at(station.pc))?;
+        let names = names_in(alloc, self.line_at(station.pc).unwrap_or(&[]))?;
         let bytes = with_names(alloc, names.as_slice(), text.as_str().as_bytes())?;
         let named = str::from_utf8(bytes.as_slice()).unwrap_or(text.as_str());
         format!(in alloc; "{named}{half}")
     }
 }
 
-fn lines_in(alloc: Global, bytes: &[u8]) -> Result<Vec<&[u8]>, AllocError> {
-    let mut lines = Vec::new(alloc);
-    let mut rest = Some(bytes);
-    while let Some(text) = rest {
-        let (line, after) = next_line(text);
-        lines.push(line)?;
-        rest = after;
-    }
-    Ok(lines)
-}
-
-// By names, where more registers have one than a number, outside of comments.
+// By names, where more registers have one than a number.
 fn naming_of(lines: &[&[u8]]) -> RegisterStyle {
-    let mut names = 0u64;
-    let mut numbers = 0u64;
+    let (mut names, mut numbers) = (0u64, 0u64);
     for line in lines.iter() {
-        for pair in before_comment(line).windows(2) {
+        for pair in line.windows(2) {
             match pair {
                 [b'$', b'a'..=b'z'] => names = names.saturating_add(1),
                 [b'$', b'0'..=b'9'] => numbers = numbers.saturating_add(1),
@@ -107,13 +89,8 @@ fn ends_word(byte: u8) -> bool {
 
 // The words of a text that name registers.
 fn names_in(alloc: Global, text: &[u8]) -> Result<Vec<&[u8]>, AllocError> {
-    let mut names = Vec::new(alloc);
-    for word in text.split(|byte| ends_word(*byte)) {
-        if register_in(word).is_ok() {
-            names.push(word)?;
-        }
-    }
-    Ok(names)
+    let words = text.split(|byte| ends_word(*byte));
+    words.filter(|word| register_in(word).is_ok()).collect(alloc)
 }
 
 // A text with each register as a line of these names writes it.
@@ -122,10 +99,7 @@ fn with_names(alloc: Global, names: &[&[u8]], text: &[u8]) -> Result<Vec<u8>, Al
     let mut at = 0usize;
     for part in text.split_inclusive(|byte| ends_word(*byte)) {
         let (word, gap) = split_word(part);
-        match name_for(names, at, word) {
-            None => out.extend_from_slice(word)?,
-            Some(name) => out.extend_from_slice(name)?,
-        }
+        out.extend_from_slice(name_for(names, at, word).unwrap_or(word))?;
         out.extend_from_slice(gap)?;
         if register_in(word).is_ok() {
             at = at.saturating_add(1);
@@ -144,23 +118,7 @@ fn split_word(text: &[u8]) -> (&[u8], &[u8]) {
 
 // A line's name of a word's register, if it has one: the name at the word's place among registers, or else the first.
 fn name_for<'a>(names: &[&'a [u8]], at: usize, word: &[u8]) -> Option<&'a [u8]> {
-    if let Some(name) = names.get(at) {
-        if are_one(name, word) {
-            return Some(*name);
-        }
-    }
-    for name in names {
-        if are_one(name, word) {
-            return Some(*name);
-        }
-    }
-    None
-}
-
-// Whether two words name one register.
-fn are_one(one: &[u8], other: &[u8]) -> bool {
-    match (register_in(one), register_in(other)) {
-        (Ok(one), Ok(other)) => one.number() == other.number(),
-        _ => false,
-    }
+    let register = register_in(word).ok()?;
+    let mut all = names.iter().skip(at).take(1).chain(names.iter());
+    all.find(|name| register_in(name) == Ok(register)).copied()
 }
