@@ -21,8 +21,8 @@ module _ (k : SoFar) (answer : Turn) (W : List Station) (turn : ℕ) (s : SoFar)
   turn_events none first all nothing steps blocks =
       blocks
       ∙ ap (λ l. l ++ block_events s.turns no_rows (rows_seen s W))
-          (steps ∙ ap (λ l. l ++ step_events (record k { turns = turn }) answer W) nothing
-          ∙ ap (λ n. step_events (record k { turns = n }) answer W) is)
+      (steps ∙ ap (λ l. l ++ step_events (record k { turns = turn }) answer W) nothing
+      ∙ ap (λ n. step_events (record k { turns = n }) answer W) is)
       ∙ ap (λ x. step_events (begun k) answer W ++ block_events x.turns no_rows (rows_seen x W)) same
 
   pub turn_kept : (rows : List Row) (lines : List Line) (all : List Event) → rows ≡ held_rows s.turns (rows_seen s W) → all ≡ events k answer W →

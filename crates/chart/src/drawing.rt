@@ -88,10 +88,16 @@ fn mark_at(line: &Line, turn: u64) -> &'static str {
     }
     if let Some(at) = row.resolved_at {
         if at <= turn {
-            return if at < turn { "=" } else { resolved_mark(row.station.instr.kind()) };
+            return if at < turn {
+                "="
+            } else {
+                resolved_mark(row.station.instr.kind())
+            };
         }
     }
-    let is_blocked = row.held.is_some_and(|held| turn <= held.turn.saturating_add(1));
+    let is_blocked = row
+        .held
+        .is_some_and(|held| turn <= held.turn.saturating_add(1));
     if is_blocked { "B" } else { "-" }
 }
 

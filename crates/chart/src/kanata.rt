@@ -33,7 +33,10 @@ fn push_event(
         Event::Let { row, first, second } => {
             let (at, pc) = (row.position, Hexadecimal(row.station.pc));
             let instr = source.text_of(alloc, &row.station)?;
-            write!(out, "I\t{at}\t{at}\t0\nL\t{at}\t0\t{pc} {instr}\nS\t{at}\t0\tDs\n")?;
+            write!(
+                out,
+                "I\t{at}\t{at}\t0\nL\t{at}\t0\t{pc} {instr}\nS\t{at}\t0\tDs\n"
+            )?;
             push_wait(out, at, *first)?;
             push_wait(out, at, *second)
         }

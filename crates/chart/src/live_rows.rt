@@ -34,11 +34,7 @@ fn raised(n: u64) -> u64
 }
 
 // Takes out all tenants after the first `live`, the youngest first.
-fn squash(
-    rows: &mut Vec<Row>,
-    events: &mut Vec<Event>,
-    live: usize,
-) -> Result<(), AllocError>
+fn squash(rows: &mut Vec<Row>, events: &mut Vec<Event>, live: usize) -> Result<(), AllocError>
     ensures rows { OnOk result (rows.new.items ≡ take live rows.old.items) }
     ensures events { OnOk result
         (events.new.items ≡ events.old.items ++ squashes live rows.old.items) }

@@ -23,7 +23,9 @@ impl<'a> Source<'a> {
         bytes: &'a [u8],
         numbers: Vec<u64>,
     ) -> Result<Source<'a>, AllocError> {
-        let each = bytes.split(|byte| *byte == b'\n').map(|line| before_comment(line));
+        let each = bytes
+            .split(|byte| *byte == b'\n')
+            .map(|line| before_comment(line));
         let lines: Vec<&'a [u8]> = each.collect(alloc)?;
         Ok(Source {
             naming: naming_of(lines.as_slice()),
@@ -90,7 +92,9 @@ fn ends_word(byte: u8) -> bool {
 // The words of a text that name registers.
 fn names_in(alloc: Global, text: &[u8]) -> Result<Vec<&[u8]>, AllocError> {
     let words = text.split(|byte| ends_word(*byte));
-    words.filter(|word| register_in(word).is_ok()).collect(alloc)
+    words
+        .filter(|word| register_in(word).is_ok())
+        .collect(alloc)
 }
 
 // A text with each register as a line of these names writes it.
