@@ -1,8 +1,7 @@
 //! Grades of tables.
 use crate::asked::{Asked, Wanted};
-use crate::lines::Lines;
 use crate::log::{Ended, LEGAL, REFUSED, UNREAD};
-use crate::stages::{MOST_BYTES, misread_text, too_long};
+use crate::stages::{misread_text, too_long, whole};
 use counted_io::Fault;
 use grading::{Grade, Limits, Terms};
 use instructions::Program;
@@ -72,9 +71,7 @@ pub fn graded<R: Read + Drop>(
     file: &str,
     log: R,
 ) -> Result<Ended, Fault> {
-    let mut lines = Lines::new(alloc, log)?;
-    lines.advance()?;
-    let Some(bytes) = lines.whole(MOST_BYTES)? else {
+    let Some(bytes) = whole(alloc, log)? else {
         let why = too_long(alloc)?;
         return Ok(ungraded(alloc, asked, file, why.as_str())?);
     };

@@ -1,15 +1,22 @@
-//! Judging a log: each event once it is known what was predicted.
+//! Judging a log: the verdict on its text, or what else is wanted of it.
+ghost use Rattle.std.specs.Prelude.{◌≡◌, IfOk, IfSome};
+ghost use Rattle.judge.specs.Statuses.{IsStatus, status_of};
+
 use crate::asked::{Asked, Wanted};
-use crate::lines::Lines;
 use crate::stages::{format_of, judged_stages};
 use counted_io::Fault;
-use events::{Event, Judge, Unread, event_in};
+use events::{
+    Issue, Item, Judge, LogJudge, Refused, Said, Unread, Verdict, fault_of, next_said, verdict_on,
+};
 use grading::stations_compared;
 use instructions::Program;
 use sheets::Held;
-use std::alloc::{AllocError, AllocFailed, Global};
-use std::io::Read;
-use verdicts::{Item, legal_text, push_event, refused_text, unread_text};
+use std::alloc::{AllocError, Global};
+use std::io::{BufRead, BufReader, Read};
+use verdicts::{legal_text, push_event, refused_text, unread_text};
+
+// How many bytes are read at once.
+const AT_ONCE: usize = 65536;
 
 /// How the program ends: its text on standard output, and its status.
 #[derive(Drop)]
@@ -24,37 +31,67 @@ pub const REFUSED: u8 = 1;
 
 pub const UNREAD: u8 = 4;
 
-// A let whose predicted next pc is not known yet, and the events after it.
-#[derive(Drop)]
-struct Waiting {
-    items: Vec<Item>,
+// The judge of a unit before its first event.
+fn judge_of<'a>(
+    alloc: Global,
+    program: &'a Program,
+    asked: &Asked<'_>,
+) -> Result<Judge<'a>, AllocError> {
+    let mut judge = Judge::new(alloc, program, asked.ring, asked.queue)?;
+    judge.guesses = asked.guesses;
+    judge.flushes = asked.flushes;
+    Ok(judge)
 }
 
-impl Waiting {
-    // The log has mended the first let's misprediction.
-    fn is_mended(&self, who: usize) -> bool {
-        self.items.iter().any(
-            |item| matches!(item.event, Event::Mend(q) | Event::Recover(q) if q == who),
-        )
+// The exit status of a verdict.
+fn status_of(verdict: Verdict) -> u8
+    ensures { result ≡ status_of verdict }
+{
+    match verdict {
+        Verdict::Legal => LEGAL,
+        Verdict::Refused(_) => REFUSED,
+        Verdict::Unread(_, _) => UNREAD,
     }
 }
 
-// What was predicted where the log goes on at `pc`; another pc, where the misprediction was mended before.
-fn guessed(pc: Option<u32>, mended: bool) -> Option<u32> {
-    match (pc, mended) {
-        (Some(pc), true) => Some(pc ^ 2),
-        (None, true) => Some(2),
-        (pc, false) => pc,
+// The text of a verdict.
+fn text_of(alloc: Global, log: &LogJudge<'_>, verdict: Verdict) -> Result<String, Fault> {
+    match verdict {
+        Verdict::Legal => legal_text(alloc, &log.judge, log.judged),
+        Verdict::Refused(Refused { item, why }) => refused_text(alloc, &log.judge, &item, why),
+        Verdict::Unread(line, why) => unread_text(alloc, line, why),
     }
 }
 
-/// The judge, and what it has not judged yet.
+// How the program ends with a verdict.
+fn ended_by(alloc: Global, log: &LogJudge<'_>, verdict: Verdict) -> Result<Ended, Fault>
+    ensures { IfOk result (λ ended. ended.status ≡ status_of verdict) }
+{
+    Ok(Ended {
+        text: text_of(alloc, log, verdict)?,
+        status: status_of(verdict),
+    })
+}
+
+// Judges the whole text of a log.
+fn judged_text<L: BufRead>(
+    alloc: Global,
+    judge: Judge<'_>,
+    issue: Issue,
+    log: &mut L,
+) -> Result<Ended, Fault>
+    ensures { IfOk result (λ ended. IfSome (L.remaining log.old) (λ text.
+        IsStatus issue judge.entry.unit ended.status text)) }
+{
+    let (verdict, held) = verdict_on(alloc, judge, issue, log)?;
+    ended_by(alloc, &held, verdict)
+}
+
+/// Takes the events of a log that is judged up to a line or a cycle, printed, or compared with a table of stations.
 #[derive(Drop)]
 pub struct Judging<'a> {
     alloc: Global,
-    judge: Judge<'a>,
-    waiting: Waiting,
-    judged: u64,
+    log: LogJudge<'a>,
     /// The text of the events, where that is wanted in place of a verdict.
     events: Option<String>,
     /// The last cycle, or line of a text, that is taken.
@@ -65,22 +102,15 @@ pub struct Judging<'a> {
 }
 
 impl<'a> Judging<'a> {
-    pub fn new(
+    fn new(
         alloc: Global,
-        program: &'a Program,
+        judge: Judge<'a>,
         asked: &Asked<'_>,
         held: Option<Vec<Held>>,
-    ) -> Result<Judging<'a>, AllocError> {
-        let mut judge = Judge::new(alloc, program, asked.ring, asked.queue)?;
-        judge.guesses = asked.guesses;
-        judge.flushes = asked.flushes;
-        Ok(Judging {
+    ) -> Judging<'a> {
+        Judging {
             alloc,
-            judge,
-            waiting: Waiting {
-                items: Vec::new(alloc),
-            },
-            judged: 0,
+            log: LogJudge::new(alloc, judge),
             events: match asked.wanted {
                 Wanted::Events => Some(String::new(alloc)),
                 _ => None,
@@ -88,7 +118,7 @@ impl<'a> Judging<'a> {
             after: asked.after,
             held,
             rows: Vec::new(alloc),
-        })
+        }
     }
 
     // The event is after those that are wanted.
@@ -97,37 +127,7 @@ impl<'a> Judging<'a> {
         self.after.is_some_and(|after| after < at)
     }
 
-    // Judges one event; how the program ends, if it is refused.
-    fn judge_one(&mut self, item: Item, guess: Option<u32>) -> Result<Option<Ended>, Fault> {
-        match self.judge.event(item.event, guess)? {
-            Ok(()) => {
-                self.judged = self.judged.saturating_add(1);
-                Ok(None)
-            }
-            Err(why) => Ok(Some(Ended {
-                text: refused_text(self.alloc, &self.judge, &item, why)?,
-                status: REFUSED,
-            })),
-        }
-    }
-
-    // Judges what has waited.
-    fn settle(&mut self, pc: Option<u32>) -> Result<Option<Ended>, Fault> {
-        let who = self.judge.unit.tenants.len();
-        let guess = guessed(pc, self.waiting.is_mended(who));
-        for at in 0..self.waiting.items.len() {
-            let Some(item) = self.waiting.items.as_slice().get(at).copied() else {
-                break;
-            };
-            if let Some(ended) = self.judge_one(item, guess)? {
-                return Ok(Some(ended));
-            }
-        }
-        self.waiting.items.clear();
-        Ok(None)
-    }
-
-    /// The next event of the log.
+    /// Takes the next event of the log; how the program ends, if it is refused.
     pub fn take(&mut self, item: Item) -> Result<Option<Ended>, Fault> {
         if self.is_past(&item) {
             return Ok(None);
@@ -136,37 +136,19 @@ impl<'a> Judging<'a> {
             push_item(events, &item)?;
             return Ok(None);
         }
-        if let Event::Let(pc, next) = item.event {
-            if let Some(ended) = self.settle(pc)? {
-                return Ok(Some(ended));
-            }
-            if next.is_none() {
-                return self.keep(item);
-            }
-        }
-        if self.waiting.items.is_empty() {
-            return self.judge_one(item, None);
-        }
-        self.keep(item)
-    }
-
-    // The event waits until it is known what was predicted.
-    fn keep(&mut self, item: Item) -> Result<Option<Ended>, Fault> {
-        match self.waiting.items.push(item) {
+        match self.log.take(item)? {
             Ok(()) => Ok(None),
-            Err(_) => Err(Fault::Memory),
+            Err(refused) => {
+                let verdict = Verdict::Refused(refused);
+                Ok(Some(ended_by(self.alloc, &self.log, verdict)?))
+            }
         }
     }
 
-    /// A line that is not read ends the log, once the events before it are judged.
-    pub fn refuse_line(&mut self, line: u64, why: Unread) -> Result<Ended, Fault> {
-        if let Some(ended) = self.settle(None)? {
-            return Ok(ended);
-        }
-        Ok(Ended {
-            text: unread_text(self.alloc, line, why)?,
-            status: UNREAD,
-        })
+    // A line that is not read ends the log, once the events before it are judged.
+    fn refuse_line(&mut self, line: u64, why: Unread) -> Result<Ended, Fault> {
+        let verdict = self.log.close(Verdict::Unread(line, why))?;
+        ended_by(self.alloc, &self.log, verdict)
     }
 
     /// The end of the log.
@@ -177,21 +159,16 @@ impl<'a> Judging<'a> {
                 status: LEGAL,
             });
         }
-        if let Some(ended) = self.settle(None)? {
-            return Ok(ended);
-        }
-        match &self.held {
-            Some(held) => self.compared(held.as_slice()),
-            None => Ok(Ended {
-                text: legal_text(self.alloc, &self.judge, self.judged)?,
-                status: LEGAL,
-            }),
+        match (self.log.close(Verdict::Legal)?, &self.held) {
+            (Verdict::Legal, Some(held)) => self.compared(held.as_slice()),
+            (verdict, _) => ended_by(self.alloc, &self.log, verdict),
         }
     }
 
     // The stations of a table beside those of the unit.
     fn compared(&self, held: &[Held]) -> Result<Ended, Fault> {
-        let found = stations_compared(self.alloc, &self.judge.unit, held, self.rows.as_slice())?;
+        let unit = &self.log.judge.unit;
+        let found = stations_compared(self.alloc, unit, held, self.rows.as_slice())?;
         let status = if found.right == found.stations {
             LEGAL
         } else {
@@ -201,6 +178,23 @@ impl<'a> Judging<'a> {
             text: found.text,
             status,
         })
+    }
+
+    // Takes the events of the text of a log.
+    fn text<L: BufRead>(mut self, issue: Issue, log: &mut L) -> Result<Ended, Fault> {
+        let mut line = Vec::new(self.alloc);
+        for before in 0..u64::MAX {
+            let ended = match next_said(log, &mut line, before, issue)? {
+                Said::End => break,
+                Said::Nothing => None,
+                Said::Event(item) => self.take(item)?,
+                Said::Unread(number, why) => Some(self.refuse_line(number, why)?),
+            };
+            if let Some(ended) = ended {
+                return Ok(ended);
+            }
+        }
+        self.end()
     }
 }
 
@@ -214,6 +208,23 @@ fn push_item(out: &mut String, item: &Item) -> Result<(), AllocError> {
     }
 }
 
+// A reader with a buffer.
+fn buffered<R: Read + Drop>(alloc: Global, reader: R) -> Result<BufReader<R>, Fault> {
+    match BufReader::with_capacity(alloc, AT_ONCE, reader) {
+        Ok(reader) => Ok(reader),
+        Err(error) => Err(fault_of(&error)),
+    }
+}
+
+// The first line of a log; an empty one where there is none.
+fn first_line<L: BufRead>(alloc: Global, log: &mut L) -> Result<Vec<u8>, Fault> {
+    let mut line = Vec::new(alloc);
+    match log.read_until(b'\n', &mut line) {
+        Ok(_) => Ok(line),
+        Err(error) => Err(fault_of(&error)),
+    }
+}
+
 /// Judges the log of a reader, or compares stations with those of the unit after it.
 pub fn judged<R: Read + Drop>(
     alloc: Global,
@@ -222,28 +233,17 @@ pub fn judged<R: Read + Drop>(
     held: Option<Vec<Held>>,
     log: R,
 ) -> Result<Ended, Fault> {
-    let mut lines = Lines::new(alloc, log)?;
-    let mut judging = Judging::new(alloc, program, asked, held)?;
-    for _ in 0..u64::MAX {
-        if !lines.advance()? {
-            break;
+    let mut log = buffered(alloc, log)?;
+    let judge = judge_of(alloc, program, asked)?;
+    let first = first_line(alloc, &mut log)?;
+    let format = format_of(first.as_slice());
+    let mut log = first.as_slice().chain(log);
+    match (format, asked.wanted, asked.after) {
+        (Some(format), _, _) => {
+            let judging = Judging::new(alloc, judge, asked, held);
+            judged_stages(alloc, program, asked, format, judging, log)
         }
-        let line = lines.number;
-        if let (1, Some(format)) = (line, format_of(lines.text())) {
-            return judged_stages(alloc, program, asked, format, judging, lines);
-        }
-        let ended = match event_in(lines.text(), asked.issue) {
-            Ok(None) => None,
-            Ok(Some(event)) => judging.take(Item {
-                line,
-                cycle: None,
-                event,
-            })?,
-            Err(why) => Some(judging.refuse_line(line, why)?),
-        };
-        if let Some(ended) = ended {
-            return Ok(ended);
-        }
+        (None, Wanted::Verdict, None) => judged_text(alloc, judge, asked.issue, &mut log),
+        _ => Judging::new(alloc, judge, asked, held).text(asked.issue, &mut log),
     }
-    judging.end()
 }

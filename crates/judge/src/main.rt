@@ -3,7 +3,6 @@
 
 mod asked;
 mod grades;
-mod lines;
 mod log;
 mod options;
 mod stages;

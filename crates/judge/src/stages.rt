@@ -1,8 +1,8 @@
 //! Logs that tell in which cycle each stage of an instruction is.
 use crate::asked::Asked;
-use crate::lines::Lines;
 use crate::log::{Ended, Judging, UNREAD};
-use counted_io::Fault;
+use counted_io::{Counted, Fault, read_up_to};
+use events::Item;
 use instructions::Program;
 use lexical::cut;
 use sheets::{
@@ -11,10 +11,9 @@ use sheets::{
 };
 use std::alloc::{AllocError, Global};
 use std::io::Read;
-use verdicts::Item;
 
 /// The most bytes of such a log.
-pub const MOST_BYTES: usize = 0x1000_0000;
+const MOST_BYTES: usize = 0x1000_0000;
 
 /// The formats of logs that tell in which cycle each stage of an instruction is.
 #[derive(Clone, Copy)]
@@ -108,16 +107,25 @@ pub fn too_long(alloc: Global) -> Result<String, AllocError> {
     format!(in alloc; "unread: a log with cycles has at most {MOST_BYTES} bytes\n")
 }
 
-/// Judges such a log, whose first line was read.
+/// The bytes of a reader; none where there are more than those of a log with cycles.
+pub fn whole<R: Read + Drop>(alloc: Global, reader: R) -> Result<Option<Vec<u8>>, Fault> {
+    let bytes = read_up_to(alloc, &mut Counted::new(reader), MOST_BYTES + 1)?;
+    if bytes.len() > MOST_BYTES {
+        return Ok(None);
+    }
+    Ok(Some(bytes))
+}
+
+/// Judges such a log.
 pub fn judged_stages<R: Read + Drop>(
     alloc: Global,
     program: &Program,
     asked: &Asked<'_>,
     format: Format,
     judging: Judging<'_>,
-    lines: Lines<R>,
+    log: R,
 ) -> Result<Ended, Fault> {
-    let Some(bytes) = lines.whole(MOST_BYTES)? else {
+    let Some(bytes) = whole(alloc, log)? else {
         return Ok(Ended {
             text: too_long(alloc)?,
             status: UNREAD,
@@ -159,9 +167,7 @@ pub fn stations_in<R: Read + Drop>(
     alloc: Global,
     table: R,
 ) -> Result<Result<Vec<Held>, Ended>, Fault> {
-    let mut lines = Lines::new(alloc, table)?;
-    lines.advance()?;
-    let text = match lines.whole(MOST_BYTES)? {
+    let text = match whole(alloc, table)? {
         None => too_long(alloc)?,
         Some(bytes) => match held_in(alloc, bytes.as_slice()) {
             Ok(held) => return Ok(Ok(held)),

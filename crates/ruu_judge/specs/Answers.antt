@@ -2,10 +2,10 @@
 use Rattle.std.specs.Prelude.{⊤, ◌≡◌, ℕ, List, Option, None, Some, Result, Ok, Err}
 use Rattle.events.specs.declared.event.Event.{Event}
 use Rattle.events.specs.declared.event.Issue.{Issue}
+use Rattle.events.specs.declared.item.Item.{Item}
 use Rattle.events.specs.declared.unread.Unread.{Unread as Fault}
 use Rattle.events.specs.declared.why.Why.{Why}
 use Rattle.events.specs.Lines.{event_in}
-use Rattle.verdicts.specs.declared.verdict.Item.{Item}
 use Rattle.ruu_judge.specs.declared.owned.OwnedUnit.{OwnedUnit}
 use Rattle.ruu_judge.specs.declared.held.Found.{Found}
 use Rattle.ruu_judge.specs.declared.held.Found.TheVariants.{Legal, Refused, NoMemory}

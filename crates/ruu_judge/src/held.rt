@@ -5,9 +5,9 @@ ghost use Rattle.ruu_judge.specs.Answers.{IsAnswer, IsAnswerToEvent, IsAnswerToL
 
 use crate::owned::{Judged, OwnedUnit, Rules};
 use counted_io::Fault;
-use events::{Event, Issue, Unread, Why, event_in};
+use events::{Event, Issue, Item, Unread, Why, event_in};
 use std::alloc::Global;
-use verdicts::{Item, unread_text};
+use verdicts::unread_text;
 
 /// What a judge has found up to now.
 #[derive(Drop)]

@@ -3,11 +3,11 @@ ghost use Rattle.replay.specs.Dropping.{IsDropped};
 ghost use Rattle.replay.specs.Settlement.{AreUses, IsSettled};
 
 use counted_io::Fault;
-use events::{Event, Issue, Judge, Why};
+use events::{Event, Issue, Item, Judge, Why};
 use instructions::Program;
 use replay::{Settled, Tail, Tenant, Unit};
 use std::alloc::{AllocError, Global};
-use verdicts::{Item, legal_text, refused_text};
+use verdicts::{legal_text, refused_text};
 
 /// What a judge allows beside the steps of the unit, and what `issue` means.
 #[derive(Clone, Copy)]

@@ -6,4 +6,4 @@ mod reasons;
 mod tenants;
 mod verdict;
 
-pub use verdict::{Item, legal_text, push_event, refused_text, unread_text};
+pub use verdict::{legal_text, push_event, refused_text, unread_text};

@@ -2,20 +2,12 @@
 use crate::reasons::push_reason;
 use crate::tenants::push_in_flight;
 use counted_io::Fault;
-use events::{Event, Judge, Unread, Why};
+use events::{Event, Item, Judge, Unread, Why};
 use inorder::{Ended, Machine};
 use instructions::{End, Ending};
 use isa::{Hexadecimal, report_text};
 use replay::{Fate, Standing, Tenant, Unit};
 use std::alloc::{AllocError, Global};
-
-/// An event, with its line in the log, and its cycle where the log has cycles.
-#[derive(Clone, Copy)]
-pub struct Item {
-    pub line: u64,
-    pub cycle: Option<u64>,
-    pub event: Event,
-}
 
 // How many tenants have retired and were squashed, and how many instructions have retired that do not stop.
 #[derive(Clone, Copy)]
