@@ -10,8 +10,8 @@ ghost use Rattle.front.specs.Questions.{Asks, IsDispatched, MayAskFor};
 ghost use Rattle.station.specs.Seats.{IsSameSeat};
 
 use crate::fetch::Fetched;
+use crate::needs::supply;
 use crate::path::{CountedTable, Path};
-use crate::supply::supply;
 use inorder::history::Source;
 use instructions::Program;
 use station::{Core, FrontSeat, Supply, Tenant};

@@ -8,8 +8,8 @@ ghost use Rattle.front.specs.Turns.{Refuses};
 ghost use Rattle.station.specs.Seats.{IsSameSeat};
 
 use crate::answers::Turn;
+use crate::needs::queue_is_full;
 use crate::path::Path;
-use crate::queue::queue_is_full;
 use instructions::{Half, Instr, Program};
 use station::{Core, FrontSeat, StationState};
 

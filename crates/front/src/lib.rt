@@ -8,13 +8,11 @@ mod dispatch;
 mod dispatcher;
 mod fetch;
 mod laws;
+mod needs;
 mod path;
-mod queue;
 mod recovery;
 mod rest;
 mod still;
-mod supply;
-mod training;
 mod turning;
 
 pub use answers::{Made, Recovery, Rest, Turn};

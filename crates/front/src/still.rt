@@ -95,14 +95,10 @@ impl<P: Predictor + Drop> FrontStill<P> {
             given_back: _,
         } = self;
         let rested = Snapshot::of(&seat);
-        let registers = base.registers;
-        let half = base.half;
         let base = Base {
-            registers,
-            pc: base.pc,
-            half,
             station,
             rested,
+            ..base
         };
         Front {
             seat,

@@ -12,8 +12,8 @@ ghost use Rattle.station.specs.Seats.{IsSameSeat};
 use crate::answers::Turn;
 use crate::dispatch::dispatch;
 use crate::fetch::{Fetched, fetch};
+use crate::needs::leaver;
 use crate::path::{CountedTable, Path};
-use crate::training::leaver;
 use instructions::{Leaver, Predictor, Program, guess, tell};
 use station::{Core, FrontSeat};
 

@@ -1,7 +1,7 @@
 use Rattle.std.proofs.Common.{◌+◌, ◌-◌, ap, sym, ◌∙◌, arith, drop, take}
 use Rattle.front.specs.Queues.{memory_records}
 use Rattle.front.proofs.PathParts.{access_more, access_same, none_back, whole_by}
-use Rattle.front.proofs.queue.access_before.Goals as goal
+use Rattle.front.proofs.needs.access_before.Goals as goal
 
 pub returns-then-remaining-eq0 : goal.returns-then-remaining-eq0
 returns-then-remaining-eq0 c = record {

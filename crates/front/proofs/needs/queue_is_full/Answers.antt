@@ -8,7 +8,7 @@ use Rattle.front.proofs.Crowded.{all_in, full_there, room_there}
 use Rattle.front.proofs.InQueue.{few_live}
 use Rattle.front.proofs.Named.{small_stations}
 use Rattle.front.proofs.Stays.{still_knows}
-use Rattle.front.proofs.queue.queue_is_full.Goals as goal
+use Rattle.front.proofs.needs.queue_is_full.Goals as goal
 
 pub returns-in_default-clause-reply : goal.returns-in_default-clause-reply
 returns-in_default-clause-reply c =

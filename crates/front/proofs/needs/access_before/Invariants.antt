@@ -1,6 +1,6 @@
 use Rattle.std.proofs.Common.{◌≡◌, ◌≤◌, ◌+◌, drop, length}
 use Rattle.front.specs.Queues.{memory_records}
-use Rattle.front.proofs.queue.access_before.Given as goal
+use Rattle.front.proofs.needs.access_before.Given as goal
 
 abbrev pub invariant-loop-j : goal.invariant-loop-j
 invariant-loop-j l =

@@ -1,14 +1,16 @@
-//! Whether the queue takes one more load or store.
-ghost use Rattle.std.specs.Prelude.{◌≡◌, ◌≤◌, []};
+//! What a let needs: room in the queue, its sources, and who leaves its station.
+ghost use Rattle.std.specs.Prelude.{◌≡◌, ◌<◌, ◌≤◌, []};
 ghost use Rattle.inorder.specs.History.{IsLegal, front, unit_of};
 ghost use Rattle.inorder.specs.OneHistory.{Adds};
+ghost use Rattle.front.specs.CreateTable.{IsSupplied, IsTouched};
 ghost use Rattle.front.specs.Fronts.{AddsNothing, KnowsPath};
 ghost use Rattle.front.specs.Queues.{AccessBefore, QueueSays};
+ghost use Rattle.front.specs.Training.{leaver_of};
 ghost use Rattle.station.specs.Seats.{IsSameSeat};
 
-use crate::path::{Path, Record, Records};
-use instructions::Instr;
-use station::{Core, FrontSeat, StationState};
+use crate::path::{CountedTable, Path, Record, Records};
+use instructions::{Instr, Leaver, Reg};
+use station::{Core, FrontSeat, StationState, Supply};
 
 // The load or store that has `younger` younger ones.
 fn access_before(records: &Records, younger: usize) -> Option<Record>
@@ -55,4 +57,34 @@ pub fn queue_is_full(core: &Core, seat: &mut FrontSeat, path: &Path, instr: &Ins
         return false;
     }
     true
+}
+
+/// The source of a new tenant that reads this register. The last tenant of its own station leaves.
+pub fn supply(path: &Path, creators: &mut CountedTable, own: usize, r: Reg) -> Supply
+    ensures value { IsSupplied creators.old.table own path.now.base r result }
+    ensures table { creators.new.table ≡ creators.old.table }
+    ensures small { r < 34 }
+    ensures touched { IsTouched 2 creators.old.touched creators.new.touched }
+{
+    let known = Supply::Known(path.base.registers[r.number() as usize]);
+    let Some(creator) = creators.find(r) else {
+        return known;
+    };
+    if creator.station == own {
+        return known;
+    }
+    match creator.made {
+        Some(value) => Supply::Known(value),
+        None => Supply::From {
+            station: creator.station,
+            tag: creator.tag,
+        },
+    }
+}
+
+/// The leaver that the predictor is told of, if it was asked about the tenant that leaves.
+pub fn leaver(departed: Option<Record>) -> Option<Leaver>
+    ensures { result ≡ leaver_of departed }
+{
+    departed?.leaver()
 }
