@@ -6,7 +6,7 @@ use Rattle.isa.specs.declared.listing.fault.FaultKind.{FaultKind}
 use Rattle.isa.specs.declared.listing.fault.Marked.{Marked}
 use Rattle.checker.specs.Diagnostics.{AreExplained, IsCheckOf, IsExplained, IsExplanationBehind}
 use Rattle.isa.specs.Spots.{spot_of}
-use Rattle.checker.specs.Lines.{numbered_line}
+use Rattle.checker.specs.Parts.{numbered_line}
 
 module _ (file bytes : List ℕ) (d : Marked) (old text new : List ℕ) where
   explained_step : (fs : List Marked) (i : ℕ) → i < length fs

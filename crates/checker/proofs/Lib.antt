@@ -6,8 +6,6 @@ mod Keys
 mod LabelsWalked
 mod Lengths
 mod LinesCounted
-mod Remaining
-mod PartTexts
 mod Reached
 mod Texts
 mod Warned

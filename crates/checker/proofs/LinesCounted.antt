@@ -1,6 +1,6 @@
 -- Lines that are counted one by one.
 use Rattle.std.proofs.Common.{◌≡◌, ◌+◌, ◌≤◌, ◌<◌, ℕ, zero, suc, List, [], ◌∷◌, length, drop, Some, slice_get, sym, arith}
-use Rattle.checker.specs.Lines.{numbered_line}
+use Rattle.checker.specs.Parts.{numbered_line}
 use Rattle.checker.proofs.Lengths.{total, lines_fit}
 use Rattle.lexical.specs.Line.{lines_of}
 

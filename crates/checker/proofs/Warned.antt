@@ -1,24 +1,24 @@
 -- Warnings, one behind the other.
-use Rattle.std.proofs.Common.{◌≡◌, ◌++◌, ℕ, List, [], ◌∷◌, refl, subst}
+use Rattle.std.proofs.Common.{◌++◌, ℕ, List, [], ◌∷◌, refl, subst}
 use Rattle.instructions.specs.Programs.{Program}
 use Rattle.checker.specs.declared.parts.Part.{Part}
 use Rattle.checker.specs.declared.warnings.Warning.{Warning}
 use Rattle.checker.specs.declared.warnings.Warning.TheVariants.{NeverUsed, AtData, StackUnset, Unreached, PastEnd}
-use Rattle.checker.specs.Warnings.{Applies, Warned, IsOfInstruction, IsWarranted, AreWarnings, AreWarned, StandsOn, warning_text}
+use Rattle.checker.specs.Warnings.{Applies, Warned, IsOfInstruction, IsWarning, AreWarnings, AreWarned, StandsOn}
 
 -- no warning
 pub none_warned : (file bytes : List ℕ) (P : Program) (text : List ℕ) → AreWarned file bytes P text text
 none_warned file bytes P text = ([], refl)
 
 -- one warning
-pub one_warned : (file bytes : List ℕ) (P : Program) (w : Warned) (old new : List ℕ) → IsWarranted bytes P w
-    → new ≡ old ++ warning_text file w → AreWarned file bytes P old new
-one_warned file bytes P w old new is text = (w ∷ [], (is, text))
+pub one_warned : (file bytes : List ℕ) (P : Program) (w : Warned) (old new : List ℕ) → IsWarning file bytes P w old new → AreWarned file bytes P old new
+one_warned file bytes P w old new is = (w ∷ [], (new, (is, refl)))
 
 joined : (file bytes : List ℕ) (P : Program) (ws vs : List Warned) (old text new : List ℕ) → AreWarnings file bytes P ws old text
     → AreWarnings file bytes P vs text new → AreWarnings file bytes P (ws ++ vs) old new
 joined file bytes P [] vs old text new first second = subst (λ (t : List ℕ). AreWarnings file bytes P vs t new) first second
-joined file bytes P (w ∷ ws) vs old text new first second = (first.0, joined file bytes P ws vs (old ++ warning_text file w) text new first.1 second)
+joined file bytes P (w ∷ ws) vs old text new first second =
+    (first.0, (first.1.0, joined file bytes P ws vs first.0 text new first.1.1 second))
 
 -- warnings behind warnings
 pub all_warned : (file bytes : List ℕ) (P : Program) (old text new : List ℕ) → AreWarned file bytes P old text

@@ -1,9 +1,6 @@
 pub use Rattle.command_line.specs.Replies
 pub use Rattle.command_line.specs.Exits
-pub mod Forms
-pub mod Lines
 pub mod Parts
-pub mod Quotes
 pub mod Names
 pub mod Spots
 pub mod Keys

@@ -2,7 +2,7 @@
 use Rattle.std.specs.Prelude.{ℕ, List, flat_map, if◌then◌else◌}
 use Rattle.std.specs.Char.{encode_utf8, is_control}
 use Rattle.std.specs.Str.{chars}
-use Rattle.checker.specs.Quotes.{escape}
+use Rattle.checker.specs.Spots.{escape}
 
 -- a character of a name: as it is, or a control character, in ASCII or beyond it, by the escapes of its bytes
 abbrev pub shown_character : ℕ → List ℕ

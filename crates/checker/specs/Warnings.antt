@@ -1,42 +1,35 @@
 -- Warnings of a listing without a fault.
-use Rattle.std.specs.Prelude.{◌≡◌, ◌-◌, ◌==◌, ◌++◌, ℕ, Bool, false, true, List, [], ◌∷◌, codes, drop, length, Some, IfSome, is_some, slice_get, if◌then◌else◌}
-use Rattle.std.specs.List.{flat_map, after_first}
+use Rattle.std.specs.Prelude.{◌≡◌, ◌-◌, ◌==◌, ℕ, Bool, false, true, List, [], ◌∷◌, drop, length, Some, IfSome, is_some, slice_get, if◌then◌else◌}
+use Rattle.std.specs.List.{flat_map}
 use Rattle.std.specs.Borrow.{Bor}
 use Rattle.std.specs.BTreeMap.{BTreeMap}
-use Rattle.lexical.specs.Blank.{is_blank}
-use Rattle.lexical.specs.Label.{statement_of}
-use Rattle.lexical.specs.Line.{before_comment, lines_of}
-use Rattle.lexical.specs.Operand.{operands}
+use Rattle.lexical.specs.Line.{lines_of}
 use Rattle.instructions.specs.Programs.{Program}
 use Rattle.isa.specs.Listing.{Lines, labels, stands_in, instruction_lines}
 use Rattle.isa.specs.Statement.{directive_text}
 use Rattle.checker.specs.Keys.{AreNames}
-use Rattle.checker.specs.Lines.{numbered_line, word_in}
-use Rattle.checker.specs.Parts.{IsPartOf, part_text}
+use Rattle.checker.specs.Parts.{IsPartOf, numbered_line, operands_of_line, part_text, word_in}
 use Rattle.checker.specs.Reach.{HasPath, HavePaths, IsClosedSet, IsStackUnset, IsUnreached, may_run_past_end}
-use Rattle.checker.specs.Spots.{advice_text}
+use Rattle.checker.specs.Spots.{IsAdvice}
 use Rattle.checker.specs.declared.parts.Part.{Part}
 use Rattle.checker.specs.declared.reach.Paths.TheVariants.{Any}
 use Rattle.checker.specs.declared.spot.Spot.{Spot}
 use Rattle.checker.specs.declared.warnings.Good.{Good}
+use Rattle.checker.specs.declared.warnings.TheConstants.{WARNING, NEVER_USED, AT_DATA, STACK_UNSET, UNREACHED, PAST_END}
 use Rattle.checker.specs.declared.warnings.Warning.{Warning}
 use Rattle.checker.specs.declared.warnings.Warning.TheVariants.{NeverUsed, AtData, StackUnset, Unreached, PastEnd}
 
 -- the beginning of a warning
 abbrev pub warning : List ℕ
-warning = codes "warning: "
+warning = WARNING.now
 
 -- the sentence of a kind of warning
 abbrev pub said : Warning → List ℕ
-said NeverUsed = codes "No instruction names this label."
-said AtData = codes "Data has no labels: this one means the next instruction."
-said StackUnset = codes "No instruction before this one sets $sp, which is 0 at the start."
-said Unreached = codes "No path reaches this instruction."
-said PastEnd = codes "A run can go on behind the last instruction: break ends it."
-
--- the operands of a line's statement
-abbrev pub operands_of_line : List ℕ → List (List ℕ)
-operands_of_line line = operands (after_first is_blank (statement_of (before_comment line)))
+said NeverUsed = NEVER_USED.now
+said AtData = AT_DATA.now
+said StackUnset = STACK_UNSET.now
+said Unreached = UNREACHED.now
+said PastEnd = PAST_END.now
 
 -- the operands of all lines
 abbrev pub all_operands : Lines → List (List ℕ)
@@ -88,23 +81,20 @@ pub record Warned : Type 0 where
   pub kind : Warning
   pub help : List ℕ
 
--- the line is in the listing, the part lies in it, and the warning is true
-pub record IsWarranted (bytes : List ℕ) (P : Program) (w : Warned) : Type 0 where
+-- the line is in the listing, the part lies in it, and the warning is true; the new text is the old one with it
+pub record IsWarning (file bytes : List ℕ) (P : Program) (w : Warned) (old new : List ℕ) : Type 0 where
   pub line_is : numbered_line w.number (lines_of bytes) ≡ Some w.line
   pub lies : IsPartOf w.line w.part
   pub right : Applies bytes P w.number w.line w.part w.kind
+  pub text : IsAdvice file w.number w.part warning w.help (said w.kind) old new
 
--- the text of a warning
-abbrev pub warning_text : (file : List ℕ) → Warned → List ℕ
-warning_text file w = advice_text file w.number w.line w.part warning w.help (said w.kind)
-
--- the new text is the old one with these warnings behind it, each of which is warranted
+-- the new text is the old one with these warnings behind it
 abbrev pub AreWarnings : (file bytes : List ℕ) → Program → List Warned → (old new : List ℕ) → Type 0
 AreWarnings file bytes P [] old new = new ≡ old
 AreWarnings file bytes P (w ∷ ws) old new =
-    IsWarranted bytes P w × AreWarnings file bytes P ws (old ++ warning_text file w) new
+    (text : List ℕ) × (IsWarning file bytes P w old text × AreWarnings file bytes P ws text new)
 
--- the new text is the old one with some warnings behind it, each of which is warranted
+-- the new text is the old one with some warnings behind it, each of which is true
 abbrev pub AreWarned : (file bytes : List ℕ) → Program → (old new : List ℕ) → Type 0
 AreWarned file bytes P old new = (ws : List Warned) × AreWarnings file bytes P ws old new
 

@@ -3,20 +3,40 @@ ghost use Rattle.std.specs.Prelude.{◌≡◌, ◌++◌, IfOk, OnOk, Some};
 ghost use Rattle.std.specs.Option.{option_map};
 ghost use Rattle.lexical.specs.Line.{lines_of};
 ghost use Rattle.checker.specs.Diagnostics.{AreExplained, IsExplained, IsExplanationBehind};
-ghost use Rattle.checker.specs.Lines.{numbered_line};
-ghost use Rattle.checker.specs.Diagnostics.{form_note, sentence, whole};
+ghost use Rattle.checker.specs.Diagnostics.{sentence, whole};
+ghost use Rattle.checker.specs.Parts.{numbered_line};
 
 use super::faults::chosen_faults;
-use super::forms::push_forms;
-use super::lines::{numbered_line, word_in};
-use super::marks::marked;
+use super::forms::forms_text;
+use super::parts::parts_of;
 use super::remedies::remedy;
 use super::spot::{Spot, push_advice};
 use isa::{FaultKind, Marked, fault_text};
+use lexical::next_line;
 use std::alloc::{AllocError, Global};
 
 // The beginning of a diagnostic of a fault.
 const ERROR: &str = "error: ";
+
+// A line by its number, counted from 1.
+fn numbered_line(text: &[u8], number: u64) -> Option<&[u8]>
+    ensures { option_map (λ t. t.now) result ≡ numbered_line number (lines_of text.now) }
+{
+    if number == 0 {
+        return None;
+    }
+    let mut left = number - 1;
+    let mut rest = Some(text);
+    while let Some(text) = rest {
+        let (line, after) = next_line(text);
+        if left == 0 {
+            return Some(line);
+        }
+        left -= 1;
+        rest = after;
+    }
+    None
+}
 
 // A listing: the name of its file as it is shown, and its bytes.
 #[derive(Clone, Copy)]
@@ -25,44 +45,54 @@ struct Source<'a> {
     bytes: &'a [u8],
 }
 
+// The rules of the language, one for each kind of fault.
+const NOT_ASCII: &str = "Before a comment a line has only tabs and printable ASCII characters.";
+
+const UNKNOWN_OP: &str = "A statement begins with an operation, or with .space or .word.";
+
+const BAD_REGISTER: &str =
+    "A register is $0 to $31 without leading zeros, or $ and one of the names, as $t0.";
+
+const BAD_NUMBER: &str =
+    "A number is decimal without leading zeros, or 0x and hexadecimal digits, and in its range.";
+
+const BAD_OPERANDS: &str =
+    "Operands stand between commas, as many and of the kinds that the form has.";
+
+const UNKNOWN_LABEL: &str =
+    "A branch or a jump goes to a label of the listing: a name, with a colon where it stands.";
+
+const DOUBLE_LABEL: &str = "A label stands once in a listing.";
+
+const TOO_LONG: &str =
+    "A listing has at most 4194304 bytes, 16384 instructions and 65536 bytes of data.";
+
+const MEMORY: &str = "There is no memory left.";
+
 // The rule of the language that a fault breaks.
 fn sentence(kind: FaultKind) -> &'static str
     ensures { result.now ≡ sentence kind }
 {
     match kind {
-        FaultKind::NotAscii => {
-            "Before a comment a line has only tabs and printable ASCII characters."
-        },
-        FaultKind::UnknownOp => "A statement begins with an operation, or with .space or .word.",
-        FaultKind::BadRegister => {
-            "A register is $0 to $31 without leading zeros, or $ and one of the names, as $t0."
-        },
-        FaultKind::BadNumber => {
-            "A number is decimal without leading zeros, or 0x and hexadecimal digits, and in its range."
-        },
-        FaultKind::BadOperands => {
-            "Operands stand between commas, as many and of the kinds that the form has."
-        },
-        FaultKind::UnknownLabel => {
-            "A branch or a jump goes to a label of the listing: a name, with a colon where it stands."
-        },
-        FaultKind::DoubleLabel => "A label stands once in a listing.",
-        FaultKind::TooLong => {
-            "A listing has at most 4194304 bytes, 16384 instructions and 65536 bytes of data."
-        },
-        FaultKind::Memory => "There is no memory left.",
+        FaultKind::NotAscii => NOT_ASCII,
+        FaultKind::UnknownOp => UNKNOWN_OP,
+        FaultKind::BadRegister => BAD_REGISTER,
+        FaultKind::BadNumber => BAD_NUMBER,
+        FaultKind::BadOperands => BAD_OPERANDS,
+        FaultKind::UnknownLabel => UNKNOWN_LABEL,
+        FaultKind::DoubleLabel => DOUBLE_LABEL,
+        FaultKind::TooLong => TOO_LONG,
+        FaultKind::Memory => MEMORY,
     }
 }
 
-// Adds the forms of the operation of a line, where they are shown with its fault.
-fn push_form(text: &mut Vec<u8>, kind: FaultKind, line: &[u8]) -> Result<(), AllocError>
-    ensures { OnOk result (text.new.items ≡ text.old.items ++ form_note kind line.now) }
-{
+// The forms of the operation of a statement, where they are shown with its fault.
+fn note(alloc: Global, kind: FaultKind, word: &[u8]) -> Result<String, AllocError> {
     match kind {
         FaultKind::BadRegister | FaultKind::BadNumber | FaultKind::BadOperands => {
-            push_forms(text, word_in(line))
+            forms_text(alloc, word)
         },
-        _ => Ok(()),
+        _ => Ok(String::new(alloc)),
     }
 }
 
@@ -83,11 +113,13 @@ fn push_line(
         number: fault.line,
         line,
     };
-    let part = marked(line, found.at);
+    let parts = parts_of(line);
+    let part = parts.marked(found.at);
     let remedy = remedy(alloc, source.bytes, line, found)?;
     let rule = sentence(fault.kind);
     push_advice(alloc, text, spot, part, ERROR, remedy.as_slice(), rule)?;
-    push_form(text, fault.kind, line)?;
+    let note = note(alloc, fault.kind, parts.word)?;
+    text.extend_from_slice(note.as_bytes())?;
     Ok(())
 }
 

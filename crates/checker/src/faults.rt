@@ -8,8 +8,8 @@ ghost use Rattle.checker.specs.Keys.{AreNames};
 ghost use Rattle.isa.specs.Statement.{statement as statement_read};
 ghost use Rattle.checker.specs.Faults.{AreChosen, IsSeen, IsSmall, IsStep, Sight, all_faults, after_line, after_statement, faulty, most_faults};
 
-use super::lines::statement;
 use super::names::{Names, has_name, note};
+use super::parts::parts_of;
 use instructions::Program;
 use isa::{FaultKind, LineFault, Marked, Spot, TextFault, statement_alone};
 use lexical::{before_comment, is_plain_text, next_label, next_line};
@@ -109,15 +109,15 @@ fn fault_of_line<'a>(
     ensures step { IfOk result (λ fault. (a : Lines) (s : Sight) → AreNames all.now a
         → IsSeen seen.old s → IsStep fault seen.new (after_line a s line.entry.now)) }
 {
-    let code = before_comment(line);
-    let double = note_labels(&mut seen.names, code)?;
-    if !is_plain_text(code) {
+    let parts = parts_of(line);
+    let double = note_labels(&mut seen.names, parts.code)?;
+    if !is_plain_text(parts.code) {
         return Ok(faulty(FaultKind::NotAscii, Spot::Whole));
     }
     if let Some(n) = double {
         return Ok(faulty(FaultKind::DoubleLabel, Spot::Label(n)));
     }
-    fault_of_statement(alloc, all, seen, statement(code))
+    fault_of_statement(alloc, all, seen, parts.statement)
 }
 
 // The labels of a listing.

@@ -1,9 +1,9 @@
 //! The name of a file as it is shown: without control characters.
 ghost use Rattle.std.specs.Prelude.{◌≡◌, ◌++◌, IfOk, OnOk, flat_map};
 ghost use Rattle.checker.specs.Names.{name_text, shown_character};
-ghost use Rattle.checker.specs.Quotes.{escape};
+ghost use Rattle.checker.specs.Spots.{escape};
 
-use super::quoting::escape;
+use super::spot::escape;
 use std::alloc::{AllocError, Global};
 
 // Adds the escape of each byte.

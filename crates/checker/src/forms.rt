@@ -1,66 +1,29 @@
 //! The forms of an operation.
-ghost use Rattle.std.specs.Prelude.{◌≡◌, ◌∷◌, ◌++◌, [], false, map, filter, OnOk};
-ghost use Rattle.isa.specs.Forms.{form_text, form_view, has_word};
-ghost use Rattle.checker.specs.Forms.{alternatives, lead, word_note};
 
-use isa::{Form, Operands, Slot, directive_text, form_of, forms};
-use std::alloc::AllocError;
+use isa::{Operands, Slot, directive_text, form_of, forms};
+use std::alloc::{AllocError, Global};
 
-// The words before a form: the beginning of the sentence before the first one.
-fn lead(began: bool) -> &'static str
-    ensures { result.now ≡ lead began }
-{
-    if began { " or " } else { "The form is " }
-}
-
-// Adds a form with the words before it.
-fn push_form(text: &mut Vec<u8>, began: bool, form: &Form) -> Result<(), AllocError>
-    ensures { OnOk result (text.new.items
-        ≡ text.old.items ++ (lead began ++ form_text (form_view form.now))) }
-{
-    text.extend_from_slice(lead(began).as_bytes())?;
-    text.extend_from_slice(form.word.as_bytes())?;
-    text.push(b' ')?;
-    text.extend_from_slice(form.operands.text().as_bytes())
-}
-
-// Adds the forms of a table that have the word, in a line of their own.
-fn push_forms_in(text: &mut Vec<u8>, table: &[Form], word: &[u8]) -> Result<(), AllocError>
-    ensures { OnOk result (text.new.items ≡ text.old.items
-        ++ alternatives false
-        (map form_text (filter (has_word word.now) (map form_view table.now)))) }
-{
-    let mut began = false;
-    for form in table {
+/// A line with the forms of a word, in letters of either case, if it has some.
+pub(crate) fn forms_text(alloc: Global, word: &[u8]) -> Result<String, AllocError> {
+    if let Some(form) = directive_text(word) {
+        return format!(in alloc; "The form is {form}.\n");
+    }
+    let mut text = String::new(alloc);
+    for form in forms() {
         if form.has_word(word) {
-            push_form(text, began, form)?;
-            began = true;
+            let lead = if text.is_empty() {
+                "The form is "
+            } else {
+                " or "
+            };
+            let (word, operands) = (form.word, form.operands.text());
+            text.push_str(format!(in alloc; "{lead}{word} {operands}")?.as_str())?;
         }
     }
-    if began {
-        text.extend_from_slice(b".\n")?;
+    if !text.is_empty() {
+        text.push_str(".\n")?;
     }
-    Ok(())
-}
-
-// Adds the form of a directive, in a line of its own.
-fn push_directive(text: &mut Vec<u8>, form: &str) -> Result<(), AllocError>
-    ensures { OnOk result (text.new.items
-        ≡ text.old.items ++ alternatives false (form.now ∷ [])) }
-{
-    text.extend_from_slice(lead(false).as_bytes())?;
-    text.extend_from_slice(form.as_bytes())?;
-    text.extend_from_slice(b".\n")
-}
-
-/// Adds a line with the forms of a word, in letters of either case, if it has some.
-pub(crate) fn push_forms(text: &mut Vec<u8>, word: &[u8]) -> Result<(), AllocError>
-    ensures { OnOk result (text.new.items ≡ text.old.items ++ word_note word.now) }
-{
-    match directive_text(word) {
-        Some(form) => push_directive(text, form),
-        None => push_forms_in(text, forms(), word),
-    }
+    Ok(text)
 }
 
 /// Whether a form of the word has an offset with a register: such a form has two operands.

@@ -7,7 +7,6 @@ mod explanation;
 mod faults;
 mod file_name;
 mod forms;
-mod lines;
 mod marks;
 mod names;
 mod parts;
@@ -15,7 +14,6 @@ mod quoting;
 mod reach;
 mod remedies;
 mod spot;
-mod statements;
 mod summary;
 mod warnings;
 

@@ -1,12 +1,15 @@
-//! The parts of a line: its labels, its statement, its word and its operands.
-ghost use Rattle.std.specs.Prelude.{◌≡◌, ◌==◌, ◌<◌, ◌∷◌, [], IfNone, IfSome};
-ghost use Rattle.std.specs.List.{prefix_len, slice_split};
-ghost use Rattle.lexical.specs.Blank.{is_blank, trim};
-ghost use Rattle.lexical.specs.Label.{labels_of};
+//! The anatomy of a line, as the parser cuts it: its code, its statement, and the word and the operands of that.
+ghost use Rattle.std.specs.Prelude.{◌≡◌};
+ghost use Rattle.std.specs.Option.{option_map};
+ghost use Rattle.lexical.specs.Label.{statement_of};
 ghost use Rattle.lexical.specs.Line.{before_comment};
-ghost use Rattle.checker.specs.Parts.{IsPartOf, LiesIn, part_text};
+ghost use Rattle.lexical.specs.Operand.{operands_left};
+ghost use Rattle.checker.specs.Parts.{IsPartOf, operands_of_line, word_in};
 
-use lexical::{before_comment, cut, cut_word, is_blank, is_name, trim};
+use lexical::{
+    before_comment, count_operands, cut_word, is_blank, next_label, next_operand, operand_part,
+    trim,
+};
 
 /// A part of a line: from the byte `from` up to the byte `to`, which is behind it.
 #[derive(Clone, Copy)]
@@ -15,126 +18,101 @@ pub(crate) struct Part {
     pub to: usize,
 }
 
-// The number of blanks at the front of a text.
-fn blanks(text: &[u8]) -> usize
-    ensures { result ≡ prefix_len is_blank text.now }
-{
-    text.iter().take_while(|byte| is_blank(**byte)).count()
+/// The parts of a line: its code, which is all before its comment, its statement, and the word and the operands of that.
+/// The statement ends before the byte `end` of the line.
+#[derive(Clone, Copy)]
+pub(crate) struct Parts<'a> {
+    pub line: &'a [u8],
+    pub code: &'a [u8],
+    pub statement: &'a [u8],
+    pub word: &'a [u8],
+    pub operands: Option<&'a [u8]>,
+    pub end: usize,
 }
 
-/// A part without the blanks at its ends.
-pub(crate) fn trimmed(line: &[u8], part: Part) -> Part
-    requires { IsPartOf line.now part }
-    ensures inside { LiesIn part result }
-    ensures text { part_text line.now result ≡ trim (part_text line.now part) }
+/// A word, the number of its operands, and the first three of these, each empty where it is missing.
+#[derive(Clone, Copy)]
+pub(crate) struct Statement<'a> {
+    pub word: &'a [u8],
+    pub count: usize,
+    pub operands: [&'a [u8]; 3],
+}
+
+/// The parts of a line.
+pub(crate) fn parts_of(line: &[u8]) -> Parts<'_>
+    ensures line { result.line.now ≡ line.now }
+    ensures code { result.code.now ≡ before_comment line.now }
+    ensures statement { result.statement.now ≡ statement_of (before_comment line.now) }
+    ensures word { result.word.now ≡ word_in line.now }
+    ensures operands { operands_left (option_map (λ t. t.now) result.operands)
+        ≡ operands_of_line line.now }
 {
-    let text = &line[part.from..part.to];
-    let from = part.from + blanks(text);
-    let to = from + trim(text).len();
+    let code = before_comment(line);
+    let mut rest = code;
+    while let Some((_, behind)) = next_label(rest) {
+        rest = behind;
+    }
+    let statement = trim(rest);
+    let (word, behind) = cut_word(statement);
+    let operands = operand_part(behind);
+    let end = place(code.len(), rest, statement).to;
+    Parts {
+        line,
+        code,
+        statement,
+        word,
+        operands,
+        end,
+    }
+}
+
+/// The place of a text that is the first in another one but for blanks, where that one ends before the byte `end`.
+pub(crate) fn place(end: usize, rest: &[u8], text: &[u8]) -> Part {
+    let blanks = rest.iter().take_while(|byte| is_blank(**byte)).count();
+    let from = end.saturating_sub(rest.len()).saturating_add(blanks);
+    let to = from.saturating_add(text.len());
     Part { from, to }
 }
 
-/// The part of a line before its comment.
-pub(crate) fn code(line: &[u8]) -> Part
-    ensures inside { IsPartOf line.now result }
-    ensures text { part_text line.now result ≡ before_comment line.now }
+/// A part as far as a line has it.
+pub(crate) fn within(line: &[u8], part: Part) -> Part
+    ensures { IsPartOf line.now result }
 {
-    let to = before_comment(line).len();
-    Part { from: 0, to }
+    let to = part.to.min(line.len());
+    let from = part.from.min(to);
+    Part { from, to }
 }
 
-/// The parts before and after the first place of a byte, if it is there.
-pub(crate) fn split(line: &[u8], part: Part, byte: u8) -> Option<(Part, Part)>
-    requires { IsPartOf line.now part }
-    ensures front { IfSome result (λ found. LiesIn part found.0) }
-    ensures behind { IfSome result (λ found. LiesIn part found.1) }
-    ensures shorter { IfSome result (λ found. part.from < found.1.from) }
-    ensures texts { IfSome result (λ found. slice_split (λ b. b == byte) (part_text line.now part)
-        ≡ part_text line.now found.0
-        ∷ slice_split (λ b. b == byte) (part_text line.now found.1)) }
-    ensures whole { IfNone result (slice_split (λ b. b == byte) (part_text line.now part)
-        ≡ part_text line.now part ∷ []) }
-{
-    let (front, behind) = cut(&line[part.from..part.to], byte);
-    if behind.is_none() {
-        return None;
-    }
-    let at = part.from + front.len();
-    let before = Part {
-        from: part.from,
-        to: at,
-    };
-    let after = Part {
-        from: at + 1,
-        to: part.to,
-    };
-    Some((before, after))
-}
-
-/// The name of the label at the front of a part, if there is one, and the part behind its colon.
-pub(crate) fn label_at(line: &[u8], part: Part) -> Option<(Part, Part)>
-    requires { IsPartOf line.now part }
-    ensures name { IfSome result (λ found. LiesIn part found.0) }
-    ensures behind { IfSome result (λ found. LiesIn part found.1) }
-    ensures shorter { IfSome result (λ found. part.from < found.1.from) }
-    ensures label { IfSome result (λ found. labels_of (part_text line.now part)
-        ≡ part_text line.now found.0 ∷ labels_of (part_text line.now found.1)) }
-{
-    let found = split(line, part, b':')?;
-    let name = trimmed(line, found.0);
-    if is_name(&line[name.from..name.to]) {
-        Some((name, found.1))
-    } else {
-        None
+// The first operand, and the others.
+fn operand(operands: Option<&[u8]>) -> (&[u8], Option<&[u8]>) {
+    match operands {
+        Some(operands) => next_operand(operands),
+        None => (b"", None),
     }
 }
 
-/// The statement of a line: its code without labels and without blanks at its ends.
-pub(crate) fn statement(line: &[u8], code: Part) -> Part
-    requires { IsPartOf line.now code }
-    ensures { LiesIn code result }
-{
-    let mut rest = code;
-    while let Some((_, behind)) = label_at(line, rest) {
-        rest = behind;
-    }
-    trimmed(line, rest)
-}
-
-/// The first word of a part: all before its first blank.
-pub(crate) fn word(line: &[u8], part: Part) -> Part
-    requires { IsPartOf line.now part }
-    ensures { LiesIn part result }
-{
-    let (word, _) = cut_word(&line[part.from..part.to]);
-    Part {
-        from: part.from,
-        to: part.from + word.len(),
+impl<'a> Parts<'a> {
+    /// The word of the statement and its operands.
+    pub(crate) fn statement(&self) -> Statement<'a> {
+        let (first, behind) = operand(self.operands);
+        let (second, behind) = operand(behind);
+        let (third, _) = operand(behind);
+        Statement {
+            word: self.word,
+            count: count_operands(self.operands),
+            operands: [first, second, third],
+        }
     }
 }
 
-/// What stands behind the first word of a part.
-pub(crate) fn behind_word(line: &[u8], part: Part) -> Part
-    requires { IsPartOf line.now part }
-    ensures { LiesIn part result }
-{
-    let word = word(line, part);
-    let behind = Part {
-        from: word.to,
-        to: part.to,
-    };
-    trimmed(line, behind)
-}
-
-/// The first operand, and the operands behind its comma, if it has one.
-pub(crate) fn next_operand(line: &[u8], operands: Part) -> (Part, Option<Part>)
-    requires { IsPartOf line.now operands }
-    ensures first { LiesIn operands result.0 }
-    ensures rest { IfSome result.1 (LiesIn operands) }
-    ensures shorter { IfSome result.1 (λ rest. operands.from < rest.from) }
-{
-    match split(line, operands, b',') {
-        Some((first, rest)) => (trimmed(line, first), Some(rest)),
-        None => (trimmed(line, operands), None),
+impl<'a> Statement<'a> {
+    /// The last operand of at most three.
+    pub(crate) fn last(&self) -> &'a [u8] {
+        let [first, second, third] = self.operands;
+        match self.count {
+            1 => first,
+            2 => second,
+            _ => third,
+        }
     }
 }

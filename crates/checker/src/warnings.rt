@@ -11,7 +11,7 @@ mod labels;
 mod operands;
 
 use super::names::Names;
-use super::parts::{Part, code, statement};
+use super::parts::{Part, parts_of};
 use super::reach::{Paths, ends_path, is_closed, reached, reads_stack};
 use super::remedies::warned;
 use super::spot::{Spot, push_advice};
@@ -23,6 +23,17 @@ use std::alloc::{AllocError, Global};
 
 // The beginning of a warning.
 const WARNING: &str = "warning: ";
+
+// What is said, of each kind of warning.
+const NEVER_USED: &str = "No instruction names this label.";
+
+const AT_DATA: &str = "Data has no labels: this one means the next instruction.";
+
+const STACK_UNSET: &str = "No instruction before this one sets $sp, which is 0 at the start.";
+
+const UNREACHED: &str = "No path reaches this instruction.";
+
+const PAST_END: &str = "A run can go on behind the last instruction: break ends it.";
 
 /// The kinds of warnings.
 #[derive(Clone, Copy)]
@@ -39,13 +50,11 @@ impl Warning {
         ensures { result.now ≡ said self }
     {
         match self {
-            Warning::NeverUsed => "No instruction names this label.",
-            Warning::AtData => "Data has no labels: this one means the next instruction.",
-            Warning::StackUnset => {
-                "No instruction before this one sets $sp, which is 0 at the start."
-            },
-            Warning::Unreached => "No path reaches this instruction.",
-            Warning::PastEnd => "A run can go on behind the last instruction: break ends it.",
+            Warning::NeverUsed => NEVER_USED,
+            Warning::AtData => AT_DATA,
+            Warning::StackUnset => STACK_UNSET,
+            Warning::Unreached => UNREACHED,
+            Warning::PastEnd => PAST_END,
         }
     }
 }
@@ -149,7 +158,7 @@ fn push_numbered(
     if !stands_on(good.lines, k, spot.number) || k >= good.program.len() {
         return Ok(k);
     }
-    let part = statement(spot.line, code(spot.line));
+    let part = parts_of(spot.line).marked(isa::Spot::Whole);
     if is_stack_unset(good, k) {
         let help = warned::stack(alloc, good.bytes, good.program.size())?;
         push_warning(

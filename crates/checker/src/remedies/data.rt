@@ -1,44 +1,37 @@
 //! Data, and the labels that stand at it.
 
-use super::super::statements::{Statement, statement_in};
-use super::lists::has_word;
-use lexical::{before_comment, next_label, next_line, number_in};
+use super::super::parts::{Statement, parts_of};
+use super::words::has_word;
+use lexical::{next_label, next_line, number_in};
 
-// Whether a line has a label.
-fn has_label(line: &[u8], name: &[u8]) -> bool {
-    let mut code = before_comment(line);
-    while let Some((label, behind)) = next_label(code) {
-        if label == name {
-            return true;
-        }
-        code = behind;
-    }
-    false
-}
+// Directives of other assemblers that stand for no data.
+const EMPTY: &str = ".data .text .globl .global .align";
 
 /// How many bytes of data a statement has, if that is known; an instruction has none.
 pub(crate) fn size_of(statement: &Statement<'_>) -> Option<u32> {
     let [first, _, _] = statement.operands;
     if statement.word.eq_ignore_ascii_case(b".word") {
-        let count = statement.count;
-        return if count <= 0xffff {
-            Some(4 * count as u32)
-        } else {
-            None
-        };
+        return u32::try_from(statement.count.saturating_mul(4)).ok();
     }
     if statement.word.eq_ignore_ascii_case(b".space") {
         return number_in(first, 0, 0x1_0000);
     }
-    if statement.word.starts_with(b".") && !is_empty(statement.word) {
+    if statement.word.starts_with(b".") && !has_word(EMPTY, statement.word) {
         return None;
     }
     Some(0)
 }
 
-// Whether a directive of other assemblers stands for no data.
-fn is_empty(word: &[u8]) -> bool {
-    has_word(".data .text .globl .global .align", word)
+// Whether some code has a label.
+fn has_label(code: &[u8], name: &[u8]) -> bool {
+    let mut rest = code;
+    while let Some((label, behind)) = next_label(rest) {
+        if label == name {
+            return true;
+        }
+        rest = behind;
+    }
+    false
 }
 
 /// The byte at which a label stands, where the first statement after it is data.
@@ -48,13 +41,13 @@ pub(crate) fn byte_of(bytes: &[u8], name: &[u8]) -> Option<u32> {
     let mut rest = Some(bytes);
     while let Some(text) = rest {
         let (line, after) = next_line(text);
-        is_found = is_found || has_label(line, name);
-        let statement = statement_in(line);
-        let size = size_of(&statement)?;
+        let parts = parts_of(line);
+        is_found = is_found || has_label(parts.code, name);
+        let size = size_of(&parts.statement())?;
         if is_found && size > 0 {
             return Some(at);
         }
-        if is_found && !statement.word.is_empty() && !is_empty(statement.word) {
+        if is_found && !parts.word.is_empty() && !has_word(EMPTY, parts.word) {
             return None;
         }
         at = at.wrapping_add(size);

@@ -1,128 +1,156 @@
-//! The sentences of remedies, and how they are filled.
+//! Sentences with places, and how these are filled by what is known of a line.
 
-use super::super::statements::Statement;
+use super::super::parts::{Parts, Statement, parts_of};
+use isa::{FaultKind, parse};
 use std::alloc::{AllocError, Global};
 
 // The most bytes of a text that are quoted.
 const MOST_QUOTED: usize = 60;
 
-// Dots in place of a text that is missing, or long.
-const MISSING: &[u8] = b"..";
+/// A line of a listing: the bytes of that, the parts of the line, and its statement or another one in its place.
+#[derive(Clone, Copy)]
+pub(crate) struct Case<'a> {
+    pub alloc: Global,
+    pub bytes: &'a [u8],
+    pub parts: Parts<'a>,
+    pub statement: Statement<'a>,
+}
 
-/// A remedy: a sentence in which `@` and a digit stand for what is known. The word of the statement is 0, its operands
-/// are 1 to 3, the text is 4, also in lower case as 5, the numbers are 6 and 7, and the other text is 8.
+/// A sentence that is told, if there is one.
+pub(crate) type Told = Result<Option<Vec<u8>>, AllocError>;
+
+/// A sentence with places, `@` and a digit: the word of the statement is 0, its operands are 1 to 3, a text is 4, also in
+/// lower case as 8, instructions or other words are 5, and numbers are 6 and 7.
 #[derive(Clone, Copy)]
 pub(crate) struct Remedy<'a> {
-    pub sentence: &'static str,
-    pub text: &'a [u8],
-    pub other: &'a [u8],
-    pub numbers: [i64; 2],
-}
-
-/// A sentence without a text or a number of its own.
-pub(crate) fn said(sentence: &'static str) -> Remedy<'static> {
-    naming(sentence, b"")
-}
-
-/// A sentence with a text.
-pub(crate) fn naming<'a>(sentence: &'static str, text: &'a [u8]) -> Remedy<'a> {
-    counting(sentence, text, [0, 0])
-}
-
-/// A sentence with a text and numbers.
-pub(crate) fn counting<'a>(
     sentence: &'static str,
     text: &'a [u8],
+    lines: &'a [u8],
     numbers: [i64; 2],
-) -> Remedy<'a> {
+}
+
+/// A sentence, of which the places of texts and numbers are empty.
+pub(crate) fn said<'a>(sentence: &'static str) -> Remedy<'a> {
     Remedy {
         sentence,
-        text,
-        other: b"",
-        numbers,
+        text: b"",
+        lines: b"",
+        numbers: [0, 0],
     }
 }
 
-// The text for which a digit stands.
-fn text_of<'a>(remedy: &Remedy<'a>, statement: &Statement<'a>, digit: u8) -> &'a [u8] {
-    let [first, second, third] = statement.operands;
-    let text = match digit {
-        b'0' => statement.word,
-        b'1' => first,
-        b'2' => second,
-        b'3' => third,
-        b'8' => remedy.other,
-        _ => remedy.text,
-    };
-    if text.is_empty() || text.len() > MOST_QUOTED {
-        MISSING
-    } else {
-        text
+impl<'a> Remedy<'a> {
+    pub(crate) fn naming(self, text: &'a [u8]) -> Self {
+        Remedy { text, ..self }
+    }
+
+    pub(crate) fn writing(self, lines: &'a [u8]) -> Self {
+        Remedy { lines, ..self }
+    }
+
+    pub(crate) fn counting(self, numbers: [i64; 2]) -> Self {
+        Remedy { numbers, ..self }
     }
 }
 
-// Adds that for which a digit stands.
-fn push_known(
-    alloc: Global,
-    said: &mut Vec<u8>,
-    remedy: &Remedy<'_>,
-    statement: &Statement<'_>,
-    digit: u8,
-) -> Result<(), AllocError> {
-    if digit == b'6' || digit == b'7' {
-        let number = remedy.numbers[if digit == b'6' { 0 } else { 1 }];
-        let digits = format!(in alloc; "{number}")?;
-        return said.extend_from_slice(digits.as_bytes());
+/// Whether the listing language takes these lines, in a listing that has their labels.
+pub(crate) fn is_taken(alloc: Global, lines: &[u8]) -> Result<bool, AllocError> {
+    match parse(alloc, lines) {
+        Ok(_) => Ok(true),
+        Err(fault) if fault.kind == FaultKind::Memory => Err(AllocError),
+        Err(fault) => Ok(fault.kind == FaultKind::UnknownLabel),
     }
-    for byte in text_of(remedy, statement, digit) {
-        let shown = if digit == b'5' {
-            byte.to_ascii_lowercase()
-        } else {
-            *byte
-        };
-        said.push(shown)?;
-    }
-    Ok(())
 }
 
-/// A sentence in which lines are to be written, and after them a name with some words about it.
-pub(crate) fn sentence(
-    alloc: Global,
-    before: &str,
-    lines: &[u8],
-    between: &str,
-    name: &[u8],
-    after: &str,
-) -> Result<Vec<u8>, AllocError> {
-    let mut said = before.as_bytes().to_vec(alloc)?;
-    said.extend_from_slice(lines)?;
-    said.extend_from_slice(between.as_bytes())?;
-    said.extend_from_slice(name)?;
-    said.extend_from_slice(after.as_bytes())?;
-    said.push(b'.')?;
-    Ok(said)
-}
-
-/// The sentence in which lines are to be written, and the reason why, or nothing.
-pub(crate) fn write(alloc: Global, lines: &[u8], reason: &str) -> Result<Vec<u8>, AllocError> {
-    sentence(alloc, "Write ", lines, reason, b"", "")
-}
-
-/// The sentence of a remedy, filled.
-pub(crate) fn filled(
-    alloc: Global,
-    remedy: &Remedy<'_>,
-    statement: &Statement<'_>,
-) -> Result<Vec<u8>, AllocError> {
-    let mut said = Vec::new(alloc);
-    let mut is_digit = false;
-    for byte in remedy.sentence.as_bytes() {
-        if is_digit {
-            push_known(alloc, &mut said, remedy, statement, *byte)?;
-        } else if *byte != b'@' {
-            said.push(*byte)?;
+impl<'a> Case<'a> {
+    /// A line of a listing.
+    pub(crate) fn new(alloc: Global, bytes: &'a [u8], line: &'a [u8]) -> Self {
+        let parts = parts_of(line);
+        Case {
+            alloc,
+            bytes,
+            parts,
+            statement: parts.statement(),
         }
-        is_digit = !is_digit && *byte == b'@';
     }
-    Ok(said)
+
+    /// A statement alone: a word, the number of its operands, and these.
+    pub(crate) fn of(
+        alloc: Global,
+        word: &'a [u8],
+        count: usize,
+        first: &'a [u8],
+        second: &'a [u8],
+        third: &'a [u8],
+    ) -> Self {
+        let case = Case::new(alloc, b"", b"");
+        let operands = [first, second, third];
+        let statement = Statement {
+            word,
+            count,
+            operands,
+        };
+        Case { statement, ..case }
+    }
+
+    // What stands in a place; dots for a text that is missing, or long.
+    fn in_place(&self, remedy: Remedy<'_>, place: u8) -> Result<Vec<u8>, AllocError> {
+        let alloc = self.alloc;
+        let [first, second, third] = self.statement.operands;
+        let [number, more] = remedy.numbers;
+        let known = match place {
+            b'6' => return Ok(format!(in alloc; "{number}")?.into_bytes()),
+            b'7' => return Ok(format!(in alloc; "{more}")?.into_bytes()),
+            b'8' => return remedy.text.to_ascii_lowercase(alloc),
+            b'0' => self.statement.word,
+            b'1' => first,
+            b'2' => second,
+            b'3' => third,
+            b'5' => remedy.lines,
+            _ => remedy.text,
+        };
+        let is_short = place == b'5' || known.len() <= MOST_QUOTED;
+        let is_quoted = is_short && !known.is_empty();
+        (if is_quoted { known } else { b".." }).to_vec(alloc)
+    }
+
+    /// A sentence with its places filled.
+    pub(crate) fn filled(&self, remedy: Remedy<'_>) -> Result<Vec<u8>, AllocError> {
+        let mut text = Vec::new(self.alloc);
+        let mut is_place = false;
+        for byte in remedy.sentence.as_bytes() {
+            if is_place {
+                text.extend_from_slice(self.in_place(remedy, *byte)?.as_slice())?;
+            } else if *byte != b'@' {
+                text.push(*byte)?;
+            }
+            is_place = !is_place && *byte == b'@';
+        }
+        Ok(text)
+    }
+
+    /// A sentence with its places filled, if there is one.
+    pub(crate) fn told(&self, remedy: Option<Remedy<'_>>) -> Told {
+        match remedy {
+            Some(remedy) => Ok(Some(self.filled(remedy)?)),
+            None => Ok(None),
+        }
+    }
+
+    /// Some lines and then those of a row, one behind the other, if the listing language takes them.
+    pub(crate) fn tried(&self, before: &[u8], row: Remedy<'_>) -> Told {
+        let mut lines = before.to_vec(self.alloc)?;
+        lines.extend_from_slice(self.filled(row)?.as_slice())?;
+        if !is_taken(self.alloc, lines.as_slice())? {
+            return Ok(None);
+        }
+        let mut text = Vec::new(self.alloc);
+        for byte in lines.as_slice() {
+            match *byte {
+                b'\n' => text.extend_from_slice(b" and then ")?,
+                _ => text.push(*byte)?,
+            }
+        }
+        Ok(Some(text))
+    }
 }

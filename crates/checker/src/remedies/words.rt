@@ -1,166 +1,166 @@
-//! Remedies of words that are no operation.
+//! Remedies of words that are no operation, and of lines with two statements.
 
-use super::super::statements::Statement;
-use super::instead::is_known as is_instead;
-use super::lists::{NO_REALS, SENTENCES, row_of};
-use super::operands::odd_operand;
-use super::registers::bad_register;
-use super::sentences::{Remedy, naming, said};
+use super::super::parts::Parts;
+use super::instead;
+use super::sentences::{Case, Remedy, said};
+use super::tables::{NO_REALS, WORDS};
 use isa::{FaultKind, directive_text, form_of, forms};
 use lexical::{cut, cut_word, is_name, trim};
+use std::alloc::{AllocError, Global};
+use strsim::generic_damerau_levenshtein;
 
-// The number of bytes that two texts have in common at their front, in letters of either case.
-fn common(one: &[u8], other: &[u8]) -> usize {
-    let mut n = 0;
-    for byte in one {
-        match other.get(n) {
-            Some(next) if next.eq_ignore_ascii_case(byte) => n += 1,
-            _ => return n,
-        }
-    }
-    n
+// The most bytes of words that are compared by letters.
+const MOST_BYTES: usize = 60;
+
+/// Whether a word is one of these, in letters of either case.
+pub(crate) fn has_word(words: &str, word: &[u8]) -> bool {
+    words
+        .as_bytes()
+        .split(|byte| *byte == b' ')
+        .any(|one| one.eq_ignore_ascii_case(word))
 }
 
-// Whether two words differ in the order of their first two letters alone.
-fn is_swapped(one: &[u8], other: &[u8]) -> bool {
-    match (one, other) {
-        ([a, b, rest @ ..], [c, d, behind @ ..]) => {
-            a.eq_ignore_ascii_case(d)
-                && b.eq_ignore_ascii_case(c)
-                && rest.eq_ignore_ascii_case(behind)
-        },
-        _ => false,
+/// Whether two words are one edit apart: a letter replaced, added or left out, or two neighbours in the other order. The case
+/// of letters does not count.
+pub(crate) fn is_one_away(alloc: Global, one: &[u8], other: &[u8]) -> Result<bool, AllocError> {
+    if one.len().abs_diff(other.len()) > 1 || one.len() > MOST_BYTES {
+        return Ok(false);
     }
-}
-
-/// Whether two words are one edit apart: a letter replaced, added or left out, or two neighbours in the other order.
-pub(crate) fn is_one_away(one: &[u8], other: &[u8]) -> bool {
-    let same = common(one, other);
-    let (Some(left), Some(right)) = (one.get(same..), other.get(same..)) else {
-        return false;
-    };
-    match (left, right) {
-        ([_, one @ ..], [_, other @ ..]) => {
-            one.eq_ignore_ascii_case(other)
-                || one.eq_ignore_ascii_case(right)
-                || left.eq_ignore_ascii_case(other)
-                || is_swapped(left, right)
-        },
-        ([_, rest @ ..], []) | ([], [_, rest @ ..]) => rest.is_empty(),
-        ([], []) => false,
-    }
+    let (one, other) = (
+        one.to_ascii_lowercase(alloc)?,
+        other.to_ascii_lowercase(alloc)?,
+    );
+    Ok(generic_damerau_levenshtein(alloc, one.as_slice(), other.as_slice())? == 1)
 }
 
 /// Whether a word is that of an operation or a directive.
-pub(crate) fn is_known(word: &[u8]) -> bool {
+pub(crate) fn is_of_language(word: &[u8]) -> bool {
     directive_text(word).is_some() || !matches!(form_of(word, 0), Err(FaultKind::UnknownOp))
 }
 
-// Whether a word is an operation of floating point: one with its kind after a dot, as `add.s`.
-fn is_of_reals(word: &[u8]) -> bool {
-    match word {
-        [first, .., b'.', b's' | b'S' | b'd' | b'D' | b'w' | b'W'] => *first != b'.',
-        _ => false,
+/// What is said of a word for which no instruction with its operands is written, if anything is. An operation of floating
+/// point is one with its kind after a dot, as `add.s`.
+pub(crate) fn row_of_word<'a>(word: &[u8]) -> Option<Remedy<'a>> {
+    match (WORDS.iter().find(|row| has_word(row.0, word)), word) {
+        (Some(row), _) => Some(said(row.1)),
+        (None, [b'.', ..]) => None,
+        (None, [_, .., b'.', b's' | b'S' | b'd' | b'D' | b'w' | b'W']) => Some(said(NO_REALS)),
+        _ => None,
     }
 }
 
-/// What is said of a word for which no instruction with its operands is written, if anything is.
-pub(crate) fn row_of_word(word: &[u8]) -> Option<&'static str> {
-    let found = row_of(&SENTENCES, word);
-    if found.is_none() && is_of_reals(word) {
-        return Some(NO_REALS);
-    }
-    found
-}
-
-// The longest operation that a word is, but for one letter at its end.
+// The operation that a word is, but for one letter at its end.
 fn begun(word: &[u8]) -> Option<&'static str> {
     let [front @ .., _] = word else {
         return None;
     };
-    for form in forms() {
-        if form.word.as_bytes().eq_ignore_ascii_case(front) {
-            return Some(form.word);
-        }
-    }
-    None
+    let form = forms().iter().find(|form| form.has_word(front))?;
+    Some(form.word)
 }
 
 // The first word of the language that is one edit away, and is not another one.
-fn near(word: &[u8], but: &str) -> Option<&'static str> {
+fn near(alloc: Global, word: &[u8], but: &str) -> Result<Option<&'static str>, AllocError> {
     for form in forms() {
-        if form.word != but && is_one_away(form.word.as_bytes(), word) {
-            return Some(form.word);
+        if form.word != but && is_one_away(alloc, form.word.as_bytes(), word)? {
+            return Ok(Some(form.word));
         }
     }
     for directive in [".space", ".word"] {
-        if directive != but && is_one_away(directive.as_bytes(), word) {
-            return Some(directive);
+        if directive != but && is_one_away(alloc, directive.as_bytes(), word)? {
+            return Ok(Some(directive));
         }
     }
-    None
+    Ok(None)
 }
 
 // The words that may be meant: the operation with which a word begins, or two that are one edit away.
-fn nearest(word: &[u8]) -> Option<Remedy<'static>> {
-    if let Some(operation) = begun(word) {
-        return Some(naming("Is @4 meant?", operation.as_bytes()));
-    }
-    let first = near(word, "")?;
-    Some(match near(word, first) {
-        None => naming("Is @4 meant?", first.as_bytes()),
-        Some(other) => Remedy {
-            other: other.as_bytes(),
-            ..naming("Is @4 or @8 meant?", first.as_bytes())
-        },
-    })
+fn nearest<'a>(alloc: Global, word: &[u8]) -> Result<Option<Remedy<'a>>, AllocError> {
+    let first = match begun(word) {
+        Some(operation) => return Ok(Some(said("Is @4 meant?").naming(operation.as_bytes()))),
+        None => near(alloc, word, "")?,
+    };
+    let Some(first) = first else {
+        return Ok(None);
+    };
+    let remedy = match near(alloc, word, first)? {
+        None => said("Is @4 meant?"),
+        Some(other) => said("Is @4 or @5 meant?").writing(other.as_bytes()),
+    };
+    Ok(Some(remedy.naming(first.as_bytes())))
 }
 
-// The sentence for a label that is no name, or a colon that is missing behind a label.
-fn label(code: &[u8], statement: &Statement<'_>) -> Option<&'static str> {
-    let (front, colon) = cut(code, b':');
-    if colon.is_some() && !is_name(trim(front)) {
-        return Some(
-            "Write another name: a label begins with a letter, _ or ., and goes on with these and digits.",
-        );
+impl<'a> Case<'a> {
+    // What is said of a name that is given a number, of a label that is no name, or of a label without its colon.
+    fn label(&self) -> Option<Remedy<'a>> {
+        let [first, _, _] = self.statement.operands;
+        let (front, colon) = cut(self.parts.code, b':');
+        let (next, _) = cut_word(first);
+        if first.starts_with(b"=") {
+            Some(said("Write the number: there are no names for numbers."))
+        } else if colon.is_some() && !is_name(trim(front)) {
+            Some(said(
+                "Write another name: a label begins with a letter, _ or ., and goes on with these and digits.",
+            ))
+        } else if is_name(self.statement.word) && is_of_language(next) {
+            Some(said("Write @0: with a colon, as a label has."))
+        } else {
+            None
+        }
     }
-    let [first, _, _] = statement.operands;
-    let (next, _) = cut_word(first);
-    if is_name(statement.word) && is_known(next) {
-        return Some("Write @0: with a colon, as a label has.");
+
+    // What is said of a word of the table of instructions, whose operands do not fit.
+    fn other_operands(&self) -> Result<Option<Remedy<'a>>, AllocError> {
+        let found = self.odd_operand()?.or(self.bad_register()?);
+        if found.is_none() && self.statement.word.eq_ignore_ascii_case(b"li") {
+            return Ok(Some(said("Write addiu @1,$zero,n with n from -32768 to 32767.")));
+        }
+        Ok(found)
+    }
+
+    /// What is said of a word that is no operation, and for which no instructions can be written: of its operands, of a
+    /// label, or the word that may be meant.
+    pub(crate) fn unknown_word(&self) -> Result<Option<Remedy<'a>>, AllocError> {
+        let word = self.statement.word;
+        if instead::is_known(word) {
+            return self.other_operands();
+        }
+        let found = self.label();
+        if found.is_some() {
+            return Ok(found);
+        }
+        let found = nearest(self.alloc, word)?;
+        let is_label = is_name(word) && !word.starts_with(b".") && self.statement.count == 0;
+        if found.is_none() && is_label {
+            return Ok(Some(said("If it is a label, write @0: with a colon.")));
+        }
+        Ok(found)
+    }
+}
+
+// The word of a statement that a text is: with operands, or without them where it may stand alone.
+fn begins(text: &[u8], may_be_alone: bool) -> Option<&[u8]> {
+    let (word, rest) = cut_word(trim(text));
+    let is_whole = if trim(rest).is_empty() {
+        may_be_alone && is_of_language(word)
+    } else {
+        is_of_language(word) || instead::is_known(word)
+    };
+    if is_whole { Some(word) } else { None }
+}
+
+/// The word of a second statement of a line, where a `;` or no more than a blank is between the two.
+pub(crate) fn second<'a>(parts: &Parts<'a>) -> Option<&'a [u8]> {
+    let mut rest = parts.operands;
+    while let Some(text) = rest {
+        let (operand, after) = cut(text, b',');
+        let found = match cut(operand, b';') {
+            (_, Some(behind)) => begins(behind, true),
+            _ => begins(cut_word(trim(operand)).1, false),
+        };
+        if found.is_some() {
+            return found;
+        }
+        rest = after;
     }
     None
-}
-
-// The word that may be meant, or a label that it may be.
-fn meant(statement: &Statement<'_>) -> Option<Remedy<'static>> {
-    let found = nearest(statement.word);
-    if found.is_some() {
-        return found;
-    }
-    if statement.count > 0 || !is_name(statement.word) || statement.word.starts_with(b".") {
-        return None;
-    }
-    Some(said("If it is a label, write @0: with a colon."))
-}
-
-/// The remedy of a word that is no operation, and for which no instructions can be written: of its operands, of a label,
-/// or the word that may be meant.
-pub(crate) fn unknown<'a>(code: &[u8], statement: &Statement<'a>) -> Option<Remedy<'a>> {
-    if is_instead(statement.word) {
-        let found = odd_operand(statement).or(bad_register(statement));
-        let is_load = statement.word.eq_ignore_ascii_case(b"li");
-        return match found {
-            None if is_load => Some(said("Write addiu @1,$zero,n with n from -32768 to 32767.")),
-            _ => found,
-        };
-    }
-    let [first, _, _] = statement.operands;
-    if first.starts_with(b"=") {
-        return Some(said("Write the number: there are no names for numbers."));
-    }
-    match label(code, statement) {
-        Some(sentence) => Some(said(sentence)),
-        None => meant(statement),
-    }
 }

@@ -3,11 +3,12 @@ ghost use Rattle.std.specs.Prelude.{◌≡◌, ◌||◌, ℕ, List, IfOk, OnOk};
 ghost use Rattle.lexical.specs.Line.{lines_of};
 ghost use Rattle.isa.specs.Listing.{stands_in};
 ghost use Rattle.checker.specs.Keys.{has_key};
-ghost use Rattle.checker.specs.Warnings.{AreOperandsOf, operands_of_line};
+ghost use Rattle.checker.specs.Parts.{operands_of_line};
+ghost use Rattle.checker.specs.Warnings.{AreOperandsOf};
 
-use super::super::lines::statement;
 use super::super::names::{Names, note};
-use lexical::{before_comment, cut_word, next_line, next_operand, operand_part};
+use super::super::parts::parts_of;
+use lexical::{next_line, next_operand};
 use std::alloc::{AllocError, Global};
 use std::collections::BTreeMap;
 
@@ -16,8 +17,7 @@ fn note_line<'a>(operands: &mut Names<'a>, line: &'a [u8]) -> Result<(), AllocEr
     ensures { OnOk result ((name : List ℕ) → has_key operands.new name
         ≡ (has_key operands.old name || stands_in (operands_of_line line.now) name)) }
 {
-    let (_, behind) = cut_word(statement(before_comment(line)));
-    let mut rest = operand_part(behind);
+    let mut rest = parts_of(line).operands;
     while let Some(text) = rest {
         let (operand, after) = next_operand(text);
         note(operands, operand)?;

@@ -1,6 +1,6 @@
 use Rattle.std.proofs.Common.{◌≡◌, ◌++◌, drop}
 use Rattle.std.specs.Prelude.{flat_map}
-use Rattle.checker.specs.Quotes.{escape}
+use Rattle.checker.specs.Spots.{escape}
 use Rattle.checker.proofs.file_name.push_escapes.Given as goal
 
 -- the text so far and the escapes of the other bytes make the whole

@@ -1,9 +1,5 @@
-use Rattle.std.proofs.Common.{◌-◌}
-use Rattle.checker.specs.Parts.{LiesIn}
+use Rattle.std.proofs.Common.{length}
 use Rattle.checker.proofs.marks.operands_from.Given as goal
 
-abbrev pub invariant-loop-behind : goal.invariant-loop-behind
-invariant-loop-behind l = LiesIn l.fn.operands l.rest
-
 abbrev pub decreases-loop-behind : goal.decreases-loop-behind
-decreases-loop-behind l = l.rest.to - l.rest.from
+decreases-loop-behind l = length l.rest

@@ -18,7 +18,7 @@ push_warning-requires-in-Some-clause-right c =
     let good = c.args.good.now in
     let stands : StandsOn good.bytes.now c.args.k c.args.spot.number = search rules in
     let right : IsOfInstruction good.program.now c.args.k c.in-Some.warning = rw c.in-Some.is at c.warning_at.ensures in
-    of_instruction good.bytes.now good.program.now c.args.k c.args.spot.number c.args.spot.line.now c.statement-part.result c.in-Some.warning
+    of_instruction good.bytes.now good.program.now c.args.k c.args.spot.number c.args.spot.line.now c.marked-part.result c.in-Some.warning
     stands right
 
 pub returns : goal.returns

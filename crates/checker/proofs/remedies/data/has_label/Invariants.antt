@@ -2,4 +2,4 @@ use Rattle.std.proofs.Common.{length}
 use Rattle.checker.proofs.remedies.data.has_label.Given as goal
 
 abbrev pub decreases-loop-label : goal.decreases-loop-label
-decreases-loop-label l = length l.code
+decreases-loop-label l = length l.rest

@@ -5,7 +5,7 @@ use Rattle.lexical.specs.Operand.{operands_left}
 use Rattle.lexical.proofs.Splits.{size_left}
 use Rattle.isa.specs.Listing.{stands_in}
 use Rattle.checker.specs.Keys.{has_key}
-use Rattle.checker.specs.Warnings.{operands_of_line}
+use Rattle.checker.specs.Parts.{operands_of_line}
 use Rattle.checker.proofs.warnings.operands.note_line.Given as goal
 
 abbrev pub invariant-loop-rest : goal.invariant-loop-rest
