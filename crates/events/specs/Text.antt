@@ -80,6 +80,7 @@ pub record IsFirst (text line : List ℕ) (left : Option (List ℕ)) : Type 0 wh
   pub is : line ≡ take_through 10 text
   pub leaves : left ≡ Some (drop_through 10 text)
 
+-- This line was read, from a reader whose bytes may be known
 abbrev pub IsLineRead : Option (List ℕ) → (line : List ℕ) → Option (List ℕ) → Type 0
 IsLineRead from line left = IfSome from (λ text. IsFirst text line left)
 
@@ -95,6 +96,7 @@ pub record Reads (meant : Issue) (number : ℕ) (from : Option (List ℕ)) (answ
   pub read : IsLineRead from line left
   pub says : answer ≡ said number (event_in meant line)
 
+-- What the next line of a reader says, of this number: nothing is left, or the line was read and says this
 abbrev pub IsRead : Issue → (number : ℕ) → Option (List ℕ) → Said → Option (List ℕ) → Type 0
 IsRead meant number from saying.End left = IsAtEnd from
 IsRead meant number from answer left = Reads meant number from answer left
@@ -105,6 +107,7 @@ pub record IsHistoryText (meant : Issue) (u v : Held) (text : List ℕ) : Type 0
   pub say : AreRead meant (lines_of text) events
   pub history : IsHistoryOf u.program.now (sizes_of u) events (unit_of v)
 
+-- Each text whose verdict is legal says a legal history
 abbrev pub EachLegalTextIsAHistory : Type 0
 EachLegalTextIsAHistory =
     (meant : Issue) (u v : Held) (text : List ℕ) → u.tenants.items ≡ [] → IsVerdict meant u text Legal v →

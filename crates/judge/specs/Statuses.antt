@@ -6,6 +6,7 @@ use Rattle.events.specs.declared.verdict.Verdict.{Verdict}
 use Rattle.events.specs.declared.verdict.Verdict.TheVariants.{Legal, Refused, Unread}
 use Rattle.events.specs.Text.{IsVerdict}
 
+-- The exit status of a verdict
 abbrev pub status_of : Verdict → ℕ
 status_of Legal = 0
 status_of (Refused refused) = 1

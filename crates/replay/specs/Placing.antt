@@ -111,6 +111,7 @@ pub record IsNotDue (P : Program) (ts : List Tenant) (p : ℕ) (k : Source) : Ty
   pub link : ¬ MayAct P ts 0 p (Link k)
   pub delivery : ¬ MayAct P ts 0 p (Deliver k)
 
+-- Nothing is due
 abbrev pub AreNotDue : Program → List Tenant → Type 0
 AreNotDue P ts = (q : ℕ) (k : Source) → IsNotDue P ts q k
 
@@ -123,6 +124,7 @@ pub record IsDueFrom (P : Program) (ts : List Tenant) (p q : ℕ) (k : Source) :
   pub link : ¬ MayAct P ts 0 q (Link k)
   pub delivery : (t : Tenant) → at ts q ≡ Some t → MayDeliver (older ts q) t k → (operand k t).creator ≡ Some p
 
+-- Nothing is due but deliveries of what the tenant at position p has made
 abbrev pub AreDueFrom : Program → List Tenant → ℕ → Type 0
 AreDueFrom P ts p = (q : ℕ) (k : Source) → IsDueFrom P ts p q k
 
